@@ -1,0 +1,3 @@
+-- What a byte, a number and a line are: one definition for the program reader and the proof-line reader.
+pub mod Bytes
+pub mod Line
