@@ -1,0 +1,2 @@
+-- What an answer set is.
+pub mod AnswerSets

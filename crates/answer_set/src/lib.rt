@@ -1,0 +1,1 @@
+// Least model and answer sets.

@@ -1,0 +1,2 @@
+-- Ground programs: what a rule is, how a table holds rules, and how a text is read, question by question.
+pub mod Rules

@@ -1,0 +1,1 @@
+// Ground programs: the program reader.

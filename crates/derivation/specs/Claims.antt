@@ -1,0 +1,33 @@
+-- Demand 3 of the notice, part one, as statements; proofs/Sound.antt proves them.
+-- Assumes nothing.
+use mathlib.Core.Path.{_≡_}
+use mathlib.Core.Logic.{_↔_}
+use mathlib.Core.Bool.{true}
+use mathlib.Core.List.{List, _++_}
+use Prim.Native.Nat.{ℕ}
+use lib.IntN.{ℤ}
+use Rattle.words.specs.Lists.{_∈_}
+use Rattle.aspif.specs.Rules.{Rule}
+use Rattle.answer_set.specs.AnswerSets.{Constraint, AnswerSet}
+use Rattle.derivation.specs.Propagation.{Conflict, refuted}
+use Rattle.derivation.specs.States.{State, start}
+use Rattle.derivation.specs.Steps.{Step, next, steps, emptyLive}
+
+-- "no set of atoms is an answer set of that program. Nor is any set an answer set of that program with any list of further
+-- constraints appended": a set is any predicate on numbers, and a further constraint has any literals, also above N, above the
+-- largest variable, or taken as names by the proof. The empty list of further constraints gives the first sentence.
+abbrev pub NoAnswerSet : List Rule → Type 1
+NoAnswerSet P =
+    (further : List Rule) → ((r : Rule) → r ∈ further → Constraint r)
+    → (M : ℕ → Type 0) → AnswerSet M (P ++ further) → ⊥
+
+-- "For every program read and every list of steps of the seven letters from an empty store .. if every step is accepted in its
+-- turn and the empty nogood is live after the last": of every list of rules, read or not
+abbrev pub Demand3 : Type 1
+Demand3 =
+    (P : List Rule) (ts : List Step) (z : State)
+    → steps P start ts ≡ next z → emptyLive z ≡ true → NoAnswerSet P
+
+-- the computation of an `a` step says what the least set says
+abbrev pub ClosureComputed : Type 0
+ClosureComputed = (live : List (List ℤ)) (L : List ℤ) → (refuted live L ≡ true) ↔ Conflict live L

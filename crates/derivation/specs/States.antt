@@ -1,0 +1,41 @@
+-- "The steps work on three things: the live nogoods oldest first, the known variables, and which rule body has which name."
+-- Assumes nothing.
+use mathlib.Core.Bool.{Bool, _&&_, _||_}
+use mathlib.Core.List.{List, [], _∷_}
+use Prim.Native.Nat.{ℕ}
+use lib.Dec.{eqb, leb}
+use lib.IntN.{ℤ}
+use Rattle.words.specs.Lists.{any}
+use Rattle.words.specs.Literals.{sameList}
+use Rattle.aspif.specs.Rules.{Rule, atoms}
+
+-- a rule body with its name
+pub record Named : Type 0 where
+  pub name : ℕ
+  pub body : List ℤ
+
+-- A nogood is a set of literals, kept ascending by variable.
+pub record State : Type 0 where
+  pub live : List (List ℤ)
+  pub introduced : List ℕ
+  pub named : List Named
+
+-- "At the start there are no nogoods and no names, and the atoms alone are known."
+abbrev pub start : State
+start = record { live = []; introduced = []; named = [] }
+
+-- "the atoms are 1 to N"
+abbrev pub isAtom : List Rule → ℕ → Bool
+isAtom P v = leb 1 v && leb v (atoms P)
+
+-- "Known are the atoms, and the names that earlier `b` and `e` steps introduced."
+abbrev pub isKnown : List Rule → State → ℕ → Bool
+isKnown P z v = isAtom P v || any (eqb v) (z .introduced)
+
+-- n is the name of the rule body
+abbrev pub isName : State → ℕ → List ℤ → Bool
+isName z n body = any (λ x. eqb (x .name) n && sameList (x .body) body) (z .named)
+
+-- the rule body has a name
+abbrev pub hasName : State → List ℤ → Bool
+hasName z body = any (λ x. sameList (x .body) body) (z .named)

@@ -1,0 +1,1 @@
+// What ASP-DRUPE means.

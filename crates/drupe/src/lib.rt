@@ -1,0 +1,1 @@
+// Proof lines.
