@@ -1,2 +1,3 @@
 -- Ground programs: what a rule is, how a table holds rules, and how a text is read, question by question.
 pub mod Rules
+pub mod Reading

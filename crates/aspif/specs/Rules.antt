@@ -6,7 +6,7 @@ use Prim.Native.Nat.{ℕ, _-_, max}
 use lib.IntN.{ℤ, pos}
 use lib.ListN.{length, replicate}
 use Rattle.words.specs.Lists.{joinAll}
-use Rattle.words.specs.Literals.{variable}
+use Rattle.words.specs.Literals.{top}
 
 -- "head kind (0 normal, 1 choice)"
 pub data Kind : Type 0 where
@@ -26,11 +26,6 @@ isNormal choice = false
 abbrev pub isEmpty : List ℤ → Bool
 isEmpty [] = true
 isEmpty (z ∷ zs) = false
-
--- the largest variable of a list, 0 if it is empty
-abbrev pub top : List ℤ → ℕ
-top [] = 0
-top (z ∷ zs) = max (variable z) (top zs)
 
 -- "N is the largest atom named, 0 if none; the atoms are 1 to N"
 abbrev pub atoms : List Rule → ℕ

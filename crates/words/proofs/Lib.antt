@@ -1,2 +1,5 @@
 -- The laws that the proofs share.
 pub mod Laws
+pub mod Words
+pub mod Tops
+pub mod Sorting

@@ -1,0 +1,161 @@
+-- How a program text is read: document 01, 'Program text' and questions 1 to 11, in their order.
+-- Assumes nothing.
+use mathlib.Core.Bool.{Bool, true, false, cond, not, _&&_, _||_}
+use mathlib.Core.List.{List, [], _∷_, _++_}
+use Prim.Native.Nat.{ℕ, zero, suc, _+_, _-_}
+use lib.Dec.{eqb, ltb, leb}
+use lib.IntN.{ℤ, pos}
+use lib.Signed.{ltZ}
+use lib.ListN.{length, take, drop, getD, replicate}
+use Rattle.words.specs.Limits.{longest}
+use Rattle.words.specs.Lists.{all}
+use Rattle.words.specs.Literals.{variable, same, has, noneTwice, ascending}
+use Rattle.text.specs.Line.{Line, broken, numbers, lineOf, anyOutside}
+use Rattle.aspif.specs.Rules.{Kind, normal, choice, Rule, atoms, ruleWords, programWords, tableWords}
+use Rattle.aspif.specs.declared.ProgramRefusal.{ProgramRefusal}
+use Rattle.aspif.specs.declared.ProgramReading.{ProgramReading}
+use Rattle.aspif.specs.declared.ProgramReading.the-variants.{Read, Refused}
+
+-- "Are both counts .. 0 to 64"
+abbrev pub mostLiterals : ℕ
+mostLiterals = 64
+
+-- "At most 1,024 rules."
+abbrev pub mostRules : ℕ
+mostRules = 1024
+
+-- One line's numbers
+
+-- The shape of a rule line that passes questions 5 to 7: its head kind, its head count and its body count.
+pub data Shape : Type 0 where
+  wrong : ℕ → Shape
+  shaped : Kind → ℕ → ℕ → Shape
+
+module _ (zs : List ℤ) (count : ℕ) where
+  -- number i of the line, from 0, where the line has `count` numbers; it is there and is n
+  abbrev pub isAt : ℕ → ℕ → Bool
+  isAt i n = ltb i count && same (getD zs i (pos 0)) (pos n)
+
+  -- number i is there, and 0 to 64
+  abbrev pub countAt : ℕ → Bool
+  countAt i = ltb i count && (not (ltZ (getD zs i (pos 0)) (pos 0)) && leb (variable (getD zs i (pos 0))) mostLiterals)
+
+  -- "Does the head count suit its kind? 7": a normal rule has 0 or 1 heads, a choice rule 1 to 64
+  abbrev pub suited : Kind → ℕ → ℕ → Shape
+  suited normal heads body = cond (leb heads 1) (shaped normal heads body) (wrong 7)
+  suited choice heads body = cond (leb 1 heads) (shaped choice heads body) (wrong 7)
+
+  -- "once the heads are passed, the body kind present and 0", then the body count, matched by what follows
+  abbrev pub bodyShape : Kind → ℕ → Shape
+  bodyShape k heads =
+      let body = variable (getD zs (4 + heads) (pos 0)) in
+      cond (isAt (3 + heads) 0)
+      (cond (countAt (4 + heads) && eqb (5 + heads + body) count) (suited k heads body) (wrong 6)) (wrong 5)
+
+  -- "a bad head count, or one with too few numbers after it, gives 6 before the body kind is looked for"
+  abbrev pub headShape : Kind → Shape
+  headShape k =
+      let heads = variable (getD zs 2 (pos 0)) in
+      cond (countAt 2 && leb (3 + heads) count) (bodyShape k heads) (wrong 6)
+
+  -- "is the statement kind present and 1, the head kind present and 0 or 1"
+  abbrev pub shape : Shape
+  shape =
+      cond (isAt 0 1) (cond (isAt 1 0) (headShape normal) (cond (isAt 1 1) (headShape choice) (wrong 5))) (wrong 5)
+
+-- question 8, of the heads: positive and distinct
+abbrev pub headsGood : List ℤ → Bool
+headsGood hs = all (λ h. ltZ (pos 0) h) hs && noneTwice hs
+
+-- question 8, of the body's literals: nonzero with no atom twice
+abbrev pub bodyGood : List ℤ → Bool
+bodyGood ls = not (has (pos 0) ls) && noneTwice ls
+
+-- a rule, or the number of the first question that it fails
+pub data RuleRead : Type 0 where
+  fails : ℕ → RuleRead
+  reads : Rule → RuleRead
+
+-- question 8 of a line whose shape is right
+abbrev pub ruleOf : List ℤ → Shape → RuleRead
+ruleOf zs (wrong k) = fails k
+ruleOf zs (shaped k heads body) =
+    let hs = take heads (drop 3 zs) in
+    let ls = take body (drop (5 + heads) zs) in
+    cond (headsGood hs && bodyGood ls) (reads (record { kind = k; heads = ascending hs; body = ascending ls })) (fails 8)
+
+-- Line after line
+
+-- the program, or a refusal with its number and line
+pub data Reading : Type 0 where
+  refused : ℕ → ℕ → Reading
+  program : List Rule → Reading
+
+-- What a line makes of the text: nothing more is read, or reading goes on with a rule more.
+pub data Turn : Type 0 where
+  refuses : ℕ → Turn
+  ends : Turn
+  adds : Rule → ℕ → Turn
+
+-- the line is `0` alone
+abbrev pub isLast : List ℤ → Bool
+isLast zs = eqb (length zs) 1 && same (getD zs 0 (pos 0)) (pos 0)
+
+-- "Are there fewer than 1,024 rules before it? 9. Does the table hold it? 10.", with so many rules before it and words free
+abbrev pub room : ℕ → ℕ → RuleRead → ℕ → Turn
+room rules free (fails k) n = refuses k
+room rules free (reads r) n =
+    cond (ltb rules mostRules) (cond (leb (length (ruleWords r)) free) (adds r n) (refuses 10)) (refuses 9)
+
+-- Questions 3 to 11 of the line that a text begins with, of which so many bytes are left. "is there one, ended, of well-formed
+-- numbers? 3. Are all from -4,095 to 4,095? 4. For the line `0` alone: does the text end there? 11."
+abbrev pub turnOf : ℕ → ℕ → ℕ → Line → Turn
+turnOf rules free left broken = refuses 3
+turnOf rules free left (numbers zs n) =
+    cond (anyOutside zs) (refuses 4)
+    (cond (isLast zs) (cond (eqb n left) ends (refuses 11)) (room rules free (ruleOf zs (shape zs (length zs))) n))
+
+-- what is made of a turn at a line; `on` reads the text that is left after so many bytes, with the rules so far
+abbrev pub onward : (ℕ → List Rule → Reading) → List Rule → ℕ → Turn → Reading
+onward on rs line (refuses k) = refused k line
+onward on rs line ends = program rs
+onward on rs line (adds r n) = on n (rs ++ (r ∷ []))
+
+-- The lines from here on, into a table of `size` words: the bytes left, the line's number, the rules so far. Each line takes a
+-- byte at least, so one turn more than there are bytes is enough.
+abbrev pub linesFrom : ℕ → ℕ → List ℕ → ℕ → List Rule → Reading
+linesFrom size zero s line rs = refused 3 line
+linesFrom size (suc turns) s line rs =
+    onward (λ n. linesFrom size turns (drop n s) (line + 1)) rs line
+    (turnOf (length rs) (size - length (programWords rs)) (length s) (lineOf s))
+
+-- `asp 1 0 0` and its newline
+abbrev pub header : List ℕ
+header = 97 ∷ 115 ∷ 112 ∷ 32 ∷ 49 ∷ 32 ∷ 48 ∷ 32 ∷ 48 ∷ 10 ∷ []
+
+abbrev pub sameBytes : List ℕ → List ℕ → Bool
+sameBytes [] [] = true
+sameBytes [] (y ∷ ys) = false
+sameBytes (x ∷ xs) [] = false
+sameBytes (x ∷ xs) (y ∷ ys) = eqb x y && sameBytes xs ys
+
+-- "Is line 1 as said? 2." and the questions after it, with a table of `size` words: all but question 1
+unfoldable pub readLines : ℕ → List ℕ → Reading
+readLines size text =
+    cond (sameBytes (take 10 text) header) (linesFrom size (suc (length text)) (drop 10 text) 2 []) (refused 2 1)
+
+-- "Has the text at most 65,535 bytes? No: 1." The whole text is at fault, so the line is 0.
+unfoldable pub readText : ℕ → List ℕ → Reading
+readText size text = cond (leb (length text) longest) (readLines size text) (refused 1 0)
+
+-- What the service answers and leaves
+
+-- this paper's values of each case: N and the rule count, or the number and the line
+abbrev pub answerOf : Reading → ProgramReading
+answerOf (refused k line) = Refused (record { number = k; line = line })
+answerOf (program rs) = Read (atoms rs) (length rs)
+
+-- "Every refusal zeroes the whole of the table"
+abbrev pub tableOf : ℕ → Reading → List ℤ
+tableOf size (refused k line) = replicate size (pos 0)
+tableOf size (program rs) = tableWords size rs
