@@ -1,0 +1,52 @@
+use borrow.Author.Needs.{needs}
+use Rattle.text.proofs.next_step.Statement.{statement}
+use Rattle.text.proofs.next_step.Tie as tie
+
+-- src/lib.rt:121:1
+returns-16 : tie.Need-returns-16
+returns-16 c = rw (c .before .before .class .given .1) (c .at-digit .ensures)
+
+pub next-step-spec : {M : Type 1} → statement M
+next-step-spec =
+    tie.close
+    (tie.spec
+    (λ c. search needs)
+    (λ c. search needs)
+    (λ c. search needs)
+    (λ c. search needs)
+    (λ c. search needs)
+    (λ c. search needs)
+    (λ c. search needs)
+    (λ c. search needs)
+    (λ c. search needs)
+    (λ c. search needs)
+    (λ c. search needs)
+    (λ c. search needs)
+    (λ c. search needs)
+    (λ c. search needs)
+    (λ c. search needs)
+    (λ c. search needs)
+    (λ c. search needs)
+    (λ c. search needs)
+    (λ c. search needs)
+    (λ c κs. search needs)
+    (λ c. search needs)
+    (λ c. search needs)
+    (λ c. search needs)
+    (λ c. search needs)
+    (λ c. search needs)
+    (λ c. search needs)
+    (λ c. cc)
+    (λ c. search needs)
+    (λ c. search needs)
+    (λ c. search needs)
+    (λ c. search needs)
+    (λ c. cc)
+    (λ c. cc)
+    (λ c. cc)
+    (λ c. search needs)
+    (λ c. search needs)
+    (λ c. search needs)
+    returns-16
+    (λ c. search needs)
+    (λ c. search needs))
