@@ -204,8 +204,8 @@ module _ (x : Scanned) (n : ℕ) (out : Bool) (row : List ℤ) (i : ℕ) where
 
 -- one byte more, where f scans what is left, o, rightly
 module _ (f : State → ℕ → Bool → List ℤ → ℕ → Scanned) (o : Words)
-  (h : (p : Place) (n : ℕ) (out : Bool) (row : List ℤ) (i : ℕ) → Agrees (f (stateOf p) n out row i) n out row i (from p o))
-  (n : ℕ) (out : Bool) (row : List ℤ) (i : ℕ) (p : Place) where
+    (h : (p : Place) (n : ℕ) (out : Bool) (row : List ℤ) (i : ℕ) → Agrees (f (stateOf p) n out row i) n out row i (from p o))
+    (n : ℕ) (out : Bool) (row : List ℤ) (i : ℕ) (p : Place) where
   at-inside : (c : Class) {a : Action} → Inside p c a → Agrees (turn f a n out row i) n out row i (from p (joined c o))
   unfolding turn
   at-inside c (fails e) = rw (from-fails p c o e) refl

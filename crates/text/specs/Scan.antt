@@ -82,7 +82,7 @@ turn f (Go st) n out row i = f st n out row (i + 1)
 turn f (Put neg m) n out row i = f Word (n + 1) (outsideOf out m) (set row n (valueOf neg m)) (i + 1)
 turn f (Last neg m) n out row i =
     record { line = Numbers (n + 1) (i + 1) (outsideOf out m); row = set row n (valueOf neg m) }
-turn f Empty n out row i = record { line = Numbers 0 (i + 1) false; row = row }
+turn f Empty n out row i = record { line = Numbers 0 1 false; row = row }
 turn f Fail n out row i = record { line = Broken; row = row }
 
 unfoldable pub scan : List Class → State → ℕ → Bool → List ℤ → ℕ → Scanned

@@ -99,15 +99,13 @@ fn more(m: u16, d: u8) -> u16
 fn first_digit(neg: bool, d: u8) -> Action
     ensures { λ r. ⌜ r ≡ firstOf neg d ⌝ }
 {
-    if d == 0 {
-        if neg {
-            Action::Fail
-        } else {
-            Action::Go(State::Zero)
-        }
-    } else {
-        Action::Go(State::Digits(neg, more(0, d)))
+    if d != 0 {
+        return Action::Go(State::Digits(neg, more(0, d)));
     }
+    if neg {
+        return Action::Fail;
+    }
+    Action::Go(State::Zero)
 }
 
 fn at_digit(state: State, d: u8) -> Action
@@ -209,7 +207,7 @@ pub fn read_line(text: &[u8], row: &mut [i32]) -> LineRead
             Action::Empty => {
                 return LineRead::Numbers {
                     count: 0,
-                    next: next,
+                    next: 1,
                     outside: false,
                 };
             }

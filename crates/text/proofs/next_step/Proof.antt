@@ -2,7 +2,6 @@ use borrow.Author.Needs.{needs}
 use Rattle.text.proofs.next_step.Statement.{statement}
 use Rattle.text.proofs.next_step.Tie as tie
 
--- src/lib.rt:121:1
 returns-16 : tie.Need-returns-16
 returns-16 c = rw (c .before .before .class .given .1) (c .at-digit .ensures)
 

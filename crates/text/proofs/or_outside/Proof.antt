@@ -2,7 +2,6 @@ use borrow.Author.Needs.{needs}
 use Rattle.text.proofs.or_outside.Statement.{statement}
 use Rattle.text.proofs.or_outside.Tie as tie
 
--- src/lib.rt:159:1
 returns-2 : tie.Need-returns-2
 returns-2 c = rw (c .if1 .left)
 
