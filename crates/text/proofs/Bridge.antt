@@ -16,13 +16,14 @@ use borrow.Author.Tests.{ltb-true, ltb-false, lt-ltb, le-ltb}
 use Rattle.words.specs.Limits.{largest}
 use Rattle.text.specs.Bytes.{classOf}
 use Rattle.text.specs.Line.{digits, natural, nonNegative, negative, number, also, numbersOf, Words, unended, words, apart, joined, cut, span, Line, broken, numbers, spanned, ofWords, lineOf, outside, anyOutside, capped, Told, Within, Reads}
-use Rattle.text.specs.Scan.{moreOf, newlineOf, spaceOf, actionOf, valueOf, outsideOf, Scanned, turn, scan}
+use Rattle.text.specs.Scan.{moreOf, newlineOf, spaceOf, actionOf, valueOf, Scanned, turn, scan}
+use Rattle.text.specs.declared.Letter.{Letter}
 use Rattle.text.specs.declared.Class.{Class}
 use Rattle.text.specs.declared.Class.the-variants.{Newline, Space, Minus, Digit, Step, Other}
 use Rattle.text.specs.declared.State.{State}
 use Rattle.text.specs.declared.State.the-variants.{Start, Word, Sign, Zero, Digits}
 use Rattle.text.specs.declared.Action.{Action}
-use Rattle.text.specs.declared.Action.the-variants.{Go, Put, Last, Empty, Fail}
+use Rattle.text.specs.declared.Action.the-variants.{Go, Put, Last, Fail}
 use Rattle.text.specs.declared.LineRead.{LineRead}
 use Rattle.text.specs.declared.LineRead.the-variants.{Numbers, Broken}
 use Rattle.text.proofs.Lines.{Bounds, bounds}
@@ -101,7 +102,7 @@ inside-minus signed = fails (λ w. refl)
 inside-minus nought = fails (λ w. refl)
 inside-minus (sized neg m) = fails (λ w. refl)
 
-inside-step : (p : Place) (x : _) → Inside p (Step x) Fail
+inside-step : (p : Place) (x : Letter) → Inside p (Step x) Fail
 inside-step fresh x = fails (λ w. refl)
 inside-step signed x = fails (λ w. refl)
 inside-step nought x = fails (λ w. refl)

@@ -182,25 +182,22 @@ pub fn read_line(text: &[u8], row: &mut [i32]) -> LineRead
     let mut outside = false;
     let mut i: usize = 0;
     while i < text.len() {
-        let next = i + 1;
-        let action = next_step(state, class_of(text[i]));
+        let at = i;
+        i += 1;
+        let action = next_step(state, class_of(text[at]));
         match action {
-            Action::Go(s) => {
-                state = s;
-                i = next;
-            }
+            Action::Go(s) => state = s,
             Action::Put(neg, m) => {
                 store(row, count, neg, m);
                 outside = or_outside(outside, m);
                 count += 1;
                 state = State::Word;
-                i = next;
             }
             Action::Last(neg, m) => {
                 store(row, count, neg, m);
                 return LineRead::Numbers {
                     count: count + 1,
-                    next: next,
+                    next: i,
                     outside: or_outside(outside, m),
                 };
             }
@@ -211,9 +208,7 @@ pub fn read_line(text: &[u8], row: &mut [i32]) -> LineRead
                     outside: false,
                 };
             }
-            Action::Fail => {
-                return LineRead::Broken;
-            }
+            Action::Fail => return LineRead::Broken,
         }
     }
     LineRead::Broken

@@ -1,3 +1,5 @@
+-- `text::at_digit` meets its contract. An arm for each clause of `digitOf`.
+-- Assumes nothing.
 use borrow.Author.Needs.{needs}
 use Rattle.text.proofs.at_digit.Statement.{statement}
 use Rattle.text.proofs.at_digit.Tie as tie

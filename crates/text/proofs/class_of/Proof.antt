@@ -1,3 +1,5 @@
+-- `text::class_of` meets its contract. By the arm's key, or by the range of the digits.
+-- Assumes nothing.
 use mathlib.Core.Path.{_∙_}
 use mathlib.Core.Logic.{⊎-elim}
 use native.Mathlib.Omega.{arith}

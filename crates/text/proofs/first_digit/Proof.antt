@@ -1,3 +1,5 @@
+-- `text::first_digit` meets its contract. A branch for each arm of `firstOf`.
+-- Assumes nothing.
 use borrow.Author.Needs.{needs}
 use borrow.Author.Tests.{ne-eqb}
 use Rattle.text.proofs.first_digit.Statement.{statement}

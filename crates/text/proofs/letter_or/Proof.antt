@@ -1,3 +1,5 @@
+-- `text::letter_or` meets its contract. By the arm's key, or by none of the keys.
+-- Assumes nothing.
 use borrow.Author.Tests.{ne-eqb}
 use Rattle.text.proofs.letter_or.Statement.{statement}
 use Rattle.text.proofs.letter_or.Tie as tie

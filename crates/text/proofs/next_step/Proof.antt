@@ -1,3 +1,5 @@
+-- `text::next_step` meets its contract. An arm for each clause of `actionOf`.
+-- Assumes nothing.
 use borrow.Author.Needs.{needs}
 use Rattle.text.proofs.next_step.Statement.{statement}
 use Rattle.text.proofs.next_step.Tie as tie

@@ -1,3 +1,5 @@
+-- `text::or_outside` meets its contract. A size is above the largest variable where it is the cap.
+-- Assumes nothing.
 use borrow.Author.Needs.{needs}
 use Rattle.text.proofs.or_outside.Statement.{statement}
 use Rattle.text.proofs.or_outside.Tie as tie

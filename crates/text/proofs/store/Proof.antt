@@ -1,3 +1,5 @@
+-- `text::store` meets its contract. A store within the row, or `set` past its end, which changes nothing.
+-- Assumes nothing.
 use mathlib.Core.Path.{sym, ap, _∙_}
 use lib.ListN.{set}
 use lib.Seq.{set-out}
