@@ -1,7 +1,10 @@
 // Bytes to lines and numbers, for the program reader and the proof-line reader alike: document 01, 'Program text'.
 // The claim of `read_line` is `Reads` in specs/Line.antt.
 ghost use mathlib.Core.Path.{_≡_};
+ghost use lib.ListN.{set};
+ghost use Rattle.text.specs.Bytes.{classOf, letterOr};
 ghost use Rattle.text.specs.Line.{Reads};
+ghost use Rattle.text.specs.Scan.{actionOf, digitOf, firstOf, moreOf, outsideOf, valueOf};
 
 // The proof's seven letters, by the names of source document 000.
 pub enum Letter {
@@ -32,4 +35,181 @@ pub enum LineRead {
         outside: bool,
     },
     Broken,
+}
+
+// What the bytes of a line so far have led to.
+enum State {
+    Start,
+    Word,
+    Sign,
+    Zero,
+    Digits(bool, u16),
+}
+
+// What the next byte does: a state, a number that a space or a newline ends (negative or not, and its size), an empty line,
+// or no line of numbers.
+enum Action {
+    Go(State),
+    Put(bool, u16),
+    Last(bool, u16),
+    Empty,
+    Fail,
+}
+
+// One past the largest variable. It stands for every larger size, so that no size wraps.
+const CAP: u16 = 4096;
+
+fn letter_or(b: u8) -> Class
+    ensures { λ r. ⌜ r ≡ letterOr b ⌝ }
+{
+    match b {
+        b'a' => Class::Step(Letter::Addition),
+        b'b' => Class::Step(Letter::Body),
+        b'c' => Class::Step(Letter::Completion),
+        b'd' => Class::Step(Letter::Deletion),
+        b'e' => Class::Step(Letter::Extension),
+        b'l' => Class::Step(Letter::Loop),
+        b's' => Class::Step(Letter::Support),
+        _ => Class::Other,
+    }
+}
+
+// The only comparisons that class a byte.
+pub fn class_of(b: u8) -> Class
+    ensures { λ r. ⌜ r ≡ classOf b ⌝ }
+{
+    match b {
+        b'\n' => Class::Newline,
+        b' ' => Class::Space,
+        b'-' => Class::Minus,
+        b'0'..=b'9' => Class::Digit(b - b'0'),
+        _ => letter_or(b),
+    }
+}
+
+// One more digit, up to the cap.
+fn more(m: u16, d: u8) -> u16
+    ensures { λ r. ⌜ r ≡ moreOf m d ⌝ }
+{
+    let v = (m as u32) * 10 + d as u32;
+    if v <= CAP as u32 { v as u16 } else { CAP }
+}
+
+// The first digit of a number; `neg`: after a minus.
+fn first_digit(neg: bool, d: u8) -> Action
+    ensures { λ r. ⌜ r ≡ firstOf neg d ⌝ }
+{
+    if d != 0 {
+        return Action::Go(State::Digits(neg, more(0, d)));
+    }
+    if neg {
+        return Action::Fail;
+    }
+    Action::Go(State::Zero)
+}
+
+fn at_digit(state: State, d: u8) -> Action
+    ensures { λ r. ⌜ r ≡ digitOf state d ⌝ }
+{
+    match state {
+        State::Start => first_digit(false, d),
+        State::Word => first_digit(false, d),
+        State::Sign => first_digit(true, d),
+        State::Zero => Action::Fail,
+        State::Digits(neg, m) => Action::Go(State::Digits(neg, more(m, d))),
+    }
+}
+
+fn next_step(state: State, class: Class) -> Action
+    ensures { λ r. ⌜ r ≡ actionOf state class ⌝ }
+{
+    match class {
+        Class::Newline => match state {
+            State::Start => Action::Empty,
+            State::Word => Action::Fail,
+            State::Sign => Action::Fail,
+            State::Zero => Action::Last(false, 0),
+            State::Digits(neg, m) => Action::Last(neg, m),
+        },
+        Class::Space => match state {
+            State::Start => Action::Fail,
+            State::Word => Action::Fail,
+            State::Sign => Action::Fail,
+            State::Zero => Action::Put(false, 0),
+            State::Digits(neg, m) => Action::Put(neg, m),
+        },
+        Class::Minus => match state {
+            State::Start => Action::Go(State::Sign),
+            State::Word => Action::Go(State::Sign),
+            State::Sign => Action::Fail,
+            State::Zero => Action::Fail,
+            State::Digits(_, _) => Action::Fail,
+        },
+        Class::Digit(d) => at_digit(state, d),
+        Class::Step(_) => Action::Fail,
+        Class::Other => Action::Fail,
+    }
+}
+
+fn value(neg: bool, m: u16) -> i32
+    ensures { λ r. ⌜ r ≡ valueOf neg m ⌝ }
+{
+    if neg { 0 - (m as i32) } else { m as i32 }
+}
+
+// Whether a size so far was above the largest variable, or this one is.
+fn or_outside(outside: bool, m: u16) -> bool
+    ensures { λ r. ⌜ r ≡ outsideOf outside m ⌝ }
+{
+    if outside { true } else { m >= CAP }
+}
+
+// A store past the end changes nothing.
+fn store(row: &mut [i32], n: usize, neg: bool, m: u16)
+    ensures { λ _. ⌜ now (row .exit) ≡ set (now (row .entry)) n (valueOf neg m) ⌝ }
+{
+    if n < row.len() {
+        row[n] = value(neg, m);
+    }
+}
+
+// The numbers of the line that the text begins with, into the row, as many as fit.
+pub fn read_line(text: &[u8], row: &mut [i32]) -> LineRead
+    ensures { λ r. ⌜ Reads (now (text .entry)) (now (row .entry)) (now (row .exit)) r ⌝ }
+{
+    let mut state = State::Start;
+    let mut count: usize = 0;
+    let mut outside = false;
+    let mut i: usize = 0;
+    while i < text.len() {
+        let at = i;
+        i += 1;
+        let action = next_step(state, class_of(text[at]));
+        match action {
+            Action::Go(s) => state = s,
+            Action::Put(neg, m) => {
+                store(row, count, neg, m);
+                outside = or_outside(outside, m);
+                count += 1;
+                state = State::Word;
+            }
+            Action::Last(neg, m) => {
+                store(row, count, neg, m);
+                return LineRead::Numbers {
+                    count: count + 1,
+                    next: i,
+                    outside: or_outside(outside, m),
+                };
+            }
+            Action::Empty => {
+                return LineRead::Numbers {
+                    count: 0,
+                    next: 1,
+                    outside: false,
+                };
+            }
+            Action::Fail => return LineRead::Broken,
+        }
+    }
+    LineRead::Broken
 }

@@ -1,0 +1,3 @@
+-- The laws of lines, and what the proof of `read_line` rests on.
+pub mod Lines
+pub mod Bridge
