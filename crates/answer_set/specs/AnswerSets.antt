@@ -7,11 +7,13 @@ use mathlib.Core.List.{List, []}
 use Prim.Native.Nat.{ℕ, suc}
 use lib.IntN.{pos, negsuc}
 use Rattle.words.specs.Lists.{_∈_}
-use Rattle.aspif.specs.Rules.{Kind, normal, choice, Rule}
+use Rattle.aspif.specs.Rules.{Rule}
+use Rattle.aspif.specs.declared.Kind.{Kind}
+use Rattle.aspif.specs.declared.Kind.the-variants.{Normal, Choice}
 
 -- "A normal rule has 0 or 1 heads; with 0 it is a constraint"
 abbrev pub Constraint : Rule → Type 0
-Constraint r = (r .kind ≡ normal) × (r .heads ≡ [])
+Constraint r = (r .kind ≡ Normal) × (r .heads ≡ [])
 
 module _ (M : ℕ → Type 0) where
   -- "the reduct takes each rule whose negated atoms are all outside M"
@@ -20,8 +22,8 @@ module _ (M : ℕ → Type 0) where
 
   -- a choice rule gives a head only if it is in M
   abbrev pub Chosen : Kind → ℕ → Type 0
-  Chosen normal h = Unit {0}
-  Chosen choice h = M h
+  Chosen Normal h = Unit {0}
+  Chosen Choice h = M h
 
   -- "A normal rule gives its head .. a choice rule does so for each head that is in M; constraints give nothing"
   abbrev pub Gives : Rule → ℕ → Type 0

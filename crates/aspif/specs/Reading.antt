@@ -1,17 +1,24 @@
 -- How a program text is read: document 01, 'Program text' and questions 1 to 11, in their order.
 -- Assumes nothing.
-use mathlib.Core.Bool.{Bool, true, false, cond, not, _&&_, _||_}
+use mathlib.Core.Path.{_≡_}
+use mathlib.Core.Bool.{Bool, true, false, cond, not, _&&_}
 use mathlib.Core.List.{List, [], _∷_, _++_}
 use Prim.Native.Nat.{ℕ, zero, suc, _+_, _-_}
 use lib.Dec.{eqb, ltb, leb}
 use lib.IntN.{ℤ, pos}
-use lib.Signed.{ltZ}
+use lib.Signed.{ltZ, leZ}
 use lib.ListN.{length, take, drop, getD, replicate}
 use Rattle.words.specs.Limits.{longest}
 use Rattle.words.specs.Lists.{all}
 use Rattle.words.specs.Literals.{variable, same, has, noneTwice, ascending}
 use Rattle.text.specs.Line.{Line, broken, numbers, lineOf, anyOutside}
-use Rattle.aspif.specs.Rules.{Kind, normal, choice, Rule, atoms, ruleWords, programWords, tableWords}
+use Rattle.aspif.specs.Rules.{Rule, atoms, ruleTop, ruleWords, programWords, tableWords}
+use Rattle.aspif.specs.declared.Kind.{Kind}
+use Rattle.aspif.specs.declared.Kind.the-variants.{Normal, Choice}
+use Rattle.aspif.specs.declared.rules.Shape.{Shape}
+use Rattle.aspif.specs.declared.rules.Shape.the-variants.{Wrong, Shaped}
+use Rattle.aspif.specs.declared.lines.LineTurn.{LineTurn}
+use Rattle.aspif.specs.declared.lines.LineTurn.the-variants.{Refuses, Ends, Adds}
 use Rattle.aspif.specs.declared.ProgramRefusal.{ProgramRefusal}
 use Rattle.aspif.specs.declared.ProgramReading.{ProgramReading}
 use Rattle.aspif.specs.declared.ProgramReading.the-variants.{Read, Refused}
@@ -26,42 +33,39 @@ mostRules = 1024
 
 -- One line's numbers
 
--- The shape of a rule line that passes questions 5 to 7: its head kind, its head count and its body count.
-pub data Shape : Type 0 where
-  wrong : ℕ → Shape
-  shaped : Kind → ℕ → ℕ → Shape
+-- "Does the head count suit its kind? 7": a normal rule has 0 or 1 heads, a choice rule 1 to 64
+abbrev pub suited : Kind → ℕ → ℕ → Shape
+suited Normal heads body = cond (leb heads 1) (Shaped Normal heads body) (Wrong 7)
+suited Choice heads body = cond (leb 1 heads) (Shaped Choice heads body) (Wrong 7)
 
 module _ (zs : List ℤ) (count : ℕ) where
-  -- number i of the line, from 0, where the line has `count` numbers; it is there and is n
-  abbrev pub isAt : ℕ → ℕ → Bool
-  isAt i n = ltb i count && same (getD zs i (pos 0)) (pos n)
+  -- number i of a line of `count` numbers, from 0, is there and is n
+  abbrev pub isAt : ℕ → ℤ → Bool
+  isAt i n = ltb i count && same (getD zs i (pos 0)) n
 
   -- number i is there, and 0 to 64
-  abbrev pub countAt : ℕ → Bool
-  countAt i = ltb i count && (not (ltZ (getD zs i (pos 0)) (pos 0)) && leb (variable (getD zs i (pos 0))) mostLiterals)
-
-  -- "Does the head count suit its kind? 7": a normal rule has 0 or 1 heads, a choice rule 1 to 64
-  abbrev pub suited : Kind → ℕ → ℕ → Shape
-  suited normal heads body = cond (leb heads 1) (shaped normal heads body) (wrong 7)
-  suited choice heads body = cond (leb 1 heads) (shaped choice heads body) (wrong 7)
+  abbrev pub isCount : ℕ → Bool
+  isCount i = ltb i count && (leZ (pos 0) (getD zs i (pos 0)) && leb (variable (getD zs i (pos 0))) mostLiterals)
 
   -- "once the heads are passed, the body kind present and 0", then the body count, matched by what follows
   abbrev pub bodyShape : Kind → ℕ → Shape
   bodyShape k heads =
       let body = variable (getD zs (4 + heads) (pos 0)) in
-      cond (isAt (3 + heads) 0)
-      (cond (countAt (4 + heads) && eqb (5 + heads + body) count) (suited k heads body) (wrong 6)) (wrong 5)
+      cond (isAt (3 + heads) (pos 0))
+      (cond (isCount (4 + heads) && eqb (5 + heads + body) count) (suited k heads body) (Wrong 6)) (Wrong 5)
 
   -- "a bad head count, or one with too few numbers after it, gives 6 before the body kind is looked for"
   abbrev pub headShape : Kind → Shape
   headShape k =
       let heads = variable (getD zs 2 (pos 0)) in
-      cond (countAt 2 && leb (3 + heads) count) (bodyShape k heads) (wrong 6)
+      cond (isCount 2 && leb (3 + heads) count) (bodyShape k heads) (Wrong 6)
 
-  -- "is the statement kind present and 1, the head kind present and 0 or 1"
-  abbrev pub shape : Shape
-  shape =
-      cond (isAt 0 1) (cond (isAt 1 0) (headShape normal) (cond (isAt 1 1) (headShape choice) (wrong 5))) (wrong 5)
+  -- Questions 5 to 7, "reading left to right": "is the statement kind present and 1, the head kind present and 0 or 1".
+  -- The shape of a rule line is its head kind, its head count and its body count.
+  unfoldable pub shapeOf : Shape
+  shapeOf =
+      cond (isAt 0 (pos 1))
+      (cond (isAt 1 (pos 0)) (headShape Normal) (cond (isAt 1 (pos 1)) (headShape Choice) (Wrong 5))) (Wrong 5)
 
 -- question 8, of the heads: positive and distinct
 abbrev pub headsGood : List ℤ → Bool
@@ -78,8 +82,8 @@ pub data RuleRead : Type 0 where
 
 -- question 8 of a line whose shape is right
 abbrev pub ruleOf : List ℤ → Shape → RuleRead
-ruleOf zs (wrong k) = fails k
-ruleOf zs (shaped k heads body) =
+ruleOf zs (Wrong k) = fails k
+ruleOf zs (Shaped k heads body) =
     let hs = take heads (drop 3 zs) in
     let ls = take body (drop (5 + heads) zs) in
     cond (headsGood hs && bodyGood ls) (reads (record { kind = k; heads = ascending hs; body = ascending ls })) (fails 8)
@@ -113,7 +117,7 @@ abbrev pub turnOf : ℕ → ℕ → ℕ → Line → Turn
 turnOf rules free left broken = refuses 3
 turnOf rules free left (numbers zs n) =
     cond (anyOutside zs) (refuses 4)
-    (cond (isLast zs) (cond (eqb n left) ends (refuses 11)) (room rules free (ruleOf zs (shape zs (length zs))) n))
+    (cond (isLast zs) (cond (eqb n left) ends (refuses 11)) (room rules free (ruleOf zs (shapeOf zs (length zs))) n))
 
 -- what is made of a turn at a line; `on` reads the text that is left after so many bytes, with the rules so far
 abbrev pub onward : (ℕ → List Rule → Reading) → List Rule → ℕ → Turn → Reading
@@ -159,3 +163,24 @@ answerOf (program rs) = Read (atoms rs) (length rs)
 abbrev pub tableOf : ℕ → Reading → List ℤ
 tableOf size (refused k line) = replicate size (pos 0)
 tableOf size (program rs) = tableWords size rs
+
+-- What the private functions tell of a turn: the bytes, the words and the largest atom of a rule that it adds
+abbrev pub turnTold : Turn → LineTurn
+turnTold (refuses k) = Refuses k
+turnTold ends = Ends
+turnTold (adds r n) = Adds n (length (ruleWords r)) (ruleTop r)
+
+-- the free words of the table after a turn: a rule that it adds stands at their front
+abbrev pub freeAfter : Turn → List ℤ → List ℤ
+freeAfter (refuses k) free = free
+freeAfter ends free = free
+freeAfter (adds r n) free = ruleWords r ++ drop (length (ruleWords r)) free
+
+pub record TurnTaken (t : Turn) (before after : List ℤ) (r : LineTurn) : Type 0 where
+  pub told : r ≡ turnTold t
+  pub words : after ≡ freeAfter t before
+
+-- the public contract: the answer and every word of the table
+pub record ProgramRead (text : List ℕ) (before after : List ℤ) (r : ProgramReading) : Type 0 where
+  pub answer : r ≡ answerOf (readText (length before) text)
+  pub table : after ≡ tableOf (length before) (readText (length before) text)

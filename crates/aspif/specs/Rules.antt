@@ -7,10 +7,8 @@ use lib.IntN.{ℤ, pos}
 use lib.ListN.{length, replicate}
 use Rattle.words.specs.Lists.{joinAll}
 use Rattle.words.specs.Literals.{top}
-
--- "head kind (0 normal, 1 choice)"
-pub data Kind : Type 0 where
-  normal choice : Kind
+use Rattle.aspif.specs.declared.Kind.{Kind}
+use Rattle.aspif.specs.declared.Kind.the-variants.{Normal, Choice}
 
 -- A rule. Heads are atoms, as the literals that say them true; "a negative literal is a default-negated atom".
 -- A rule that is read has its heads ascending and its body literals ascending by atom.
@@ -20,21 +18,26 @@ pub record Rule : Type 0 where
   pub body : List ℤ
 
 abbrev pub isNormal : Kind → Bool
-isNormal normal = true
-isNormal choice = false
+isNormal Normal = true
+isNormal Choice = false
 
 abbrev pub isEmpty : List ℤ → Bool
 isEmpty [] = true
 isEmpty (z ∷ zs) = false
 
+-- the largest atom that a rule names
+abbrev pub ruleTop : Rule → ℕ
+ruleTop r = max (top (r .heads)) (top (r .body))
+
 -- "N is the largest atom named, 0 if none; the atoms are 1 to N"
 abbrev pub atoms : List Rule → ℕ
 atoms [] = 0
-atoms (r ∷ rs) = max (max (top (r .heads)) (top (r .body))) (atoms rs)
+atoms (r ∷ rs) = max (ruleTop r) (atoms rs)
 
+-- "head kind (0 normal, 1 choice)"
 abbrev pub kindWord : Kind → ℤ
-kindWord normal = pos 0
-kindWord choice = pos 1
+kindWord Normal = pos 0
+kindWord Choice = pos 1
 
 -- "in signed 32-bit words: head kind, head count, body count, heads ascending, body literals ascending by atom"
 abbrev pub ruleWords : Rule → List ℤ

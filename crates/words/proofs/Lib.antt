@@ -3,3 +3,4 @@ pub mod Laws
 pub mod Words
 pub mod Tops
 pub mod Sorting
+pub mod Parts

@@ -1,0 +1,122 @@
+use mathlib.Core.Path.{_≡_, _∙_, sym, ap}
+use mathlib.Core.Bool.{true, _&&_}
+use Prim.Native.Nat.{ℕ, _+_, _≤_}
+use native.Mathlib.Omega.{arith}
+use borrow.Author.Needs.{sfits-of}
+use borrow.Author.Tests.{eq-eqb, ne-eqb}
+use lib.IntN.{ℤ, pos}
+use lib.ListN.{getD}
+use mir.Syntax.{w32}
+use mir.Val.{toZ, ofZ}
+use mir.Facts.{toZ-ofZ}
+use Rattle.words.specs.Literals.{variable}
+use Rattle.aspif.specs.Reading.{isAt, isCount}
+use Rattle.aspif.proofs.Counts.{count-small}
+use borrow.Author.Needs.{needs}
+use Rattle.aspif.proofs.rules.body_shape.Statement.{statement}
+use Rattle.aspif.proofs.rules.body_shape.Tie as tie
+use Rattle.aspif.proofs.rules.body_shape.Reads as reads
+use Rattle.aspif.proofs.rules.body_shape.Lts as lts
+use Rattle.aspif.proofs.rules.is_at.Reads as is-at-reads
+use Rattle.aspif.proofs.rules.is_count.Reads as is-count-reads
+use Rattle.aspif.proofs.rules.suited_shape.Reads as suited-shape-reads
+use Rattle.words.proofs.variable_of.Reads as variable-of-reads
+use Rattle.words.proofs.word_at.Reads as word-at-reads
+
+-- the body count, and that it is one, after a body kind
+module _ (c : tie.After-variable-of) where
+  placed : (let a = c .before .before .before .before .before .before .args in isAt (a .row .now) (a .count) (3 + a .heads) (pos 0) ≡ true)
+  placed = sym (c .before .before .before .before .before .is-at .ensures) ∙ c .before .before .before .before .if1 .taken
+
+  counted : (let a = c .before .before .before .before .before .before .args in isCount (a .row .now) (a .count) (4 + a .heads) ≡ true)
+  counted = sym (c .before .before .before .is-count .ensures) ∙ c .before .before .if2 .taken
+
+  body : (let a = c .before .before .before .before .before .before .args in
+      c .variable-of .result ≡ variable (getD (a .row .now) (4 + a .heads) (pos 0)))
+  body =
+      let w = c .before .word-at in
+      c .variable-of .ensures ∙ ap variable (toZ-ofZ (sfits-of {z = w .result} (w .ok)) ∙ w .ensures)
+
+  small : c .variable-of .result ≤ 64
+  small = rw body (let a = c .before .before .before .before .before .before .args in count-small (a .row .now) (a .count) (4 + a .heads) counted)
+
+-- src/rules.rt:69:26
+add-is-at : tie.Need-add-is-at
+add-is-at c = search needs
+
+-- src/rules.rt:69:8
+is-at-requires : tie.Need-is-at-requires
+is-at-requires c κs = search needs
+
+-- src/rules.rt:70:33
+add-is-count : tie.Need-add-is-count
+add-is-count c = search needs
+
+-- src/rules.rt:70:12
+is-count-requires : tie.Need-is-count-requires
+is-count-requires c κs = search needs
+
+-- src/rules.rt:71:63
+add-word-at : tie.Need-add-word-at
+add-word-at c = search needs
+
+-- src/rules.rt:71:43
+word-at-requires : tie.Need-word-at-requires
+word-at-requires c κs = search needs
+
+-- src/rules.rt:71:17
+variable-of-requires : tie.Need-variable-of-requires
+variable-of-requires c κs = search needs
+
+-- src/rules.rt:72:16
+add-if3 : tie.Need-add-if3
+add-if3 c = search needs
+
+-- src/rules.rt:72:16
+add-if3-2 : tie.Need-add-if3-2
+add-if3-2 c =
+    record { fits = omega (arith, small c, c .before .before .before .before .before .before .pre) }
+
+-- src/rules.rt:73:17
+suited-shape-requires : tie.Need-suited-shape-requires
+suited-shape-requires c κs = search needs
+
+-- src/rules.rt:73:17
+returns : tie.Need-returns
+returns c =
+    let d = c .before .before in
+    c .suited-shape .ensures ∙ rw (body d, placed d, counted d, eq-eqb _ _ (rw (body d) at (c .before .if3 .taken)))
+
+-- src/rules.rt:76:9
+returns-2 : tie.Need-returns-2
+returns-2 c =
+    let d = c .before in rw (placed d, counted d, ne-eqb _ _ (rw (body d) at (c .if3 .left)))
+
+-- src/rules.rt:76:9
+returns-3 : tie.Need-returns-3
+returns-3 c =
+    rw (sym (c .before .before .before .is-at .ensures) ∙ c .before .before .if1 .taken, sym (c .before .is-count .ensures) ∙ c .if2 .left)
+
+-- src/rules.rt:65:1
+returns-4 : tie.Need-returns-4
+returns-4 c =
+    rw (sym (c .before .is-at .ensures) ∙ c .if1 .left)
+
+pub body-shape-spec : {M : Type 1} → statement M
+body-shape-spec =
+    tie.close
+    (tie.spec
+    add-is-at
+    is-at-requires
+    add-is-count
+    is-count-requires
+    add-word-at
+    word-at-requires
+    variable-of-requires
+    add-if3
+    add-if3-2
+    suited-shape-requires
+    returns
+    returns-2
+    returns-3
+    returns-4)

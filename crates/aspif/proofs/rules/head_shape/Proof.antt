@@ -1,0 +1,88 @@
+use mathlib.Core.Path.{_≡_, _∙_, sym, ap}
+use mathlib.Core.Bool.{true, _&&_}
+use Prim.Native.Nat.{ℕ, _≤_}
+use native.Mathlib.Omega.{arith}
+use borrow.Author.Needs.{sfits-of}
+use borrow.Author.Tests.{le-leb, lt-leb, leb-true}
+use lib.IntN.{ℤ, pos}
+use lib.ListN.{getD}
+use mir.Syntax.{w32}
+use mir.Val.{toZ, ofZ}
+use mir.Facts.{toZ-ofZ}
+use Rattle.words.specs.Literals.{variable}
+use Rattle.aspif.specs.Reading.{isCount}
+use Rattle.aspif.proofs.Counts.{count-small}
+use borrow.Author.Needs.{needs}
+use Rattle.aspif.proofs.rules.head_shape.Statement.{statement}
+use Rattle.aspif.proofs.rules.head_shape.Tie as tie
+use Rattle.aspif.proofs.rules.head_shape.Reads as reads
+use Rattle.aspif.proofs.rules.head_shape.Lts as lts
+use Rattle.aspif.proofs.rules.body_shape.Reads as body-shape-reads
+use Rattle.aspif.proofs.rules.is_count.Reads as is-count-reads
+use Rattle.words.proofs.variable_of.Reads as variable-of-reads
+use Rattle.words.proofs.word_at.Reads as word-at-reads
+
+-- the head count, and that it is one
+module _ (c : tie.After-variable-of) where
+  counted : (let a = c .before .before .before .before .args in isCount (a .row .now) (a .count) 2 ≡ true)
+  counted = sym (c .before .before .before .is-count .ensures) ∙ c .before .before .if1 .taken
+
+  heads : c .variable-of .result ≡ variable (getD (c .before .before .before .before .args .row .now) 2 (pos 0))
+  heads =
+      let w = c .before .word-at in
+      c .variable-of .ensures ∙ ap variable (toZ-ofZ (sfits-of {z = w .result} (w .ok)) ∙ w .ensures)
+
+  small : c .variable-of .result ≤ 64
+  small = rw heads (let a = c .before .before .before .before .args in count-small (a .row .now) (a .count) 2 counted)
+
+-- src/rules.rt:85:8
+is-count-requires : tie.Need-is-count-requires
+is-count-requires c κs = search needs
+
+-- src/rules.rt:86:40
+word-at-requires : tie.Need-word-at-requires
+word-at-requires c κs = search needs
+
+-- src/rules.rt:86:13
+variable-of-requires : tie.Need-variable-of-requires
+variable-of-requires c κs = search needs
+
+-- src/rules.rt:87:12
+add-if2 : tie.Need-add-if2
+add-if2 c =
+    record { fits = omega (arith, small c) }
+
+-- src/rules.rt:88:13
+body-shape-requires : tie.Need-body-shape-requires
+body-shape-requires c κs =
+    small (c .before)
+
+-- src/rules.rt:88:13
+returns : tie.Need-returns
+returns c =
+    let d = c .before .before in
+    c .body-shape .ensures
+    ∙ rw (heads d, counted d, le-leb _ _ (rw (heads d) at (c .before .if2 .taken)))
+
+-- src/rules.rt:82:1
+returns-2 : tie.Need-returns-2
+returns-2 c =
+    let d = c .before in rw (counted d, lt-leb _ _ (rw (heads d) at (c .if2 .left)))
+
+-- src/rules.rt:82:1
+returns-3 : tie.Need-returns-3
+returns-3 c =
+    rw (sym (c .before .is-count .ensures) ∙ c .if1 .left)
+
+pub head-shape-spec : {M : Type 1} → statement M
+head-shape-spec =
+    tie.close
+    (tie.spec
+    is-count-requires
+    word-at-requires
+    variable-of-requires
+    add-if2
+    body-shape-requires
+    returns
+    returns-2
+    returns-3)
