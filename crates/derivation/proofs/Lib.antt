@@ -1,2 +1,5 @@
--- What holds of the steps.
+-- What holds of the steps: propagation as computed, and that an accepted proof leaves no answer set.
 pub mod Closure
+pub mod Valuations
+pub mod Questions
+pub mod Invariant

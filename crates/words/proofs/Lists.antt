@@ -17,6 +17,9 @@ pub record Decides (b : Bool) (A : Type 0) : Type 0 where
   pub to : T b → A
   pub from : A → T b
 
+pub itself : (b : Bool) → Decides b (T b)
+itself b = record { to = λ t. t; from = λ t. t }
+
 -- a test that is passed, as an equation and as a type
 pub passed : (b : Bool) → Decides b (b ≡ true)
 passed true = record { to = λ t. refl; from = λ p. tt }

@@ -1,10 +1,11 @@
 -- What the tests on literals say, and that a list put in order has the same elements. The words are those of specs/Literals.antt.
 -- Assumes nothing.
-use mathlib.Core.Path.{_≡_, refl, sym, ap, ap₂, subst}
-use mathlib.Core.Logic.{_⊎_, inl, inr, _↔_}
+use mathlib.Core.Path.{_≡_, refl, sym, ap, ap₂}
+use mathlib.Core.Logic.{_⊎_, inl, inr, _≢_}
 use mathlib.Core.Bool.{Bool, true, false, cond, _&&_}
-use mathlib.Core.List.{List, [], _∷_, head-eq-of-cons-eq, tail-eq-of-cons-eq, nil≢cons, cons≢nil, List·Memᴰ·head, List·Memᴰ·tail, Memᴰ·cast}
-use Prim.Native.Nat.{ℕ}
+use mathlib.Core.List.{List, [], _∷_, head-eq-of-cons-eq, tail-eq-of-cons-eq, nil≢cons, List·Memᴰ·head, List·Memᴰ·tail, Memᴰ·cast}
+use Prim.Native.Nat.{ℕ, zero, suc, _≤_}
+use native.Mathlib.Omega.{arith}
 use lib.Dec.{T, ltb, eqb→eq, eqb-refl}
 use lib.IntN.{ℤ, pos, negsuc, negℤ-negℤ}
 use Rattle.words.specs.Lists.{_∈_}
@@ -37,9 +38,21 @@ sameList-decides (x ∷ k) (y ∷ l) =
 pub has-decides : (x : ℤ) (l : List ℤ) → Decides (has x l) (x ∈ l)
 has-decides x l = reworded (λ r. Memᴰ·cast (r .2) (r .1)) (λ m. (x, m, refl)) (any-decides (same-decides x) l)
 
--- the complement of the complement
+-- Complements and variables
+
 pub complement-twice : (x : ℤ) → complement (complement x) ≡ x
 complement-twice = negℤ-negℤ
+
+pub variable-complement : (x : ℤ) → variable (complement x) ≡ variable x
+variable-complement (pos zero) = refl
+variable-complement (pos (suc n)) = refl
+variable-complement (negsuc n) = refl
+
+-- only 0 has the variable 0
+pub variable-positive : (x : ℤ) → x ≢ pos 0 → 1 ≤ variable x
+variable-positive (pos zero) f = absurd (f refl)
+variable-positive (pos (suc n)) f = omega arith
+variable-positive (negsuc n) f = omega arith
 
 -- Order
 

@@ -1,0 +1,80 @@
+-- What the questions put to a line and to a state say, as facts that the soundness of the steps uses. Assumes nothing.
+use mathlib.Core.Path.{_≡_, refl, sym}
+use mathlib.Core.Logic.{_⊎_, inl, inr, _≢_}
+use mathlib.Core.Bool.{Bool, true, false, _&&_}
+use mathlib.Core.List.{List, [], _∷_, List·Memᴰ·head, List·Memᴰ·tail, Memᴰ·cast}
+use Prim.Native.Nat.{ℕ, zero, suc, _≤_, max}
+use native.Mathlib.Omega.{arith}
+use lib.Dec.{T, eqb, leb}
+use lib.IntN.{ℤ, pos, negsuc}
+use Rattle.words.specs.Lists.{_∈_, any}
+use Rattle.words.specs.Literals.{variable, has, sameList}
+use Rattle.words.proofs.Lists.{Decides, itself, reworded, and-decides, or-decides, not-decides, any-decides, eqb-decides, leb-decides}
+use Rattle.words.proofs.Literals.{sameList-decides, has-decides, variable-positive}
+use Rattle.aspif.specs.Rules.{Kind, normal, choice, Rule, isNormal, top, atoms}
+use Rattle.drupe.specs.Lines.{isPositive}
+use Rattle.derivation.specs.States.{Named, State, isAtom, isKnown, isName, hasName}
+use Rattle.derivation.specs.Steps.{isExternal}
+
+-- Lines
+
+pub positive→ : (x : ℤ) → T (isPositive x) → (k : ℕ) × (x ≡ pos (suc k))
+positive→ (pos zero) t = absurd t
+positive→ (pos (suc k)) t = (k, refl)
+positive→ (negsuc n) t = absurd t
+
+pub positive-nonzero : (x : ℤ) → T (isPositive x) → x ≢ pos 0
+positive-nonzero x t p = let u : T (isPositive (pos 0)) = rw p at t in u
+
+pub positive-is : (x : ℤ) → T (isPositive x) → x ≡ pos (variable x)
+positive-is (pos n) t = refl
+positive-is (negsuc n) t = absurd t
+
+-- Atoms
+
+pub normal→ : (k : Kind) → T (isNormal k) → k ≡ normal
+normal→ normal t = refl
+normal→ choice t = absurd t
+
+top-le : {x : ℤ} {zs : List ℤ} → x ∈ zs → variable x ≤ top zs
+top-le (List·Memᴰ·head {x = y} {xs = zs} p) = rw p (omega arith)
+top-le (List·Memᴰ·tail {x = y} {xs = zs} m) = omega (arith, top-le m)
+
+atoms-le : (v : ℕ) {r : Rule} {P : List Rule} → r ∈ P → v ≤ max (top (r .heads)) (top (r .body)) → v ≤ atoms P
+atoms-le v (List·Memᴰ·head {x = q} {xs = P} p) h = let k : v ≤ max (top (q .heads)) (top (q .body)) = rw p at h in omega arith
+atoms-le v (List·Memᴰ·tail {x = q} {xs = P} m) h = omega (arith, atoms-le v m h)
+
+module _ (P : List Rule) where
+  -- what a rule names, and is not 0, is an atom
+  atom-le : (x : ℤ) → x ≢ pos 0 → variable x ≤ atoms P → T (isAtom P (variable x))
+  atom-le x f h = and-decides (leb-decides 1 (variable x)) (leb-decides (variable x) (atoms P)) .from (variable-positive x f, h)
+
+  pub head-atom : {r : Rule} → r ∈ P → {x : ℤ} → x ∈ r .heads → x ≢ pos 0 → T (isAtom P (variable x))
+  head-atom {r} m {x} u f = atom-le x f (atoms-le (variable x) m (omega (arith, top-le u)))
+
+  pub body-atom : {r : Rule} → r ∈ P → {x : ℤ} → x ∈ r .body → x ≢ pos 0 → T (isAtom P (variable x))
+  body-atom {r} m {x} u f = atom-le x f (atoms-le (variable x) m (omega (arith, top-le u)))
+
+  -- States
+
+  pub known-decides : (z : State) (v : ℕ) → Decides (isKnown P z v) (T (isAtom P v) ⊎ (v ∈ z .introduced))
+  known-decides z v =
+      or-decides (itself (isAtom P v))
+      (reworded (λ r. Memᴰ·cast (r .2) (r .1)) (λ m. (v, m, refl)) (any-decides (eqb-decides v) (z .introduced)))
+
+  pub atom-known : (z : State) (v : ℕ) → T (isAtom P v) → T (isKnown P z v)
+  atom-known z v t = known-decides z v .from (inl t)
+
+pub name-decides : (z : State) (n : ℕ) (body : List ℤ) → Decides (isName z n body) ((x : Named) × (x ∈ z .named) × ((x .name ≡ n) × (x .body ≡ body)))
+name-decides z n body = any-decides (λ x. and-decides (eqb-decides (x .name) n) (sameList-decides (x .body) body)) (z .named)
+
+pub hasName-decides : (z : State) (body : List ℤ) → Decides (hasName z body) ((x : Named) × (x ∈ z .named) × (x .body ≡ body))
+hasName-decides z body = any-decides (λ x. sameList-decides (x .body) body) (z .named)
+
+-- External bodies
+
+abbrev pub External : List ℤ → Rule → Type 0
+External U r = ((h : ℤ) × (h ∈ r .heads) × (h ∈ U)) × (¬ ((x : ℤ) × (x ∈ r .body) × (x ∈ U)))
+
+pub external-decides : (P : List Rule) (z : State) (U : List ℤ) (r : Rule) → Decides (isExternal P z U r) (External U r)
+external-decides P z U r = and-decides (any-decides (λ h. has-decides h U) (r .heads)) (not-decides (any-decides (λ x. has-decides x U) (r .body)))
