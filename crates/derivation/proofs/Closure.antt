@@ -178,7 +178,7 @@ module _ (live : List (List ℤ)) (L : List ℤ) where
     | inr c ↦ (r .0, closure-in live L reached (λ x m. grows live (length (joinAll live)) L m) c (r .1), closure-in live L reached (λ x m. grows live (length (joinAll live)) L m) c (r .2))
   ]
 
-  refuted-decides : Decides (refuted live L) (Conflict live L)
+  pub refuted-decides : Decides (refuted live L) (Conflict live L)
   refuted-decides = or-decides (reworded clash→ clash← (clash-decides reached)) (empty-decides live)
 
 pub closure-computed : ClosureComputed

@@ -3,3 +3,5 @@ pub mod Closure
 pub mod Valuations
 pub mod Questions
 pub mod Invariant
+pub mod Nogoods
+pub mod Sound

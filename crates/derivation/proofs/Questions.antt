@@ -32,9 +32,12 @@ positive-is (negsuc n) t = absurd t
 
 -- Atoms
 
-pub normal→ : (k : Kind) → T (isNormal k) → k ≡ normal
-normal→ normal t = refl
-normal→ choice t = absurd t
+pub normal-decides : (k : Kind) → Decides (isNormal k) (k ≡ normal)
+normal-decides k = record { to = go k; from = λ p. rw p tt }
+  where
+    go : (k : Kind) → T (isNormal k) → k ≡ normal
+    go normal t = refl
+    go choice t = absurd t
 
 top-le : {x : ℤ} {zs : List ℤ} → x ∈ zs → variable x ≤ top zs
 top-le (List·Memᴰ·head {x = y} {xs = zs} p) = rw p (omega arith)
