@@ -3,14 +3,14 @@
 -- derive, so that the closure has been reached. Assumes nothing.
 use mathlib.Core.Path.{_≡_, refl, sym}
 use mathlib.Core.Logic.{_⊎_, inl, inr}
-use mathlib.Core.Bool.{Bool, true, false, not, _||_}
+use mathlib.Core.Bool.{Bool, true, false, not}
 use mathlib.Core.List.{List, [], _∷_, _++_, map, nil≢cons, List·Memᴰ·head, Memᴰ·cast, List·Memᴰ·append-cases, Memᴰ·append-right, Memᴰ·of-map, Memᴰ·map}
 use Prim.Native.Nat.{ℕ, zero, suc, _≤_, _<_}
 use native.Mathlib.Omega.{arith}
 use lib.Dec.{T}
 use lib.IntN.{ℤ}
 use lib.ListN.{length}
-use Rattle.words.specs.Lists.{_∈_, any, all, keep, joinAll}
+use Rattle.words.specs.Lists.{_∈_, any, keep, joinAll}
 use Rattle.words.specs.Literals.{complement, same, has}
 use Rattle.words.proofs.Lists.{Decides, passed, answered, reworded, or-decides, not-decides, any-decides, all-decides, keep→, keep←, length-keep, keep-lt, joinAll→, joinAll←, none-in}
 use Rattle.words.proofs.Literals.{same-decides, has-decides, complement-twice}

@@ -1,17 +1,16 @@
 -- The nogoods of `c`, `s` and `l` fail under a valuation that comes from an answer set: a rule that applies gives its head, an atom
 -- of the least model has a rule that gives it, and a set without external support is unfounded. Assumes nothing.
 use mathlib.Core.Path.{_≡_, refl, sym, ap, _∙_, subst, subst₂}
-use mathlib.Core.Logic.{_⊎_, inl, inr, _↔_}
 use mathlib.Core.Bool.{Bool, _&&_}
 use mathlib.Core.List.{List, [], _∷_, map, List·Memᴰ·head, List·Memᴰ·tail, Memᴰ·cast, Memᴰ·map}
 use Prim.Native.Nat.{ℕ, zero, suc}
 use lib.Dec.{T}
 use lib.IntN.{ℤ, pos, negsuc, negℤ}
-use Rattle.words.specs.Lists.{_∈_, any, keep}
+use Rattle.words.specs.Lists.{_∈_, any}
 use Rattle.words.specs.Literals.{variable, complement, sameList}
 use Rattle.words.proofs.Lists.{and-decides, any-decides, keep←}
 use Rattle.words.proofs.Literals.{sameList-decides}
-use Rattle.aspif.specs.Rules.{Kind, normal, Rule}
+use Rattle.aspif.specs.Rules.{normal, Rule}
 use Rattle.answer_set.specs.AnswerSets.{Taken, Chosen, LeastModel, derive, Met, AnswerSet}
 use Rattle.drupe.specs.Lines.{isPositive}
 use Rattle.derivation.specs.States.{Named, State, isAtom, isName, hasName}
@@ -107,20 +106,27 @@ module _ (P : List Rule) (M : ℕ → Type 0) (S : AnswerSet M P) (z : State) (k
     abbrev isExternalName : Named → Bool
     isExternalName x = any (λ r. isExternal P z U r && sameList (x .body) (r .body)) P
 
-    -- no atom of U is in the least model, where no external body is true
+    -- where the names of the external bodies are false, so are the bodies
+    external-false : All (k .W) (map (λ n. negℤ (pos n)) (externalNames P z U)) → (r : Rule) → r ∈ P → External U r → AllAtoms P (r .body) × (¬ All (k .W) (r .body))
+    external-false f r m e = let y = hasName-decides z (r .body) .to (s r m e) in go (y .0) (y .1) (y .2)
+      where
+        go : (x : Named) → x ∈ z .named → x .body ≡ r .body → AllAtoms P (r .body) × (¬ All (k .W) (r .body))
+        go x n p =
+            let i : T (isExternalName x) = any-decides (λ r. and-decides (external-decides P z U r) (sameList-decides (x .body) (r .body))) P .from (r, m, (e, p)) in
+            let v : True (k .W) (negℤ (pos (x .name))) = f (negℤ (pos (x .name))) (Memᴰ·map (λ n. negℤ (pos n)) (Memᴰ·map (λ x. x .name) (keep← isExternalName n i))) in
+            let q = k .named x n in
+            (subst (λ (l : List ℤ). AllAtoms P l) p (q .atoms), λ h. q .means .1 v (subst (λ (l : List ℤ). All (k .W) l) (sym p) h))
+
+    -- then no atom of U is in the least model
     unfounded : All (k .W) (map (λ n. negℤ (pos n)) (externalNames P z U)) → {a : ℕ} → LeastModel M P a → ¬ (pos a ∈ U)
     unfounded f (derive {h = a} r m t g b) u = go (λ c v w. unfounded f (b c v) w)
       where
         -- by induction, no positive atom of the body is in U
         go : ((c : ℕ) → pos c ∈ r .body → ¬ (pos c ∈ U)) → ⊥
-        go below =
-            let e : External U r = ((pos a, g .0, u), λ y. below (variable (y .0)) (Memᴰ·cast (sym (positive-is (y .0) (positive (y .0) (y .2)))) (y .1)) (Memᴰ·cast (sym (positive-is (y .0) (positive (y .0) (y .2)))) (y .2))) in
-            let y = hasName-decides z (r .body) .to (s r m e) in
-            let q = k .named (y .0) (y .1) in
-            let i : T (isExternalName (y .0)) = any-decides (λ r. and-decides (external-decides P z U r) (sameList-decides (y .0 .body) (r .body))) P .from (r, m, (e, y .2)) in
-            q .means .1
-            (f (negℤ (pos (y .0 .name))) (Memᴰ·map (λ n. negℤ (pos n)) (Memᴰ·map (λ x. x .name) (keep← isExternalName (y .1) i))))
-            (subst (λ (l : List ℤ). All (k .W) l) (sym (y .2)) (used r (subst (λ (l : List ℤ). AllAtoms P l) (y .2) (q .atoms)) t b))
+        go below = let q = external-false f r m ((pos a, g .0, u), λ y. outside (y .0) (y .1) (y .2)) in q .1 (used r (q .0) t b)
+          where
+            outside : (x : ℤ) → x ∈ r .body → ¬ (x ∈ U)
+            outside x v w = let p = sym (positive-is x (positive x w)) in below (variable x) (Memᴰ·cast p v) (Memᴰ·cast p w)
 
     pub loop-fails : (h : ℤ) → h ∈ U → T (isAtom P (variable h)) → ¬ All (k .W) (h ∷ map (λ n. negℤ (pos n)) (externalNames P z U))
     loop-fails h m a f =

@@ -1,14 +1,13 @@
 -- What the questions put to a line and to a state say, as facts that the soundness of the steps uses. Assumes nothing.
-use mathlib.Core.Path.{_≡_, refl, sym}
-use mathlib.Core.Logic.{_⊎_, inl, inr, _≢_}
-use mathlib.Core.Bool.{Bool, true, false, _&&_}
-use mathlib.Core.List.{List, [], _∷_, List·Memᴰ·head, List·Memᴰ·tail, Memᴰ·cast}
-use Prim.Native.Nat.{ℕ, zero, suc, _≤_, max}
+use mathlib.Core.Path.{_≡_, refl}
+use mathlib.Core.Logic.{_⊎_, inl, _≢_}
+use mathlib.Core.List.{List, List·Memᴰ·head, List·Memᴰ·tail, Memᴰ·cast}
+use Prim.Native.Nat.{ℕ, _≤_, max}
 use native.Mathlib.Omega.{arith}
-use lib.Dec.{T, eqb, leb}
+use lib.Dec.{T}
 use lib.IntN.{ℤ, pos, negsuc}
-use Rattle.words.specs.Lists.{_∈_, any}
-use Rattle.words.specs.Literals.{variable, has, sameList}
+use Rattle.words.specs.Lists.{_∈_}
+use Rattle.words.specs.Literals.{variable}
 use Rattle.words.proofs.Lists.{Decides, itself, reworded, and-decides, or-decides, not-decides, any-decides, eqb-decides, leb-decides}
 use Rattle.words.proofs.Literals.{sameList-decides, has-decides, variable-positive}
 use Rattle.aspif.specs.Rules.{Kind, normal, choice, Rule, isNormal, top, atoms}
@@ -17,11 +16,6 @@ use Rattle.derivation.specs.States.{Named, State, isAtom, isKnown, isNam
 use Rattle.derivation.specs.Steps.{isExternal}
 
 -- Lines
-
-pub positive→ : (x : ℤ) → T (isPositive x) → (k : ℕ) × (x ≡ pos (suc k))
-positive→ (pos zero) t = absurd t
-positive→ (pos (suc k)) t = (k, refl)
-positive→ (negsuc n) t = absurd t
 
 pub positive-nonzero : (x : ℤ) → T (isPositive x) → x ≢ pos 0
 positive-nonzero x t p = let u : T (isPositive (pos 0)) = rw p at t in u

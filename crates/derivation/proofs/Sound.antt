@@ -2,27 +2,26 @@
 -- answer set, nor has it any with further constraints. Each step keeps the invariant of Invariant.antt. Assumes nothing.
 use mathlib.Core.Path.{_≡_, refl, sym, subst}
 use mathlib.Core.Logic.{_⊎_, inl, inr}
-use mathlib.Core.Bool.{Bool, true, false, cond, not, _&&_, _||_}
+use mathlib.Core.Bool.{Bool, true, false, cond, not, _||_}
 use mathlib.Core.Option.{Option, none, some}
 use mathlib.Core.List.{List, [], _∷_, _++_, map, List·Memᴰ·head, List·Memᴰ·tail, List·Memᴰ·cases-cons, List·Memᴰ·append-cases, Memᴰ·append-left, Memᴰ·cast, Memᴰ·of-map}
 use Prim.Native.Nat.{ℕ}
 use lib.Dec.{T, ltb}
 use lib.IntN.{ℤ, pos, negℤ}
 use lib.ListN.{length}
-use Rattle.words.specs.Lists.{_∈_, any, all}
-use Rattle.words.specs.Literals.{variable, complement, has, noneTwice, ascending}
-use Rattle.words.proofs.Lists.{Decides, itself, passed, and-decides, not-decides, if-decides, any-decides, all-decides, keep→, dropFirst→}
+use Rattle.words.specs.Lists.{_∈_, all}
+use Rattle.words.specs.Literals.{variable, complement, noneTwice, ascending}
+use Rattle.words.proofs.Lists.{Decides, itself, passed, and-decides, if-decides, any-decides, all-decides, keep→, dropFirst→}
 use Rattle.words.proofs.Literals.{sameList-decides, has-decides, variable-complement, ascending←}
 use Rattle.text.specs.Line.{anyOutside}
 use Rattle.text.specs.declared.Letter.{Letter}
 use Rattle.text.specs.declared.Letter.the-variants.{Addition, Body, Completion, Deletion, Extension, Loop, Support}
-use Rattle.aspif.specs.Rules.{Rule, isNormal}
+use Rattle.aspif.specs.Rules.{Rule}
 use Rattle.answer_set.specs.AnswerSets.{Constraint, LeastModel, derive, AnswerSet}
 use Rattle.drupe.specs.Lines.{signsOf, isPositive, signed, lineRefusal, mostNumbers}
-use Rattle.derivation.specs.Propagation.{refuted}
 use Rattle.derivation.specs.States.{Named, State, start, isAtom, isKnown, isName, hasName}
 use Rattle.derivation.specs.Steps.{Step, Outcome, refused, next, allKnown, body, extension, completion, support, externalNames, loop, addition, deletion, naming, citing, byLetter, step, steps, emptyLive}
-use Rattle.derivation.specs.Claims.{NoAnswerSet, Demand3}
+use Rattle.derivation.specs.Claims.{Demand3}
 use Rattle.derivation.proofs.Closure.{empty-decides, refuted-decides}
 use Rattle.derivation.proofs.Valuations.{conflict-false}
 use Rattle.derivation.proofs.Questions.{normal-decides, body-atom, external-decides}

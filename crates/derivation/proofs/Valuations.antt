@@ -1,12 +1,12 @@
 -- Valuations of the variables: when a literal is true under one, when a name means its literals, and that propagation leads from
 -- true literals to true literals. A valuation is any predicate on numbers, so truth is stated with double negations where a
 -- decision would be needed. Assumes nothing.
-use mathlib.Core.Path.{_≡_, refl, sym, subst}
+use mathlib.Core.Path.{_≡_, refl, sym}
 use mathlib.Core.Logic.{_⊎_, inl, inr, _↔_, _≢_}
-use mathlib.Core.Bool.{Bool, true, false, cond}
-use mathlib.Core.List.{List, [], _∷_, map, List·Memᴰ·head, List·Memᴰ·tail, List·Memᴰ·cases-cons, Memᴰ·cast, Memᴰ·of-map}
+use mathlib.Core.Bool.{cond}
+use mathlib.Core.List.{List, [], _∷_, List·Memᴰ·head, List·Memᴰ·tail, List·Memᴰ·cases-cons, Memᴰ·cast, Memᴰ·of-map}
 use Prim.Native.Nat.{ℕ, zero, suc}
-use lib.Dec.{T, eqb}
+use lib.Dec.{eqb}
 use lib.IntN.{ℤ, pos, negsuc}
 use Rattle.words.specs.Lists.{_∈_}
 use Rattle.words.specs.Literals.{variable, complement, ascending}
