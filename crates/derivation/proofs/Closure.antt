@@ -175,8 +175,11 @@ module _ (live : List (List ℤ)) (L : List ℤ) where
   clash← : (x : ℤ) × Closure live L x × Closure live L (complement x) → (x : ℤ) × (x ∈ reached) × (complement x ∈ reached)
   clash← r = elim (done live (length (joinAll live)) L (length-keep (lacks live L) (joinAll live))) [
     | inl t ↦ clash-decides reached .to t
-    | inr c ↦ (r .0, closure-in live L reached (λ x m. grows live (length (joinAll live)) L m) c (r .1), closure-in live L reached (λ x m. grows live (length (joinAll live)) L m) c (r .2))
+    | inr c ↦ (r .0, here c (r .1), here c (r .2))
   ]
+    where
+      here : ((x : ℤ) → ¬ (x ∈ fresh live reached)) → {x : ℤ} → Closure live L x → x ∈ reached
+      here c = closure-in live L reached (λ x m. grows live (length (joinAll live)) L m) c
 
   pub refuted-decides : Decides (refuted live L) (Conflict live L)
   refuted-decides = or-decides (reworded clash→ clash← (clash-decides reached)) (empty-decides live)

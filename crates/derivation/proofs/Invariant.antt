@@ -1,7 +1,7 @@
 -- What holds between steps, for a set M: there is a valuation that agrees with M on the atoms, under which each name of a rule
 -- body means that body and no live nogood holds. Names and live nogoods have known variables only, so a fresh name can be given
 -- any value. Assumes nothing.
-use mathlib.Core.Path.{_≡_, refl, sym, subst}
+use mathlib.Core.Path.{_≡_, refl, transport, transport⁻¹}
 use mathlib.Core.Logic.{_⊎_, inl, inr, _↔_, Iff·symm, Iff·rfl}
 use mathlib.Core.Bool.{Bool}
 use mathlib.Core.List.{List, [], _∷_, List·Memᴰ·head, List·Memᴰ·tail, List·Memᴰ·append-cases, List·Memᴰ·eq-of-singleton, Memᴰ·of-map}
@@ -72,12 +72,12 @@ module _ (P : List Rule) (M : ℕ → Type 0) where
     same-true y t = true-agrees W′ (k .W) y (same-value (variable y) t)
 
     same-all : (l : List ℤ) → AllKnown P z l → All W′ l ↔ All (k .W) l
-    same-all l a = (λ f y m. subst (λ (A : Type 0). A) (same-true y (a y m)) (f y m), λ f y m. subst (λ (A : Type 0). A) (sym (same-true y (a y m))) (f y m))
+    same-all l a = (λ f y m. transport (same-true y (a y m)) (f y m), λ f y m. transport⁻¹ (same-true y (a y m)) (f y m))
 
     same-means : (m : ℤ) (l : List ℤ) → T (isKnown P z (variable m)) → AllKnown P z l → Means (k .W) m l → Means W′ m l
     same-means m l t a e = (
-      λ u. same-all l a .1 (e .0 (subst (λ (A : Type 0). A) (same-true m t) u)),
-      λ u f. e .1 (subst (λ (A : Type 0). A) (same-true (complement m) (rw (variable-complement m) t)) u) (same-all l a .0 f),
+      λ u. same-all l a .1 (e .0 (transport (same-true m t) u)),
+      λ u f. e .1 (transport (same-true (complement m) (rw (variable-complement m) t)) u) (same-all l a .0 f),
     )
 
     new-means : Means W′ (pos (suc n)) L

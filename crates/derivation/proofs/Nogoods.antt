@@ -8,15 +8,15 @@ use lib.Dec.{T}
 use lib.IntN.{ℤ, pos, negsuc, negℤ}
 use Rattle.words.specs.Lists.{_∈_, any}
 use Rattle.words.specs.Literals.{variable, complement, sameList}
-use Rattle.words.proofs.Lists.{and-decides, any-decides, keep←}
-use Rattle.words.proofs.Literals.{sameList-decides}
+use Rattle.words.proofs.Lists.{itself, and-decides, not-decides, any-decides, keep←}
+use Rattle.words.proofs.Literals.{sameList-decides, has-decides}
 use Rattle.aspif.specs.Rules.{normal, Rule}
 use Rattle.answer_set.specs.AnswerSets.{Taken, Chosen, LeastModel, derive, Met, AnswerSet}
 use Rattle.drupe.specs.Lines.{isPositive}
 use Rattle.derivation.specs.States.{Named, State, isAtom, isName, hasName}
 use Rattle.derivation.specs.Steps.{isExternal, externalNames}
 use Rattle.derivation.proofs.Valuations.{True, All, Means, never-both, shift}
-use Rattle.derivation.proofs.Questions.{positive-nonzero, positive-is, head-atom, name-decides, hasName-decides, External, external-decides}
+use Rattle.derivation.proofs.Questions.{positive-nonzero, positive-is, head-atom, name-decides, hasName-decides}
 use Rattle.derivation.proofs.Invariant.{AllAtoms, Kept}
 
 -- what a literal of a body says of M
@@ -102,33 +102,42 @@ module _ (P : List Rule) (M : ℕ → Type 0) (S : AnswerSet M P) (z : State) (k
 
   -- Loops
 
-  module _ (U : List ℤ) (positive : Positives U) (s : (r : Rule) → r ∈ P → External U r → T (hasName z (r .body))) where
+  module _ (U : List ℤ) (positive : Positives U) (s : (r : Rule) → r ∈ P → T (isExternal P z U r) → T (hasName z (r .body))) where
+    -- "minus the name of each" external body
+    abbrev externals : List ℤ
+    externals = map (λ n. negℤ (pos n)) (externalNames P z U)
+
     abbrev isExternalName : Named → Bool
     isExternalName x = any (λ r. isExternal P z U r && sameList (x .body) (r .body)) P
 
     -- where the names of the external bodies are false, so are the bodies
-    external-false : All (k .W) (map (λ n. negℤ (pos n)) (externalNames P z U)) → (r : Rule) → r ∈ P → External U r → AllAtoms P (r .body) × (¬ All (k .W) (r .body))
+    external-false : All (k .W) externals → (r : Rule) → r ∈ P → T (isExternal P z U r) → AllAtoms P (r .body) × (¬ All (k .W) (r .body))
     external-false f r m e = let y = hasName-decides z (r .body) .to (s r m e) in go (y .0) (y .1) (y .2)
       where
         go : (x : Named) → x ∈ z .named → x .body ≡ r .body → AllAtoms P (r .body) × (¬ All (k .W) (r .body))
         go x n p =
-            let i : T (isExternalName x) = any-decides (λ r. and-decides (external-decides P z U r) (sameList-decides (x .body) (r .body))) P .from (r, m, (e, p)) in
+            let i : T (isExternalName x) = any-decides (λ r. and-decides (itself (isExternal P z U r)) (sameList-decides (x .body) (r .body))) P .from (r, m, (e, p)) in
             let v : True (k .W) (negℤ (pos (x .name))) = f (negℤ (pos (x .name))) (Memᴰ·map (λ n. negℤ (pos n)) (Memᴰ·map (λ x. x .name) (keep← isExternalName n i))) in
             let q = k .named x n in
             (subst (λ (l : List ℤ). AllAtoms P l) p (q .atoms), λ h. q .means .1 v (subst (λ (l : List ℤ). All (k .W) l) (sym p) h))
 
     -- then no atom of U is in the least model
-    unfounded : All (k .W) (map (λ n. negℤ (pos n)) (externalNames P z U)) → {a : ℕ} → LeastModel M P a → ¬ (pos a ∈ U)
+    unfounded : All (k .W) externals → {a : ℕ} → LeastModel M P a → ¬ (pos a ∈ U)
     unfounded f (derive {h = a} r m t g b) u = go (λ c v w. unfounded f (b c v) w)
       where
         -- by induction, no positive atom of the body is in U
         go : ((c : ℕ) → pos c ∈ r .body → ¬ (pos c ∈ U)) → ⊥
-        go below = let q = external-false f r m ((pos a, g .0, u), λ y. outside (y .0) (y .1) (y .2)) in q .1 (used r (q .0) t b)
+        go below = let q = external-false f r m external in q .1 (used r (q .0) t b)
           where
             outside : (x : ℤ) → x ∈ r .body → ¬ (x ∈ U)
             outside x v w = let p = sym (positive-is x (positive x w)) in below (variable x) (Memᴰ·cast p v) (Memᴰ·cast p w)
 
-    pub loop-fails : (h : ℤ) → h ∈ U → T (isAtom P (variable h)) → ¬ All (k .W) (h ∷ map (λ n. negℤ (pos n)) (externalNames P z U))
+            external : T (isExternal P z U r)
+            external =
+                and-decides (any-decides (λ x. has-decides x U) (r .heads)) (not-decides (any-decides (λ x. has-decides x U) (r .body)))
+                .from ((pos a, g .0, u), λ y. outside (y .0) (y .1) (y .2))
+
+    pub loop-fails : (h : ℤ) → h ∈ U → T (isAtom P (variable h)) → ¬ All (k .W) (h ∷ externals)
     loop-fails h m a f =
         let p = positive h m in
         atom→ h p a (f h (List·Memᴰ·head refl)) (λ d. unfounded (λ x u. f x (List·Memᴰ·tail u)) d (Memᴰ·cast (sym (positive-is h p)) m))

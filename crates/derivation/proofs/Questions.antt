@@ -8,12 +8,11 @@ use lib.Dec.{T}
 use lib.IntN.{ℤ, pos, negsuc}
 use Rattle.words.specs.Lists.{_∈_}
 use Rattle.words.specs.Literals.{variable}
-use Rattle.words.proofs.Lists.{Decides, itself, reworded, and-decides, or-decides, not-decides, any-decides, eqb-decides, leb-decides}
-use Rattle.words.proofs.Literals.{sameList-decides, has-decides, variable-positive}
+use Rattle.words.proofs.Lists.{Decides, itself, reworded, and-decides, or-decides, any-decides, eqb-decides, leb-decides}
+use Rattle.words.proofs.Literals.{sameList-decides, variable-positive}
 use Rattle.aspif.specs.Rules.{Kind, normal, choice, Rule, isNormal, top, atoms}
 use Rattle.drupe.specs.Lines.{isPositive}
 use Rattle.derivation.specs.States.{Named, State, isAtom, isKnown, isName, hasName}
-use Rattle.derivation.specs.Steps.{isExternal}
 
 -- Lines
 
@@ -67,11 +66,3 @@ name-decides z n body = any-decides (λ x. and-decides (eqb-decides (x .name) n)
 
 pub hasName-decides : (z : State) (body : List ℤ) → Decides (hasName z body) ((x : Named) × (x ∈ z .named) × (x .body ≡ body))
 hasName-decides z body = any-decides (λ x. sameList-decides (x .body) body) (z .named)
-
--- External bodies
-
-abbrev pub External : List ℤ → Rule → Type 0
-External U r = ((h : ℤ) × (h ∈ r .heads) × (h ∈ U)) × (¬ ((x : ℤ) × (x ∈ r .body) × (x ∈ U)))
-
-pub external-decides : (P : List Rule) (z : State) (U : List ℤ) (r : Rule) → Decides (isExternal P z U r) (External U r)
-external-decides P z U r = and-decides (any-decides (λ h. has-decides h U) (r .heads)) (not-decides (any-decides (λ x. has-decides x U) (r .body)))

@@ -20,11 +20,11 @@ use Rattle.aspif.specs.Rules.{Rule}
 use Rattle.answer_set.specs.AnswerSets.{Constraint, LeastModel, derive, AnswerSet}
 use Rattle.drupe.specs.Lines.{signsOf, isPositive, signed, lineRefusal, mostNumbers}
 use Rattle.derivation.specs.States.{Named, State, start, isAtom, isKnown, isName, hasName}
-use Rattle.derivation.specs.Steps.{Step, Outcome, refused, next, allKnown, body, extension, completion, support, externalNames, loop, addition, deletion, naming, citing, byLetter, step, steps, emptyLive}
+use Rattle.derivation.specs.Steps.{Step, Outcome, refused, next, allKnown, body, extension, completion, support, isExternal, externalNames, loop, addition, deletion, naming, citing, byLetter, step, steps, emptyLive}
 use Rattle.derivation.specs.Claims.{Demand3}
 use Rattle.derivation.proofs.Closure.{empty-decides, refuted-decides}
 use Rattle.derivation.proofs.Valuations.{conflict-false}
-use Rattle.derivation.proofs.Questions.{normal-decides, body-atom, external-decides}
+use Rattle.derivation.proofs.Questions.{normal-decides, body-atom}
 use Rattle.derivation.proofs.Invariant.{AllKnown, AllAtoms, Kept, start-kept, add-kept, define-kept}
 use Rattle.derivation.proofs.Nogoods.{Positives, completion-fails, support-fails, loop-fails}
 
@@ -102,12 +102,13 @@ module _ (P : List Rule) (M : ℕ → Type 0) (S : AnswerSet M P) where
     citing-fine : (L : List ℤ) (o : Outcome) → (AllKnown P z L → Fine o) → Fine (citing P z L o)
     citing-fine L o f = if-yes (known-decides L) o 26 f
 
-    -- each letter, with what the questions before say of its numbers
+    -- each letter, where the questions before it are passed
 
     body-fine : (n : ℤ) (L : List ℤ) → T (isPositive n) → ¬ (pos 0 ∈ L) → Fine (naming P z n L (body P z n L))
     body-fine n L p nz =
+        let question = and-decides (any-decides (λ r. sameList-decides (r .body) (ascending L)) P) (itself (not (hasName z (ascending L)))) in
         naming-fine n L (body P z n L)
-        (λ fresh known. if-yes (and-decides (any-decides (λ r. sameList-decides (r .body) (ascending L)) P) (itself (not (hasName z (ascending L))))) _ 28
+        (λ fresh known. if-yes question _ 28
         (λ t. define-kept P M z k n L _ p fresh known nz (λ x m. names (t .0) x (List·Memᴰ·cases-cons m))))
       where
         new : Named
@@ -122,22 +123,27 @@ module _ (P : List Rule) (M : ℕ → Type 0) (S : AnswerSet M P) where
 
     completion-fine : (n : ℤ) (hs : List ℤ) → T (isPositive n) → Positives hs → Fine (citing P z (n ∷ hs) (completion P z n hs))
     completion-fine n hs p q =
+        let question = any-decides (λ r. and-decides (normal-decides (r .kind)) (and-decides (sameList-decides (r .heads) hs) (itself (isName z (variable n) (r .body))))) P in
         citing-fine (n ∷ hs) (completion P z n hs)
-        (λ known. if-yes (any-decides (λ r. and-decides (normal-decides (r .kind)) (and-decides (sameList-decides (r .heads) hs) (itself (isName z (variable n) (r .body))))) P) _ 29
-        (λ t. add-kept P M z k (n ∷ map complement hs) (with-complements-known n hs known) (completion-fails P M S z k n hs p q (t .0) (t .1) (t .2 .0) (t .2 .1 .0) (t .2 .1 .1))))
+        (λ known. if-yes question _ 29
+        (λ t. add-kept P M z k (n ∷ map complement hs) (with-complements-known n hs known)
+        (completion-fails P M S z k n hs p q (t .0) (t .1) (t .2 .0) (t .2 .1 .0) (t .2 .1 .1))))
 
     support-fine : (h : ℤ) (ns : List ℤ) → T (isPositive h) → Positives ns → Fine (citing P z (h ∷ ns) (support P z h ns))
     support-fine h ns p q =
+        let supported = all-decides (λ r. if-decides (has-decides h (r .heads)) (any-decides (λ n. itself (isName z (variable n) (r .body))) ns)) P in
         citing-fine (h ∷ ns) (support P z h ns)
-        (λ known. if-yes (and-decides (itself (isAtom P (variable h))) (and-decides (all-decides (λ r. if-decides (has-decides h (r .heads)) (any-decides (λ n. itself (isName z (variable n) (r .body))) ns)) P) (itself _))) _ 30
+        (λ known. if-yes (and-decides (itself (isAtom P (variable h))) (and-decides supported (itself _))) _ 30
         (λ t. add-kept P M z k (h ∷ map complement ns) (with-complements-known h ns known) (support-fails P M S z k h ns p q (t .0) (t .1 .0))))
 
     loop-fine : (h : ℤ) (hs : List ℤ) → Positives (h ∷ hs) → Fine (citing P z (h ∷ hs) (loop P z h hs))
     loop-fine h hs q =
+        let question = all-decides (λ r. if-decides (itself (isExternal P z (h ∷ hs) r)) (itself (hasName z (r .body)))) P in
         citing-fine (h ∷ hs) (loop P z h hs)
         (λ known. if-yes (all-decides (λ x. itself (isAtom P (variable x))) (h ∷ hs)) _ 31
-        (λ a. if-yes (all-decides (λ r. if-decides (external-decides P z (h ∷ hs) r) (itself (hasName z (r .body)))) P) _ 32
-        (λ e. add-kept P M z k (h ∷ map (λ n. negℤ (pos n)) (externalNames P z (h ∷ hs))) (with-known (known h (List·Memᴰ·head refl)) (externals-known (h ∷ hs)))
+        (λ a. if-yes question _ 32
+        (λ e. add-kept P M z k (h ∷ map (λ n. negℤ (pos n)) (externalNames P z (h ∷ hs)))
+        (with-known (known h (List·Memᴰ·head refl)) (externals-known (h ∷ hs)))
         (loop-fails P M S z k (h ∷ hs) q e h (List·Memᴰ·head refl) (a h (List·Memᴰ·head refl))))))
 
     addition-fine : (L : List ℤ) → ¬ (pos 0 ∈ L) → Fine (citing P z L (addition P z L))

@@ -61,7 +61,9 @@ module _ (W : ℕ → Type 0) where
   definition-false n L z e g (List·Memᴰ·head p) h =
       let f : All W (complement n ∷ L) = all-unsorted (complement n ∷ L) (rw p at h) in
       e .1 (f (complement n) (List·Memᴰ·head refl)) (λ x m. f x (List·Memᴰ·tail m))
-  definition-false n L z e g (List·Memᴰ·tail m) h = let r = Memᴰ·of-map (λ x. ascending (n ∷ complement x ∷ [])) (ascending L) m in go (r .0) (ascending→ L (r .1)) (rw (← r .2) at h)
+  definition-false n L z e g (List·Memᴰ·tail m) h =
+      let r = Memᴰ·of-map (λ x. ascending (n ∷ complement x ∷ [])) (ascending L) m in
+      go (r .0) (ascending→ L (r .1)) (rw (← r .2) at h)
     where
       go : (x : ℤ) → x ∈ L → All W (ascending (n ∷ complement x ∷ [])) → ⊥
       go x m k =
