@@ -26,15 +26,15 @@ AllKnown P z L = (y : ℤ) → y ∈ L → T (isKnown P z (variable y))
 abbrev pub AllAtoms : List Rule → List ℤ → Type 0
 AllAtoms P L = (y : ℤ) → y ∈ L → T (isAtom P (variable y))
 
--- a name of a rule body, and a live nogood; `known` is the test for known variables
-module _ (P : List Rule) (known : ℕ → Bool) (W : ℕ → Type 0) where
+-- a name of a rule body, and a live nogood; `test` is the one for known variables
+module _ (P : List Rule) (test : ℕ → Bool) (W : ℕ → Type 0) where
   pub record NameKept (x : Named) : Type 0 where
-    pub introduced : T (known (x .name))
+    pub known : T (test (x .name))
     pub atoms : AllAtoms P (x .body)
     pub means : Means W (pos (x .name)) (x .body)
 
   pub record NogoodKept (g : List ℤ) : Type 0 where
-    pub introduced : (y : ℤ) → y ∈ g → T (known (variable y))
+    pub known : (y : ℤ) → y ∈ g → T (test (variable y))
     pub fails : ¬ All W g
 
 pub record Kept (P : List Rule) (M : ℕ → Type 0) (z : State) : Type 1 where
@@ -53,7 +53,7 @@ module _ (P : List Rule) (M : ℕ → Type 0) where
     where
       go : (h : List ℤ) → (h ∈ z .live) ⊎ (h ∈ ascending g ∷ []) → NogoodKept P (isKnown P z) (k .W) h
       go h (inl m) = k .live h m
-      go h (inr m) = rw (List·Memᴰ·eq-of-singleton m) (record { introduced = λ y u. a y (ascending→ g u); fails = λ t. f (all-unsorted (k .W) g t) })
+      go h (inr m) = rw (List·Memᴰ·eq-of-singleton m) (record { known = λ y u. a y (ascending→ g u); fails = λ t. f (all-unsorted (k .W) g t) })
 
   -- a fresh name, with the literals that it is to mean
   module _ (z : State) (k : Kept P M z) (n : ℕ) (L : List ℤ) (named : List Named) (fresh : ¬ T (isKnown P z (suc n))) (known : AllKnown P z L) where
@@ -116,12 +116,12 @@ module _ (P : List Rule) (M : ℕ → Type 0) where
         go (inl u) =
             let q = k .named x u in
             record {
-              introduced = still (x .name) (q .introduced);
+              known = still (x .name) (q .known);
               atoms = q .atoms;
-              means = same-means (pos (x .name)) (x .body) (q .introduced) (λ y v. atom-known P z (variable y) (q .atoms y v)) (q .means);
+              means = same-means (pos (x .name)) (x .body) (q .known) (λ y v. atom-known P z (variable y) (q .atoms y v)) (q .means);
             }
         go (inr r) = rw r.0 (record {
-          introduced = name-known;
+          known = name-known;
           atoms = λ y u. r .1 y (ascending→ L u);
           means = (λ t. all-sorted W′ L (new-means .0 t), λ t f. new-means .1 t (all-unsorted W′ L f));
         })
@@ -137,8 +137,8 @@ module _ (P : List Rule) (M : ℕ → Type 0) where
         go : (g : List ℤ) → (g ∈ z .live) ⊎ (g ∈ definition (pos (suc n)) L) → NogoodKept P (isKnown P after) W′ g
         go g (inl m) =
             let q = k .live g m in
-            record { introduced = λ y u. still (variable y) (q .introduced y u); fails = λ f. q .fails (same-all g (q .introduced) .0 f) }
-        go g (inr m) = record { introduced = definition-known g m; fails = definition-false W′ (pos (suc n)) L nz new-means g m }
+            record { known = λ y u. still (variable y) (q .known y u); fails = λ f. q .fails (same-all g (q .known) .0 f) }
+        go g (inr m) = record { known = definition-known g m; fails = definition-false W′ (pos (suc n)) L nz new-means g m }
 
   pub define-kept : (z : State) → Kept P M z → (n : ℤ) (L : List ℤ) (named : List Named)
       → T (isPositive n) → ¬ T (isKnown P z (variable n)) → AllKnown P z L → ¬ (pos 0 ∈ L)

@@ -94,7 +94,7 @@ module _ (P : List Rule) (M : ℕ → Type 0) (S : AnswerSet M P) where
         let r = Memᴰ·of-map (λ n. negℤ (pos n)) (externalNames P z U) m in
         let s = Memᴰ·of-map (λ (x : Named). x .name) _ (r .1) in
         let x = s .0 in
-        rw (← r .2, variable-complement (pos (r .0)), ← s .2) (k .named x (keep→ _ (z .named) (s .1) .0) .introduced)
+        rw (← r .2, variable-complement (pos (r .0)), ← s .2) (k .named x (keep→ _ (z .named) (s .1) .0) .known)
 
     naming-fine : (n : ℤ) (L : List ℤ) (o : Outcome) → (¬ T (isKnown P z (variable n)) → AllKnown P z L → Fine o) → Fine (naming P z n L o)
     naming-fine n L o f = if-yes (known-decides L) _ 26 (λ a. if-no (itself (isKnown P z (variable n))) o 27 (λ u. f u a))
