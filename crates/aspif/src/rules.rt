@@ -39,7 +39,11 @@ fn is_count(row: &[i32], count: usize, i: usize) -> bool
         return false;
     }
     let word = words::word_at(row, i);
-    if 0 <= word { words::variable_of(word) <= 64 } else { false }
+    if 0 <= word {
+        words::variable_of(word) <= 64
+    } else {
+        false
+    }
 }
 
 // Question 7.

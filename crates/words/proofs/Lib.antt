@@ -1,6 +1,8 @@
 -- The laws that the proofs share.
 pub mod Laws
-pub mod Words
-pub mod Tops
-pub mod Sorting
+pub mod Lists
+pub mod Literals
 pub mod Parts
+pub mod Sorting
+pub mod Tops
+pub mod Words

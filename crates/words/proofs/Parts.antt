@@ -38,7 +38,7 @@ module _ {X : Type 0} (a n : ℕ) (xs ys : List X) (fits : a + n ≤ length xs) 
   after-put b h =
       let e : b ≡ a + n + (b - (a + n)) = omega arith in
       let p : drop (a + n) (putMid a n xs ys) ≡ drop (a + n) xs =
-          sym (drop-drop n a (putMid a n xs ys)) ∙ rw drop-front (drop-at ys (drop n (drop a xs)) n size ∙ drop-drop n a xs) in
+      sym (drop-drop n a (putMid a n xs ys)) ∙ rw drop-front (drop-at ys (drop n (drop a xs)) n size ∙ drop-drop n a xs) in
       rw e (sym (drop-drop (b - (a + n)) (a + n) (putMid a n xs ys)) ∙ rw p (drop-drop (b - (a + n)) (a + n) xs))
 
   -- and so is what stands before it

@@ -1,0 +1,7 @@
+-- What holds of the steps: propagation as computed, and that an accepted proof leaves no answer set.
+pub mod Closure
+pub mod Valuations
+pub mod Questions
+pub mod Invariant
+pub mod Nogoods
+pub mod Sound

@@ -1,0 +1,71 @@
+-- What the questions put to a line and to a state say, as facts that the soundness of the steps uses. Assumes nothing.
+use mathlib.Core.Path.{_≡_, refl}
+use mathlib.Core.Logic.{_⊎_, inl, _≢_}
+use mathlib.Core.List.{List, List·Memᴰ·head, List·Memᴰ·tail, Memᴰ·cast}
+use Prim.Native.Nat.{ℕ, _≤_, max}
+use native.Mathlib.Omega.{arith}
+use lib.Dec.{T}
+use lib.IntN.{ℤ, pos, negsuc}
+use Rattle.words.specs.Lists.{_∈_}
+use Rattle.words.specs.Literals.{variable}
+use Rattle.words.proofs.Lists.{Decides, itself, reworded, and-decides, or-decides, any-decides, eqb-decides, leb-decides}
+use Rattle.words.proofs.Literals.{sameList-decides, variable-positive}
+use Rattle.words.specs.Literals.{top}
+use Rattle.aspif.specs.Rules.{Rule, isNormal, atoms}
+use Rattle.aspif.specs.declared.Kind.{Kind}
+use Rattle.aspif.specs.declared.Kind.the-variants.{Normal, Choice}
+use Rattle.drupe.specs.Lines.{isPositive}
+use Rattle.derivation.specs.States.{Named, State, isAtom, isKnown, isName, hasName}
+
+-- Lines
+
+pub positive-nonzero : (x : ℤ) → T (isPositive x) → x ≢ pos 0
+positive-nonzero x t p = let u : T (isPositive (pos 0)) = rw p at t in u
+
+pub positive-is : (x : ℤ) → T (isPositive x) → x ≡ pos (variable x)
+positive-is (pos n) t = refl
+positive-is (negsuc n) t = absurd t
+
+-- Atoms
+
+pub normal-decides : (k : Kind) → Decides (isNormal k) (k ≡ Normal)
+normal-decides k = record { to = go k; from = λ p. rw p tt }
+  where
+    go : (k : Kind) → T (isNormal k) → k ≡ Normal
+    go Normal t = refl
+    go Choice t = absurd t
+
+top-le : {x : ℤ} {zs : List ℤ} → x ∈ zs → variable x ≤ top zs
+top-le (List·Memᴰ·head {x = y} {xs = zs} p) = rw p (omega arith)
+top-le (List·Memᴰ·tail {x = y} {xs = zs} m) = omega (arith, top-le m)
+
+atoms-le : (v : ℕ) {r : Rule} {P : List Rule} → r ∈ P → v ≤ max (top (r .heads)) (top (r .body)) → v ≤ atoms P
+atoms-le v (List·Memᴰ·head {x = q} {xs = P} p) h = let k : v ≤ max (top (q .heads)) (top (q .body)) = rw p at h in omega arith
+atoms-le v (List·Memᴰ·tail {x = q} {xs = P} m) h = omega (arith, atoms-le v m h)
+
+module _ (P : List Rule) where
+  -- what a rule names, and is not 0, is an atom
+  atom-le : (x : ℤ) → x ≢ pos 0 → variable x ≤ atoms P → T (isAtom P (variable x))
+  atom-le x f h = and-decides (leb-decides 1 (variable x)) (leb-decides (variable x) (atoms P)) .from (variable-positive x f, h)
+
+  pub head-atom : {r : Rule} → r ∈ P → {x : ℤ} → x ∈ r .heads → x ≢ pos 0 → T (isAtom P (variable x))
+  head-atom {r} m {x} u f = atom-le x f (atoms-le (variable x) m (omega (arith, top-le u)))
+
+  pub body-atom : {r : Rule} → r ∈ P → {x : ℤ} → x ∈ r .body → x ≢ pos 0 → T (isAtom P (variable x))
+  body-atom {r} m {x} u f = atom-le x f (atoms-le (variable x) m (omega (arith, top-le u)))
+
+  -- States
+
+  pub known-decides : (z : State) (v : ℕ) → Decides (isKnown P z v) (T (isAtom P v) ⊎ (v ∈ z .introduced))
+  known-decides z v =
+      or-decides (itself (isAtom P v))
+      (reworded (λ r. Memᴰ·cast (r .2) (r .1)) (λ m. (v, m, refl)) (any-decides (eqb-decides v) (z .introduced)))
+
+  pub atom-known : (z : State) (v : ℕ) → T (isAtom P v) → T (isKnown P z v)
+  atom-known z v t = known-decides z v .from (inl t)
+
+pub name-decides : (z : State) (n : ℕ) (body : List ℤ) → Decides (isName z n body) ((x : Named) × (x ∈ z .named) × ((x .name ≡ n) × (x .body ≡ body)))
+name-decides z n body = any-decides (λ x. and-decides (eqb-decides (x .name) n) (sameList-decides (x .body) body)) (z .named)
+
+pub hasName-decides : (z : State) (body : List ℤ) → Decides (hasName z body) ((x : Named) × (x ∈ z .named) × (x .body ≡ body))
+hasName-decides z body = any-decides (λ x. sameList-decides (x .body) body) (z .named)

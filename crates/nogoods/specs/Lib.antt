@@ -1,0 +1,2 @@
+-- The store: the words that hold the live nogoods.
+pub mod Store
