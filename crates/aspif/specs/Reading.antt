@@ -12,13 +12,11 @@ use Rattle.words.specs.Limits.{longest}
 use Rattle.words.specs.Lists.{all}
 use Rattle.words.specs.Literals.{variable, same, has, noneTwice, ascending}
 use Rattle.text.specs.Line.{Line, broken, numbers, lineOf, anyOutside}
-use Rattle.aspif.specs.Rules.{Rule, atoms, ruleTop, ruleWords, programWords, tableWords}
+use Rattle.aspif.specs.Rules.{Rule, atoms, ruleWords, programWords, tableWords}
 use Rattle.aspif.specs.declared.Kind.{Kind}
 use Rattle.aspif.specs.declared.Kind.the-variants.{Normal, Choice}
 use Rattle.aspif.specs.declared.rules.Shape.{Shape}
 use Rattle.aspif.specs.declared.rules.Shape.the-variants.{Wrong, Shaped}
-use Rattle.aspif.specs.declared.lines.LineTurn.{LineTurn}
-use Rattle.aspif.specs.declared.lines.LineTurn.the-variants.{Refuses, Ends, Adds}
 use Rattle.aspif.specs.declared.ProgramRefusal.{ProgramRefusal}
 use Rattle.aspif.specs.declared.ProgramReading.{ProgramReading}
 use Rattle.aspif.specs.declared.ProgramReading.the-variants.{Read, Refused}
@@ -163,22 +161,6 @@ answerOf (program rs) = Read (atoms rs) (length rs)
 abbrev pub tableOf : ℕ → Reading → List ℤ
 tableOf size (refused k line) = replicate size (pos 0)
 tableOf size (program rs) = tableWords size rs
-
--- What the private functions tell of a turn: the bytes, the words and the largest atom of a rule that it adds
-abbrev pub turnTold : Turn → LineTurn
-turnTold (refuses k) = Refuses k
-turnTold ends = Ends
-turnTold (adds r n) = Adds n (length (ruleWords r)) (ruleTop r)
-
--- the free words of the table after a turn: a rule that it adds stands at their front
-abbrev pub freeAfter : Turn → List ℤ → List ℤ
-freeAfter (refuses k) free = free
-freeAfter ends free = free
-freeAfter (adds r n) free = ruleWords r ++ drop (length (ruleWords r)) free
-
-pub record TurnTaken (t : Turn) (before after : List ℤ) (r : LineTurn) : Type 0 where
-  pub told : r ≡ turnTold t
-  pub words : after ≡ freeAfter t before
 
 -- the public contract: the answer and every word of the table
 pub record ProgramRead (text : List ℕ) (before after : List ℤ) (r : ProgramReading) : Type 0 where
