@@ -34,7 +34,7 @@ by : (n : ℕ) (t : Bool) (x y : Shape) → (t ≡ true → Counted n x) → Cou
 by n true x y f g = f refl
 by n false x y f g = g
 
-and-left : (a b : Bool) → (a && b) ≡ true → a ≡ true
+pub and-left : (a b : Bool) → (a && b) ≡ true → a ≡ true
 and-left true b e = refl
 and-left false b e = absurd (true≢false (sym e))
 

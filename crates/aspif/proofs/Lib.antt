@@ -1,3 +1,4 @@
 -- The laws that the proofs share.
 pub mod Counts
 pub mod Rows
+pub mod Agree

@@ -7,11 +7,13 @@ use Prim.Native.Nat.{ℕ, _+_}
 use lib.IntN.{ℤ, pos}
 use lib.ListN.{length, take, drop}
 use Rattle.words.specs.Literals.{ascending}
-use Rattle.aspif.specs.Rules.{Rule, ruleTop, kindWord, ruleWords}
-use Rattle.aspif.specs.Reading.{headsGood, bodyGood, Turn, refuses, ends, adds}
+use Rattle.aspif.specs.Rules.{Rule, atoms, ruleTop, kindWord, ruleWords, programWords}
+use Rattle.aspif.specs.Reading.{headsGood, bodyGood, Turn, refuses, ends, adds, Reading, refused, program}
 use Rattle.aspif.specs.declared.Kind.{Kind}
 use Rattle.aspif.specs.declared.lines.LineTurn.{LineTurn}
 use Rattle.aspif.specs.declared.lines.LineTurn.the-variants.{Refuses, Ends, Adds}
+use Rattle.aspif.specs.declared.lines.Lines.{Lines}
+use Rattle.aspif.specs.declared.lines.Lines.the-variants.{Program, Refused}
 
 -- the numbers of the longest rule line: three before the heads, two before the body, 64 of each
 abbrev pub rowSize : ℕ
@@ -52,3 +54,17 @@ freeAfter (adds r n) free = ruleWords r ++ drop (length (ruleWords r)) free
 pub record TurnTaken (t : Turn) (before after : List ℤ) (r : LineTurn) : Type 0 where
   pub told : r ≡ turnTold t
   pub words : after ≡ freeAfter t before
+
+-- What the lines after the first leave: the words of the rules at the front of the table, which is as long as it was.
+abbrev pub linesTold : Reading → Lines
+linesTold (refused k line) = Refused (record { number = k; line = line })
+linesTold (program rs) = Program (atoms rs) (length rs) (length (programWords rs))
+
+abbrev pub Front : Reading → List ℤ → Type 0
+Front (refused k line) after = Unit {0}
+Front (program rs) after = take (length (programWords rs)) after ≡ programWords rs
+
+pub record LinesRead (reading : Reading) (before after : List ℤ) (r : Lines) : Type 0 where
+  pub told : r ≡ linesTold reading
+  pub front : Front reading after
+  pub long : length after ≡ length before
