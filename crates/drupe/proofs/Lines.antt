@@ -1,0 +1,190 @@
+-- Laws of `lineAt` and its parts: which answer each test leads to, what the row keeps, and the bounds of an answered line.
+-- Assumes nothing.
+use mathlib.Core.Path.{_≡_, refl, sym, ap, subst}
+use mathlib.Core.Bool.{Bool, true, false, cond, not, _&&_, _||_, true≢false}
+use mathlib.Core.Option.{Option, none, some}
+use mathlib.Core.List.{List, [], _∷_, map}
+use Prim.Native.Nat.{ℕ, zero, suc, _+_, _-_, _<_, _≤_}
+use native.Mathlib.Omega.{arith}
+use lib.IntN.{ℤ, pos}
+use lib.Dec.{ltb, eqb}
+use lib.ListN.{length, take, drop, getD, replicate, length-replicate, length-take, length-drop, drop-of-length-le}
+use lib.Seq.{sets, sets-eq, take-append-le}
+use borrow.Author.Tests.{le-ltb, lt-ltb, ltb-true, ltb-false, eq-eqb, ne-eqb}
+use Rattle.words.specs.Limits.{longest}
+use Rattle.words.specs.Lists.{all}
+use Rattle.words.specs.Literals.{noneTwice, same}
+use Rattle.words.proofs.Words.{same-eq}
+use Rattle.text.specs.Bytes.{classOf}
+use Rattle.text.specs.Line.{Line, broken, numbers, lineOf, outside, anyOutside, isClosed, capped}
+use Rattle.text.proofs.Lines.{capped-all, or-false-right, Numbered, bounds-of}
+use Rattle.text.specs.declared.Letter.{Letter}
+use Rattle.text.specs.declared.Class.{Class}
+use Rattle.text.specs.declared.Class.the-variants.{Newline, Space, Minus, Digit, Step, Other}
+use Rattle.drupe.specs.Lines.{mostNumbers, signsOf, isPositive, signed, lineRefusal, LineAt, end, refused, line, refusedOr, asked, ofNumbers, isSpace, afterLetter, afterFirst, lineFrom, lineAt, answerOf, numbersOf, readingOf, Within, Reads}
+use Rattle.drupe.specs.declared.Signs.{Signs}
+use Rattle.drupe.specs.declared.LineReading.{LineReading}
+
+-- Signs
+
+pub signed-none : (k : Signs) (zs : List ℤ) → length zs ≡ 0 → signed k zs ≡ not (k .needed)
+signed-none k [] e = refl
+signed-none k (z ∷ zs) e = absurd (omega arith)
+
+pub signed-some : (k : Signs) (zs : List ℤ) → (length zs ≡ 0 → ⊥)
+    → signed k zs ≡ ((not (k .first) || isPositive (getD zs 0 (pos 0))) && (not (k .later) || all isPositive (drop 1 zs)))
+signed-some k [] e = absurd (e refl)
+signed-some k (z ∷ zs) e = refl
+
+-- Questions 24 and 25, of numbers that passed 23
+
+module _ (x : Letter) (zs : List ℤ) (next : ℕ) (inside : anyOutside zs ≡ false) (few : length zs ≤ mostNumbers) where
+  pub asked-24 : signed (signsOf x) zs ≡ false → asked x zs next ≡ refused 24
+  asked-24 e = rw (inside, le-ltb mostNumbers (length zs) few, e)
+
+  pub asked-25 : signed (signsOf x) zs ≡ true → noneTwice zs ≡ false → asked x zs next ≡ refused 25
+  asked-25 e d = rw (inside, le-ltb mostNumbers (length zs) few, e, d)
+
+  pub asked-line : signed (signsOf x) zs ≡ true → noneTwice zs ≡ true → asked x zs next ≡ line x zs next
+  asked-line e d = rw (inside, le-ltb mostNumbers (length zs) few, e, d)
+
+pub drop-replicate : {A : Type 0} (n m : ℕ) (a : A) → drop n (replicate m a) ≡ replicate (m - n) a
+drop-replicate zero m a = let e : m - 0 ≡ m = omega arith in rw e
+drop-replicate (suc n) zero a = let e : 0 - suc n ≡ 0 = omega arith in rw e
+drop-replicate (suc n) (suc m) a = let e : suc m - suc n ≡ m - n = omega arith in rw e (drop-replicate n m a)
+
+-- The numbers before a closing 0
+
+and-right : (a b : Bool) → (a && b) ≡ true → b ≡ true
+and-right true b e = e
+and-right false b e = absurd (true≢false (sym e))
+
+pub closed-some : (zs : List ℤ) → isClosed zs ≡ true → 0 < length zs
+closed-some [] e = absurd (true≢false (sym e))
+closed-some (z ∷ zs) e = omega arith
+
+pub outside-before : (zs : List ℤ) → isClosed zs ≡ true → anyOutside (take (length zs - 1) zs) ≡ anyOutside zs
+outside-before [] e = refl
+outside-before (z ∷ []) e = rw (same-eq z (pos 0) e)
+outside-before (z ∷ y ∷ zs) e =
+    let h : suc (suc (length zs)) - 1 ≡ suc (suc (length zs) - 1) = omega arith in
+    rw h (ap (λ (t : Bool). outside z || t) (outside-before (y ∷ zs) (and-right (not (same z (pos 0))) (isClosed (y ∷ zs)) e)))
+
+-- a row of m zeros that holds the whole line keeps the numbers themselves
+pub row-before : (m : ℕ) {s : List ℕ} {after : List ℤ} {count next : ℕ} {out closed : Bool} (f : Numbered s (replicate m (pos 0)) after count next out closed)
+    → anyOutside (f .list) ≡ false → count ≤ m → take (count - 1) after ≡ take (length (f .list) - 1) (f .list)
+row-before m {s} {after} {count} f o h =
+    let zs = f .list in
+    let row : List ℤ = replicate m (pos 0) in
+    let l : length zs ≤ m = omega (arith, f .long) in
+    rw (f .row, f .long, capped-all zs o, sets-eq zs row 0 (omega (arith, length-replicate m (pos 0)))) (take-append-le (length zs - 1) zs (drop (0 + length zs) row) (omega arith))
+
+-- The first two bytes
+
+module _ (x : Letter) (from : ℕ) where
+  pub after-empty : (s : List ℕ) → length s ≡ 0 → afterLetter x from s ≡ refused 22
+  after-empty [] e = refl
+  after-empty (b ∷ s) e = absurd (omega arith)
+
+  pub after-other : (s : List ℕ) → isSpace (classOf (getD s 0 0)) ≡ false → afterLetter x from s ≡ refused 22
+  after-other [] e = refl
+  after-other (b ∷ s) e = rw e
+
+  pub after-space : (s : List ℕ) → (length s ≡ 0 → ⊥) → isSpace (classOf (getD s 0 0)) ≡ true → afterLetter x from s ≡ ofNumbers x (from + 1) (lineOf (drop 1 s))
+  after-space [] h e = absurd (h refl)
+  after-space (b ∷ s) h e = rw e
+
+pub line-empty : (from : ℕ) (s : List ℕ) → length s ≡ 0 → lineFrom from s ≡ refused 22
+line-empty from [] e = refl
+line-empty from (b ∷ s) e = absurd (omega arith)
+
+pub line-first : (from : ℕ) (s : List ℕ) (k : Class) → (length s ≡ 0 → ⊥) → classOf (getD s 0 0) ≡ k → lineFrom from s ≡ afterFirst k (from + 1) (drop 1 s)
+line-first from [] k h e = absurd (h refl)
+line-first from (b ∷ s) k h e = rw e
+
+-- The position
+
+module _ (s : List ℕ) (at : ℕ) where
+  pub at-long : longest < length s → lineAt s at ≡ refused 21
+  at-long h = rw (lt-ltb longest (length s) h)
+
+  module _ (h : length s ≤ longest) where
+    pub at-end : at ≡ length s → lineAt s at ≡ end
+    at-end e = rw (le-ltb longest (length s) h, eq-eqb at (length s) e)
+
+    pub at-line : (at ≡ length s → ⊥) → lineAt s at ≡ lineFrom at (drop at s)
+    at-line k = rw (le-ltb longest (length s) h, ne-eqb at (length s) k)
+
+    pub at-past : length s < at → lineAt s at ≡ refused 22
+    at-past l =
+        let e : drop at s ≡ [] = drop-of-length-le s {i = at} (omega arith) in
+        rw (le-ltb longest (length s) h, ne-eqb at (length s) (λ k. omega arith), e)
+
+-- Bounds
+
+-- what passes questions 23 to 25 is no more numbers than the array has
+few : (x : Letter) (zs : List ℤ) → lineRefusal x zs ≡ none → length zs ≤ mostNumbers
+few x zs e = by (anyOutside zs || ltb mostNumbers (length zs)) _ refl e
+  where
+    by : (t : Bool) (o : Option ℕ) → (anyOutside zs || ltb mostNumbers (length zs)) ≡ t → cond t (some 23) o ≡ none → length zs ≤ mostNumbers
+    by true o k e = absurd (let z : _≡_ {A = ℕ} 0 1 = cc in omega arith)
+    by false o k e = ltb-false mostNumbers (length zs) (or-false-right (anyOutside zs) (ltb mostNumbers (length zs)) k)
+
+module _ (at n : ℕ) where
+  asked-within : (x : Letter) (zs : List ℤ) (next : ℕ) → at < next → next ≤ n → Within at n (answerOf (asked x zs next))
+  asked-within x zs next h l = by (lineRefusal x zs) refl
+    where
+      by : (o : Option ℕ) → lineRefusal x zs ≡ o → Within at n (answerOf (refusedOr o (line x zs next)))
+      by none e = (h, l, few x zs e)
+      by (some k) e = tt
+
+  numbers-within : (x : Letter) (from : ℕ) (s : List ℕ) → at < from → from + length s ≤ n → Within at n (answerOf (ofNumbers x from (lineOf s)))
+  numbers-within x from s h l = by (lineOf s) refl
+    where
+      by : (k : Line) → lineOf s ≡ k → Within at n (answerOf (ofNumbers x from k))
+      by broken e = tt
+      by (numbers zs k) e = closed (isClosed zs)
+        where
+          closed : (t : Bool) → Within at n (answerOf (cond t (asked x (take (length zs - 1) zs) (from + k)) (refused 22)))
+          closed true = let b = bounds-of s zs k e in asked-within x (take (length zs - 1) zs) (from + k) (omega arith) (omega arith)
+          closed false = tt
+
+  letter-within : (x : Letter) (from : ℕ) (s : List ℕ) → at < from → from + length s ≤ n → Within at n (answerOf (afterLetter x from s))
+  letter-within x from [] h l = tt
+  letter-within x from (b ∷ s) h l = by (isSpace (classOf b))
+    where
+      by : (t : Bool) → Within at n (answerOf (cond t (ofNumbers x (from + 1) (lineOf s)) (refused 22)))
+      by true = numbers-within x (from + 1) s (omega arith) (omega arith)
+      by false = tt
+
+  first-within : (k : Class) (from : ℕ) (s : List ℕ) → at < from → from + length s ≤ n → Within at n (answerOf (afterFirst k from s))
+  first-within (Step x) from s h l = letter-within x from s h l
+  first-within Newline from s h l = tt
+  first-within Space from s h l = tt
+  first-within Minus from s h l = tt
+  first-within (Digit d) from s h l = tt
+  first-within Other from s h l = tt
+
+  line-within : (s : List ℕ) → at + length s ≤ n → Within at n (answerOf (lineFrom at s))
+  line-within [] l = tt
+  line-within (b ∷ s) l = first-within (classOf b) (at + 1) s (omega arith) (omega arith)
+
+-- an answered line ends past the position, within the text, and has no more numbers than the array
+pub within : (s : List ℕ) (at : ℕ) → Within at (length s) (answerOf (lineAt s at))
+within s at = by (ltb longest (length s)) (eqb at (length s)) (ltb (length s) at) refl
+  where
+    by : (t u v : Bool) → ltb (length s) at ≡ v → Within at (length s) (answerOf (cond t (refused 21) (cond u end (lineFrom at (drop at s)))))
+    by true u v e = tt
+    by false true v e = tt
+    by false false true e =
+        let k : drop at s ≡ [] = drop-of-length-le s {i = at} (omega (arith, ltb-true (length s) at e)) in
+        rw k tt
+    by false false false e = line-within at (length s) (drop at s) (omega (arith, length-drop at s, ltb-false (length s) at e))
+
+pub reads-of : {s : List ℕ} {at : ℕ} {r : LineReading} → r ≡ readingOf (lineAt s at) → Reads s at r
+reads-of {s} {at} {r} e =
+    record {
+      answer = ap (λ (x : LineReading). x .answer) e;
+      numbers = ap (λ (x : LineReading). x .numbers) e;
+      within = subst (λ (x : LineReading). Within at (length s) (x .answer)) (sym e) (within s at);
+    }
