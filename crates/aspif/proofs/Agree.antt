@@ -7,7 +7,7 @@ use Prim.Native.Nat.{ℕ, _+_, _≤_, _<_}
 use native.Mathlib.Omega.{arith}
 use native.Mathlib.Nat.{zero-add}
 use borrow.Author.Tests.{leb-true, leb-false}
-use lib.Dec.{leb}
+use lib.Dec.{eqb, leb}
 use lib.IntN.{ℤ, pos}
 use lib.ListN.{length, take, drop, getD, replicate, length-replicate, getD-replicate, length-drop, List·getD-eq-default}
 use lib.Seq.{sets, sets-eq, drop-append-le, take-append-le}
@@ -26,7 +26,7 @@ abbrev pub rowOf : List ℤ → List ℤ
 rowOf zs = sets (replicate rowSize (pos 0)) 0 zs
 
 module _ (zs : List ℤ) where
-  pub row-at : (i : ℕ) → i < rowSize → getD (rowOf zs) i (pos 0) ≡ getD zs i (pos 0)
+  row-at : (i : ℕ) → i < rowSize → getD (rowOf zs) i (pos 0) ≡ getD zs i (pos 0)
   row-at i h = by (leb (length zs) i) refl
     where
       by : (t : Bool) → leb (length zs) i ≡ t → getD (rowOf zs) i (pos 0) ≡ getD zs i (pos 0)
@@ -70,9 +70,17 @@ module _ (zs : List ℤ) where
       rw (e, drop-append-le from zs rest (omega arith)) (take-append-le m (drop from zs) rest (omega (arith, length-drop from zs)))
 
   -- a line of numbers and its row make the same rule
-  pub rule-agree : ruleOf (rowOf zs) (shapeOf (rowOf zs) (length zs)) ≡ ruleOf zs (shapeOf zs (length zs))
+  rule-agree : ruleOf (rowOf zs) (shapeOf (rowOf zs) (length zs)) ≡ ruleOf zs (shapeOf zs (length zs))
   rule-agree = rw (shape-agree (rowOf zs) zs (length zs) (row-at zs)) (by (shapeOf zs (length zs)) (shape-counted zs (length zs)))
     where
       by : (s : Shape) → Counted (length zs) s → ruleOf (rowOf zs) s ≡ ruleOf zs s
       by (Wrong k) w = refl
       by (Shaped k h b) w = rw (part-agree 3 h (omega arith) (omega arith), part-agree (5 + h) b (omega arith) (omega arith))
+
+-- the same of a row and a count that are told to be the line's
+module _ (zs row : List ℤ) (count : ℕ) (long : count ≡ length zs) (is : row ≡ rowOf zs) where
+  pub row-last : (eqb count 1 && same (getD row 0 (pos 0)) (pos 0)) ≡ isLast zs
+  row-last = rw (long, is, row-at zs 0 (omega arith))
+
+  pub row-rule : ruleOf row (shapeOf row count) ≡ ruleOf zs (shapeOf zs (length zs))
+  row-rule = rw (long, is) (rule-agree zs)

@@ -60,6 +60,7 @@ fn read_rule(rest: &[u8], free: &mut [i32], rules: usize) -> LineTurn
             count,
             next,
             outside,
+            closed: _,
         } => {
             if outside {
                 return LineTurn::Refuses(4);
