@@ -1,5 +1,5 @@
 -- `drupe_cases::lines` is safe and ends. Assumes nothing.
-use Prim.Native.Nat.{_≤_, _-_}
+use Prim.Native.Nat.{_-_}
 use lib.ListN.{length}
 use borrow.Author.Needs.{needs}
 use Rattle.drupe_cases.proofs.lines.Statement.{statement}
