@@ -1,27 +1,27 @@
--- Laws of `lineAt` and its parts: which answer each test leads to, what the row keeps, and the bounds of an answered line.
+-- Laws of `lineAt` and its parts: which answer each test leads to, what the row keeps, and what an answered line passed.
 -- Assumes nothing.
 use mathlib.Core.Path.{_≡_, refl, sym, ap, subst}
 use mathlib.Core.Bool.{Bool, true, false, cond, not, _&&_, _||_, true≢false}
 use mathlib.Core.Option.{Option, none, some}
-use mathlib.Core.List.{List, [], _∷_, map}
+use mathlib.Core.List.{List, [], _∷_}
 use Prim.Native.Nat.{ℕ, zero, suc, _+_, _-_, _<_, _≤_}
 use native.Mathlib.Omega.{arith}
 use lib.IntN.{ℤ, pos}
 use lib.Dec.{ltb, eqb}
-use lib.ListN.{length, take, drop, getD, replicate, length-replicate, length-take, length-drop, drop-of-length-le}
-use lib.Seq.{sets, sets-eq, take-append-le}
-use borrow.Author.Tests.{le-ltb, lt-ltb, ltb-true, ltb-false, eq-eqb, ne-eqb}
+use lib.ListN.{length, take, drop, getD, replicate, length-replicate, length-drop, drop-of-length-le}
+use lib.Seq.{sets-eq, take-append-le}
+use borrow.Author.Tests.{le-ltb, lt-ltb, ltb-false, eq-eqb, ne-eqb}
 use Rattle.words.specs.Limits.{longest}
 use Rattle.words.specs.Lists.{all}
 use Rattle.words.specs.Literals.{noneTwice, same}
 use Rattle.words.proofs.Words.{same-eq}
 use Rattle.text.specs.Bytes.{classOf}
-use Rattle.text.specs.Line.{Line, broken, numbers, lineOf, outside, anyOutside, isClosed, capped}
+use Rattle.text.specs.Line.{Line, broken, numbers, lineOf, outside, anyOutside, isClosed}
 use Rattle.text.proofs.Lines.{capped-all, or-false-right, Numbered, bounds-of}
 use Rattle.text.specs.declared.Letter.{Letter}
 use Rattle.text.specs.declared.Class.{Class}
 use Rattle.text.specs.declared.Class.the-variants.{Newline, Space, Minus, Digit, Step, Other}
-use Rattle.drupe.specs.Lines.{mostNumbers, signsOf, isPositive, signed, lineRefusal, LineAt, end, refused, line, refusedOr, asked, ofNumbers, isSpace, afterLetter, afterFirst, lineFrom, lineAt, answerOf, numbersOf, readingOf, Within, Reads}
+use Rattle.drupe.specs.Lines.{mostNumbers, signsOf, isPositive, signed, lineRefusal, LineAt, end, refused, line, refusedOr, asked, ofNumbers, isSpace, afterLetter, afterFirst, lineFrom, lineAt, answerOf, readingOf, Within, Reads}
 use Rattle.drupe.specs.declared.Signs.{Signs}
 use Rattle.drupe.specs.declared.LineReading.{LineReading}
 
@@ -120,71 +120,80 @@ module _ (s : List ℕ) (at : ℕ) where
         let e : drop at s ≡ [] = drop-of-length-le s {i = at} (omega arith) in
         rw (le-ltb longest (length s) h, ne-eqb at (length s) (λ k. omega arith), e)
 
--- Bounds
+-- An answered line
 
--- what passes questions 23 to 25 is no more numbers than the array has
-few : (x : Letter) (zs : List ℤ) → lineRefusal x zs ≡ none → length zs ≤ mostNumbers
+-- it ends past the position, within a text of n bytes, and its numbers pass questions 23 to 25
+abbrev pub Passed : ℕ → ℕ → LineAt → Type 0
+Passed at n end = Unit {0}
+Passed at n (refused k) = Unit {0}
+Passed at n (line x zs next) = (at < next) × (next ≤ n) × (lineRefusal x zs ≡ none)
+
+module _ (at n : ℕ) where
+  asked-passed : (x : Letter) (zs : List ℤ) (next : ℕ) → at < next → next ≤ n → Passed at n (asked x zs next)
+  asked-passed x zs next h l = by (lineRefusal x zs) refl
+    where
+      by : (o : Option ℕ) → lineRefusal x zs ≡ o → Passed at n (refusedOr o (line x zs next))
+      by none e = (h, l, e)
+      by (some k) e = tt
+
+  cond-passed : (t : Bool) (l : LineAt) → Passed at n l → Passed at n (cond t l (refused 22))
+  cond-passed true l p = p
+  cond-passed false l p = tt
+
+  numbers-passed : (x : Letter) (from : ℕ) (s : List ℕ) → at < from → from + length s ≤ n → Passed at n (ofNumbers x from (lineOf s))
+  numbers-passed x from s h l = by (lineOf s) refl
+    where
+      by : (k : Line) → lineOf s ≡ k → Passed at n (ofNumbers x from k)
+      by broken e = tt
+      by (numbers zs k) e =
+          let b = bounds-of s zs k e in
+          cond-passed (isClosed zs) _ (asked-passed x (take (length zs - 1) zs) (from + k) (omega arith) (omega arith))
+
+  letter-passed : (x : Letter) (from : ℕ) (s : List ℕ) → at < from → from + length s ≤ n → Passed at n (afterLetter x from s)
+  letter-passed x from [] h l = tt
+  letter-passed x from (b ∷ s) h l = cond-passed (isSpace (classOf b)) _ (numbers-passed x (from + 1) s (omega arith) (omega arith))
+
+  first-passed : (k : Class) (from : ℕ) (s : List ℕ) → at < from → from + length s ≤ n → Passed at n (afterFirst k from s)
+  first-passed (Step x) from s h l = letter-passed x from s h l
+  first-passed Newline from s h l = tt
+  first-passed Space from s h l = tt
+  first-passed Minus from s h l = tt
+  first-passed (Digit d) from s h l = tt
+  first-passed Other from s h l = tt
+
+  -- s is what is left at the position
+  line-passed : (s : List ℕ) → length s ≡ n - at → Passed at n (lineFrom at s)
+  line-passed [] e = tt
+  line-passed (b ∷ s) e = first-passed (classOf b) (at + 1) s (omega arith) (omega arith)
+
+pub passed : (s : List ℕ) (at : ℕ) → Passed at (length s) (lineAt s at)
+passed s at = by (ltb longest (length s)) (eqb at (length s))
+  where
+    by : (t u : Bool) → Passed at (length s) (cond t (refused 21) (cond u end (lineFrom at (drop at s))))
+    by true u = tt
+    by false true = tt
+    by false false = line-passed at (length s) (drop at s) (length-drop at s)
+
+pub passed-line : (s : List ℕ) (at : ℕ) {x : Letter} {zs : List ℤ} {next : ℕ} → lineAt s at ≡ line x zs next → (at < next) × (next ≤ length s) × (lineRefusal x zs ≡ none)
+passed-line s at e = subst (Passed at (length s)) e (passed s at)
+
+-- no more numbers than the array has
+pub few : (x : Letter) (zs : List ℤ) → lineRefusal x zs ≡ none → length zs ≤ mostNumbers
 few x zs e = by (anyOutside zs || ltb mostNumbers (length zs)) _ refl e
   where
     by : (t : Bool) (o : Option ℕ) → (anyOutside zs || ltb mostNumbers (length zs)) ≡ t → cond t (some 23) o ≡ none → length zs ≤ mostNumbers
     by true o k e = absurd (let z : _≡_ {A = ℕ} 0 1 = cc in omega arith)
     by false o k e = ltb-false mostNumbers (length zs) (or-false-right (anyOutside zs) (ltb mostNumbers (length zs)) k)
 
-module _ (at n : ℕ) where
-  asked-within : (x : Letter) (zs : List ℤ) (next : ℕ) → at < next → next ≤ n → Within at n (answerOf (asked x zs next))
-  asked-within x zs next h l = by (lineRefusal x zs) refl
-    where
-      by : (o : Option ℕ) → lineRefusal x zs ≡ o → Within at n (answerOf (refusedOr o (line x zs next)))
-      by none e = (h, l, few x zs e)
-      by (some k) e = tt
-
-  numbers-within : (x : Letter) (from : ℕ) (s : List ℕ) → at < from → from + length s ≤ n → Within at n (answerOf (ofNumbers x from (lineOf s)))
-  numbers-within x from s h l = by (lineOf s) refl
-    where
-      by : (k : Line) → lineOf s ≡ k → Within at n (answerOf (ofNumbers x from k))
-      by broken e = tt
-      by (numbers zs k) e = closed (isClosed zs)
-        where
-          closed : (t : Bool) → Within at n (answerOf (cond t (asked x (take (length zs - 1) zs) (from + k)) (refused 22)))
-          closed true = let b = bounds-of s zs k e in asked-within x (take (length zs - 1) zs) (from + k) (omega arith) (omega arith)
-          closed false = tt
-
-  letter-within : (x : Letter) (from : ℕ) (s : List ℕ) → at < from → from + length s ≤ n → Within at n (answerOf (afterLetter x from s))
-  letter-within x from [] h l = tt
-  letter-within x from (b ∷ s) h l = by (isSpace (classOf b))
-    where
-      by : (t : Bool) → Within at n (answerOf (cond t (ofNumbers x (from + 1) (lineOf s)) (refused 22)))
-      by true = numbers-within x (from + 1) s (omega arith) (omega arith)
-      by false = tt
-
-  first-within : (k : Class) (from : ℕ) (s : List ℕ) → at < from → from + length s ≤ n → Within at n (answerOf (afterFirst k from s))
-  first-within (Step x) from s h l = letter-within x from s h l
-  first-within Newline from s h l = tt
-  first-within Space from s h l = tt
-  first-within Minus from s h l = tt
-  first-within (Digit d) from s h l = tt
-  first-within Other from s h l = tt
-
-  line-within : (s : List ℕ) → at + length s ≤ n → Within at n (answerOf (lineFrom at s))
-  line-within [] l = tt
-  line-within (b ∷ s) l = first-within (classOf b) (at + 1) s (omega arith) (omega arith)
-
--- an answered line ends past the position, within the text, and has no more numbers than the array
-pub within : (s : List ℕ) (at : ℕ) → Within at (length s) (answerOf (lineAt s at))
-within s at = by (ltb longest (length s)) (eqb at (length s)) (ltb (length s) at) refl
-  where
-    by : (t u v : Bool) → ltb (length s) at ≡ v → Within at (length s) (answerOf (cond t (refused 21) (cond u end (lineFrom at (drop at s)))))
-    by true u v e = tt
-    by false true v e = tt
-    by false false true e =
-        let k : drop at s ≡ [] = drop-of-length-le s {i = at} (omega (arith, ltb-true (length s) at e)) in
-        rw k tt
-    by false false false e = line-within at (length s) (drop at s) (omega (arith, length-drop at s, ltb-false (length s) at e))
+within : (at n : ℕ) (l : LineAt) → Passed at n l → Within at n (answerOf l)
+within at n end p = tt
+within at n (refused k) p = tt
+within at n (line x zs next) p = (p .0, p .1, few x zs (p .2))
 
 pub reads-of : {s : List ℕ} {at : ℕ} {r : LineReading} → r ≡ readingOf (lineAt s at) → Reads s at r
 reads-of {s} {at} {r} e =
     record {
       answer = ap (λ (x : LineReading). x .answer) e;
       numbers = ap (λ (x : LineReading). x .numbers) e;
-      within = subst (λ (x : LineReading). Within at (length s) (x .answer)) (sym e) (within s at);
+      within = subst (λ (x : LineReading). Within at (length s) (x .answer)) (sym e) (within at (length s) (lineAt s at) (passed s at));
     }

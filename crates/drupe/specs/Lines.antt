@@ -70,6 +70,7 @@ pub data LineAt : Type 0 where
   refused : ℕ → LineAt
   line : Letter → List ℤ → ℕ → LineAt
 
+-- the first question that is answered no, or else what is read
 abbrev pub refusedOr : Option ℕ → LineAt → LineAt
 refusedOr (some k) l = refused k
 refusedOr none l = l
@@ -79,7 +80,8 @@ asked x zs next = refusedOr (lineRefusal x zs) (line x zs next)
 
 -- The shape of a line: "the letter, a space, .. nonzero numbers, a closing `0`, newline"
 
--- of a shape as told, what questions 23 to 25 say of the numbers before the closing 0; they begin at `from`, and all take n bytes
+-- of a shape as told, what questions 23 to 25 say of the numbers before the closing 0; the line's numbers begin at `from` and
+-- take n bytes
 abbrev pub ofNumbers : Letter → ℕ → Line → LineAt
 ofNumbers x from broken = refused 22
 ofNumbers x from (numbers zs n) = cond (isClosed zs) (asked x (take (length zs - 1) zs) (from + n)) (refused 22)

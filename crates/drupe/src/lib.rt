@@ -12,6 +12,12 @@ ghost use Rattle.text.specs.Bytes.{classOf};
 ghost use Rattle.text.specs.Line.{anyOutside, lineOf};
 ghost use Rattle.drupe.specs.Lines.{Reads, afterLetter, asked, isSpace, lineFrom, mostNumbers, ofNumbers, placeOf, readingOf, refused, signed, signsOf};
 
+// The most bytes of a text.
+const LONGEST: usize = 65535;
+
+// The most numbers of a line.
+pub const MOST_NUMBERS: usize = 65;
+
 // What stands at a position: a line's letter, how many numbers it has and the position after its newline; the end; or the
 // number of the question that is answered no.
 pub enum LineAnswer {
@@ -27,7 +33,7 @@ pub enum LineAnswer {
 // The numbers stand beside the answer, with zeros after them; all are 0 unless a line is answered.
 pub struct LineReading {
     pub answer: LineAnswer,
-    pub numbers: [i32; 65],
+    pub numbers: [i32; MOST_NUMBERS],
 }
 
 // What a letter asks of its numbers: whether a first one must be there, whether it must be positive, and whether the later
@@ -38,22 +44,21 @@ struct Signs {
     later: bool,
 }
 
-const LONGEST: usize = 65535;
-
-const MOST: usize = 65;
-
+// Any sign, and none is needed.
 const SIGNED: Signs = Signs {
     needed: false,
     first: false,
     later: false,
 };
 
+// A first number, positive, and later ones of any sign.
 const NAMED: Signs = Signs {
     needed: true,
     first: true,
     later: false,
 };
 
+// A first number, and all positive.
 const POSITIVE: Signs = Signs {
     needed: true,
     first: true,
@@ -102,7 +107,7 @@ fn refuse(number: u8) -> LineReading
 {
     LineReading {
         answer: LineAnswer::Refused(number),
-        numbers: [0; 65],
+        numbers: [0; MOST_NUMBERS],
     }
 }
 
@@ -115,7 +120,7 @@ fn ask(letter: Letter, numbers: &mut [i32], next: usize) -> LineReading
         return refuse(24);
     }
     let count = numbers.len();
-    let mut kept = [0; 65];
+    let mut kept = [0; MOST_NUMBERS];
     words::copy(&mut kept, numbers);
     if !words::sort_distinct(numbers) {
         return refuse(25);
@@ -135,7 +140,7 @@ fn read_numbers(letter: Letter, text: &[u8], from: usize) -> LineReading
     requires { ⌜ from + length (now text) ≤ longest ⌝ }
     ensures { λ r. ⌜ r ≡ readingOf (ofNumbers letter from (lineOf (now (text .entry)))) ⌝ }
 {
-    let mut row = [0; 66];
+    let mut row = [0; MOST_NUMBERS + 1];
     let read = text::read_line(text, &mut row);
     match read {
         LineRead::Numbers {
@@ -151,7 +156,7 @@ fn read_numbers(letter: Letter, text: &[u8], from: usize) -> LineReading
                 return refuse(23);
             }
             let before = count - 1;
-            if MOST < before {
+            if MOST_NUMBERS < before {
                 return refuse(23);
             }
             ask(letter, &mut row[..before], from + next)
@@ -217,7 +222,7 @@ pub fn read_line(text: &[u8], position: usize) -> LineReading
     if position == text.len() {
         return LineReading {
             answer: LineAnswer::End,
-            numbers: [0; 65],
+            numbers: [0; MOST_NUMBERS],
         };
     }
     if text.len() < position {

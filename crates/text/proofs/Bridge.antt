@@ -17,7 +17,7 @@ use Rattle.words.specs.Limits.{largest}
 use Rattle.words.specs.Literals.{same}
 use Rattle.text.specs.Bytes.{classOf}
 use Rattle.text.specs.Line.{digits, natural, nonNegative, negative, number, also, numbersOf, Words, unended, words, apart, joined, cut, span, Line, broken, numbers, spanned, ofWords, lineOf, outside, anyOutside, isClosed, capped, Told, Within, Reads}
-use Rattle.text.specs.Scan.{moreOf, newlineOf, spaceOf, actionOf, valueOf, seeing, unseen, Scanned, turn, scan}
+use Rattle.text.specs.Scan.{moreOf, newlineOf, spaceOf, actionOf, valueOf, unseen, Scanned, turn, scan}
 use Rattle.text.specs.declared.Letter.{Letter}
 use Rattle.text.specs.declared.Class.{Class}
 use Rattle.text.specs.declared.Class.the-variants.{Newline, Space, Minus, Digit, Step, Other}

@@ -25,9 +25,6 @@ returns c =
     let a = c .before .before .before .args in
     c .refuse .ensures ∙ ap readingOf (sym (line-empty (a .from) (a .text .now) (c .before .if1 .taken)))
 
-enum-told : tie.Need-enum-told
-enum-told c = search needs
-
 returns-2 : tie.Need-returns-2
 returns-2 c =
     let b = c .before .before in
@@ -62,7 +59,7 @@ read-letter-spec =
     (λ c. search needs)
     (λ c. search needs)
     (λ c κs. search needs)
-    enum-told
+    (λ c. search needs)
     (λ c κs. search needs)
     (λ c. search needs)
     (λ c κs. search needs)

@@ -1,9 +1,9 @@
 -- `drupe::read_numbers` meets its contract. What `text::read_line` tells of the line, and the tests in their order.
 -- Assumes nothing.
-use mathlib.Core.Path.{_≡_, refl, sym, ap, _∙_}
+use mathlib.Core.Path.{_≡_, sym, _∙_}
 use mathlib.Core.Bool.{true, false, or-true}
 use mathlib.Core.List.{List}
-use Prim.Native.Nat.{suc, _-_, _≤_}
+use Prim.Native.Nat.{suc, _-_}
 use native.Mathlib.Omega.{arith}
 use lib.IntN.{ℤ, pos}
 use lib.ListN.{length, take, replicate}
@@ -82,9 +82,6 @@ ask-requires c κs =
     let l = length-take-le (length (f .list) - 1) (f .list) (omega arith) in
     rw (kept (c .before)) (outside-before (f .list) (shut (b .before)) ∙ inside b, rw l (omega (arith, f .long)))
 
-enum-told : tie.Need-enum-told
-enum-told c = search needs
-
 returns-4 : tie.Need-returns-4
 returns-4 c =
     let e = c .before .before .before in
@@ -114,7 +111,7 @@ read-numbers-spec =
     slice-aggregate-ask
     add-ask
     ask-requires
-    enum-told
+    (λ c. search needs)
     (λ c κs. search needs)
     returns-4
     returns-5)
