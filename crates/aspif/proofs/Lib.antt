@@ -2,3 +2,6 @@
 pub mod Counts
 pub mod Rows
 pub mod Agree
+pub mod Passes
+pub mod Fronts
+pub mod Programs

@@ -1,13 +1,14 @@
 // Line after line of a program text. Questions 2 to 4 and 11.
 ghost use mathlib.Core.Path.{_≡_};
 ghost use mathlib.Core.Bool.{_&&_};
-ghost use Prim.Native.Nat.{_≤_};
+ghost use mathlib.Core.List.{[]};
+ghost use Prim.Native.Nat.{suc, _≤_};
 ghost use lib.Dec.{eqb};
 ghost use lib.IntN.{pos};
-ghost use lib.ListN.{length, take, getD};
+ghost use lib.ListN.{length, drop, getD};
 ghost use Rattle.words.specs.Literals.{same};
 ghost use Rattle.text.specs.Line.{lineOf};
-ghost use Rattle.aspif.specs.Reading.{turnOf, header, sameBytes, readLines};
+ghost use Rattle.aspif.specs.Reading.{turnOf, linesFrom, startsWith};
 ghost use Rattle.aspif.specs.Turns.{TurnTaken, LinesRead};
 use crate::ProgramRefusal;
 use crate::rules;
@@ -33,9 +34,6 @@ pub enum Lines {
     },
     Refused(ProgramRefusal),
 }
-
-// The bytes of the first line.
-const HEADER: [u8; 10] = *b"asp 1 0 0\n";
 
 // The line is `0` alone.
 fn is_last(row: &[i32], count: usize) -> bool
@@ -72,6 +70,53 @@ fn read_rule(rest: &[u8], free: &mut [i32], rules: usize) -> LineTurn
                 return LineTurn::Refuses(11);
             }
             rules::take_rule(free, &mut row, count, next, rules)
+        }
+    }
+}
+
+// The text begins with these bytes.
+pub fn starts_with(text: &[u8], front: &[u8]) -> bool
+    ensures { λ r. ⌜ r ≡ startsWith (now (front .entry)) (now (text .entry)) ⌝ }
+{
+    let mut i = 0;
+    while i < front.len() {
+        if text.len() <= i {
+            return false;
+        }
+        if text[i] != front[i] {
+            return false;
+        }
+        i += 1;
+    }
+    true
+}
+
+// The lines after the first, up to the line `0` or the first that is refused.
+pub fn read_lines(text: &[u8], table: &mut [i32]) -> Lines
+    requires { ⌜ 10 ≤ length (now text) ⌝ }
+    ensures { λ r. ⌜ LinesRead (linesFrom (length (now (table .entry))) (suc (length (now (text .entry)))) (drop 10 (now (text .entry))) 2 []) (now (table .entry)) (now (table .exit)) r ⌝ }
+{
+    let mut at = 10;
+    let mut line = 2;
+    let mut used = 0;
+    let mut rules = 0;
+    let mut atoms = 0;
+    loop {
+        let turn = read_rule(&text[at..], &mut table[used..], rules);
+        match turn {
+            LineTurn::Refuses(k) => {
+                return Lines::Refused(ProgramRefusal { number: k, line });
+            }
+            LineTurn::Ends => {
+                return Lines::Program { atoms, rules, used };
+            }
+            LineTurn::Adds { next, words, top } => {
+                at += next;
+                line += 1;
+                used += words;
+                rules += 1;
+                atoms = words::larger(top, atoms);
+            }
         }
     }
 }

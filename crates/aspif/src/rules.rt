@@ -207,7 +207,7 @@ fn add_rule(
     LineTurn::Adds {
         next,
         words: size,
-        top: if a < b { b } else { a },
+        top: words::larger(a, b),
     }
 }
 

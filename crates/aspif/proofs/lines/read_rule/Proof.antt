@@ -12,11 +12,6 @@ use Rattle.aspif.proofs.Agree.{rowOf, row-last, row-rule}
 use borrow.Author.Needs.{needs}
 use Rattle.aspif.proofs.lines.read_rule.Statement.{statement}
 use Rattle.aspif.proofs.lines.read_rule.Tie as tie
-use Rattle.aspif.proofs.lines.read_rule.Reads as reads
-use Rattle.aspif.proofs.lines.read_rule.Lts as lts
-use Rattle.aspif.proofs.lines.is_last.Reads as is-last-reads
-use Rattle.aspif.proofs.rules.take_rule.Reads as take-rule-reads
-use Rattle.text.proofs.read_line.Reads as read-line-reads
 
 -- the line's numbers
 found : (c : tie.After-read)
@@ -38,35 +33,15 @@ last c =
     let f = found d in
     sym (c .is-last .ensures ∙ row-last (f .list) _ _ (f .long) (row (c .before .before)))
 
--- src/lines.rt:56:38
-slice-aggregate-read-line : tie.Need-slice-aggregate-read-line
-slice-aggregate-read-line c = search needs
-
--- src/lines.rt:56:9
-read-line-requires : tie.Need-read-line-requires
-read-line-requires c κs = search needs
-
 -- src/lines.rt:58:29
 enum-told : tie.Need-enum-told
 enum-told c = search needs
-
--- src/lines.rt:60:13
-enum-known-read : tie.Need-enum-known-read
-enum-known-read c = search needs
 
 -- src/lines.rt:66:17
 returns : tie.Need-returns
 returns c =
     let f = found (c .before .before) in
     rw (f .is, sym (f .large) ∙ c .if1 .taken) (record { told = refl; words = refl })
-
--- src/lines.rt:68:24
-slice-aggregate-is-last : tie.Need-slice-aggregate-is-last
-slice-aggregate-is-last c = search needs
-
--- src/lines.rt:68:16
-is-last-requires : tie.Need-is-last-requires
-is-last-requires c κs = search needs
 
 -- src/lines.rt:70:21
 returns-2 : tie.Need-returns-2
@@ -84,22 +59,10 @@ returns-3 c =
     let f = found (r .before .before) in
     rw (f .is, inside r, last d ∙ c .before .if2 .taken, ne-eqb _ _ (c .if3 .left)) (record { told = refl; words = refl })
 
--- src/lines.rt:74:36
-slice-aggregate-take-rule : tie.Need-slice-aggregate-take-rule
-slice-aggregate-take-rule c = search needs
-
--- src/lines.rt:74:13
-take-rule-requires : tie.Need-take-rule-requires
-take-rule-requires c κs = search needs
-
 -- src/lines.rt:52:1
 returns-4 : tie.Need-returns-4
 returns-4 c =
     rw (not-numbered (c .before .before .before .read-line .ensures) (c .enum-told .given .1)) (record { told = refl; words = refl })
-
--- src/lines.rt:52:1
-same-length : tie.Need-same-length
-same-length c = search needs
 
 -- src/lines.rt:52:1
 returns-5 : tie.Need-returns-5
@@ -114,17 +77,17 @@ pub read-rule-spec : {M : Type 1} → statement M
 read-rule-spec =
     tie.close
     (tie.spec
-    slice-aggregate-read-line
-    read-line-requires
+    (λ c. search needs)
+    (λ c κs. search needs)
     enum-told
-    enum-known-read
+    (λ c. search needs)
     returns
-    slice-aggregate-is-last
-    is-last-requires
+    (λ c. search needs)
+    (λ c κs. search needs)
     returns-2
     returns-3
-    slice-aggregate-take-rule
-    take-rule-requires
+    (λ c. search needs)
+    (λ c κs. search needs)
     returns-4
-    same-length
+    (λ c. search needs)
     returns-5)
