@@ -135,16 +135,15 @@ linesFrom size (suc turns) s line rs =
 abbrev pub header : List ℕ
 header = 97 ∷ 115 ∷ 112 ∷ 32 ∷ 49 ∷ 32 ∷ 48 ∷ 32 ∷ 48 ∷ 10 ∷ []
 
-abbrev pub sameBytes : List ℕ → List ℕ → Bool
-sameBytes [] [] = true
-sameBytes [] (y ∷ ys) = false
-sameBytes (x ∷ xs) [] = false
-sameBytes (x ∷ xs) (y ∷ ys) = eqb x y && sameBytes xs ys
+abbrev pub startsWith : List ℕ → List ℕ → Bool
+startsWith [] s = true
+startsWith (x ∷ front) [] = false
+startsWith (x ∷ front) (b ∷ s) = eqb b x && startsWith front s
 
 -- "Is line 1 as said? 2." and the questions after it, with a table of `size` words: all but question 1
 unfoldable pub readLines : ℕ → List ℕ → Reading
 readLines size text =
-    cond (sameBytes (take 10 text) header) (linesFrom size (suc (length text)) (drop 10 text) 2 []) (refused 2 1)
+    cond (startsWith header text) (linesFrom size (suc (length text)) (drop 10 text) 2 []) (refused 2 1)
 
 -- "Has the text at most 65,535 bytes? No: 1." The whole text is at fault, so the line is 0.
 unfoldable pub readText : ℕ → List ℕ → Reading

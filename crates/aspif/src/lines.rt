@@ -7,7 +7,7 @@ ghost use lib.IntN.{pos};
 ghost use lib.ListN.{length, take, getD};
 ghost use Rattle.words.specs.Literals.{same};
 ghost use Rattle.text.specs.Line.{lineOf};
-ghost use Rattle.aspif.specs.Reading.{turnOf, header, sameBytes, readLines};
+ghost use Rattle.aspif.specs.Reading.{turnOf};
 ghost use Rattle.aspif.specs.Turns.{TurnTaken, LinesRead};
 use crate::ProgramRefusal;
 use crate::rules;
