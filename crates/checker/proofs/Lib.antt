@@ -1,0 +1,2 @@
+-- What holds of the whole check.
+pub mod Whole
