@@ -1,0 +1,3 @@
+-- What holds of the whole check: its course line by line, demand 3, and the starred examples.
+pub mod Whole
+pub mod Examples

@@ -1,0 +1,52 @@
+-- What the whole check says, as statements; proofs/Whole.antt proves them: the steps line by line, and demand 3 of the notice,
+-- part two.
+-- Assumes nothing.
+use mathlib.Core.Path.{_≡_}
+use mathlib.Core.Logic.{_↔_}
+use mathlib.Core.List.{List}
+use Prim.Native.Nat.{ℕ, _+_, _<_, _≤_}
+use lib.IntN.{ℤ}
+use lib.ListN.{length}
+use Rattle.words.specs.Limits.{longest}
+use Rattle.text.specs.declared.Letter.{Letter}
+use Rattle.aspif.specs.Rules.{Rule}
+use Rattle.aspif.specs.Reading.{program, readText}
+use Rattle.drupe.specs.Lines.{end, line, lineAt}
+use Rattle.drupe.specs.Lines as Lines
+use Rattle.derivation.specs.States.{State, start}
+use Rattle.derivation.specs.Steps.{next, step}
+use Rattle.derivation.specs.Steps as Steps
+use Rattle.derivation.specs.Claims.{NoAnswerSet}
+use Rattle.nogoods.specs.Store.{liveWords}
+use Rattle.checker.specs.Check.{Course, stopped, through, course, check}
+use Rattle.checker.specs.declared.Counts.{Counts}
+use Rattle.checker.specs.declared.Verdict.the-variants.{Inconsistent}
+
+-- What the proof's lines come to from a position on, after n steps that left the state z, with no bound on the turns.
+-- "The first "no" decides": `unread` is a line that fails one of questions 22 to 25, `unaccepted` a step that fails one of 26 to
+-- 33, `full` a step after which the live words do not fit the store, which is 34, and `good` a step that passes them all.
+module _ (P : List Rule) (size : ℕ) (text : List ℕ) where
+  pub data Runs : ℕ → ℕ → State → Course → Type 0 where
+    ends : {at n : ℕ} {z : State} → lineAt text at ≡ end → Runs at n z (through n z)
+    unread : {at n k : ℕ} {z : State} → lineAt text at ≡ Lines.refused k → Runs at n z (stopped k (n + 1))
+    unaccepted : {at n k after : ℕ} {z : State} {x : Letter} {zs : List ℤ} → lineAt text at ≡ line x zs after
+        → step P z (record { letter = x; numbers = zs }) ≡ Steps.refused k → Runs at n z (stopped k (n + 1))
+    full : {at n after : ℕ} {z z′ : State} {x : Letter} {zs : List ℤ} → lineAt text at ≡ line x zs after
+        → step P z (record { letter = x; numbers = zs }) ≡ next z′ → size < length (liveWords (z′ .live)) → Runs at n z (stopped 34 (n + 1))
+    good : {at n after : ℕ} {z z′ : State} {x : Letter} {zs : List ℤ} {c : Course} → lineAt text at ≡ line x zs after
+        → step P z (record { letter = x; numbers = zs }) ≡ next z′ → length (liveWords (z′ .live)) ≤ size → Runs after (n + 1) z′ c → Runs at n z c
+
+-- The course of a proof text that passes 21 is what its lines come to from the start, and nothing else.
+abbrev pub StepByStep : Type 0
+StepByStep =
+    (P : List Rule) (size : ℕ) (text : List ℕ) (c : Course) → length text ≤ longest
+    → (course P size text ≡ c) ↔ Runs P size text 0 0 start c
+
+-- "So wherever the whole check says "inconsistent", whatever the two texts, the table and the store it was lent, the same is
+-- true of the program it read": "no set of atoms is an answer set of that program. Nor is any set an answer set of that program
+-- with any list of further constraints appended, over old atoms or new."
+abbrev pub Demand3Whole : Type 1
+Demand3Whole =
+    (text proof : List ℕ) (t s : ℕ) (c : Counts)
+    → check text proof t s .verdict ≡ Inconsistent c
+    → (P : List Rule) × (readText t text ≡ program P) × NoAnswerSet P
