@@ -10,7 +10,7 @@ use Rattle.words.proofs.Lists.{itself, any-decides}
 use Rattle.words.specs.Literals.{insert, insertAll}
 use Rattle.text.specs.Line.{lineOf}
 use Rattle.aspif.specs.Rules.{Rule, isEmpty}
-use Rattle.aspif.specs.Reading.{shapeOf, readLines, readText}
+use Rattle.aspif.specs.Reading.{shapeOf, readLines, readText, linesFrom}
 use Rattle.aspif.specs.declared.Kind.the-variants.{Normal, Choice}
 use Rattle.answer_set.specs.AnswerSets.{Gives, LeastModel, derive, AnswerSet}
 use Rattle.checker.specs.Check.{check}
