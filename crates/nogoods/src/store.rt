@@ -1,0 +1,88 @@
+// Nogoods in the store's words.
+ghost use mathlib.Core.Path.{_≡_};
+ghost use mathlib.Core.List.{List, _++_};
+ghost use Prim.Native.Nat.{suc, _≤_};
+ghost use lib.IntN.{ℤ};
+ghost use lib.ListN.{length, drop};
+ghost use Rattle.words.specs.Lists.{any, dropFirst};
+ghost use Rattle.words.specs.Literals.{sameList};
+ghost use Rattle.aspif.specs.Rules.{isEmpty};
+ghost use Rattle.nogoods.specs.Store.{Holds, nogoodWords};
+ghost use Rattle.nogoods.specs.Finds.{foundAt};
+
+// Where a nogood stands.
+pub enum Found {
+    At(usize),
+    Nothing,
+}
+
+// The words of a nogood at the front of the free tail.
+pub fn write(free: &mut [i32], literals: &[i32])
+    requires { ⌜ (suc (length (now literals)) ≤ length (now free)) × (length (now literals) ≤ 4096) ⌝ }
+    ensures { λ _. ⌜ now (free .exit) ≡ nogoodWords (now (literals .entry)) ++ drop (suc (length (now (literals .entry)))) (now (free .entry)) ⌝ }
+{
+    free[0] = literals.len() as i32;
+    words::copy(&mut free[1..], literals);
+}
+
+// The oldest live nogood that is the list of literals.
+fn find(store: &[i32], used: usize, literals: &[i32]) -> Found
+    requires { ⌜ ((live : List (List ℤ)) × Holds (now store) used live) ⌝ }
+    ensures { λ r. ⌜ ((live : List (List ℤ)) → Holds (now (store .entry)) used live → r ≡ foundAt 0 (now (literals .entry)) live) ⌝ }
+{
+    let mut i = 0;
+    while i < used {
+        let from = i + 1;
+        let end = from + words::variable_of(words::word_at(store, i));
+        if words::is_same_list(&store[from..end], literals) {
+            return Found::At(i);
+        }
+        i = end;
+    }
+    Found::Nothing
+}
+
+// The oldest live nogood that is the list of literals goes out, and the words close up. How many words are used then.
+pub fn delete(store: &mut [i32], used: usize, literals: &[i32]) -> usize
+    requires { ⌜ ((live : List (List ℤ)) × Holds (now store) used live) ⌝ }
+    ensures { λ r. ⌜ ((live : List (List ℤ)) → Holds (now (store .entry)) used live → Holds (now (store .exit)) r (dropFirst (λ g. sameList g (now (literals .entry))) live)) ⌝ }
+{
+    match find(store, used, literals) {
+        Found::At(i) => {
+            let k = literals.len() + 1;
+            words::close_up(&mut store[i..used], k);
+            used - k
+        }
+        Found::Nothing => used,
+    }
+}
+
+// How many nogoods are live.
+pub fn count(store: &[i32], used: usize) -> usize
+    requires { ⌜ ((live : List (List ℤ)) × Holds (now store) used live) ⌝ }
+    ensures { λ r. ⌜ ((live : List (List ℤ)) → Holds (now (store .entry)) used live → r ≡ length live) ⌝ }
+{
+    let mut n = 0;
+    let mut i = 0;
+    while i < used {
+        i = i + 1 + words::variable_of(words::word_at(store, i));
+        n += 1;
+    }
+    n
+}
+
+// The empty nogood is live.
+pub fn has_empty(store: &[i32], used: usize) -> bool
+    requires { ⌜ ((live : List (List ℤ)) × Holds (now store) used live) ⌝ }
+    ensures { λ r. ⌜ ((live : List (List ℤ)) → Holds (now (store .entry)) used live → r ≡ any isEmpty live) ⌝ }
+{
+    let mut i = 0;
+    while i < used {
+        let n = words::variable_of(words::word_at(store, i));
+        if n == 0 {
+            return true;
+        }
+        i = i + 1 + n;
+    }
+    false
+}
