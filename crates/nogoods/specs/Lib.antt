@@ -1,2 +1,3 @@
 -- The store: the words that hold the live nogoods.
 pub mod Store
+pub mod Propagate

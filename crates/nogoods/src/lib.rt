@@ -1,1 +1,2 @@
 // The store and propagation over it.
+pub mod propagation;
