@@ -13,7 +13,7 @@ use Rattle.words.specs.Literals.{variable, complement}
 use Rattle.words.proofs.Literals.{variable-complement, complement-twice}
 use Rattle.nogoods.specs.Store.{Literals}
 use Rattle.nogoods.specs.Propagate.{entry, Assigns, Valued, free}
-use Rattle.nogoods.specs.declared.propagation.Value.the-variants.{True, False, Free}
+use Rattle.nogoods.specs.declared.units.Value.the-variants.{True, False, Free}
 use Rattle.nogoods.proofs.Places.{equal?, in-at, place-of, distinct}
 
 pub entry-cases : (z : ℤ) → (entry z ≡ 1) ⊎ (entry z ≡ 2)
@@ -58,6 +58,23 @@ free-less (zero ∷ m) (suc v) e h a b c = ap suc (free-less m v e (omega arith)
 free-less (suc zero ∷ m) (suc v) e h a b c = free-less m v e (omega arith) a b c
 free-less (suc (suc zero) ∷ m) (suc v) e h a b c = free-less m v e (omega arith) a b c
 free-less (suc (suc (suc n)) ∷ m) (suc v) e h a b c = ap suc (free-less m v e (omega arith) a b c)
+
+-- how many are free, of an entry and the others
+pub free-assigned : (x : ℕ) (m : List ℕ) → 1 ≤ x → x ≤ 2 → free (x ∷ m) ≡ free m
+free-assigned zero m h k = absurd (omega arith)
+free-assigned (suc zero) m h k = refl
+free-assigned (suc (suc zero)) m h k = refl
+free-assigned (suc (suc (suc x))) m h k = absurd (omega arith)
+
+pub free-cons : (x : ℕ) (m : List ℕ) → free (x ∷ m) ≤ suc (free m)
+free-cons zero m = omega arith
+free-cons (suc zero) m = omega arith
+free-cons (suc (suc zero)) m = omega arith
+free-cons (suc (suc (suc x))) m = omega arith
+
+pub free-most : (m : List ℕ) → free m ≤ length m
+free-most [] = omega arith
+free-most (x ∷ m) = omega (arith, free-cons x m, free-most m)
 
 -- nothing is true where all are free
 pub zeros : (n k : ℕ) → _≡_ {A = ℕ} (getD (replicate n 0) k 0) 0

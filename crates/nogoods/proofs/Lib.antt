@@ -3,5 +3,6 @@ pub mod Places
 pub mod Assignments
 pub mod Looks
 pub mod Segments
-pub mod Units
+pub mod Closures
 pub mod Sweeps
+pub mod Chains

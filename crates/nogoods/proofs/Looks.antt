@@ -12,8 +12,8 @@ use Rattle.words.specs.Lists.{_∈_}
 use Rattle.words.specs.Literals.{variable, complement}
 use Rattle.nogoods.specs.Store.{Literals}
 use Rattle.nogoods.specs.Propagate.{Assigns, Valued, Settled, Last, AllTrue, Looked}
-use Rattle.nogoods.specs.declared.propagation.Value.the-variants.{Free}
-use Rattle.nogoods.specs.declared.propagation.Look.the-variants.{Unit}
+use Rattle.nogoods.specs.declared.units.Value.the-variants.{Free}
+use Rattle.nogoods.specs.declared.units.Look.the-variants.{Unit}
 use Rattle.nogoods.proofs.Places.{in-at, place-of, distinct}
 
 module _ (m : List ℕ) (g : List ℤ) where

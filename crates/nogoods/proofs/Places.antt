@@ -8,7 +8,7 @@ use Prim.Native.Nat.{ℕ, zero, suc, _≤_, _<_}
 use native.Mathlib.Omega.{arith}
 use lib.Dec.{eqb}
 use lib.IntN.{ℤ, pos}
-use lib.ListN.{length, getD}
+use lib.ListN.{length, getD, set}
 use Rattle.words.specs.Lists.{_∈_}
 use Rattle.words.specs.Literals.{variable, same, mentions, noneTwice}
 use Rattle.words.proofs.Lists.{Decides, passed, answered, and-decides, not-decides, any-decides, eqb-decides}
@@ -32,6 +32,14 @@ module _ {A : Type 0} (d : A) where
   pub place-of : {x : A} {l : List A} → x ∈ l → (i : ℕ) × (i < length l) × (getD l i d ≡ x)
   place-of (List·Memᴰ·head p) = (0, omega arith, sym p)
   place-of (List·Memᴰ·tail m) = let r = place-of m in (suc (r .0), omega (arith, r .1), r .2)
+
+-- what holds of each element, and of a new one at its place, holds of each after the store
+pub set-each : {A : Type 0} (P : ℕ → A → Type 0) (l : List A) (i : ℕ) (a d : A) → ((j : ℕ) → P j (getD l j d)) → P i a → (j : ℕ) → P j (getD (set l i a) j d)
+set-each P [] i a d h k j = h j
+set-each P (x ∷ l) zero a d h k zero = k
+set-each P (x ∷ l) zero a d h k (suc j) = h (suc j)
+set-each P (x ∷ l) (suc i) a d h k zero = h zero
+set-each P (x ∷ l) (suc i) a d h k (suc j) = set-each (λ n. P (suc n)) l i a d (λ n. h (suc n)) k j
 
 mentions-decides : (v : ℕ) (l : List ℤ) → Decides (mentions v l) ((x : ℤ) × (x ∈ l) × (v ≡ variable x))
 mentions-decides v l = any-decides (λ x. eqb-decides v (variable x)) l

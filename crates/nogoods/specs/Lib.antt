@@ -1,3 +1,4 @@
 -- The store: the words that hold the live nogoods.
 pub mod Store
 pub mod Propagate
+pub mod PropagateChains

@@ -3,6 +3,7 @@
 -- Assumes nothing.
 use mathlib.Core.Path.{_≡_}
 use mathlib.Core.Logic.{_⊎_}
+use mathlib.Core.Bool.{Bool, true, false}
 use mathlib.Core.List.{List, [], _∷_}
 use Prim.Native.Nat.{ℕ, zero, suc, _+_, _-_, _≤_, _<_}
 use lib.IntN.{ℤ, pos, negsuc, natAbs}
@@ -10,13 +11,13 @@ use lib.ListN.{length, take, drop, getD, set}
 use Rattle.words.specs.Lists.{_∈_}
 use Rattle.words.specs.Literals.{variable, complement}
 use Rattle.derivation.specs.Propagation.{Closure, Conflict}
-use Rattle.nogoods.specs.Store.{Literals, Holds}
-use Rattle.nogoods.specs.declared.propagation.Value.{Value}
-use Rattle.nogoods.specs.declared.propagation.Value.the-variants.{True, False, Free}
-use Rattle.nogoods.specs.declared.propagation.Look.{Look}
-use Rattle.nogoods.specs.declared.propagation.Look.the-variants.{All, Unit, Idle}
-use Rattle.nogoods.specs.declared.propagation.Derived.{Derived}
-use Rattle.nogoods.specs.declared.propagation.Derived.the-variants.{Conflicting, Assigned, Nothing}
+use Rattle.nogoods.specs.Store.{Literals, liveWords}
+use Rattle.nogoods.specs.declared.units.Value.{Value}
+use Rattle.nogoods.specs.declared.units.Value.the-variants.{True, False, Free}
+use Rattle.nogoods.specs.declared.units.Look.{Look}
+use Rattle.nogoods.specs.declared.units.Look.the-variants.{All, Unit, Idle}
+use Rattle.nogoods.specs.declared.units.Derived.{Derived}
+use Rattle.nogoods.specs.declared.units.Derived.the-variants.{Conflicting, Assigned, Nothing}
 use Rattle.nogoods.specs.declared.propagation.Swept.{Swept}
 use Rattle.nogoods.specs.declared.propagation.Swept.the-variants.{Refuted, Changed, Same}
 
@@ -72,7 +73,12 @@ Derives g m m′ Conflicting = AllTrue m g
 Derives g m m′ (Assigned v) = (z : ℤ) × (Last m g z) × (variable z ≡ v) × (m′ ≡ set m v (entry (complement z)))
 Derives g m m′ Nothing = (m′ ≡ m) × Settled m g
 
--- The nogoods of the store
+-- The words of the nogoods, one nogood after another
+
+-- the words are those of the nogoods
+pub record Encodes (s : List ℤ) (live : List (List ℤ)) : Type 0 where
+  pub words : s ≡ liveWords live
+  pub literals : (g : List ℤ) → g ∈ live → Literals g
 
 -- the literal count at r
 abbrev pub countAt : List ℤ → ℕ → ℕ
@@ -87,9 +93,9 @@ pub record Readable (s : List ℤ) (r : ℕ) : Type 0 where
   pub room : r + 1 + countAt s r ≤ length s
   pub literals : Literals (nogoodAt s r)
 
--- a nogood that the store holds stands at r
-abbrev pub Stands : List ℤ → ℕ → ℕ → Type 0
-Stands s used r = (live : List (List ℤ)) → Holds s used live → (nogoodAt s r ∈ live) × (r + 1 + countAt s r ≤ used)
+-- one of the nogoods stands at r
+abbrev pub Stands : List ℤ → ℕ → Type 0
+Stands s r = (live : List (List ℤ)) → Encodes s live → (nogoodAt s r ∈ live) × (r + 1 + countAt s r ≤ length s)
 
 -- Propagation
 
@@ -98,17 +104,37 @@ abbrev pub Within : List (List ℤ) → List ℤ → List ℕ → Type 0
 Within live L m = (z : ℤ) → Assigns m z → Closure live L z
 
 -- from m to m′ the assignment grew by what follows from the nogoods
-pub record Grows (s : List ℤ) (used : ℕ) (m m′ : List ℕ) : Type 0 where
-  pub sound : (live : List (List ℤ)) (L : List ℤ) → Holds s used live → Within live L m → Within live L m′
+pub record Grows (s : List ℤ) (m m′ : List ℕ) : Type 0 where
+  pub sound : (live : List (List ℤ)) (L : List ℤ) → Encodes s live → Within live L m → Within live L m′
   pub kept : (z : ℤ) → Assigns m z → Assigns m′ z
   pub size : length m′ ≡ length m
   pub fewer : free m′ ≤ free m
 
 -- the nogoods and what the assignment makes true contradict each other
-abbrev pub Clashes : List ℤ → ℕ → List ℕ → Type 0
-Clashes s used m = (live : List (List ℤ)) (L : List ℤ) → Holds s used live → Within live L m → Conflict live L
+abbrev pub Clashes : List ℤ → List ℕ → Type 0
+Clashes s m = (live : List (List ℤ)) (L : List ℤ) → Encodes s live → Within live L m → Conflict live L
 
-abbrev pub Sweeps : List ℤ → ℕ → List ℕ → List ℕ → Swept → Type 0
-Sweeps s used m m′ Refuted = Clashes s used m
-Sweeps s used m m′ Changed = Grows s used m m′ × (free m′ < free m)
-Sweeps s used m m′ Same = (live : List (List ℤ)) → Holds s used live → (g : List ℤ) → g ∈ live → Settled m g
+-- nothing follows from any nogood
+abbrev pub AllSettled : List ℤ → List ℕ → Type 0
+AllSettled s m = (live : List (List ℤ)) → Encodes s live → (g : List ℤ) → g ∈ live → Settled m g
+
+abbrev pub Sweeps : List ℤ → List ℕ → List ℕ → Swept → Type 0
+Sweeps s m m′ Refuted = Clashes s m
+Sweeps s m m′ Changed = Grows s m m′ × (free m′ < free m)
+Sweeps s m m′ Same = (m′ ≡ m) × AllSettled s m
+
+-- after at most so many sweeps
+abbrev pub Settles : List ℤ → ℕ → List ℕ → List ℕ → Swept → Type 0
+Settles s rounds m m′ Refuted = Clashes s m
+Settles s rounds m m′ Changed = Grows s m m′ × (rounds + free m′ ≤ free m)
+Settles s rounds m m′ Same = Grows s m m′ × AllSettled s m′
+
+-- a conflict was found, or the assignment grew
+abbrev pub Runs : List ℤ → List ℕ → List ℕ → Bool → Type 0
+Runs s m m′ true = Clashes s m
+Runs s m m′ false = Grows s m m′
+
+-- a conflict was found, or there is none
+abbrev pub Ends : List ℤ → List ℕ → List ℕ → Bool → Type 0
+Ends s m m′ true = Clashes s m
+Ends s m m′ false = Grows s m m′ × AllSettled s m′

@@ -3,36 +3,15 @@
 ghost use mathlib.Core.Path.{_≡_};
 ghost use mathlib.Core.Logic.{_↔_};
 ghost use mathlib.Core.List.{List};
-ghost use Prim.Native.Nat.{ℕ, _+_, _-_, _≤_, _<_};
-ghost use lib.IntN.{ℤ, pos};
-ghost use lib.ListN.{length, getD, set};
-ghost use Rattle.words.specs.Limits.{largest};
+ghost use lib.IntN.{ℤ};
+ghost use lib.ListN.{length};
 ghost use Rattle.words.specs.Lists.{_∈_};
-ghost use Rattle.words.specs.Literals.{variable, complement};
 ghost use Rattle.derivation.specs.Propagation.{refuted};
 ghost use Rattle.nogoods.specs.Store.{Literals, Holds};
-ghost use Rattle.nogoods.specs.Propagate.{entry, Assigns, Valued, Looked, Derives, countAt, nogoodAt, Readable, Sweeps};
-
-// A literal under an assignment.
-enum Value {
-    True,
-    False,
-    Free,
-}
-
-// A nogood under an assignment: all its literals are true; all but the one at an index, which is free; nothing follows.
-enum Look {
-    All,
-    Unit(usize),
-    Idle,
-}
-
-// What one nogood gave: a conflict; a variable that is assigned now; nothing.
-enum Derived {
-    Conflicting,
-    Assigned(usize),
-    Nothing,
-}
+ghost use Rattle.nogoods.specs.Propagate.{Assigns, Encodes, Sweeps, Settles, Ends};
+use crate::occurrences;
+use crate::units;
+use crate::units::Derived;
 
 // What one pass over the nogoods gave: a conflict; variables that are assigned now; nothing.
 enum Swept {
@@ -41,124 +20,17 @@ enum Swept {
     Same,
 }
 
-// The entry of its variable that makes a literal true.
-fn entry_of(word: i32) -> u8
-    ensures { λ r. ⌜ r ≡ entry word ⌝ }
-{
-    if word < 0 { 2 } else { 1 }
-}
-
-fn value_of(word: i32, assignment: &[u8; 4096]) -> Value
-    requires { ⌜ (1 ≤ variable word) × (variable word ≤ largest) ⌝ }
-    ensures { λ r. ⌜ Valued (now (assignment .entry)) word r ⌝ }
-{
-    let v = words::variable_of(word);
-    let found = assignment[v];
-    let wanted = entry_of(word);
-    if found == wanted {
-        return Value::True;
-    }
-    if found == 3 - wanted {
-        return Value::False;
-    }
-    Value::Free
-}
-
-// A literal becomes true. Its variable.
-fn make_true(word: i32, assignment: &mut [u8; 4096]) -> usize
-    requires { ⌜ variable word ≤ largest ⌝ }
-    requires { ⌜ length (now assignment) ≡ 4096 ⌝ }
-    ensures { λ v. ⌜ v ≡ variable word ⌝ }
-    ensures { λ v. ⌜ now (assignment .exit) ≡ set (now (assignment .entry)) (variable word) (entry word) ⌝ }
-{
-    let v = words::variable_of(word);
-    assignment[v] = entry_of(word);
-    v
-}
-
-fn complement_of(word: i32) -> i32
-    requires { ⌜ variable word ≤ largest ⌝ }
-    ensures { λ r. ⌜ r ≡ complement word ⌝ }
-{
-    0 - word
-}
-
-fn look_at(literals: &[i32], assignment: &[u8; 4096]) -> Look
-    requires { ⌜ Literals (now literals) ⌝ }
-    ensures { λ r. ⌜ Looked (now (assignment .entry)) (now (literals .entry)) r ⌝ }
-{
-    let mut one = literals.len();
-    let mut i = 0;
-    while i < literals.len() {
-        let j = i;
-        let value = value_of(literals[j], assignment);
-        i += 1;
-        match value {
-            Value::True => {}
-            Value::False => {
-                return Look::Idle;
-            }
-            Value::Free => {
-                if one < j {
-                    return Look::Idle;
-                }
-                one = j;
-            }
-        }
-    }
-    if one < literals.len() {
-        return Look::Unit(one);
-    }
-    Look::All
-}
-
-// One nogood's part: where all its literals but one are true and that one is free, its complement becomes true.
-fn derive(literals: &[i32], assignment: &mut [u8; 4096]) -> Derived
-    requires { ⌜ Literals (now literals) ⌝ }
-    requires { ⌜ length (now assignment) ≡ 4096 ⌝ }
-    ensures { λ r. ⌜ Derives (now (literals .entry)) (now (assignment .entry)) (now (assignment .exit)) r ⌝ }
-{
-    let look = look_at(literals, assignment);
-    match look {
-        Look::All => Derived::Conflicting,
-        Look::Idle => Derived::Nothing,
-        Look::Unit(j) => {
-            let v = make_true(complement_of(literals[j]), assignment);
-            Derived::Assigned(v)
-        }
-    }
-}
-
-// The literal count at r; 0 past the end.
-fn count_at(store: &[i32], r: usize) -> usize
-    ensures { λ n. ⌜ n ≡ countAt (now (store .entry)) r ⌝ }
-{
-    words::variable_of(words::word_at(store, r))
-}
-
-// The same of the nogood whose count stands at r.
-fn derive_at(store: &[i32], r: usize, assignment: &mut [u8; 4096]) -> Derived
-    requires { ⌜ Readable (now store) r ⌝ }
-    requires { ⌜ length (now assignment) ≡ 4096 ⌝ }
-    ensures { λ d. ⌜ Derives (nogoodAt (now (store .entry)) r) (now (assignment .entry)) (now (assignment .exit)) d ⌝ }
-{
-    let n = count_at(store, r);
-    let a = r + 1;
-    let e = a + n;
-    derive(&store[a..e], assignment)
-}
-
 // One pass over the nogoods, each with what those before it gave.
-fn sweep(store: &[i32], used: usize, assignment: &mut [u8; 4096]) -> Swept
-    requires { ⌜ ((live : List (List ℤ)) × Holds (now store) used live) ⌝ }
+fn sweep(nogoods: &[i32], assignment: &mut [u8; 4096]) -> Swept
+    requires { ⌜ ((live : List (List ℤ)) × Encodes (now nogoods) live) ⌝ }
     requires { ⌜ length (now assignment) ≡ 4096 ⌝ }
-    ensures { λ r. ⌜ Sweeps (now (store .entry)) used (now (assignment .entry)) (now (assignment .exit)) r ⌝ }
+    ensures { λ r. ⌜ Sweeps (now (nogoods .entry)) (now (assignment .entry)) (now (assignment .exit)) r ⌝ }
 {
     let mut changed = false;
     let mut i = 0;
-    while i < used {
-        let given = derive_at(store, i, assignment);
-        i = i + 1 + count_at(store, i);
+    while i < nogoods.len() {
+        let given = units::derive_at(nogoods, i, assignment);
+        i = i + 1 + units::count_at(nogoods, i);
         match given {
             Derived::Conflicting => {
                 return Swept::Refuted;
@@ -184,29 +56,73 @@ fn assigned(literals: &[i32]) -> [u8; 4096]
     let mut assignment = [0u8; 4096];
     let mut i = 0;
     while i < literals.len() {
-        make_true(literals[i], &mut assignment);
+        units::make_true(literals[i], &mut assignment);
         i += 1;
     }
     assignment
 }
 
-// Whether propagation from the literals comes to a conflict.
+// Sweeps until nothing changes, at most so many.
+fn settle(nogoods: &[i32], rounds: usize, assignment: &mut [u8; 4096]) -> Swept
+    requires { ⌜ ((live : List (List ℤ)) × Encodes (now nogoods) live) ⌝ }
+    requires { ⌜ length (now assignment) ≡ 4096 ⌝ }
+    ensures { λ r. ⌜ Settles (now (nogoods .entry)) rounds (now (assignment .entry)) (now (assignment .exit)) r ⌝ }
+{
+    let mut left = rounds;
+    while 0 < left {
+        let swept = sweep(nogoods, assignment);
+        left -= 1;
+        match swept {
+            Swept::Refuted => {
+                return Swept::Refuted;
+            }
+            Swept::Same => {
+                return Swept::Same;
+            }
+            Swept::Changed => {}
+        }
+    }
+    Swept::Changed
+}
+
+// What a few sweeps leave: the counters, and then sweeps until nothing changes. There are at most 4,096 that change something,
+// since each of these assigns a variable.
+fn finish(nogoods: &[i32], assignment: &mut [u8; 4096]) -> bool
+    requires { ⌜ ((live : List (List ℤ)) × Encodes (now nogoods) live) ⌝ }
+    requires { ⌜ length (now assignment) ≡ 4096 ⌝ }
+    ensures { λ r. ⌜ Ends (now (nogoods .entry)) (now (assignment .entry)) (now (assignment .exit)) r ⌝ }
+{
+    if occurrences::saturate(nogoods, assignment) {
+        return true;
+    }
+    let swept = settle(nogoods, 4097, assignment);
+    match swept {
+        Swept::Refuted => true,
+        Swept::Same => false,
+        Swept::Changed => false,
+    }
+}
+
+// Propagation to its end. Whether that is a conflict.
+fn propagate(nogoods: &[i32], assignment: &mut [u8; 4096]) -> bool
+    requires { ⌜ ((live : List (List ℤ)) × Encodes (now nogoods) live) ⌝ }
+    requires { ⌜ length (now assignment) ≡ 4096 ⌝ }
+    ensures { λ r. ⌜ Ends (now (nogoods .entry)) (now (assignment .entry)) (now (assignment .exit)) r ⌝ }
+{
+    let swept = settle(nogoods, 3, assignment);
+    match swept {
+        Swept::Refuted => true,
+        Swept::Same => false,
+        Swept::Changed => finish(nogoods, assignment),
+    }
+}
+
+// Whether propagation from the literals over the nogoods in the store's first `used` words comes to a conflict.
 pub fn refutes(store: &[i32], used: usize, literals: &[i32]) -> bool
     requires { ⌜ ((live : List (List ℤ)) × Holds (now store) used live) ⌝ }
     requires { ⌜ Literals (now literals) ⌝ }
     ensures { λ r. ⌜ ((live : List (List ℤ)) → Holds (now (store .entry)) used live → r ≡ refuted live (now (literals .entry))) ⌝ }
 {
     let mut assignment = assigned(literals);
-    loop {
-        let swept = sweep(store, used, &mut assignment);
-        match swept {
-            Swept::Refuted => {
-                return true;
-            }
-            Swept::Same => {
-                return false;
-            }
-            Swept::Changed => {}
-        }
-    }
+    propagate(&store[..used], &mut assignment)
 }

@@ -5,11 +5,11 @@ use native.Mathlib.Omega.{arith}
 use lib.ListN.{take, drop}
 use Rattle.nogoods.specs.Propagate.{nogoodAt}
 use borrow.Author.Needs.{needs}
-use Rattle.nogoods.proofs.propagation.derive_at.Statement.{statement}
-use Rattle.nogoods.proofs.propagation.derive_at.Tie as tie
+use Rattle.nogoods.proofs.units.derive_at.Statement.{statement}
+use Rattle.nogoods.proofs.units.derive_at.Tie as tie
 
 part : (c : tie.After-count-at) → let s = c .before .args in let a = s .r + 1 in
-    take (a + c .count-at .result - a) (drop a (s .store .now)) ≡ nogoodAt (s .store .now) (s .r)
+    take (a + c .count-at .result - a) (drop a (s .nogoods .now)) ≡ nogoodAt (s .nogoods .now) (s .r)
 part c =
     let a = c .before .args .r + 1 in
     let n = c .count-at .result in

@@ -2,6 +2,7 @@
 -- Assumes nothing.
 use mathlib.Core.Path.{_≡_, refl, sym, ap, _∙_}
 use mathlib.Core.Logic.{_⊎_, inl, inr}
+use mathlib.Core.Bool.{Bool, true, false}
 use mathlib.Core.List.{List, [], _∷_, List·Memᴰ·head, List·Memᴰ·not-nil, Memᴰ·cast}
 use Prim.Native.Nat.{ℕ, suc, _+_, _≤_, _<_}
 use native.Mathlib.Omega.{arith}
@@ -11,10 +12,10 @@ use Rattle.words.specs.Lists.{_∈_}
 use Rattle.words.specs.Literals.{variable, complement}
 use Rattle.words.proofs.Literals.{complement-twice, variable-complement}
 use Rattle.derivation.specs.Propagation.{Closure, given, unit, Conflict}
-use Rattle.nogoods.specs.Store.{Literals, Holds}
-use Rattle.nogoods.specs.Propagate.{entry, Assigns, Valued, free, Settled, Last, AllTrue, Derives, nogoodAt, Stands, Within, Grows, Clashes}
-use Rattle.nogoods.specs.declared.propagation.Value.the-variants.{Free}
-use Rattle.nogoods.specs.declared.propagation.Derived.the-variants.{Assigned}
+use Rattle.nogoods.specs.Store.{Literals}
+use Rattle.nogoods.specs.Propagate.{entry, Assigns, Valued, free, Settled, Last, AllTrue, Derives, nogoodAt, Stands, Within, Grows, Clashes, Ends}
+use Rattle.nogoods.specs.declared.units.Value.the-variants.{Free}
+use Rattle.nogoods.specs.declared.units.Derived.the-variants.{Assigned}
 use Rattle.nogoods.proofs.Places.{same?}
 use Rattle.nogoods.proofs.Assignments.{positive-complement, apart, assigned→, assigned-kept, assigned-fewer}
 
@@ -54,11 +55,11 @@ module _ (live : List (List ℤ)) (L : List ℤ) (m : List ℕ) (lits : (g : Lis
 
 -- How the assignment grows
 
-module _ {s : List ℤ} {used : ℕ} where
-  pub grows-not : {m : List ℕ} → Grows s used m m
+module _ {s : List ℤ} where
+  pub grows-not : {m : List ℕ} → Grows s m m
   grows-not = record { sound = λ live L h w. w; kept = λ z a. a; size = refl; fewer = omega arith }
 
-  pub grows-on : {a b c : List ℕ} → Grows s used a b → Grows s used b c → Grows s used a c
+  pub grows-on : {a b c : List ℕ} → Grows s a b → Grows s b c → Grows s a c
   grows-on p q = record {
     sound = λ live L h w. q .sound live L h (p .sound live L h w);
     kept = λ z a. q .kept z (p .kept z a);
@@ -66,12 +67,20 @@ module _ {s : List ℤ} {used : ℕ} where
     fewer = omega (arith, p .fewer, q .fewer);
   }
 
-module _ (s : List ℤ) (used r : ℕ) (here : Stands s used r) (lits : Literals (nogoodAt s r)) (m : List ℕ) (size : length m ≡ 4096) where
-  pub conflicting : AllTrue m (nogoodAt s r) → Clashes s used m
+module _ (s : List ℤ) (a b : List ℕ) (g : Grows s a b) where
+  pub clashes-before : Clashes s b → Clashes s a
+  clashes-before k live L h w = k live L h (g .sound live L h w)
+
+  pub ends-before : (c : List ℕ) (r : Bool) → Ends s b c r → Ends s a c r
+  ends-before c true k = clashes-before k
+  ends-before c false k = (grows-on g (k .0), k .1)
+
+module _ (s : List ℤ) (r : ℕ) (here : Stands s r) (lits : Literals (nogoodAt s r)) (m : List ℕ) (size : length m ≡ 4096) where
+  pub conflicting : AllTrue m (nogoodAt s r) → Clashes s m
   conflicting f live L h w = all-true live L m w (nogoodAt s r) (here live h .0) f
 
   pub derived : (m′ : List ℕ) (v : ℕ) → Derives (nogoodAt s r) m m′ (Assigned v)
-      → Grows s used m m′ × (suc (free m′) ≡ free m) × (1 ≤ v) × (v < 4096)
+      → Grows s m m′ × (suc (free m′) ≡ free m) × (1 ≤ v) × (v < 4096)
   derived m′ v (z, last, e, p) =
       let x = complement z in
       let i = last .here in

@@ -7,8 +7,8 @@ use lib.IntN.{ℤ, pos, negsuc}
 use lib.Signed.{ltZ}
 use mir.Facts.{toZ-ofZ}
 use Rattle.nogoods.specs.Propagate.{entry}
-use Rattle.nogoods.proofs.propagation.entry_of.Statement.{statement}
-use Rattle.nogoods.proofs.propagation.entry_of.Tie as tie
+use Rattle.nogoods.proofs.units.entry_of.Statement.{statement}
+use Rattle.nogoods.proofs.units.entry_of.Tie as tie
 
 below : (z : ℤ) → ltZ z (pos 0) ≡ true → 2 ≡ entry z
 below (pos n) h = absurd (omega (arith, ltb-true n 0 h))

@@ -5,8 +5,8 @@ use mir.Facts.{toZ-ofZ}
 use Rattle.words.specs.Literals.{variable}
 use Rattle.nogoods.specs.Propagate.{entry}
 use borrow.Author.Needs.{needs}
-use Rattle.nogoods.proofs.propagation.make_true.Statement.{statement}
-use Rattle.nogoods.proofs.propagation.make_true.Tie as tie
+use Rattle.nogoods.proofs.units.make_true.Statement.{statement}
+use Rattle.nogoods.proofs.units.make_true.Tie as tie
 
 v-is : (c : tie.After-variable-of) → c .variable-of .result ≡ variable (c .before .args .word)
 v-is c = rw (toZ-ofZ (c .before .fits .word)) at (c .variable-of .ensures)

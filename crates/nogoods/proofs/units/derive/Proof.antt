@@ -12,11 +12,11 @@ use Rattle.words.specs.Literals.{variable, complement}
 use Rattle.words.proofs.Literals.{variable-complement}
 use Rattle.words.proofs.Words.{back}
 use Rattle.nogoods.specs.Propagate.{Looked}
-use Rattle.nogoods.specs.declared.propagation.Look.{Look}
-use Rattle.nogoods.specs.declared.propagation.Look.the-variants.{Unit}
+use Rattle.nogoods.specs.declared.units.Look.{Look}
+use Rattle.nogoods.specs.declared.units.Look.the-variants.{Unit}
 use borrow.Author.Needs.{needs, sfits-of}
-use Rattle.nogoods.proofs.propagation.derive.Statement.{statement}
-use Rattle.nogoods.proofs.propagation.derive.Tie as tie
+use Rattle.nogoods.proofs.units.derive.Statement.{statement}
+use Rattle.nogoods.proofs.units.derive.Tie as tie
 
 told : (c : tie.After-look-at) (x : Look) → c .look-at .result ≡ x → Looked (c .before .before .args .assignment .now) (c .before .before .args .literals .now) x
 told c x e = rw e at (c .look-at .ensures)

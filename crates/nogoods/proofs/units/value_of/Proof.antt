@@ -9,8 +9,8 @@ use Rattle.words.proofs.Literals.{variable-complement}
 use Rattle.nogoods.specs.Propagate.{entry, Assigns}
 use Rattle.nogoods.proofs.Assignments.{entry-most, entry-complement}
 use borrow.Author.Needs.{needs}
-use Rattle.nogoods.proofs.propagation.value_of.Statement.{statement}
-use Rattle.nogoods.proofs.propagation.value_of.Tie as tie
+use Rattle.nogoods.proofs.units.value_of.Statement.{statement}
+use Rattle.nogoods.proofs.units.value_of.Tie as tie
 
 v-is : (c : tie.After-variable-of) → c .variable-of .result ≡ variable (c .before .args .word)
 v-is c = rw (toZ-ofZ (c .before .fits .word)) at (c .variable-of .ensures)
