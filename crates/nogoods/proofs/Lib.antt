@@ -1,2 +1,9 @@
 -- The laws that the proofs share.
+pub mod Places
+pub mod Assignments
+pub mod Looks
+pub mod Segments
+pub mod Closures
+pub mod Sweeps
+pub mod Chains
 pub mod Stored

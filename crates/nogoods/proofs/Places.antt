@@ -1,0 +1,60 @@
+-- Elements of a list by their places, and literals of which no variable stands twice.
+-- Assumes nothing.
+use mathlib.Core.Path.{_≡_, refl, sym, ap}
+use mathlib.Core.Logic.{_⊎_, inl, inr}
+use mathlib.Core.Bool.{true}
+use mathlib.Core.List.{List, [], _∷_, List·Memᴰ·head, List·Memᴰ·tail}
+use Prim.Native.Nat.{ℕ, zero, suc, _≤_, _<_}
+use native.Mathlib.Omega.{arith}
+use lib.Dec.{eqb}
+use lib.IntN.{ℤ, pos}
+use lib.ListN.{length, getD, set}
+use Rattle.words.specs.Lists.{_∈_}
+use Rattle.words.specs.Literals.{variable, same, mentions, noneTwice}
+use Rattle.words.proofs.Lists.{Decides, passed, answered, and-decides, not-decides, any-decides, eqb-decides}
+use Rattle.words.proofs.Literals.{same-decides}
+
+-- two numbers, or two words, are equal or not
+pub equal? : (a b : ℕ) → (a ≡ b) ⊎ (¬ (a ≡ b))
+equal? a b = elim (answered (eqb a b)) [ inl t ↦ inl (eqb-decides a b .to t) | inr t ↦ inr (not-decides (eqb-decides a b) .to t) ]
+
+pub same? : (x y : ℤ) → (x ≡ y) ⊎ (¬ (x ≡ y))
+same? x y = elim (answered (same x y)) [ inl t ↦ inl (same-decides x y .to t) | inr t ↦ inr (not-decides (same-decides x y) .to t) ]
+
+module _ {A : Type 0} (d : A) where
+  -- what stands at a place is in the list
+  pub in-at : (l : List A) (i : ℕ) → i < length l → getD l i d ∈ l
+  in-at [] i h = absurd (omega arith)
+  in-at (x ∷ l) zero h = List·Memᴰ·head refl
+  in-at (x ∷ l) (suc i) h = List·Memᴰ·tail (in-at l i (omega arith))
+
+  -- what is in the list stands at a place
+  pub place-of : {x : A} {l : List A} → x ∈ l → (i : ℕ) × (i < length l) × (getD l i d ≡ x)
+  place-of (List·Memᴰ·head p) = (0, omega arith, sym p)
+  place-of (List·Memᴰ·tail m) = let r = place-of m in (suc (r .0), omega (arith, r .1), r .2)
+
+-- what holds of each element, and of a new one at its place, holds of each after the store
+pub set-each : {A : Type 0} (P : ℕ → A → Type 0) (l : List A) (i : ℕ) (a d : A) → ((j : ℕ) → P j (getD l j d)) → P i a → (j : ℕ) → P j (getD (set l i a) j d)
+set-each P [] i a d h k j = h j
+set-each P (x ∷ l) zero a d h k zero = k
+set-each P (x ∷ l) zero a d h k (suc j) = h (suc j)
+set-each P (x ∷ l) (suc i) a d h k zero = h zero
+set-each P (x ∷ l) (suc i) a d h k (suc j) = set-each (λ n. P (suc n)) l i a d (λ n. h (suc n)) k j
+
+mentions-decides : (v : ℕ) (l : List ℤ) → Decides (mentions v l) ((x : ℤ) × (x ∈ l) × (v ≡ variable x))
+mentions-decides v l = any-decides (λ x. eqb-decides v (variable x)) l
+
+once-decides : (x : ℤ) (l : List ℤ) → Decides (noneTwice (x ∷ l)) ((¬ ((y : ℤ) × (y ∈ l) × (variable x ≡ variable y))) × (noneTwice l ≡ true))
+once-decides x l = and-decides (not-decides (mentions-decides (variable x) l)) (passed (noneTwice l))
+
+first : (x : ℤ) (l : List ℤ) → noneTwice (x ∷ l) ≡ true → (j : ℕ) → j < length l → ¬ (variable x ≡ variable (getD l j (pos 0)))
+first x l o j h e = once-decides x l .to (passed _ .from o) .0 (getD l j (pos 0), in-at (pos 0) l j h, e)
+
+-- no variable stands twice: at two places stand two variables
+pub distinct : (l : List ℤ) → noneTwice l ≡ true → (i j : ℕ) → i < length l → j < length l → ¬ (i ≡ j) → ¬ (variable (getD l i (pos 0)) ≡ variable (getD l j (pos 0)))
+distinct [] o i j h k n e = omega arith
+distinct (x ∷ l) o zero zero h k n e = n refl
+distinct (x ∷ l) o zero (suc j) h k n e = first x l o j (omega arith) e
+distinct (x ∷ l) o (suc i) zero h k n e = first x l o i (omega arith) (sym e)
+distinct (x ∷ l) o (suc i) (suc j) h k n e =
+    distinct l (once-decides x l .to (passed _ .from o) .1) i j (omega arith) (omega arith) (λ p. n (ap suc p)) e

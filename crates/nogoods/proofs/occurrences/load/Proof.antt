@@ -1,0 +1,73 @@
+-- The loop keeps `Loading`: the variables below v that are assigned are queued.
+use mathlib.Core.Path.{_≡_}
+use Prim.Native.Nat.{_-_, _≤_, _<_}
+use native.Mathlib.Omega.{arith}
+use borrow.Author.Needs.{needs}
+use lib.ListN.{length, getD}
+use Rattle.nogoods.proofs.Chains.{Loading, loading-free, loading-assigned, loaded}
+use Rattle.nogoods.proofs.occurrences.load.Statement.{statement}
+use Rattle.nogoods.proofs.occurrences.load.Tie as tie
+
+abbrev Inv-loop : tie.InvT-loop
+Inv-loop assignment queue₀ t₀ v₀ queue t v = (v ≤ 4096) × Loading assignment queue v t
+
+abbrev μ-loop : tie.MeasureT-loop
+μ-loop assignment queue₀ t₀ v₀ queue t v = 4096 - v
+
+loop-holds : tie.Need-loop-holds Inv-loop μ-loop
+loop-holds c = (omega arith, record { places = c .pre .1; few = omega arith; room = omega arith })
+
+inside : (c : tie.In-loop Inv-loop μ-loop) → c .before .loop .v < length (c .before .before .args .assignment .now)
+inside c = omega (arith, c .before .before .pre .0, c .loop-test .taken)
+
+few : (c : tie.After-is-assigned Inv-loop μ-loop) → c .before .before .before .before .loop .t < 4096
+few c = let l = c .before .before .before in omega (arith, l .before .loop .inv .1 .few, l .loop-test .taken)
+
+mul-queue : tie.Need-mul-queue Inv-loop μ-loop
+mul-queue c = let k = few (c .before) in search needs
+
+element-write-queue : tie.Need-element-write-queue Inv-loop μ-loop
+element-write-queue c = few (c .before)
+
+add-t : tie.Need-add-t Inv-loop μ-loop
+add-t c = let k = few (c .before) in search needs
+
+loop-again : tie.Need-loop-again Inv-loop μ-loop
+loop-again c =
+    let o = c .before in
+    let i = o .before .before .before in
+    let l = i .before .loop in
+    let e = o .is-assigned .ensures (c .if1 .taken) in
+    (omega (arith, i .loop-test .taken), loading-assigned _ (l .queue) (l .v) (l .t) (l .inv .1) (inside i) (o .before .before .true-place .result) (o .before .before .true-place .ensures) (e .0) (e .1))
+
+loop-again-2 : tie.Need-loop-again-2 Inv-loop μ-loop
+loop-again-2 c =
+    let i = c .before .before .before .before in
+    let l = i .before .loop in
+    (omega (arith, i .loop-test .taken), loading-free _ (l .queue) (l .v) (l .t) (l .inv .1) (inside i))
+
+returns : tie.Need-returns Inv-loop μ-loop
+returns c =
+    let l = c .before .loop in
+    loaded _ (l .queue) (l .v) (l .t) (l .inv .1) (omega (arith, c .before .before .pre .0, c .loop-test .left)) (l .inv .0)
+
+pub load-spec : {M : Type 1} → statement M
+load-spec =
+    tie.close
+    (tie.spec
+    Inv-loop
+    μ-loop
+    loop-holds
+    (λ c κs. search needs)
+    (λ c. search needs)
+    (λ c κs. search needs)
+    (λ c. search needs)
+    (λ c. search needs)
+    mul-queue
+    element-write-queue
+    add-t
+    (λ c. search needs)
+    loop-again
+    (λ c. search needs)
+    loop-again-2
+    returns)

@@ -1,0 +1,48 @@
+-- A conflict is one of the closure; and where nothing follows any more the assignment has the closure, and there is none.
+use mathlib.Core.Path.{_≡_, sym}
+use mathlib.Core.Bool.{Bool, true, false}
+use mathlib.Core.List.{List}
+use Prim.Native.Nat.{ℕ}
+use lib.IntN.{ℤ}
+use lib.Seq.{length-take-le}
+use Rattle.words.proofs.Lists.{passed, failed, not-decides}
+use Rattle.words.specs.Lists.{_∈_}
+use Rattle.derivation.specs.Propagation.{given, refuted}
+use Rattle.derivation.proofs.Closure.{refuted-decides}
+use Rattle.nogoods.specs.Store.{Literals}
+use Rattle.nogoods.specs.Propagate.{Assigns, Encodes, Ends}
+use Rattle.nogoods.proofs.Segments.{front}
+use Rattle.nogoods.proofs.Closures.{no-conflict}
+use borrow.Author.Needs.{needs}
+use Rattle.nogoods.proofs.propagation.refutes.Statement.{statement}
+use Rattle.nogoods.proofs.propagation.refutes.Tie as tie
+
+module _ (s : List ℤ) (live : List (List ℤ)) (enc : Encodes s live) (L : List ℤ) (lits : Literals L) (m m′ : List ℕ)
+    (only : (z : ℤ) → Assigns m z → z ∈ L) (all : (z : ℤ) → z ∈ L → Assigns m z) where
+  answer : (r : Bool) → Ends s m m′ r → r ≡ refuted live L
+  answer true k = sym (passed (refuted live L) .to (refuted-decides live L .from (k live L enc (λ z a. given (only z a)))))
+  answer false k =
+      sym (failed (refuted live L) (not-decides (refuted-decides live L) .from
+      (no-conflict live L m′ (enc .literals) lits (λ z u. k .0 .kept z (all z u)) (k .1 live enc))))
+
+slice-aggregate-propagate : tie.Need-slice-aggregate-propagate
+slice-aggregate-propagate c =
+    let s = c .before .before in
+    sym (length-take-le (s .args .used) (s .args .store .now) (s .pre .0 .1 .fits))
+
+propagate-requires : tie.Need-propagate-requires
+propagate-requires c κs =
+    let a = c .before .before in
+    let p = a .before .pre .0 in
+    ((p .0, front _ _ (p .0) (p .1)), a .assigned .ensures .0)
+
+returns : tie.Need-returns
+returns c live h =
+    let a = c .before .before .before in
+    let s = a .before in
+    let e = a .assigned .ensures .1 in
+    answer _ live (front (s .args .store .now) (s .args .used) live h) (s .args .literals .now) (s .pre .1) _ _
+    (λ z. e z .0) (λ z. e z .1) (c .propagate .result) (c .propagate .ensures)
+
+pub refutes-spec : {M : Type 1} → statement M
+refutes-spec = tie.close (tie.spec (λ c κs. search needs) slice-aggregate-propagate propagate-requires returns)

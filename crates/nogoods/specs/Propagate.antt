@@ -1,0 +1,140 @@
+-- What the functions of src/propagation.rt promise of the assignment and of the nogoods that they look at. Only private
+-- functions cite this file; the contract of `refutes` names the derivation's `refuted` alone.
+-- Assumes nothing.
+use mathlib.Core.Path.{_≡_}
+use mathlib.Core.Logic.{_⊎_}
+use mathlib.Core.Bool.{Bool, true, false}
+use mathlib.Core.List.{List, [], _∷_}
+use Prim.Native.Nat.{ℕ, zero, suc, _+_, _-_, _≤_, _<_}
+use lib.IntN.{ℤ, pos, negsuc, natAbs}
+use lib.ListN.{length, take, drop, getD, set}
+use Rattle.words.specs.Lists.{_∈_}
+use Rattle.words.specs.Literals.{variable, complement}
+use Rattle.derivation.specs.Propagation.{Closure, Conflict}
+use Rattle.nogoods.specs.Store.{Literals, liveWords}
+use Rattle.nogoods.specs.declared.units.Value.{Value}
+use Rattle.nogoods.specs.declared.units.Value.the-variants.{True, False, Free}
+use Rattle.nogoods.specs.declared.units.Look.{Look}
+use Rattle.nogoods.specs.declared.units.Look.the-variants.{All, Unit, Idle}
+use Rattle.nogoods.specs.declared.units.Derived.{Derived}
+use Rattle.nogoods.specs.declared.units.Derived.the-variants.{Conflicting, Assigned, Nothing}
+use Rattle.nogoods.specs.declared.propagation.Swept.{Swept}
+use Rattle.nogoods.specs.declared.propagation.Swept.the-variants.{Refuted, Changed, Same}
+
+-- Assignments: an entry for each variable, 0 free, 1 true, 2 false
+
+-- the entry of its variable that makes a literal true
+abbrev pub entry : ℤ → ℕ
+entry (pos n) = 1
+entry (negsuc n) = 2
+
+-- the assignment makes the literal true
+abbrev pub Assigns : List ℕ → ℤ → Type 0
+Assigns m z = getD m (variable z) 0 ≡ entry z
+
+abbrev pub Valued : List ℕ → ℤ → Value → Type 0
+Valued m z True = Assigns m z
+Valued m z False = Assigns m (complement z)
+Valued m z Free = (¬ Assigns m z) × (¬ Assigns m (complement z))
+
+-- how many variables are free
+abbrev pub free : List ℕ → ℕ
+free [] = 0
+free (zero ∷ m) = suc (free m)
+free (suc zero ∷ m) = free m
+free (suc (suc zero) ∷ m) = free m
+free (suc (suc (suc n)) ∷ m) = suc (free m)
+
+-- One nogood under an assignment
+
+-- nothing follows: some literal is false, or two are not true
+abbrev pub Settled : List ℕ → List ℤ → Type 0
+Settled m g =
+    ((z : ℤ) × (z ∈ g) × Assigns m (complement z))
+    ⊎ ((y z : ℤ) × (y ∈ g) × (z ∈ g) × (¬ (y ≡ z)) × (¬ Assigns m y) × (¬ Assigns m z))
+
+-- z is the one literal of g that is not true, and it is free
+pub record Last (m : List ℕ) (g : List ℤ) (z : ℤ) : Type 0 where
+  pub here : z ∈ g
+  pub left : Valued m z Free
+  pub others : (y : ℤ) → y ∈ g → ¬ (y ≡ z) → Assigns m y
+
+abbrev pub AllTrue : List ℕ → List ℤ → Type 0
+AllTrue m g = (z : ℤ) → z ∈ g → Assigns m z
+
+abbrev pub Looked : List ℕ → List ℤ → Look → Type 0
+Looked m g All = AllTrue m g
+Looked m g (Unit j) = (j < length g) × Last m g (getD g j (pos 0))
+Looked m g Idle = Settled m g
+
+-- what is derived from g, and the assignment afterwards
+abbrev pub Derives : List ℤ → List ℕ → List ℕ → Derived → Type 0
+Derives g m m′ Conflicting = AllTrue m g
+Derives g m m′ (Assigned v) = (z : ℤ) × (Last m g z) × (variable z ≡ v) × (m′ ≡ set m v (entry (complement z)))
+Derives g m m′ Nothing = (m′ ≡ m) × Settled m g
+
+-- The words of the nogoods, one nogood after another
+
+-- the words are those of the nogoods
+pub record Encodes (s : List ℤ) (live : List (List ℤ)) : Type 0 where
+  pub words : s ≡ liveWords live
+  pub literals : (g : List ℤ) → g ∈ live → Literals g
+
+-- the literal count at r
+abbrev pub countAt : List ℤ → ℕ → ℕ
+countAt s r = natAbs (getD s r (pos 0))
+
+-- the literals after the count at r
+abbrev pub nogoodAt : List ℤ → ℕ → List ℤ
+nogoodAt s r = take (countAt s r) (drop (r + 1) s)
+
+-- a nogood's literals can be read at r
+pub record Readable (s : List ℤ) (r : ℕ) : Type 0 where
+  pub room : r + 1 + countAt s r ≤ length s
+  pub literals : Literals (nogoodAt s r)
+
+-- one of the nogoods stands at r
+abbrev pub Stands : List ℤ → ℕ → Type 0
+Stands s r = (live : List (List ℤ)) → Encodes s live → (nogoodAt s r ∈ live) × (r + 1 + countAt s r ≤ length s)
+
+-- Propagation
+
+-- what the assignment makes true is in the closure
+abbrev pub Within : List (List ℤ) → List ℤ → List ℕ → Type 0
+Within live L m = (z : ℤ) → Assigns m z → Closure live L z
+
+-- from m to m′ the assignment grew by what follows from the nogoods
+pub record Grows (s : List ℤ) (m m′ : List ℕ) : Type 0 where
+  pub sound : (live : List (List ℤ)) (L : List ℤ) → Encodes s live → Within live L m → Within live L m′
+  pub kept : (z : ℤ) → Assigns m z → Assigns m′ z
+  pub size : length m′ ≡ length m
+  pub fewer : free m′ ≤ free m
+
+-- the nogoods and what the assignment makes true contradict each other
+abbrev pub Clashes : List ℤ → List ℕ → Type 0
+Clashes s m = (live : List (List ℤ)) (L : List ℤ) → Encodes s live → Within live L m → Conflict live L
+
+-- nothing follows from any nogood
+abbrev pub AllSettled : List ℤ → List ℕ → Type 0
+AllSettled s m = (live : List (List ℤ)) → Encodes s live → (g : List ℤ) → g ∈ live → Settled m g
+
+abbrev pub Sweeps : List ℤ → List ℕ → List ℕ → Swept → Type 0
+Sweeps s m m′ Refuted = Clashes s m
+Sweeps s m m′ Changed = Grows s m m′ × (free m′ < free m)
+Sweeps s m m′ Same = (m′ ≡ m) × AllSettled s m
+
+-- after at most so many sweeps
+abbrev pub Settles : List ℤ → ℕ → List ℕ → List ℕ → Swept → Type 0
+Settles s rounds m m′ Refuted = Clashes s m
+Settles s rounds m m′ Changed = Grows s m m′ × (rounds + free m′ ≤ free m)
+Settles s rounds m m′ Same = Grows s m m′ × AllSettled s m′
+
+-- a conflict was found, or the assignment grew
+abbrev pub Runs : List ℤ → List ℕ → List ℕ → Bool → Type 0
+Runs s m m′ true = Clashes s m
+Runs s m m′ false = Grows s m m′
+
+-- a conflict was found, or there is none
+abbrev pub Ends : List ℤ → List ℕ → List ℕ → Bool → Type 0
+Ends s m m′ true = Clashes s m
+Ends s m m′ false = Grows s m m′ × AllSettled s m′

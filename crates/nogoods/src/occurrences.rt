@@ -1,0 +1,240 @@
+// Propagation along the occurrences of the literals, with work linear in the live words. It derives what sweeps derive, and the
+// sweeps after it decide: of its answer only a conflict counts, and of its assignment that it grew by what follows.
+//
+// Each literal has a chain of the places where it stands: `head` by the literal, `next` by the place, 0 at the end, since
+// the word at 0 is a count. By the place, `owner` says where its nogood starts. By a nogood's start, `counts` says how
+// many of its literals were not met as true ones; at 1 the nogood is looked at. `queue` has the literals that are true.
+ghost use mathlib.Core.Path.{_≡_};
+ghost use mathlib.Core.Bool.{true};
+ghost use mathlib.Core.List.{List};
+ghost use Prim.Native.Nat.{_+_, _≤_, _<_};
+ghost use lib.IntN.{ℤ};
+ghost use lib.ListN.{length};
+ghost use Rattle.words.specs.Limits.{largest};
+ghost use Rattle.words.specs.Literals.{variable};
+ghost use Rattle.nogoods.specs.Propagate.{countAt, Encodes, Readable, Stands, Runs};
+ghost use Rattle.nogoods.specs.PropagateChains.{Links, Below, Queue, Walks};
+use crate::units;
+use crate::units::Derived;
+
+// What a walk along one chain gave: a conflict, or the queue's end.
+enum Walk {
+    Clash,
+    Queued(usize),
+}
+
+// A literal's place in `head`: that of v is v, that of -v is 4,096 + v.
+fn place_of(word: i32) -> usize
+    requires { ⌜ variable word ≤ largest ⌝ }
+    ensures { λ z. ⌜ z < 8192 ⌝ }
+{
+    let v = words::variable_of(word);
+    if word < 0 { v + 4096 } else { v }
+}
+
+// The place of the literal of a variable that is true.
+fn true_place(assignment: &[u8; 4096], v: usize) -> usize
+    requires { ⌜ v < 4096 ⌝ }
+    ensures { λ z. ⌜ z < 8192 ⌝ }
+{
+    if assignment[v] == 2 { v + 4096 } else { v }
+}
+
+// The literals of the nogood at r go to the front of their chains.
+fn enter(
+    nogoods: &[i32],
+    r: usize,
+    owner: &mut [u16; 16384],
+    next: &mut [u16; 16384],
+    head: &mut [u16; 8192],
+)
+    requires { ⌜ Readable (now nogoods) r × Stands (now nogoods) r ⌝ }
+    requires { ⌜ length (now nogoods) ≤ 16384 ⌝ }
+    requires { ⌜ Links (now nogoods) (now owner) (now next) ⌝ }
+    requires { ⌜ Below (r + 1) (now head) ⌝ }
+    ensures { λ _. ⌜ Links (now (nogoods .entry)) (now (owner .exit)) (now (next .exit)) ⌝ }
+    ensures { λ _. ⌜ Below (r + 1 + countAt (now (nogoods .entry)) r) (now (head .exit)) ⌝ }
+{
+    let end = r + 1 + units::count_at(nogoods, r);
+    let mut p = r + 1;
+    while p < end {
+        let z = place_of(nogoods[p]);
+        owner[p] = r as u16;
+        next[p] = head[z];
+        head[z] = p as u16;
+        p += 1;
+    }
+}
+
+// The chains and counters of all nogoods.
+fn enter_all(
+    nogoods: &[i32],
+    owner: &mut [u16; 16384],
+    next: &mut [u16; 16384],
+    head: &mut [u16; 8192],
+    counts: &mut [u16; 16384],
+)
+    requires { ⌜ ((live : List (List ℤ)) × Encodes (now nogoods) live) ⌝ }
+    requires { ⌜ (0 < length (now nogoods)) × (length (now nogoods) ≤ 16384) ⌝ }
+    requires { ⌜ Links (now nogoods) (now owner) (now next) ⌝ }
+    requires { ⌜ Below 1 (now head) ⌝ }
+    ensures { λ _. ⌜ Links (now (nogoods .entry)) (now (owner .exit)) (now (next .exit)) ⌝ }
+    ensures { λ _. ⌜ Below (length (now (nogoods .entry))) (now (head .exit)) ⌝ }
+{
+    let mut r = 0;
+    while r < nogoods.len() {
+        let n = units::count_at(nogoods, r);
+        enter(nogoods, r, owner, next, head);
+        counts[r] = n as u16;
+        r = r + 1 + n;
+    }
+}
+
+// An entry says true or false.
+fn is_assigned(entry: u8) -> bool
+    ensures { λ r. ⌜ (r ≡ true → (1 ≤ entry) × (entry ≤ 2)) ⌝ }
+{
+    if entry < 1 {
+        return false;
+    }
+    entry <= 2
+}
+
+// The literals that are true are queued. The queue's end.
+fn load(assignment: &[u8; 4096], queue: &mut [u16; 4096]) -> usize
+    requires { ⌜ length (now assignment) ≡ 4096 ⌝ }
+    requires { ⌜ Below 8192 (now queue) ⌝ }
+    ensures { λ t. ⌜ Queue (now (assignment .entry)) (now (queue .exit)) t ⌝ }
+{
+    let mut t = 0;
+    let mut v = 0;
+    while v < 4096 {
+        let z = true_place(assignment, v);
+        let assigned = is_assigned(assignment[v]);
+        v += 1;
+        if assigned {
+            queue[t] = z as u16;
+            t += 1;
+        }
+    }
+    t
+}
+
+// One literal less is open in the nogood at r. Whether just one is left now.
+fn one_left(counts: &mut [u16; 16384], r: usize) -> bool
+    requires { ⌜ r < 16384 ⌝ }
+{
+    let n = counts[r];
+    if n < 2 {
+        return false;
+    }
+    counts[r] = n - 1;
+    n == 2
+}
+
+// Each nogood of a chain has one literal less open; what follows where one is left.
+fn visit(
+    nogoods: &[i32],
+    first: usize,
+    owner: &[u16; 16384],
+    next: &[u16; 16384],
+    counts: &mut [u16; 16384],
+    assignment: &mut [u8; 4096],
+    queue: &mut [u16; 4096],
+    start: usize,
+) -> Walk
+    requires { ⌜ ((live : List (List ℤ)) × Encodes (now nogoods) live) ⌝ }
+    requires { ⌜ length (now nogoods) ≤ 16384 ⌝ }
+    requires { ⌜ Links (now nogoods) (now owner) (now next) ⌝ }
+    requires { ⌜ first < length (now nogoods) ⌝ }
+    requires { ⌜ length (now assignment) ≡ 4096 ⌝ }
+    requires { ⌜ Queue (now assignment) (now queue) start ⌝ }
+    ensures { λ w. ⌜ Walks (now (nogoods .entry)) (now (assignment .entry)) (now (assignment .exit)) (now (queue .exit)) w ⌝ }
+{
+    let mut t = start;
+    let mut p = first;
+    while p != 0 {
+        let r = owner[p] as usize;
+        p = next[p] as usize;
+        if one_left(counts, r) {
+            let given = units::derive_at(nogoods, r, assignment);
+            match given {
+                Derived::Conflicting => {
+                    return Walk::Clash;
+                }
+                Derived::Assigned(v) => {
+                    queue[t] = true_place(assignment, v) as u16;
+                    t += 1;
+                }
+                Derived::Nothing => {}
+            }
+        }
+    }
+    Walk::Queued(t)
+}
+
+// All chains of the literals that are true, and of those that become so. Whether that comes to a conflict.
+fn run(
+    nogoods: &[i32],
+    owner: &[u16; 16384],
+    next: &[u16; 16384],
+    head: &[u16; 8192],
+    counts: &mut [u16; 16384],
+    assignment: &mut [u8; 4096],
+    queue: &mut [u16; 4096],
+) -> bool
+    requires { ⌜ ((live : List (List ℤ)) × Encodes (now nogoods) live) ⌝ }
+    requires { ⌜ length (now nogoods) ≤ 16384 ⌝ }
+    requires { ⌜ Links (now nogoods) (now owner) (now next) ⌝ }
+    requires { ⌜ Below (length (now nogoods)) (now head) ⌝ }
+    requires { ⌜ length (now assignment) ≡ 4096 ⌝ }
+    requires { ⌜ Below 8192 (now queue) ⌝ }
+    ensures { λ r. ⌜ Runs (now (nogoods .entry)) (now (assignment .entry)) (now (assignment .exit)) r ⌝ }
+{
+    let mut t = load(assignment, queue);
+    let mut h = 0;
+    while h < t {
+        let z = queue[h] as usize;
+        h += 1;
+        let first = head[z] as usize;
+        let walk = visit(nogoods, first, owner, next, counts, assignment, queue, t);
+        match walk {
+            Walk::Clash => {
+                return true;
+            }
+            Walk::Queued(end) => {
+                t = end;
+            }
+        }
+    }
+    false
+}
+
+// The assignment grows by what follows from the nogoods, where they are of at most 16,384 words. Whether there is a conflict.
+pub fn saturate(nogoods: &[i32], assignment: &mut [u8; 4096]) -> bool
+    requires { ⌜ ((live : List (List ℤ)) × Encodes (now nogoods) live) ⌝ }
+    requires { ⌜ length (now assignment) ≡ 4096 ⌝ }
+    ensures { λ r. ⌜ Runs (now (nogoods .entry)) (now (assignment .entry)) (now (assignment .exit)) r ⌝ }
+{
+    if nogoods.len() == 0 {
+        return false;
+    }
+    if 16384 < nogoods.len() {
+        return false;
+    }
+    let mut owner = [0u16; 16384];
+    let mut next = [0u16; 16384];
+    let mut head = [0u16; 8192];
+    let mut counts = [0u16; 16384];
+    let mut queue = [0u16; 4096];
+    enter_all(nogoods, &mut owner, &mut next, &mut head, &mut counts);
+    run(
+        nogoods,
+        &owner,
+        &next,
+        &head,
+        &mut counts,
+        assignment,
+        &mut queue,
+    )
+}

@@ -1,0 +1,128 @@
+// Unit propagation over the store: document 01, the letter `a`. The one public function, `refutes`, answers what the
+// derivation's `refuted` computes. What the private functions promise is specs/Propagate.antt.
+ghost use mathlib.Core.Path.{_≡_};
+ghost use mathlib.Core.Logic.{_↔_};
+ghost use mathlib.Core.List.{List};
+ghost use lib.IntN.{ℤ};
+ghost use lib.ListN.{length};
+ghost use Rattle.words.specs.Lists.{_∈_};
+ghost use Rattle.derivation.specs.Propagation.{refuted};
+ghost use Rattle.nogoods.specs.Store.{Literals, Holds};
+ghost use Rattle.nogoods.specs.Propagate.{Assigns, Encodes, Sweeps, Settles, Ends};
+use crate::occurrences;
+use crate::units;
+use crate::units::Derived;
+
+// What one pass over the nogoods gave: a conflict; variables that are assigned now; nothing.
+enum Swept {
+    Refuted,
+    Changed,
+    Same,
+}
+
+// One pass over the nogoods, each with what those before it gave.
+fn sweep(nogoods: &[i32], assignment: &mut [u8; 4096]) -> Swept
+    requires { ⌜ ((live : List (List ℤ)) × Encodes (now nogoods) live) ⌝ }
+    requires { ⌜ length (now assignment) ≡ 4096 ⌝ }
+    ensures { λ r. ⌜ Sweeps (now (nogoods .entry)) (now (assignment .entry)) (now (assignment .exit)) r ⌝ }
+{
+    let mut changed = false;
+    let mut i = 0;
+    while i < nogoods.len() {
+        let given = units::derive_at(nogoods, i, assignment);
+        i = i + 1 + units::count_at(nogoods, i);
+        match given {
+            Derived::Conflicting => {
+                return Swept::Refuted;
+            }
+            Derived::Assigned(_) => {
+                changed = true;
+            }
+            Derived::Nothing => {}
+        }
+    }
+    if changed {
+        return Swept::Changed;
+    }
+    Swept::Same
+}
+
+// The assignment that makes just the literals true.
+fn assigned(literals: &[i32]) -> [u8; 4096]
+    requires { ⌜ Literals (now literals) ⌝ }
+    ensures { λ m. ⌜ length m ≡ 4096 ⌝ }
+    ensures { λ m. ⌜ ((z : ℤ) → (Assigns m z) ↔ (z ∈ now (literals .entry))) ⌝ }
+{
+    let mut assignment = [0u8; 4096];
+    let mut i = 0;
+    while i < literals.len() {
+        units::make_true(literals[i], &mut assignment);
+        i += 1;
+    }
+    assignment
+}
+
+// Sweeps until nothing changes, at most so many.
+fn settle(nogoods: &[i32], rounds: usize, assignment: &mut [u8; 4096]) -> Swept
+    requires { ⌜ ((live : List (List ℤ)) × Encodes (now nogoods) live) ⌝ }
+    requires { ⌜ length (now assignment) ≡ 4096 ⌝ }
+    ensures { λ r. ⌜ Settles (now (nogoods .entry)) rounds (now (assignment .entry)) (now (assignment .exit)) r ⌝ }
+{
+    let mut left = rounds;
+    while 0 < left {
+        let swept = sweep(nogoods, assignment);
+        left -= 1;
+        match swept {
+            Swept::Refuted => {
+                return Swept::Refuted;
+            }
+            Swept::Same => {
+                return Swept::Same;
+            }
+            Swept::Changed => {}
+        }
+    }
+    Swept::Changed
+}
+
+// What a few sweeps leave: the counters, and then sweeps until nothing changes. There are at most 4,096 that change something,
+// since each of these assigns a variable.
+fn finish(nogoods: &[i32], assignment: &mut [u8; 4096]) -> bool
+    requires { ⌜ ((live : List (List ℤ)) × Encodes (now nogoods) live) ⌝ }
+    requires { ⌜ length (now assignment) ≡ 4096 ⌝ }
+    ensures { λ r. ⌜ Ends (now (nogoods .entry)) (now (assignment .entry)) (now (assignment .exit)) r ⌝ }
+{
+    if occurrences::saturate(nogoods, assignment) {
+        return true;
+    }
+    let swept = settle(nogoods, 4097, assignment);
+    match swept {
+        Swept::Refuted => true,
+        Swept::Same => false,
+        Swept::Changed => false,
+    }
+}
+
+// Propagation to its end. Whether that is a conflict.
+fn propagate(nogoods: &[i32], assignment: &mut [u8; 4096]) -> bool
+    requires { ⌜ ((live : List (List ℤ)) × Encodes (now nogoods) live) ⌝ }
+    requires { ⌜ length (now assignment) ≡ 4096 ⌝ }
+    ensures { λ r. ⌜ Ends (now (nogoods .entry)) (now (assignment .entry)) (now (assignment .exit)) r ⌝ }
+{
+    let swept = settle(nogoods, 3, assignment);
+    match swept {
+        Swept::Refuted => true,
+        Swept::Same => false,
+        Swept::Changed => finish(nogoods, assignment),
+    }
+}
+
+// Whether propagation from the literals over the nogoods in the store's first `used` words comes to a conflict.
+pub fn refutes(store: &[i32], used: usize, literals: &[i32]) -> bool
+    requires { ⌜ ((live : List (List ℤ)) × Holds (now store) used live) ⌝ }
+    requires { ⌜ Literals (now literals) ⌝ }
+    ensures { λ r. ⌜ ((live : List (List ℤ)) → Holds (now (store .entry)) used live → r ≡ refuted live (now (literals .entry))) ⌝ }
+{
+    let mut assignment = assigned(literals);
+    propagate(&store[..used], &mut assignment)
+}

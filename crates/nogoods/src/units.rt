@@ -1,0 +1,136 @@
+// An assignment of the variables, and what one nogood adds to it. What the functions promise is specs/Propagate.antt.
+ghost use mathlib.Core.Path.{_≡_};
+ghost use Prim.Native.Nat.{_≤_};
+ghost use lib.ListN.{length, set};
+ghost use Rattle.words.specs.Limits.{largest};
+ghost use Rattle.words.specs.Literals.{variable, complement};
+ghost use Rattle.nogoods.specs.Store.{Literals};
+ghost use Rattle.nogoods.specs.Propagate.{entry, Valued, Looked, Derives, countAt, nogoodAt, Readable};
+
+// A literal under an assignment.
+enum Value {
+    True,
+    False,
+    Free,
+}
+
+// A nogood under an assignment: all its literals are true; all but the one at an index, which is free; nothing follows.
+enum Look {
+    All,
+    Unit(usize),
+    Idle,
+}
+
+// What one nogood gave: a conflict; a variable that is assigned now; nothing.
+pub enum Derived {
+    Conflicting,
+    Assigned(usize),
+    Nothing,
+}
+
+// The entry of its variable that makes a literal true.
+fn entry_of(word: i32) -> u8
+    ensures { λ r. ⌜ r ≡ entry word ⌝ }
+{
+    if word < 0 { 2 } else { 1 }
+}
+
+fn value_of(word: i32, assignment: &[u8; 4096]) -> Value
+    requires { ⌜ (1 ≤ variable word) × (variable word ≤ largest) ⌝ }
+    ensures { λ r. ⌜ Valued (now (assignment .entry)) word r ⌝ }
+{
+    let v = words::variable_of(word);
+    let found = assignment[v];
+    let wanted = entry_of(word);
+    if found == wanted {
+        return Value::True;
+    }
+    if found == 3 - wanted {
+        return Value::False;
+    }
+    Value::Free
+}
+
+// A literal becomes true. Its variable.
+pub fn make_true(word: i32, assignment: &mut [u8; 4096]) -> usize
+    requires { ⌜ variable word ≤ largest ⌝ }
+    requires { ⌜ length (now assignment) ≡ 4096 ⌝ }
+    ensures { λ v. ⌜ v ≡ variable word ⌝ }
+    ensures { λ v. ⌜ now (assignment .exit) ≡ set (now (assignment .entry)) (variable word) (entry word) ⌝ }
+{
+    let v = words::variable_of(word);
+    assignment[v] = entry_of(word);
+    v
+}
+
+fn complement_of(word: i32) -> i32
+    requires { ⌜ variable word ≤ largest ⌝ }
+    ensures { λ r. ⌜ r ≡ complement word ⌝ }
+{
+    0 - word
+}
+
+fn look_at(literals: &[i32], assignment: &[u8; 4096]) -> Look
+    requires { ⌜ Literals (now literals) ⌝ }
+    ensures { λ r. ⌜ Looked (now (assignment .entry)) (now (literals .entry)) r ⌝ }
+{
+    let mut one = literals.len();
+    let mut i = 0;
+    while i < literals.len() {
+        let j = i;
+        let value = value_of(literals[j], assignment);
+        i += 1;
+        match value {
+            Value::True => {}
+            Value::False => {
+                return Look::Idle;
+            }
+            Value::Free => {
+                if one < j {
+                    return Look::Idle;
+                }
+                one = j;
+            }
+        }
+    }
+    if one < literals.len() {
+        return Look::Unit(one);
+    }
+    Look::All
+}
+
+// One nogood's part: where all its literals but one are true and that one is free, its complement becomes true.
+fn derive(literals: &[i32], assignment: &mut [u8; 4096]) -> Derived
+    requires { ⌜ Literals (now literals) ⌝ }
+    requires { ⌜ length (now assignment) ≡ 4096 ⌝ }
+    ensures { λ r. ⌜ Derives (now (literals .entry)) (now (assignment .entry)) (now (assignment .exit)) r ⌝ }
+{
+    let look = look_at(literals, assignment);
+    match look {
+        Look::All => Derived::Conflicting,
+        Look::Idle => Derived::Nothing,
+        Look::Unit(j) => {
+            let v = make_true(complement_of(literals[j]), assignment);
+            Derived::Assigned(v)
+        }
+    }
+}
+
+// The literal count at r; 0 past the end.
+pub fn count_at(nogoods: &[i32], r: usize) -> usize
+    ensures { λ n. ⌜ n ≡ countAt (now (nogoods .entry)) r ⌝ }
+{
+    words::variable_of(words::word_at(nogoods, r))
+}
+
+// The same of the nogood whose count stands at r.
+pub fn derive_at(nogoods: &[i32], r: usize, assignment: &mut [u8; 4096]) -> Derived
+    requires { ⌜ Readable (now nogoods) r ⌝ }
+    requires { ⌜ length (now assignment) ≡ 4096 ⌝ }
+    ensures { λ d. ⌜ Derives (nogoodAt (now (nogoods .entry)) r) (now (assignment .entry)) (now (assignment .exit)) d ⌝ }
+{
+    let n = count_at(nogoods, r);
+    let a = r + 1;
+    let e = a + n;
+    derive(&nogoods[a..e], assignment)
+}
