@@ -1,7 +1,8 @@
 // Worked cases of the proof-line reader: each of questions 21 to 25 and the end at their edges. It reads lines from standard
 // input and writes each with its answer: the letter with the numbers and the next position, or the number of the refusal.
-// Then come positions and lengths of the text.
+// Then come positions and lengths of the text, and a proof step by step.
 use drupe::LineAnswer;
+use drupe::LineReading;
 use libc::STDIN_FILENO;
 use libc::STDOUT_FILENO;
 use text::Letter;
@@ -48,10 +49,8 @@ fn say_first(numbers: &[i32], count: usize) {
     }
 }
 
-// What is read at the position.
-fn answer(text: &[u8], position: usize) {
+fn say_reading(reading: LineReading) {
     say(b":");
-    let reading = drupe::read_line(text, position);
     let answer = reading.answer;
     let numbers = reading.numbers;
     match answer {
@@ -72,6 +71,11 @@ fn answer(text: &[u8], position: usize) {
         }
     }
     say(b"\n");
+}
+
+// What is read at the position.
+fn answer(text: &[u8], position: usize) {
+    say_reading(drupe::read_line(text, position));
 }
 
 // The place of the first newline from `at` on, or the text's length.
@@ -119,10 +123,27 @@ fn lengths() {
     answer(&text, 65536);
 }
 
+// Each step of a proof as `ProofReader` hands it out, with the end or the refusal that stops it.
+fn steps(text: &[u8]) {
+    let mut at = 0;
+    loop {
+        let reading = drupe::reader::step_at(text, at);
+        say(b"step");
+        say_reading(reading);
+        let answer = reading.answer;
+        let LineAnswer::Line { next, .. } = answer else {
+            return;
+        };
+        at = next;
+    }
+}
+
 fn main() {
     let mut text = [0u8; 4096];
     let n = io::read_full(STDIN_FILENO, &mut text);
     lines(&text[..n]);
     positions(&text[..n]);
     lengths();
+    // Starred example 1.
+    steps(b"b 2 -1 0\nc 2 1 0\ns 1 2 0\na 1 0\na 0\n");
 }
