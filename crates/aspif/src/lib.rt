@@ -3,7 +3,11 @@
 mod lines;
 mod rules;
 
+ghost use mathlib.Core.Path.{_≡_};
+ghost use lib.IntN.{pos};
+ghost use lib.ListN.{length, replicate};
 ghost use Rattle.aspif.specs.Reading.{ProgramRead};
+ghost use Rattle.aspif.specs.declared.ProgramReading.the-variants.{Refused};
 use lines::Lines;
 
 // "head kind (0 normal, 1 choice)".
@@ -24,24 +28,27 @@ pub enum ProgramReading {
     Refused(ProgramRefusal),
 }
 
+// Nothing of a text that is refused stays in the table.
+fn refuse(table: &mut [i32], refusal: ProgramRefusal) -> ProgramReading
+    ensures { λ r. ⌜ (r ≡ Refused refusal) × (now (table .exit) ≡ replicate (length (now (table .entry))) (pos 0)) ⌝ }
+{
+    words::zero_all(table);
+    ProgramReading::Refused(refusal)
+}
+
 // Reads a program text into the table, which then holds the rules' words with 0 after them; 0 throughout where it is refused.
 pub fn read_program(text: &[u8], table: &mut [i32]) -> ProgramReading
     ensures { λ r. ⌜ ProgramRead (now (text .entry)) (now (table .entry)) (now (table .exit)) r ⌝ }
 {
     if 65535 < text.len() {
-        words::zero_all(table);
-        return ProgramReading::Refused(ProgramRefusal { number: 1, line: 0 });
+        return refuse(table, ProgramRefusal { number: 1, line: 0 });
     }
     if !lines::starts_with(text, b"asp 1 0 0\n") {
-        words::zero_all(table);
-        return ProgramReading::Refused(ProgramRefusal { number: 2, line: 1 });
+        return refuse(table, ProgramRefusal { number: 2, line: 1 });
     }
     let read = lines::read_lines(text, table);
     match read {
-        Lines::Refused(refusal) => {
-            words::zero_all(table);
-            ProgramReading::Refused(refusal)
-        }
+        Lines::Refused(refusal) => refuse(table, refusal),
         Lines::Program { atoms, rules, used } => {
             words::zero_all(&mut table[used..]);
             ProgramReading::Read { atoms, rules }

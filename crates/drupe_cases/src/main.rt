@@ -1,22 +1,13 @@
 // Worked cases of the proof-line reader: each of questions 21 to 25 and the end at their edges. It reads lines from standard
 // input and writes each with its answer: the letter with the numbers and the next position, or the number of the refusal.
 // Then come positions and lengths of the text, and a proof step by step.
+use cases::before;
+use cases::say;
+use cases::say_number;
 use drupe::LineAnswer;
 use drupe::LineReading;
 use libc::STDIN_FILENO;
-use libc::STDOUT_FILENO;
 use text::Letter;
-ghost use Prim.Native.Nat.{_≤_};
-ghost use lib.ListN.{length};
-
-fn say(word: &[u8]) {
-    io::write_all(STDOUT_FILENO, word);
-}
-
-fn say_number(n: usize) {
-    say(b" ");
-    io::print_decimal(STDOUT_FILENO, n as u64);
-}
 
 fn say_letter(letter: Letter) {
     match letter {
@@ -27,25 +18,6 @@ fn say_letter(letter: Letter) {
         Letter::Extension => say(b" e"),
         Letter::Loop => say(b" l"),
         Letter::Support => say(b" s"),
-    }
-}
-
-fn say_signed(word: i32) {
-    if words::is_positive(word) {
-        say(b" ");
-    } else {
-        say(b" -");
-    }
-    io::print_decimal(STDOUT_FILENO, words::variable_of(word) as u64);
-}
-
-fn say_first(numbers: &[i32], count: usize) {
-    let mut i = 0;
-    while i < numbers.len() {
-        if i < count {
-            say_signed(numbers[i]);
-        }
-        i += 1;
     }
 }
 
@@ -60,7 +32,7 @@ fn say_reading(reading: LineReading) {
             next,
         } => {
             say_letter(letter);
-            say_first(&numbers, count);
+            cases::say_words(&numbers, count);
             say(b", next");
             say_number(next);
         }
@@ -78,25 +50,10 @@ fn answer(text: &[u8], position: usize) {
     say_reading(drupe::read_line(text, position));
 }
 
-// The place of the first newline from `at` on, or the text's length.
-fn end_of(text: &[u8], at: usize) -> usize
-    requires { ⌜ at ≤ length (now text) ⌝ }
-    ensures { λ r. ⌜ (at ≤ r) × (r ≤ length (now (text .entry))) ⌝ }
-{
-    let mut i = at;
-    while i < text.len() {
-        if text[i] == b'\n' {
-            return i;
-        }
-        i += 1;
-    }
-    i
-}
-
 fn lines(text: &[u8]) {
     let mut at = 0;
     while at < text.len() {
-        let end = end_of(text, at);
+        let end = at + before(&text[at..], b'\n');
         say(&text[at..end]);
         answer(text, at);
         at = end + 1;

@@ -1,18 +1,18 @@
--- `drupe_cases::say_first` is safe and ends. Assumes nothing.
+-- `aspif_cases::nonzero` is safe and ends. Assumes nothing.
 use Prim.Native.Nat.{_≤_, _-_}
 use lib.ListN.{length}
 use borrow.Author.Needs.{needs}
-use Rattle.drupe_cases.proofs.say_first.Statement.{statement}
-use Rattle.drupe_cases.proofs.say_first.Tie as tie
+use Rattle.aspif_cases.proofs.nonzero.Statement.{statement}
+use Rattle.aspif_cases.proofs.nonzero.Tie as tie
 
 abbrev Inv-loop : tie.InvT-loop
-Inv-loop numbers count i₀ i = i ≤ length numbers
+Inv-loop table count₀ i₀ count i = count ≤ i
 
 abbrev μ-loop : tie.MeasureT-loop
-μ-loop numbers count i₀ i = length numbers - i
+μ-loop table count₀ i₀ count i = length table - i
 
-pub say-first-spec : {M : Type 1} → statement M
-say-first-spec =
+pub nonzero-spec : {M : Type 1} → statement M
+nonzero-spec =
     tie.close
     (tie.spec
     Inv-loop
@@ -21,6 +21,7 @@ say-first-spec =
     (λ c. search needs)
     (λ c. search needs)
     (λ c κs. search needs)
+    (λ c. search needs)
     (λ c. search needs)
     (λ c. search needs)
     (λ c. search needs)

@@ -1,0 +1,10 @@
+use borrow.Author.Needs.{needs}
+use Rattle.aspif.proofs.refuse.Statement.{statement}
+use Rattle.aspif.proofs.refuse.Tie as tie
+
+-- src/lib.rt:32:1
+returns : tie.Need-returns
+returns c = search needs
+
+pub refuse-spec : {M : Type 1} → statement M
+refuse-spec = tie.close (tie.spec (λ c κs. search needs) (λ c. search needs) returns)

@@ -1,0 +1,33 @@
+-- `aspif_cases::answer_of` is safe and ends. Assumes nothing.
+use mathlib.Core.Path.{sym}
+use native.Mathlib.Omega.{arith}
+use lib.Seq.{length-take-le}
+use borrow.Author.Needs.{needs}
+use Rattle.aspif_cases.proofs.answer_of.Statement.{statement}
+use Rattle.aspif_cases.proofs.answer_of.Tie as tie
+
+-- src/main.rt:126:20
+slice-aggregate-answer : tie.Need-slice-aggregate-answer
+slice-aggregate-answer c = sym (length-take-le _ _ (omega arith))
+
+-- src/main.rt:126:31
+slice-aggregate-answer-2 : tie.Need-slice-aggregate-answer-2
+slice-aggregate-answer-2 c = sym (length-take-le _ _ (omega arith))
+
+pub answer-of-spec : {M : Type 1} → statement M
+answer-of-spec =
+    tie.close
+    (tie.spec
+    (λ c κs. search needs)
+    (λ c. search needs)
+    slice-aggregate-answer
+    (λ c. search needs)
+    slice-aggregate-answer-2
+    (λ c κs. search needs)
+    (λ c. search needs)
+    (λ c. search needs)
+    (λ c. search needs)
+    (λ c. search needs)
+    (λ c. search needs)
+    (λ c. search needs)
+    (λ c. search needs))
