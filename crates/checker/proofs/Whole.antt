@@ -1,7 +1,7 @@
 -- The whole check: its course is what its lines come to one by one; and demand 3, part two: the lines that it goes through are a
 -- list of steps accepted in turn, so what `demand3` says of every such list holds wherever the check says "inconsistent".
 -- Assumes nothing.
-use mathlib.Core.Path.{_≡_, refl, sym, _∙_, subst}
+use mathlib.Core.Path.{_≡_, refl, sym, _∙_, ap, ap₂, subst}
 use mathlib.Core.Bool.{Bool, true, false, cond, true≢false}
 use mathlib.Core.List.{List, [], _∷_}
 use Prim.Native.Nat.{ℕ, zero, suc, _+_, _<_, _≤_}
@@ -21,10 +21,11 @@ use Rattle.derivation.specs.Steps as Steps
 use Rattle.derivation.specs.Claims.{NoAnswerSet}
 use Rattle.derivation.proofs.Sound.{demand3}
 use Rattle.nogoods.specs.Store.{liveWords}
-use Rattle.checker.specs.Check.{Course, stopped, through, fitting, lineStep, stepsFrom, course, judged, judgedReading, check}
-use Rattle.checker.specs.Claims.{Runs, ends, unread, unaccepted, full, good, StepByStep, Demand3Whole}
+use Rattle.checker.specs.Check.{Course, stopped, through, fitting, lineStep, stepsFrom, course, countsOf, saying, judged, judgedReading, check}
+use Rattle.checker.specs.Claims.{Runs, ends, unread, unaccepted, full, good, StepByStep, Ended, Demand2, Demand3Whole}
 use Rattle.checker.specs.declared.Counts.{Counts}
-use Rattle.checker.specs.declared.Verdict.the-variants.{Inconsistent, Open}
+use Rattle.checker.specs.declared.ProofRefusal.{ProofRefusal}
+use Rattle.checker.specs.declared.Verdict.the-variants.{Inconsistent, Open, RefusedProof}
 
 apart : _≡_ {A = ℕ} 0 1 → ⊥
 apart e = omega arith
@@ -93,6 +94,44 @@ module _ (P : List Rule) (size : ℕ) (text : List ℕ) where
       by : (b : Bool) → ltb longest (length text) ≡ b → cond b (stopped 21 0) (stepsFrom P size text (suc (length text)) 0 0 start) ≡ through m w → Leads P start w
       by true q e′ = absurd (apart (cc))
       by false q e′ = leads (step-by-step P size text (through m w) (ltb-false longest (length text) q) .0 e)
+
+-- a course that went through passed 21
+short : (P : List Rule) (size : ℕ) (text : List ℕ) (n : ℕ) (z : State) → course P size text ≡ through n z → length text ≤ longest
+short P size text n z e = by (ltb longest (length text)) refl e
+  where
+    by : (b : Bool) → ltb longest (length text) ≡ b → cond b (stopped 21 0) (stepsFrom P size text (suc (length text)) 0 0 start) ≡ through n z → length text ≤ longest
+    by true q e′ = absurd (apart (cc))
+    by false q e′ = ltb-false longest (length text) q
+
+-- the two verdicts of a course that went through tell whether the empty nogood is live, and the counts
+same-saying : (a b : Bool) (c d : Counts) → saying a c ≡ saying b d → (a ≡ b) × (d ≡ c)
+same-saying true true c d e = (refl, cc)
+same-saying true false c d e = absurd (apart (cc))
+same-saying false true c d e = absurd (apart (cc))
+same-saying false false c d e = (refl, cc)
+
+-- no refusal says so
+refusal-apart : (b : Bool) (c : Counts) (x : ProofRefusal) → RefusedProof x ≡ saying b c → ⊥
+refusal-apart true c x e = apart (cc)
+refusal-apart false c x e = apart (cc)
+
+module _ (proof : List ℕ) (t s : ℕ) (P : List Rule) (b : Bool) (c : Counts) where
+  ended→ : (o : Course) → course P s proof ≡ o → judged t s P o .verdict ≡ saying b c → Ended P s proof b c
+  ended→ (stopped k n) p e = absurd (refusal-apart b c _ e)
+  ended→ (through n z) p e =
+      let l = short P s proof n z p in
+      let q = same-saying (emptyLive z) b (countsOf P n z) c e in
+      (l, (n, z, step-by-step P s proof (through n z) l .0 p, q .0, q .1))
+
+  ended← : Ended P s proof b c → judged t s P (course P s proof) .verdict ≡ saying b c
+  ended← E =
+      let x = E .1 in
+      let p = step-by-step P s proof (through (x .0) (x .1)) (E .0) .1 (x .2) in
+      ap (λ (o : Course). judged t s P o .verdict) p ∙ ap₂ (λ a d. saying a d) (x .3) (sym (x .4))
+
+pub demand2 : Demand2
+unfolding check
+demand2 text proof t s P q c = rw q ((ended→ proof t s P true c _ refl, ended← proof t s P true c), (ended→ proof t s P false c _ refl, ended← proof t s P false c))
 
 pub demand3-whole : Demand3Whole
 unfolding check

@@ -52,13 +52,20 @@ pub record Checked : Type 0 where
   pub table : List ℤ
   pub store : List ℤ
 
+-- N, R, S and K: "R rules, S steps, K live nogoods"
+abbrev pub countsOf : List Rule → ℕ → State → Counts
+countsOf P n z = record { atoms = atoms P; rules = length P; steps = n; nogoods = length (z .live) }
+
+-- "inconsistent" where the empty nogood is live, and "open" where it is not
+abbrev pub saying : Bool → Counts → Verdict
+saying b c = cond b (Inconsistent c) (Open c)
+
 -- "The empty nogood is looked for after the last step only". A refusal leaves table and store zero throughout.
 abbrev pub judged : ℕ → ℕ → List Rule → Course → Checked
 judged t s P (stopped k n) =
     record { verdict = RefusedProof (record { number = k; step = n }); table = replicate t (pos 0); store = replicate s (pos 0) }
 judged t s P (through n z) =
-    let counts : Counts = record { atoms = atoms P; rules = length P; steps = n; nogoods = length (z .live) } in
-    record { verdict = cond (emptyLive z) (Inconsistent counts) (Open counts); table = tableWords t P; store = storeWords s (z .live) }
+    record { verdict = saying (emptyLive z) (countsOf P n z); table = tableWords t P; store = storeWords s (z .live) }
 
 abbrev pub judgedReading : ℕ → ℕ → List ℕ → Reading → Checked
 judgedReading t s proof (refused k n) =

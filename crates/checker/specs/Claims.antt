@@ -1,8 +1,9 @@
--- What the whole check says, as statements; proofs/Whole.antt proves them: the steps line by line, and demand 3 of the notice,
--- part two.
+-- What the whole check says, as statements; proofs/Whole.antt proves them: the steps line by line, demand 2 of the notice, and
+-- demand 3, part two.
 -- Assumes nothing.
 use mathlib.Core.Path.{_≡_}
 use mathlib.Core.Logic.{_↔_}
+use mathlib.Core.Bool.{Bool, true, false}
 use mathlib.Core.List.{List}
 use Prim.Native.Nat.{ℕ, _+_, _<_, _≤_}
 use lib.IntN.{ℤ}
@@ -14,13 +15,13 @@ use Rattle.aspif.specs.Reading.{program, readText}
 use Rattle.drupe.specs.Lines.{end, line, lineAt}
 use Rattle.drupe.specs.Lines as Lines
 use Rattle.derivation.specs.States.{State, start}
-use Rattle.derivation.specs.Steps.{next, step}
+use Rattle.derivation.specs.Steps.{next, step, emptyLive}
 use Rattle.derivation.specs.Steps as Steps
 use Rattle.derivation.specs.Claims.{NoAnswerSet}
 use Rattle.nogoods.specs.Store.{liveWords}
-use Rattle.checker.specs.Check.{Course, stopped, through, course, check}
+use Rattle.checker.specs.Check.{Course, stopped, through, course, countsOf, check}
 use Rattle.checker.specs.declared.Counts.{Counts}
-use Rattle.checker.specs.declared.Verdict.the-variants.{Inconsistent}
+use Rattle.checker.specs.declared.Verdict.the-variants.{Inconsistent, Open}
 
 -- What the proof's lines come to from a position on, after n steps that left the state z, with no bound on the turns.
 -- "The first "no" decides": `unread` is a line that fails one of questions 22 to 25, `unaccepted` a step that fails one of 26 to
@@ -41,6 +42,21 @@ abbrev pub StepByStep : Type 0
 StepByStep =
     (P : List Rule) (size : ℕ) (text : List ℕ) (c : Course) → length text ≤ longest
     → (course P size text ≡ c) ↔ Runs P size text 0 0 start c
+
+-- The proof text passes 21, every line of it is a good step that fits the store, and after the last the empty nogood is live, or
+-- is not; the counts are those of the program, the steps and the live nogoods.
+abbrev pub Ended : List Rule → ℕ → List ℕ → Bool → Counts → Type 0
+Ended P size proof empty c =
+    (length proof ≤ longest)
+    × ((n : ℕ) × (z : State) × Runs P size proof 0 0 start (through n z) × (emptyLive z ≡ empty) × (c ≡ countsOf P n z))
+
+-- "Once the program is read, the verdict is "inconsistent" exactly when the steps form an ASP-DRUPE proof under document 01 that
+-- fits the lent store, and "open" exactly when every step is good but the empty nogood does not stand after the last."
+abbrev pub Demand2 : Type 0
+Demand2 =
+    (text proof : List ℕ) (t s : ℕ) (P : List Rule) → readText t text ≡ program P → (c : Counts)
+    → ((check text proof t s .verdict ≡ Inconsistent c) ↔ Ended P s proof true c)
+    × ((check text proof t s .verdict ≡ Open c) ↔ Ended P s proof false c)
 
 -- "So wherever the whole check says "inconsistent", whatever the two texts, the table and the store it was lent, the same is
 -- true of the program it read": "no set of atoms is an answer set of that program. Nor is any set an answer set of that program

@@ -186,6 +186,9 @@ module _ (P : List Rule) (M : ℕ → Type 0) (S : AnswerSet M P) where
       go later (next z′) f = later z′ f
 
 pub demand3 : Demand3
-demand3 P ts z e l C c M S =
-    let k : Kept P M z = subst (Fine P M (answer-set-without P C M c S)) e (steps-fine P M (answer-set-without P C M c S) ts start (start-kept P M)) in
-    k .live [] (empty-decides (z .live) .to (passed (emptyLive z) .from l)) .fails (λ x m. elim m [ ])
+demand3 P ts z e l = (none, λ C c M S. none M (answer-set-without P C M c S))
+  where
+    none : (M : ℕ → Type 0) → AnswerSet M P → ⊥
+    none M S =
+        let k : Kept P M z = subst (Fine P M S) e (steps-fine P M S ts start (start-kept P M)) in
+        k .live [] (empty-decides (z .live) .to (passed (emptyLive z) .from l)) .fails (λ x m. elim m [ ])

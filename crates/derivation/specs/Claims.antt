@@ -15,11 +15,12 @@ use Rattle.derivation.specs.Steps.{Step, next, steps, emptyLive}
 
 -- "no set of atoms is an answer set of that program. Nor is any set an answer set of that program with any list of further
 -- constraints appended": a set is any predicate on numbers, and a further constraint has any literals, also above N, above the
--- largest variable, or taken as names by the proof. The empty list of further constraints gives the first sentence.
+-- largest variable, or taken as names by the proof
 abbrev pub NoAnswerSet : List Rule → Type 1
 NoAnswerSet P =
-    (further : List Rule) → ((r : Rule) → r ∈ further → Constraint r)
-    → (M : ℕ → Type 0) → AnswerSet M (P ++ further) → ⊥
+    ((M : ℕ → Type 0) → AnswerSet M P → ⊥)
+    × ((further : List Rule) → ((r : Rule) → r ∈ further → Constraint r)
+    → (M : ℕ → Type 0) → AnswerSet M (P ++ further) → ⊥)
 
 -- "For every program read and every list of steps of the seven letters from an empty store .. if every step is accepted in its
 -- turn and the empty nogood is live after the last": of every list of rules, read or not
