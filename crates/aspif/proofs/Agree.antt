@@ -13,13 +13,14 @@ use lib.ListN.{length, take, drop, getD, replicate, length-replicate, getD-repli
 use lib.Seq.{sets, sets-eq, drop-append-le, take-append-le}
 use Rattle.words.specs.Literals.{variable, same}
 use Rattle.words.proofs.Laws.{sets-in, sets-after}
-use Rattle.aspif.specs.Reading.{isAt, isCount, suited, bodyShape, headShape, shapeOf, isLast, ruleOf}
+use Rattle.aspif.specs.Reading.{isAt, isCount, bodyShape, headShape, shapeOf, isLast, ruleOf}
 use Rattle.aspif.specs.Turns.{rowSize}
 use Rattle.aspif.specs.declared.Kind.{Kind}
 use Rattle.aspif.specs.declared.Kind.the-variants.{Normal, Choice}
 use Rattle.aspif.specs.declared.rules.Shape.{Shape}
 use Rattle.aspif.specs.declared.rules.Shape.the-variants.{Wrong, Shaped}
-use Rattle.aspif.proofs.Counts.{count-small, and-left, Counted, shape-counted}
+use Rattle.aspif.proofs.Counts.{count-small, Counted, shape-counted}
+use Rattle.words.proofs.Lists.{and-left}
 
 -- the row that holds a line's numbers, as many as it has room for, and 0 after them
 abbrev pub rowOf : List ℤ → List ℤ

@@ -1,7 +1,7 @@
 -- Laws on a rule line's counts and shape.
 -- Assumes nothing.
-use mathlib.Core.Path.{_≡_, refl, sym}
-use mathlib.Core.Bool.{Bool, true, false, cond, _&&_, true≢false}
+use mathlib.Core.Path.{_≡_, refl}
+use mathlib.Core.Bool.{Bool, true, false, cond, _&&_}
 use mathlib.Core.List.{List}
 use Prim.Native.Nat.{ℕ, _+_, _≤_}
 use borrow.Author.Tests.{leb-true, eqb-true}
@@ -10,20 +10,16 @@ use lib.IntN.{ℤ, pos}
 use lib.Signed.{leZ}
 use lib.ListN.{getD}
 use Rattle.words.specs.Literals.{variable}
+use Rattle.words.proofs.Lists.{and-left, and-right}
 use Rattle.aspif.specs.Reading.{isAt, isCount, suited, bodyShape, headShape, shapeOf}
 use Rattle.aspif.specs.declared.Kind.{Kind}
 use Rattle.aspif.specs.declared.Kind.the-variants.{Normal, Choice}
 use Rattle.aspif.specs.declared.rules.Shape.{Shape}
 use Rattle.aspif.specs.declared.rules.Shape.the-variants.{Wrong, Shaped}
 
-and-last : (a b c : Bool) → (a && (b && c)) ≡ true → c ≡ true
-and-last true true c e = e
-and-last true false c e = absurd (true≢false (sym e))
-and-last false b c e = absurd (true≢false (sym e))
-
 -- a count is at most 64
 pub count-small : (zs : List ℤ) (count i : ℕ) → isCount zs count i ≡ true → variable (getD zs i (pos 0)) ≤ 64
-count-small zs count i e = leb-true _ _ (and-last (ltb i count) (leZ (pos 0) (getD zs i (pos 0))) (leb (variable (getD zs i (pos 0))) 64) e)
+count-small zs count i e = leb-true _ _ (and-right (leZ (pos 0) (getD zs i (pos 0))) _ (and-right (ltb i count) _ e))
 
 -- what a rule line's shape says of its counts
 abbrev pub Counted : ℕ → Shape → Type 0
@@ -33,14 +29,6 @@ Counted n (Shaped k h b) = (h ≤ 64) × (b ≤ 64) × (5 + h + b ≡ n)
 by : (n : ℕ) (t : Bool) (x y : Shape) → (t ≡ true → Counted n x) → Counted n y → Counted n (cond t x y)
 by n true x y f g = f refl
 by n false x y f g = g
-
-pub and-left : (a b : Bool) → (a && b) ≡ true → a ≡ true
-and-left true b e = refl
-and-left false b e = absurd (true≢false (sym e))
-
-pub and-right : (a b : Bool) → (a && b) ≡ true → b ≡ true
-and-right true b e = e
-and-right false b e = absurd (true≢false (sym e))
 
 suited-counted : (n : ℕ) (k : Kind) (h b : ℕ) → h ≤ 64 → b ≤ 64 → 5 + h + b ≡ n → Counted n (suited k h b)
 suited-counted n Normal h b p q e = by n (leb h 1) (Shaped Normal h b) (Wrong 7) (λ t. (p, q, e)) tt

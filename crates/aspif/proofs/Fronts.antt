@@ -11,7 +11,7 @@ use lib.Dec.{eqb}
 use lib.ListN.{length, drop, getD, drop-of-length-le}
 use lib.Seq.{drop-cons}
 use Rattle.aspif.specs.Reading.{startsWith}
-use Rattle.aspif.proofs.Counts.{and-right}
+use Rattle.words.proofs.Lists.{and-right}
 
 module _ (front text : List ℕ) (i : ℕ) where
   -- nothing is left of the front

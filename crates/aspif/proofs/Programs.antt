@@ -1,8 +1,8 @@
 -- The whole reading: what `read_program` answers and leaves in each of its cases.
 -- Assumes nothing.
 use mathlib.Core.Path.{_≡_, refl, sym, _∙_, ap}
-use mathlib.Core.Bool.{true, false, cond}
-use mathlib.Core.List.{List, [], _++_}
+use mathlib.Core.Bool.{true, false}
+use mathlib.Core.List.{List, []}
 use Prim.Native.Nat.{ℕ, suc, _-_, _≤_, _<_}
 use native.Mathlib.Omega.{arith}
 use borrow.Author.Tests.{le-leb, lt-leb}
@@ -11,7 +11,7 @@ use lib.ListN.{length, take, drop, replicate, length-take, length-drop}
 use borrow.Rule.Slice.PartMut.{putMid}
 use Rattle.words.specs.Limits.{longest}
 use Rattle.words.proofs.Parts.{put-tail, tail-of}
-use Rattle.aspif.specs.Rules.{Rule, atoms, programWords}
+use Rattle.aspif.specs.Rules.{programWords}
 use Rattle.aspif.specs.Reading.{header, startsWith, linesFrom, readLines, readText, Reading, refused, program, answerOf, tableOf, ProgramRead}
 use Rattle.aspif.specs.Turns.{linesTold, Front, LinesRead}
 use Rattle.aspif.specs.declared.ProgramRefusal.{ProgramRefusal}

@@ -1,6 +1,6 @@
 -- Laws on a rule line's row: its heads and body sorted in place, and written behind their counts.
 -- Assumes nothing.
-use mathlib.Core.Path.{_≡_, refl, sym, _∙_, ap, ap₂}
+use mathlib.Core.Path.{_≡_, refl, sym, _∙_, ap₂}
 use mathlib.Core.Bool.{true, false}
 use mathlib.Core.List.{List, [], _∷_, _++_, append-assoc}
 use Prim.Native.Nat.{ℕ, _+_, _-_, _≤_, _<_}
@@ -9,7 +9,7 @@ use borrow.Author.Tests.{lt-ltb, le-ltb, le-leb, lt-leb}
 use lib.IntN.{ℤ}
 use lib.ListN.{length, take, drop, set, length-append, length-drop}
 use lib.Seq.{length-take-le, drop-drop}
-use borrow.Rule.Slice.PartMut.{putMid, midOf}
+use borrow.Rule.Slice.PartMut.{putMid}
 use Rattle.words.proofs.Parts.{mid-put, after-put, before-put, length-put, mid-front, put-next}
 use Rattle.aspif.specs.Rules.{ruleWords, ruleTop}
 use Rattle.aspif.specs.Reading.{mostRules, fails, reads, ruleOf, Turn, room}

@@ -17,7 +17,6 @@ use Rattle.aspif.specs.declared.Kind.{Kind}
 use Rattle.aspif.specs.declared.Kind.the-variants.{Normal, Choice}
 use Rattle.aspif.specs.declared.rules.Shape.{Shape}
 use Rattle.aspif.specs.declared.rules.Shape.the-variants.{Wrong, Shaped}
-use Rattle.aspif.specs.declared.ProgramRefusal.{ProgramRefusal}
 use Rattle.aspif.specs.declared.ProgramReading.{ProgramReading}
 use Rattle.aspif.specs.declared.ProgramReading.the-variants.{Read, Refused}
 

@@ -14,7 +14,8 @@ use borrow.Author.Tests.{le-ltb, lt-ltb, ltb-false, eq-eqb, ne-eqb}
 use Rattle.words.specs.Limits.{longest}
 use Rattle.words.specs.Lists.{all}
 use Rattle.words.specs.Literals.{noneTwice, same}
-use Rattle.words.proofs.Words.{same-eq}
+use Rattle.words.proofs.Lists.{if-true, and-right}
+use Rattle.words.proofs.Literals.{same-decides}
 use Rattle.text.specs.Bytes.{classOf}
 use Rattle.text.specs.Line.{Line, broken, numbers, lineOf, outside, anyOutside, isClosed}
 use Rattle.text.proofs.Lines.{capped-all, or-false-right, Numbered, bounds-of}
@@ -55,17 +56,13 @@ drop-replicate (suc n) (suc m) a = let e : suc m - suc n ≡ m - n = omega arith
 
 -- The numbers before a closing 0
 
-and-right : (a b : Bool) → (a && b) ≡ true → b ≡ true
-and-right true b e = e
-and-right false b e = absurd (true≢false (sym e))
-
 pub closed-some : (zs : List ℤ) → isClosed zs ≡ true → 0 < length zs
 closed-some [] e = absurd (true≢false (sym e))
 closed-some (z ∷ zs) e = omega arith
 
 pub outside-before : (zs : List ℤ) → isClosed zs ≡ true → anyOutside (take (length zs - 1) zs) ≡ anyOutside zs
 outside-before [] e = refl
-outside-before (z ∷ []) e = rw (same-eq z (pos 0) e)
+outside-before (z ∷ []) e = rw (if-true (same-decides z (pos 0)) e)
 outside-before (z ∷ y ∷ zs) e =
     let h : suc (suc (length zs)) - 1 ≡ suc (suc (length zs) - 1) = omega arith in
     rw h (ap (λ (t : Bool). outside z || t) (outside-before (y ∷ zs) (and-right (not (same z (pos 0))) (isClosed (y ∷ zs)) e)))

@@ -2,7 +2,7 @@
 -- read a test made of smaller ones part by part. The words are those of specs/Lists.antt. Assumes nothing.
 use mathlib.Core.Path.{_≡_, refl, sym, subst}
 use mathlib.Core.Logic.{_⊎_, inl, inr}
-use mathlib.Core.Bool.{Bool, true, false, not, cond, _&&_, _||_}
+use mathlib.Core.Bool.{Bool, true, false, not, cond, _&&_, _||_, and-eq-true-iff}
 use mathlib.Core.List.{List, [], _∷_, List·Memᴰ·head, List·Memᴰ·tail, List·Memᴰ·append-cases, Memᴰ·append-left, Memᴰ·append-right}
 use Prim.Native.Nat.{ℕ, suc, _≤_, _<_}
 use native.Mathlib.Omega.{arith}
@@ -28,6 +28,20 @@ passed false = record { to = λ t. absurd t; from = λ p. subst T (sym p) tt }
 pub failed : (b : Bool) → T (not b) → b ≡ false
 failed true t = absurd t
 failed false t = refl
+
+-- a test whose Boolean is known, and a Boolean whose test is known
+pub if-true : {b : Bool} {A : Type 0} → Decides b A → b ≡ true → A
+if-true {b} i e = i .to (passed b .from e)
+
+pub is-true : {b : Bool} {A : Type 0} → Decides b A → A → b ≡ true
+is-true {b} i x = passed b .to (i .from x)
+
+-- the parts of a conjunction
+pub and-left : (a b : Bool) → (a && b) ≡ true → a ≡ true
+and-left a b e = and-eq-true-iff a b .0 e .0
+
+pub and-right : (a b : Bool) → (a && b) ≡ true → b ≡ true
+and-right a b e = and-eq-true-iff a b .0 e .1
 
 -- either the test is passed or its negation is
 pub answered : (b : Bool) → T b ⊎ T (not b)

@@ -2,36 +2,34 @@
 -- Assumes nothing.
 use mathlib.Core.Path.{_≡_, refl, sym, ap, _∙_}
 use mathlib.Core.Bool.{Bool, true, false, true≢false}
-use Prim.Native.Nat.{ℕ, zero, suc, _≤_, _<_, _^_}
+use Prim.Native.Nat.{zero, suc, _<_, _^_}
 use native.Mathlib.Omega.{arith}
-use borrow.Author.Needs.{sfits-of}
-use borrow.Author.Tests.{ltb-true, eq-eqb, ne-eqb, eqb-true}
+use borrow.Author.Tests.{ltb-true, eq-eqb, ne-eqb}
 use lib.Dec.{T, eqb}
 use lib.IntN.{ℤ, pos, negsuc, negℤ, natAbs}
 use lib.Signed.{mag, ltZ, nonNeg}
-use mir.Syntax.{w32, w64}
+use mir.Syntax.{Width, w32, w64, hbits}
 use mir.Val.{SFits, toZ, ofZ}
-use mir.Facts.{toZ-ofZ}
+use mir.Facts.{toZ-ofZ, sfits-widen}
 use Rattle.words.specs.Literals.{same}
+use Rattle.words.proofs.Lists.{if-true, is-true}
+use Rattle.words.proofs.Literals.{same-decides}
 
--- a word is its bits read back
+-- a word is its bits read back, at any width, and at the one that slices of words have
+pub back-at : (w : Width) (z : ℤ) → mag z < 2 ^ hbits w → toZ w (ofZ w z) ≡ z
+back-at w z h = toZ-ofZ (record { sfits = h })
+
 pub back : (z : ℤ) → mag z < 2 ^ 31 → toZ w32 (ofZ w32 z) ≡ z
-back z h = toZ-ofZ (sfits-of h)
+back = back-at w32
 
 -- a word, and its negation, fits 64 bits
 pub wide : (z : ℤ) → SFits w32 z → SFits w64 z
-wide (pos n) f = record { sfits = omega (arith, f .sfits) }
-wide (negsuc n) f = record { sfits = omega (arith, f .sfits) }
+wide z f = sfits-widen tt f
 
 pub wide-neg : (z : ℤ) → SFits w32 z → SFits w64 (negℤ z)
 wide-neg (pos zero) f = record { sfits = omega arith }
 wide-neg (pos (suc n)) f = record { sfits = omega (arith, f .sfits) }
 wide-neg (negsuc n) f = record { sfits = omega (arith, f .sfits) }
-
-pub natAbs-neg : (z : ℤ) → natAbs (negℤ z) ≡ natAbs z
-natAbs-neg (pos zero) = refl
-natAbs-neg (pos (suc n)) = refl
-natAbs-neg (negsuc n) = refl
 
 -- what a cast of a word, or of its negation, to a size asks
 pub cast-neg : (z : ℤ) → SFits w32 z → ltZ z (pos 0) ≡ true → T (nonNeg (negℤ z)) × (natAbs z < 2 ^ 64)
@@ -42,27 +40,10 @@ pub cast-pos : (z : ℤ) → SFits w32 z → ltZ z (pos 0) ≡ false → T (nonN
 cast-pos (pos n) f h = (tt, omega (arith, f .sfits))
 cast-pos (negsuc n) f h = absurd (true≢false h)
 
-pub same-refl : (z : ℤ) → same z z ≡ true
-same-refl (pos n) = eq-eqb n n refl
-same-refl (negsuc n) = eq-eqb n n refl
-
-pub same-eq : (a b : ℤ) → same a b ≡ true → a ≡ b
-same-eq (pos m) (pos n) h = ap pos (eqb-true m n h)
-same-eq (pos m) (negsuc n) h = absurd (true≢false (sym h))
-same-eq (negsuc m) (pos n) h = absurd (true≢false (sym h))
-same-eq (negsuc m) (negsuc n) h = ap negsuc (eqb-true m n h)
-
-pub differ : (a b : ℤ) → (a ≡ b → ⊥) → same a b ≡ false
-differ a b k = go (same a b) refl
+-- the test `a == b` of two words of one width
+pub same-bits : {w : Width} {a b : ℤ} → SFits w a → SFits w b → eqb (ofZ w a) (ofZ w b) ≡ same a b
+same-bits {w} {a} {b} f g = go (same a b) refl
   where
-    go : (t : Bool) → same a b ≡ t → same a b ≡ false
-    go true e = absurd (k (same-eq a b e))
-    go false e = e
-
--- the test `a == b` of two words
-pub same-bits : {a b : ℤ} → SFits w32 a → SFits w32 b → eqb (ofZ w32 a) (ofZ w32 b) ≡ same a b
-same-bits {a} {b} f g = go (same a b) refl
-  where
-    go : (t : Bool) → same a b ≡ t → eqb (ofZ w32 a) (ofZ w32 b) ≡ t
-    go true e = eq-eqb (ofZ w32 a) (ofZ w32 b) (ap (ofZ w32) (same-eq a b e))
-    go false e = ne-eqb (ofZ w32 a) (ofZ w32 b) (λ k. true≢false (sym (same-refl a) ∙ ap (same a) (sym (toZ-ofZ f) ∙ ap (toZ w32) k ∙ toZ-ofZ g) ∙ e))
+    go : (t : Bool) → same a b ≡ t → eqb (ofZ w a) (ofZ w b) ≡ t
+    go true e = eq-eqb (ofZ w a) (ofZ w b) (ap (ofZ w) (if-true (same-decides a b) e))
+    go false e = ne-eqb (ofZ w a) (ofZ w b) (λ k. true≢false (sym (is-true (same-decides a b) (sym (toZ-ofZ f) ∙ ap (toZ w) k ∙ toZ-ofZ g)) ∙ e))

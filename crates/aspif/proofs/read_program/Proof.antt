@@ -1,9 +1,8 @@
 use Rattle.aspif.specs.Reading.{header, startsWith}
 use mathlib.Core.Path.{_≡_, sym, _∙_}
-use mathlib.Core.Bool.{true, false}
+use mathlib.Core.Bool.{true}
 use native.Mathlib.Omega.{arith}
 use borrow.Author.Tests.{not-true, not-false}
-use lib.ListN.{length}
 use Rattle.aspif.proofs.Fronts.{front-long}
 use Rattle.aspif.proofs.Programs.{read-long, read-other, read-refused, read-done, Done}
 use borrow.Author.Needs.{needs}

@@ -1,13 +1,11 @@
 use mathlib.Core.Path.{_≡_, _∙_, sym, ap}
-use mathlib.Core.Bool.{true, _&&_}
-use Prim.Native.Nat.{ℕ, _≤_}
+use mathlib.Core.Bool.{true}
+use Prim.Native.Nat.{_≤_}
 use native.Mathlib.Omega.{arith}
 use borrow.Author.Needs.{sfits-of}
-use borrow.Author.Tests.{le-leb, lt-leb, leb-true}
-use lib.IntN.{ℤ, pos}
+use borrow.Author.Tests.{le-leb, lt-leb}
+use lib.IntN.{pos}
 use lib.ListN.{getD}
-use mir.Syntax.{w32}
-use mir.Val.{toZ, ofZ}
 use mir.Facts.{toZ-ofZ}
 use Rattle.words.specs.Literals.{variable}
 use Rattle.aspif.specs.Reading.{isCount}

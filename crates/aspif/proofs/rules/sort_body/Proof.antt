@@ -1,4 +1,4 @@
-use mathlib.Core.Path.{_≡_, _∙_, sym}
+use mathlib.Core.Path.{_∙_}
 use borrow.Author.Needs.{needs}
 use Rattle.aspif.proofs.rules.sort_body.Statement.{statement}
 use Rattle.aspif.proofs.rules.sort_body.Tie as tie

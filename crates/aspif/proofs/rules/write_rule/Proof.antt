@@ -1,8 +1,7 @@
-use mathlib.Core.Path.{_≡_, refl, ap, _∙_}
+use mathlib.Core.Path.{_≡_, refl, _∙_}
 use mathlib.Core.List.{[], _∷_}
-use Prim.Native.Nat.{ℕ, _+_, _-_}
+use Prim.Native.Nat.{_+_, _-_}
 use lib.IntN.{pos}
-use lib.ListN.{take, drop}
 use Rattle.aspif.specs.Rules.{kindWord}
 use Rattle.aspif.specs.Turns.{rowHeads, rowBody}
 use Rattle.aspif.proofs.Rows.{rule-written, heads-long, body-long}
