@@ -121,6 +121,10 @@ marked m v = eqb (getD m v 0) 1
 
 -- The least model and the constraints, for a set M
 
+-- "A normal rule has 0 or 1 heads; with 0 it is a constraint"
+abbrev pub isConstraint : Rule → Bool
+isConstraint r = isNormal (r .kind) && isEmpty (r .heads)
+
 module _ (M : ℕ → Bool) where
   -- a positive literal's atom is in S; a negated one's is outside M, as the reduct has it
   abbrev pub literalHolds : (ℕ → Bool) → ℤ → Bool
@@ -135,9 +139,13 @@ module _ (M : ℕ → Bool) where
   gives Normal h = true
   gives Choice h = M h
 
+  -- a head that is given is marked
+  unfoldable pub giveHead : Kind → ℤ → List ℕ → List ℕ
+  giveHead k h m = cond (gives k (variable h)) (set m (variable h) 1) m
+
   abbrev pub giveHeads : Kind → List ℤ → List ℕ → List ℕ
   giveHeads k [] m = m
-  giveHeads k (h ∷ hs) m = giveHeads k hs (cond (gives k (variable h)) (set m (variable h) 1) m)
+  giveHeads k (h ∷ hs) m = giveHeads k hs (giveHead k h m)
 
   -- a rule marks the heads that it gives, once its positive atoms are marked; "constraints give nothing", having no head
   unfoldable pub giveRule : Rule → List ℕ → List ℕ
@@ -156,9 +164,9 @@ module _ (M : ℕ → Bool) where
   unfoldable pub least : List Rule → List ℕ
   least rs = rounds (atoms rs) rs (replicate marksLent 0)
 
-  -- the constraint "has its positive atoms all in M and its negated atoms all outside"
+  -- a constraint that "has its positive atoms all in M and its negated atoms all outside"
   abbrev pub isBroken : Rule → Bool
-  isBroken r = isNormal (r .kind) && (isEmpty (r .heads) && bodyHolds M (r .body))
+  isBroken r = isConstraint r && bodyHolds M (r .body)
 
 -- The answer
 
@@ -190,7 +198,7 @@ module _ (M : ℕ → Bool) where
   apart m v = justOne (M v) (marked m v)
 
   unfoldable pub verdictOf : List Rule → Verdict
-  verdictOf rs = cond (anyBelow (apart (least M rs)) (suc (atoms rs))) differs (brokenFrom 1 rs)
+  verdictOf rs = cond (anyBelow (apart (least M rs)) (atoms rs + 1)) differs (brokenFrom 1 rs)
 
 -- The three questions, in their order
 

@@ -1,0 +1,5 @@
+-- The laws that the proofs share.
+pub mod Fronts
+pub mod Ascending
+pub mod Marks
+pub mod Tested
