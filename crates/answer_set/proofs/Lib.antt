@@ -3,3 +3,5 @@ pub mod Fronts
 pub mod Ascending
 pub mod Marks
 pub mod Tested
+pub mod LeastModels
+pub mod Answered

@@ -67,7 +67,7 @@ marked-all low high (x ∷ l) m v e h =
     or-swap true b c = rw (or-comm b true)
     or-swap false b c = rw (or-false b)
 
-none-marked : (n v : ℕ) → marked (replicate n 0) v ≡ false
+pub none-marked : (n v : ℕ) → marked (replicate n 0) v ≡ false
 none-marked zero v = refl
 none-marked (suc n) zero = refl
 none-marked (suc n) (suc v) = none-marked n v

@@ -2,3 +2,4 @@
 pub mod AnswerSets
 pub mod SetTest
 pub mod Private
+pub mod Claims
