@@ -3,14 +3,18 @@
 use mathlib.Core.Path.{_≡_, refl, sym}
 use mathlib.Core.Bool.{Bool, true, false, cond, _&&_, true≢false}
 use mathlib.Core.List.{List}
-use Prim.Native.Nat.{ℕ, _≤_}
-use borrow.Author.Tests.{leb-true}
-use lib.Dec.{ltb, leb}
+use Prim.Native.Nat.{ℕ, _+_, _≤_}
+use borrow.Author.Tests.{leb-true, eqb-true}
+use lib.Dec.{eqb, ltb, leb}
 use lib.IntN.{ℤ, pos}
 use lib.Signed.{leZ}
 use lib.ListN.{getD}
 use Rattle.words.specs.Literals.{variable}
-use Rattle.aspif.specs.Reading.{isCount}
+use Rattle.aspif.specs.Reading.{isAt, isCount, suited, bodyShape, headShape, shapeOf}
+use Rattle.aspif.specs.declared.Kind.{Kind}
+use Rattle.aspif.specs.declared.Kind.the-variants.{Normal, Choice}
+use Rattle.aspif.specs.declared.rules.Shape.{Shape}
+use Rattle.aspif.specs.declared.rules.Shape.the-variants.{Wrong, Shaped}
 
 and-last : (a b c : Bool) → (a && (b && c)) ≡ true → c ≡ true
 and-last true true c e = e
@@ -20,3 +24,52 @@ and-last false b c e = absurd (true≢false (sym e))
 -- a count is at most 64
 pub count-small : (zs : List ℤ) (count i : ℕ) → isCount zs count i ≡ true → variable (getD zs i (pos 0)) ≤ 64
 count-small zs count i e = leb-true _ _ (and-last (ltb i count) (leZ (pos 0) (getD zs i (pos 0))) (leb (variable (getD zs i (pos 0))) 64) e)
+
+-- what a rule line's shape says of its counts
+abbrev pub Counted : ℕ → Shape → Type 0
+Counted n (Wrong k) = Unit {0}
+Counted n (Shaped k h b) = (h ≤ 64) × (b ≤ 64) × (5 + h + b ≡ n)
+
+by : (n : ℕ) (t : Bool) (x y : Shape) → (t ≡ true → Counted n x) → Counted n y → Counted n (cond t x y)
+by n true x y f g = f refl
+by n false x y f g = g
+
+pub and-left : (a b : Bool) → (a && b) ≡ true → a ≡ true
+and-left true b e = refl
+and-left false b e = absurd (true≢false (sym e))
+
+pub and-right : (a b : Bool) → (a && b) ≡ true → b ≡ true
+and-right true b e = e
+and-right false b e = absurd (true≢false (sym e))
+
+suited-counted : (n : ℕ) (k : Kind) (h b : ℕ) → h ≤ 64 → b ≤ 64 → 5 + h + b ≡ n → Counted n (suited k h b)
+suited-counted n Normal h b p q e = by n (leb h 1) (Shaped Normal h b) (Wrong 7) (λ t. (p, q, e)) tt
+suited-counted n Choice h b p q e = by n (leb 1 h) (Shaped Choice h b) (Wrong 7) (λ t. (p, q, e)) tt
+
+module _ (zs : List ℤ) (n : ℕ) where
+  body-counted : (k : Kind) (h : ℕ) → h ≤ 64 → Counted n (bodyShape zs n k h)
+  body-counted k h p =
+      let b = variable (getD zs (4 + h) (pos 0)) in
+      by n (isAt zs n (3 + h) (pos 0)) _ (Wrong 5)
+      (λ t.
+      by n (isCount zs n (4 + h) && eqb (5 + h + b) n) (suited k h b) (Wrong 6)
+      (λ u.
+      suited-counted n k h b p (count-small zs n (4 + h) (and-left (isCount zs n (4 + h)) (eqb (5 + h + b) n) u))
+      (eqb-true (5 + h + b) n (and-right (isCount zs n (4 + h)) (eqb (5 + h + b) n) u)))
+      tt)
+      tt
+
+  head-counted : (k : Kind) → Counted n (headShape zs n k)
+  head-counted k =
+      let h = variable (getD zs 2 (pos 0)) in
+      by n (isCount zs n 2 && leb (3 + h) n) (bodyShape zs n k h) (Wrong 6)
+      (λ t. body-counted k h (count-small zs n 2 (and-left (isCount zs n 2) (leb (3 + h) n) t))) tt
+
+  pub shape-counted : Counted n (shapeOf zs n)
+  unfolding shapeOf
+  shape-counted =
+      by n (isAt zs n 0 (pos 1)) _ (Wrong 5)
+      (λ t.
+      by n (isAt zs n 1 (pos 0)) (headShape zs n Normal) _ (λ u. head-counted Normal)
+      (by n (isAt zs n 1 (pos 1)) (headShape zs n Choice) (Wrong 5) (λ u. head-counted Choice) tt))
+      tt

@@ -1,2 +1,7 @@
 -- The laws that the proofs share.
 pub mod Counts
+pub mod Rows
+pub mod Agree
+pub mod Passes
+pub mod Fronts
+pub mod Programs

@@ -1,3 +1,4 @@
 -- Ground programs: what a rule is, how a table holds rules, and how a text is read, question by question.
 pub mod Rules
 pub mod Reading
+pub mod Turns

@@ -12,13 +12,11 @@ use Rattle.words.specs.Limits.{longest}
 use Rattle.words.specs.Lists.{all}
 use Rattle.words.specs.Literals.{variable, same, has, noneTwice, ascending}
 use Rattle.text.specs.Line.{Line, broken, numbers, lineOf, anyOutside}
-use Rattle.aspif.specs.Rules.{Rule, atoms, ruleTop, ruleWords, programWords, tableWords}
+use Rattle.aspif.specs.Rules.{Rule, atoms, ruleWords, programWords, tableWords}
 use Rattle.aspif.specs.declared.Kind.{Kind}
 use Rattle.aspif.specs.declared.Kind.the-variants.{Normal, Choice}
 use Rattle.aspif.specs.declared.rules.Shape.{Shape}
 use Rattle.aspif.specs.declared.rules.Shape.the-variants.{Wrong, Shaped}
-use Rattle.aspif.specs.declared.lines.LineTurn.{LineTurn}
-use Rattle.aspif.specs.declared.lines.LineTurn.the-variants.{Refuses, Ends, Adds}
 use Rattle.aspif.specs.declared.ProgramRefusal.{ProgramRefusal}
 use Rattle.aspif.specs.declared.ProgramReading.{ProgramReading}
 use Rattle.aspif.specs.declared.ProgramReading.the-variants.{Read, Refused}
@@ -127,7 +125,7 @@ onward on rs line (adds r n) = on n (rs ++ (r ∷ []))
 
 -- The lines from here on, into a table of `size` words: the bytes left, the line's number, the rules so far. Each line takes a
 -- byte at least, so one turn more than there are bytes is enough.
-abbrev pub linesFrom : ℕ → ℕ → List ℕ → ℕ → List Rule → Reading
+unfoldable pub linesFrom : ℕ → ℕ → List ℕ → ℕ → List Rule → Reading
 linesFrom size zero s line rs = refused 3 line
 linesFrom size (suc turns) s line rs =
     onward (λ n. linesFrom size turns (drop n s) (line + 1)) rs line
@@ -137,16 +135,15 @@ linesFrom size (suc turns) s line rs =
 abbrev pub header : List ℕ
 header = 97 ∷ 115 ∷ 112 ∷ 32 ∷ 49 ∷ 32 ∷ 48 ∷ 32 ∷ 48 ∷ 10 ∷ []
 
-abbrev pub sameBytes : List ℕ → List ℕ → Bool
-sameBytes [] [] = true
-sameBytes [] (y ∷ ys) = false
-sameBytes (x ∷ xs) [] = false
-sameBytes (x ∷ xs) (y ∷ ys) = eqb x y && sameBytes xs ys
+abbrev pub startsWith : List ℕ → List ℕ → Bool
+startsWith [] s = true
+startsWith (x ∷ front) [] = false
+startsWith (x ∷ front) (b ∷ s) = eqb b x && startsWith front s
 
 -- "Is line 1 as said? 2." and the questions after it, with a table of `size` words: all but question 1
 unfoldable pub readLines : ℕ → List ℕ → Reading
 readLines size text =
-    cond (sameBytes (take 10 text) header) (linesFrom size (suc (length text)) (drop 10 text) 2 []) (refused 2 1)
+    cond (startsWith header text) (linesFrom size (suc (length text)) (drop 10 text) 2 []) (refused 2 1)
 
 -- "Has the text at most 65,535 bytes? No: 1." The whole text is at fault, so the line is 0.
 unfoldable pub readText : ℕ → List ℕ → Reading
@@ -163,22 +160,6 @@ answerOf (program rs) = Read (atoms rs) (length rs)
 abbrev pub tableOf : ℕ → Reading → List ℤ
 tableOf size (refused k line) = replicate size (pos 0)
 tableOf size (program rs) = tableWords size rs
-
--- What the private functions tell of a turn: the bytes, the words and the largest atom of a rule that it adds
-abbrev pub turnTold : Turn → LineTurn
-turnTold (refuses k) = Refuses k
-turnTold ends = Ends
-turnTold (adds r n) = Adds n (length (ruleWords r)) (ruleTop r)
-
--- the free words of the table after a turn: a rule that it adds stands at their front
-abbrev pub freeAfter : Turn → List ℤ → List ℤ
-freeAfter (refuses k) free = free
-freeAfter ends free = free
-freeAfter (adds r n) free = ruleWords r ++ drop (length (ruleWords r)) free
-
-pub record TurnTaken (t : Turn) (before after : List ℤ) (r : LineTurn) : Type 0 where
-  pub told : r ≡ turnTold t
-  pub words : after ≡ freeAfter t before
 
 -- the public contract: the answer and every word of the table
 pub record ProgramRead (text : List ℕ) (before after : List ℤ) (r : ProgramReading) : Type 0 where

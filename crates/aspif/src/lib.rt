@@ -4,6 +4,7 @@ mod lines;
 mod rules;
 
 ghost use Rattle.aspif.specs.Reading.{ProgramRead};
+use lines::Lines;
 
 // "head kind (0 normal, 1 choice)".
 pub enum Kind {
@@ -21,4 +22,29 @@ pub struct ProgramRefusal {
 pub enum ProgramReading {
     Read { atoms: usize, rules: usize },
     Refused(ProgramRefusal),
+}
+
+// Reads a program text into the table, which then holds the rules' words with 0 after them; 0 throughout where it is refused.
+pub fn read_program(text: &[u8], table: &mut [i32]) -> ProgramReading
+    ensures { λ r. ⌜ ProgramRead (now (text .entry)) (now (table .entry)) (now (table .exit)) r ⌝ }
+{
+    if 65535 < text.len() {
+        words::zero_all(table);
+        return ProgramReading::Refused(ProgramRefusal { number: 1, line: 0 });
+    }
+    if !lines::starts_with(text, b"asp 1 0 0\n") {
+        words::zero_all(table);
+        return ProgramReading::Refused(ProgramRefusal { number: 2, line: 1 });
+    }
+    let read = lines::read_lines(text, table);
+    match read {
+        Lines::Refused(refusal) => {
+            words::zero_all(table);
+            ProgramReading::Refused(refusal)
+        }
+        Lines::Program { atoms, rules, used } => {
+            words::zero_all(&mut table[used..]);
+            ProgramReading::Read { atoms, rules }
+        }
+    }
 }

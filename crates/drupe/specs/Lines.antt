@@ -2,32 +2,40 @@
 -- Assumes nothing.
 use mathlib.Core.Bool.{Bool, true, false, cond, not, _&&_, _||_}
 use mathlib.Core.Option.{Option, none, some}
-use mathlib.Core.List.{List, [], _∷_}
-use Prim.Native.Nat.{ℕ, zero, suc, _+_}
-use lib.Dec.{eqb, ltb, leb}
-use lib.IntN.{ℤ, pos, negsuc}
+use mathlib.Core.Path.{_≡_}
+use mathlib.Core.List.{List, [], _∷_, _++_}
+use Prim.Native.Nat.{ℕ, _+_, _-_, _<_, _≤_}
+use lib.Dec.{eqb, ltb}
+use lib.IntN.{ℤ, pos}
 use lib.Signed.{ltZ}
-use lib.ListN.{length, drop}
+use lib.ListN.{length, take, drop, replicate}
 use Rattle.words.specs.Limits.{longest}
 use Rattle.words.specs.Lists.{all}
-use Rattle.words.specs.Literals.{same, has, noneTwice}
+use Rattle.words.specs.Literals.{noneTwice}
 use Rattle.text.specs.Bytes.{classOf}
-use Rattle.text.specs.Line.{Line, broken, numbers, lineOf, anyOutside}
+use Rattle.text.specs.Line.{Line, broken, numbers, lineOf, anyOutside, isClosed}
 use Rattle.text.specs.declared.Letter.{Letter}
 use Rattle.text.specs.declared.Letter.the-variants.{Addition, Body, Completion, Deletion, Extension, Loop, Support}
 use Rattle.text.specs.declared.Class.{Class}
 use Rattle.text.specs.declared.Class.the-variants.{Newline, Space, Minus, Digit, Step, Other}
+use Rattle.drupe.specs.declared.Signs.{Signs}
+use Rattle.drupe.specs.declared.LineAnswer.{LineAnswer}
+use Rattle.drupe.specs.declared.LineAnswer.the-variants.{Line as Answered, End, Refused}
+use Rattle.drupe.specs.declared.LineReading.{LineReading}
 
 -- "up to 65 nonzero numbers"
 abbrev pub mostNumbers : ℕ
 mostNumbers = 65
 
--- What a letter asks of its numbers: whether a first number must be there, whether it must be positive, and whether the
--- later ones must be.
-pub record Signs : Type 0 where
-  pub needed : Bool
-  pub first : Bool
-  pub later : Bool
+-- the place of a letter in the table of signs
+abbrev pub placeOf : Letter → ℕ
+placeOf Addition = 0
+placeOf Body = 1
+placeOf Completion = 2
+placeOf Deletion = 3
+placeOf Extension = 4
+placeOf Loop = 5
+placeOf Support = 6
 
 -- "Is a first number there for `b c e l s`", "signed is meant for `a`, `d`, and the later numbers of `b` and `e`. All others
 -- are positive."
@@ -56,39 +64,83 @@ lineRefusal x zs =
     cond (anyOutside zs || ltb mostNumbers (length zs)) (some 23)
     (cond (signed (signsOf x) zs) (cond (noneTwice zs) none (some 25)) (some 24))
 
--- The shape of a line: "the letter, a space, .. nonzero numbers, a closing `0`, newline"
-
--- the numbers before the closing 0, of which none is 0
-abbrev pub closed : List ℤ → Option (List ℤ)
-closed [] = none
-closed (z ∷ []) = cond (same z (pos 0)) (some []) none
-closed (z ∷ y ∷ zs) = elim (closed (y ∷ zs)) [ none ↦ none | some ns ↦ cond (same z (pos 0)) none (some (z ∷ ns)) ]
-
 -- what stands at a position: the end, a refusal, or a line's letter with its numbers and the position after its newline
 pub data LineAt : Type 0 where
   end : LineAt
   refused : ℕ → LineAt
   line : Letter → List ℤ → ℕ → LineAt
 
-abbrev pub asked : Letter → List ℤ → ℕ → LineAt
-asked x zs next = elim (lineRefusal x zs) [ none ↦ line x zs next | some k ↦ refused k ]
+-- the first question that is answered no, or else what is read
+abbrev pub refusedOr : Option ℕ → LineAt → LineAt
+refusedOr (some k) l = refused k
+refusedOr none l = l
 
--- of a shape as told, what questions 23 to 25 say; the numbers begin at `from` and take n bytes
+abbrev pub asked : Letter → List ℤ → ℕ → LineAt
+asked x zs next = refusedOr (lineRefusal x zs) (line x zs next)
+
+-- The shape of a line: "the letter, a space, .. nonzero numbers, a closing `0`, newline"
+
+-- of a shape as told, what questions 23 to 25 say of the numbers before the closing 0; the line's numbers begin at `from` and
+-- take n bytes
 abbrev pub ofNumbers : Letter → ℕ → Line → LineAt
 ofNumbers x from broken = refused 22
-ofNumbers x from (numbers zs n) = elim (closed zs) [ none ↦ refused 22 | some ns ↦ asked x ns (from + n) ]
+ofNumbers x from (numbers zs n) = cond (isClosed zs) (asked x (take (length zs - 1) zs) (from + n)) (refused 22)
+
+abbrev pub isSpace : Class → Bool
+isSpace Space = true
+isSpace Newline = false
+isSpace Minus = false
+isSpace (Digit d) = false
+isSpace (Step x) = false
+isSpace Other = false
 
 abbrev pub afterLetter : Letter → ℕ → List ℕ → LineAt
 afterLetter x from [] = refused 22
-afterLetter x from (b ∷ s) = elim (classOf b) [ Space ↦ ofNumbers x (from + 1) (lineOf s) | Newline ↦ refused 22 | Minus ↦ refused 22 | Digit d ↦ refused 22 | Step y ↦ refused 22 | Other ↦ refused 22 ]
+afterLetter x from (b ∷ s) = cond (isSpace (classOf b)) (ofNumbers x (from + 1) (lineOf s)) (refused 22)
+
+abbrev pub afterFirst : Class → ℕ → List ℕ → LineAt
+afterFirst (Step x) from s = afterLetter x from s
+afterFirst Newline from s = refused 22
+afterFirst Space from s = refused 22
+afterFirst Minus from s = refused 22
+afterFirst (Digit d) from s = refused 22
+afterFirst Other from s = refused 22
 
 -- question 22 and those after it, of the line that begins at position `from`, where the text s is left
 abbrev pub lineFrom : ℕ → List ℕ → LineAt
 lineFrom from [] = refused 22
-lineFrom from (b ∷ s) = elim (classOf b) [ Step x ↦ afterLetter x (from + 1) s | Space ↦ refused 22 | Newline ↦ refused 22 | Minus ↦ refused 22 | Digit d ↦ refused 22 | Other ↦ refused 22 ]
+lineFrom from (b ∷ s) = afterFirst (classOf b) (from + 1) s
 
 -- "At a position equal to the text's length it answers "end" once 21 is passed; a position past the length is 22."
 abbrev pub lineAt : List ℕ → ℕ → LineAt
 lineAt text at =
     cond (ltb longest (length text)) (refused 21)
     (cond (eqb at (length text)) end (lineFrom at (drop at text)))
+
+-- What `read_line` answers
+
+-- "it answers the letter, the numbers .., their count and the position after the newline. Its refusal returns the number alone."
+abbrev pub answerOf : LineAt → LineAnswer
+answerOf end = End
+answerOf (refused k) = Refused k
+answerOf (line x zs next) = Answered x (length zs) next
+
+-- "the numbers as written without the closing 0", with zeros after them; all 0 unless a line is answered
+abbrev pub numbersOf : LineAt → List ℤ
+numbersOf end = replicate mostNumbers (pos 0)
+numbersOf (refused k) = replicate mostNumbers (pos 0)
+numbersOf (line x zs next) = zs ++ replicate (mostNumbers - length zs) (pos 0)
+
+abbrev pub readingOf : LineAt → LineReading
+readingOf l = record { answer = answerOf l; numbers = numbersOf l }
+
+-- an answered line ends past the position, within a text of n bytes, and has no more numbers than the array
+abbrev pub Within : ℕ → ℕ → LineAnswer → Type 0
+Within at n End = Unit {0}
+Within at n (Refused k) = Unit {0}
+Within at n (Answered x count next) = (at < next) × (next ≤ n) × (count ≤ mostNumbers)
+
+pub record Reads (s : List ℕ) (at : ℕ) (r : LineReading) : Type 0 where
+  pub answer : r .answer ≡ answerOf (lineAt s at)
+  pub numbers : r .numbers ≡ numbersOf (lineAt s at)
+  pub within : Within at (length s) (r .answer)

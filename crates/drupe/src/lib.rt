@@ -1,1 +1,232 @@
-// Proof lines.
+// The proof-line reader: document 01, 'The proof's seven letters' and questions 21 to 25.
+// The claim of `read_line` is `Reads` in specs/Lines.antt.
+use text::Class;
+use text::Letter;
+use text::LineRead;
+ghost use mathlib.Core.Path.{_≡_};
+ghost use mathlib.Core.Bool.{false};
+ghost use Prim.Native.Nat.{_+_, _<_, _≤_};
+ghost use lib.ListN.{length};
+ghost use Rattle.words.specs.Limits.{longest};
+ghost use Rattle.text.specs.Bytes.{classOf};
+ghost use Rattle.text.specs.Line.{anyOutside, lineOf};
+ghost use Rattle.drupe.specs.Lines.{Reads, afterLetter, asked, isSpace, lineFrom, mostNumbers, ofNumbers, placeOf, readingOf, refused, signed, signsOf};
+
+// The most bytes of a text.
+const LONGEST: usize = 65535;
+
+// The most numbers of a line.
+pub const MOST_NUMBERS: usize = 65;
+
+// What stands at a position: a line's letter, how many numbers it has and the position after its newline; the end; or the
+// number of the question that is answered no.
+pub enum LineAnswer {
+    Line {
+        letter: Letter,
+        count: usize,
+        next: usize,
+    },
+    End,
+    Refused(u8),
+}
+
+// The numbers stand beside the answer, with zeros after them; all are 0 unless a line is answered.
+pub struct LineReading {
+    pub answer: LineAnswer,
+    pub numbers: [i32; MOST_NUMBERS],
+}
+
+// What a letter asks of its numbers: whether a first one must be there, whether it must be positive, and whether the later
+// ones must be.
+struct Signs {
+    needed: bool,
+    first: bool,
+    later: bool,
+}
+
+// Any sign, and none is needed.
+const SIGNED: Signs = Signs {
+    needed: false,
+    first: false,
+    later: false,
+};
+
+// A first number, positive, and later ones of any sign.
+const NAMED: Signs = Signs {
+    needed: true,
+    first: true,
+    later: false,
+};
+
+// A first number, and all positive.
+const POSITIVE: Signs = Signs {
+    needed: true,
+    first: true,
+    later: true,
+};
+
+// By letter: a, b, c, d, e, l, s.
+const SIGNS: [Signs; 7] = [SIGNED, NAMED, POSITIVE, SIGNED, NAMED, POSITIVE, POSITIVE];
+
+// The place of a letter in the table.
+fn place_of(letter: Letter) -> usize
+    ensures { λ r. ⌜ r ≡ placeOf letter ⌝ }
+{
+    match letter {
+        Letter::Addition => 0,
+        Letter::Body => 1,
+        Letter::Completion => 2,
+        Letter::Deletion => 3,
+        Letter::Extension => 4,
+        Letter::Loop => 5,
+        Letter::Support => 6,
+    }
+}
+
+fn signs_of(letter: Letter) -> Signs
+    ensures { λ r. ⌜ r ≡ signsOf letter ⌝ }
+{
+    let place = place_of(letter);
+    SIGNS[place]
+}
+
+// Question 24.
+fn is_signed(letter: Letter, numbers: &[i32]) -> bool
+    ensures { λ r. ⌜ r ≡ signed (signsOf letter) (now (numbers .entry)) ⌝ }
+{
+    let signs = signs_of(letter);
+    if numbers.len() == 0 {
+        return !signs.needed;
+    }
+    let first = !signs.first | words::is_positive(numbers[0]);
+    first & (!signs.later | words::all_positive(&numbers[1..]))
+}
+
+fn refuse(number: u8) -> LineReading
+    ensures { λ r. ⌜ r ≡ readingOf (refused number) ⌝ }
+{
+    LineReading {
+        answer: LineAnswer::Refused(number),
+        numbers: [0; MOST_NUMBERS],
+    }
+}
+
+// Questions 24 and 25 of numbers that passed 23. They are left in another order.
+fn ask(letter: Letter, numbers: &mut [i32], next: usize) -> LineReading
+    requires { ⌜ (anyOutside (now numbers) ≡ false) × (length (now numbers) ≤ mostNumbers) ⌝ }
+    ensures { λ r. ⌜ r ≡ readingOf (asked letter (now (numbers .entry)) next) ⌝ }
+{
+    if !is_signed(letter, numbers) {
+        return refuse(24);
+    }
+    let count = numbers.len();
+    let mut kept = [0; MOST_NUMBERS];
+    words::copy(&mut kept, numbers);
+    if !words::sort_distinct(numbers) {
+        return refuse(25);
+    }
+    LineReading {
+        answer: LineAnswer::Line {
+            letter,
+            count,
+            next,
+        },
+        numbers: kept,
+    }
+}
+
+// The numbers of a line, which begin at position `from`: the text is what is left there.
+fn read_numbers(letter: Letter, text: &[u8], from: usize) -> LineReading
+    requires { ⌜ from + length (now text) ≤ longest ⌝ }
+    ensures { λ r. ⌜ r ≡ readingOf (ofNumbers letter from (lineOf (now (text .entry)))) ⌝ }
+{
+    let mut row = [0; MOST_NUMBERS + 1];
+    let read = text::read_line(text, &mut row);
+    match read {
+        LineRead::Numbers {
+            count,
+            next,
+            outside,
+            closed,
+        } => {
+            if !closed {
+                return refuse(22);
+            }
+            if outside {
+                return refuse(23);
+            }
+            let before = count - 1;
+            if MOST_NUMBERS < before {
+                return refuse(23);
+            }
+            ask(letter, &mut row[..before], from + next)
+        }
+        LineRead::Broken => refuse(22),
+    }
+}
+
+fn is_space(b: u8) -> bool
+    ensures { λ r. ⌜ r ≡ isSpace (classOf b) ⌝ }
+{
+    let class = text::class_of(b);
+    match class {
+        Class::Space => true,
+        Class::Newline => false,
+        Class::Minus => false,
+        Class::Digit(_) => false,
+        Class::Step(_) => false,
+        Class::Other => false,
+    }
+}
+
+// The space after the letter, and what follows it.
+fn read_space(letter: Letter, text: &[u8], from: usize) -> LineReading
+    requires { ⌜ from + length (now text) ≤ longest ⌝ }
+    ensures { λ r. ⌜ r ≡ readingOf (afterLetter letter from (now (text .entry))) ⌝ }
+{
+    if text.len() == 0 {
+        return refuse(22);
+    }
+    if !is_space(text[0]) {
+        return refuse(22);
+    }
+    read_numbers(letter, &text[1..], from + 1)
+}
+
+// The line that begins at position `from`: the text is what is left there.
+fn read_letter(text: &[u8], from: usize) -> LineReading
+    requires { ⌜ from + length (now text) ≤ longest ⌝ }
+    ensures { λ r. ⌜ r ≡ readingOf (lineFrom from (now (text .entry))) ⌝ }
+{
+    if text.len() == 0 {
+        return refuse(22);
+    }
+    let class = text::class_of(text[0]);
+    match class {
+        Class::Step(letter) => read_space(letter, &text[1..], from + 1),
+        Class::Newline => refuse(22),
+        Class::Space => refuse(22),
+        Class::Minus => refuse(22),
+        Class::Digit(_) => refuse(22),
+        Class::Other => refuse(22),
+    }
+}
+
+// The line of the text that begins at the position.
+pub fn read_line(text: &[u8], position: usize) -> LineReading
+    ensures { λ r. ⌜ Reads (now (text .entry)) position r ⌝ }
+{
+    if LONGEST < text.len() {
+        return refuse(21);
+    }
+    if position == text.len() {
+        return LineReading {
+            answer: LineAnswer::End,
+            numbers: [0; MOST_NUMBERS],
+        };
+    }
+    if text.len() < position {
+        return refuse(22);
+    }
+    read_letter(&text[position..], position)
+}

@@ -1,22 +1,23 @@
 -- The scan of the loop reads what `lineOf` says: one induction over the bytes.
 -- Assumes nothing.
 use mathlib.Core.Path.{_≡_, refl, sym, _∙_, ap, subst}
-use mathlib.Core.Bool.{Bool, true, false, _||_, or-assoc, or-false}
+use mathlib.Core.Bool.{Bool, true, false, not, _&&_, _||_, or-assoc, or-false}
 use mathlib.Core.Option.{Option, none, some}
 use mathlib.Core.List.{List, [], _∷_, map}
 use Prim.Native.Nat.{ℕ, zero, suc, _+_, _*_, _<_, min}
 use native.Mathlib.Nat.{zero-add}
 use native.Mathlib.Omega.{arith}
 use native.Mathlib.Numerals.{add-one}
-use lib.Dec.{ltb, eqb·suc-zero}
+use lib.Dec.{ltb, eqb, eqb·suc-zero}
 use lib.IntN.{ℤ, pos, natAbs}
 use lib.ListN.{length, set}
 use lib.Seq.{sets}
-use borrow.Author.Tests.{ltb-true, ltb-false, lt-ltb, le-ltb}
+use borrow.Author.Tests.{ltb-true, ltb-false, lt-ltb, le-ltb, ne-eqb}
 use Rattle.words.specs.Limits.{largest}
+use Rattle.words.specs.Literals.{same}
 use Rattle.text.specs.Bytes.{classOf}
-use Rattle.text.specs.Line.{digits, natural, nonNegative, negative, number, also, numbersOf, Words, unended, words, apart, joined, cut, span, Line, broken, numbers, spanned, ofWords, lineOf, outside, anyOutside, capped, Told, Within, Reads}
-use Rattle.text.specs.Scan.{moreOf, newlineOf, spaceOf, actionOf, valueOf, Scanned, turn, scan}
+use Rattle.text.specs.Line.{digits, natural, nonNegative, negative, number, also, numbersOf, Words, unended, words, apart, joined, cut, span, Line, broken, numbers, spanned, ofWords, lineOf, outside, anyOutside, isClosed, capped, Told, Within, Reads}
+use Rattle.text.specs.Scan.{moreOf, newlineOf, spaceOf, actionOf, valueOf, unseen, Scanned, turn, scan}
 use Rattle.text.specs.declared.Letter.{Letter}
 use Rattle.text.specs.declared.Class.{Class}
 use Rattle.text.specs.declared.Class.the-variants.{Newline, Space, Minus, Digit, Step, Other}
@@ -24,6 +25,7 @@ use Rattle.text.specs.declared.State.{State}
 use Rattle.text.specs.declared.State.the-variants.{Start, Word, Sign, Zero, Digits}
 use Rattle.text.specs.declared.Action.{Action}
 use Rattle.text.specs.declared.Action.the-variants.{Go, Put, Last, Fail}
+use Rattle.text.specs.declared.Seen.{Seen}
 use Rattle.text.specs.declared.LineRead.{LineRead}
 use Rattle.text.specs.declared.LineRead.the-variants.{Numbers, Broken}
 use Rattle.text.proofs.Lines.{Bounds, bounds}
@@ -117,7 +119,7 @@ inside-other (sized neg m) = fails (λ w. refl)
 -- a word's end, by what the scanner does at a newline and at a space
 data End (p : Place) : Action → Action → Type 0 where
   fails : rest p [] ≡ none → End p Fail Fail
-  ends : (z : ℤ) (neg : Bool) (m : ℕ) → rest p [] ≡ some z → valueOf neg m ≡ capped z → ltb largest m ≡ outside z → End p (Last neg m) (Put neg m)
+  ends : (z : ℤ) (neg : Bool) (m : ℕ) → rest p [] ≡ some z → valueOf neg m ≡ capped z → ltb largest m ≡ outside z → eqb m 0 ≡ same z (pos 0) → End p (Last neg m) (Put neg m)
 
 capped-value : (neg : Bool) (m : ℕ) → valueOf neg (min m (suc largest)) ≡ capped (valueOf neg m)
 capped-value false m = refl
@@ -136,11 +138,17 @@ outside-value neg m = by (ltb largest m) refl ∙ sym (ap (ltb largest) (size-va
     by true e = lt-ltb largest (min m (suc largest)) (omega (arith, ltb-true largest m e)) ∙ sym e
     by false e = le-ltb largest (min m (suc largest)) (omega (arith, ltb-false largest m e)) ∙ sym e
 
+nought-value : (neg : Bool) (m : ℕ) → eqb (min m (suc largest)) 0 ≡ same (valueOf neg m) (pos 0)
+nought-value false zero = refl
+nought-value false (suc m) = ne-eqb (min (suc m) (suc largest)) 0 (λ e. omega arith) ∙ sym (eqb·suc-zero m)
+nought-value true zero = refl
+nought-value true (suc m) = ne-eqb (min (suc m) (suc largest)) 0 (λ e. omega arith)
+
 end : (p : Place) → End p (newlineOf (stateOf p)) (spaceOf (stateOf p))
 end fresh = fails refl
 end signed = fails refl
-end nought = ends (pos 0) false 0 refl refl refl
-end (sized neg m) = ends (valueOf neg m) neg (min m (suc largest)) refl (capped-value neg m) (outside-value neg m)
+end nought = ends (pos 0) false 0 refl refl refl refl
+end (sized neg m) = ends (valueOf neg m) neg (min m (suc largest)) refl (capped-value neg m) (outside-value neg m) (nought-value neg m)
 
 -- Lines
 
@@ -183,56 +191,69 @@ apart-fails : (p : Place) (o : Words) → rest p [] ≡ none → from p (apart o
 apart-fails p unended e = refl
 apart-fails p (words w ws) e = rw e
 
--- what the scan finds, with n numbers in the row, whether one was outside, and the position, against what is left of the line
-abbrev Agrees : Scanned → ℕ → Bool → List ℤ → ℕ → Line → Type 0
-Agrees x n out row i broken = x .line ≡ Broken
-Agrees x n out row i (numbers zs k) =
-    (x .line ≡ Numbers (n + length zs) (i + k) (out || anyOutside zs)) × (x .row ≡ sets row n (map capped zs))
+-- what the scan finds, with n numbers in the row, what was seen of them, and the position, against what is left of the line:
+-- a number at least
+abbrev Agrees : Scanned → ℕ → Seen → List ℤ → ℕ → Line → Type 0
+Agrees x n seen row i broken = x .line ≡ Broken
+Agrees x n seen row i (numbers [] k) = ⊥
+Agrees x n seen row i (numbers (z ∷ zs) k) =
+    (x .line ≡ Numbers (n + length (z ∷ zs)) (i + k) (seen .outside || anyOutside (z ∷ zs)) (not (seen .nought) && isClosed (z ∷ zs)))
+    × (x .row ≡ sets row n (map capped (z ∷ zs)))
 
-module _ (x : Scanned) (n : ℕ) (out : Bool) (row : List ℤ) (i : ℕ) where
-  agrees-longer : (l : Line) → Agrees x n out row (i + 1) l → Agrees x n out row i (longer l)
+-- what is seen with the number z
+abbrev seeingZ : Seen → ℤ → Seen
+seeingZ seen z = record { outside = seen .outside || outside z; nought = seen .nought || same z (pos 0) }
+
+not-or-and : (a b t : Bool) → not (a || b) && t ≡ not a && (not b && t)
+not-or-and true b t = refl
+not-or-and false b t = refl
+
+module _ (x : Scanned) (n : ℕ) (seen : Seen) (row : List ℤ) (i : ℕ) where
+  agrees-longer : (l : Line) → Agrees x n seen row (i + 1) l → Agrees x n seen row i (longer l)
   agrees-longer broken a = a
-  agrees-longer (numbers zs k) a =
+  agrees-longer (numbers [] k) a = a
+  agrees-longer (numbers (z ∷ zs) k) a =
       let e : i + (1 + k) ≡ i + 1 + k = omega arith in
       (rw e (a .0), a .1)
 
-  agrees-preceded : (z : ℤ) (l : Line) → Agrees x (n + 1) (out || outside z) (set row n (capped z)) (i + 1) l → Agrees x n out row i (preceded z l)
+  agrees-preceded : (z : ℤ) (l : Line) → Agrees x (n + 1) (seeingZ seen z) (set row n (capped z)) (i + 1) l → Agrees x n seen row i (preceded z l)
   agrees-preceded z broken a = a
-  agrees-preceded z (numbers zs k) a =
-      let e₁ : n + suc (length zs) ≡ n + 1 + length zs = omega arith in
+  agrees-preceded z (numbers [] k) a = absurd a
+  agrees-preceded z (numbers (y ∷ zs) k) a =
+      let e₁ : n + suc (suc (length zs)) ≡ n + 1 + suc (length zs) = omega arith in
       let e₂ : i + (1 + k) ≡ i + 1 + k = omega arith in
-      (rw (e₁, e₂, ← or-assoc out (outside z) (anyOutside zs)) (a .0), a .1 ∙ rw add-one)
+      (rw (e₁, e₂, ← or-assoc (seen .outside) (outside z) (anyOutside (y ∷ zs)), ← not-or-and (seen .nought) (same z (pos 0)) (isClosed (y ∷ zs))) (a .0), a .1 ∙ rw add-one)
 
 -- one byte more, where f scans what is left, o, rightly
-module _ (f : State → ℕ → Bool → List ℤ → ℕ → Scanned) (o : Words)
-    (h : (p : Place) (n : ℕ) (out : Bool) (row : List ℤ) (i : ℕ) → Agrees (f (stateOf p) n out row i) n out row i (from p o))
-    (n : ℕ) (out : Bool) (row : List ℤ) (i : ℕ) (p : Place) where
-  at-inside : (c : Class) {a : Action} → Inside p c a → Agrees (turn f a n out row i) n out row i (from p (joined c o))
+module _ (f : State → ℕ → Seen → List ℤ → ℕ → Scanned) (o : Words)
+    (h : (p : Place) (n : ℕ) (seen : Seen) (row : List ℤ) (i : ℕ) → Agrees (f (stateOf p) n seen row i) n seen row i (from p o))
+    (n : ℕ) (seen : Seen) (row : List ℤ) (i : ℕ) (p : Place) where
+  at-inside : (c : Class) {a : Action} → Inside p c a → Agrees (turn f a n seen row i) n seen row i (from p (joined c o))
   unfolding turn
   at-inside c (fails e) = rw (from-fails p c o e) refl
-  at-inside c (goes q e) = rw (from-goes p q c o e) (agrees-longer _ n out row i (from q o) (h q n out row (i + 1)))
+  at-inside c (goes q e) = rw (from-goes p q c o e) (agrees-longer _ n seen row i (from q o) (h q n seen row (i + 1)))
 
-  at-space : {a b : Action} → End p a b → Agrees (turn f b n out row i) n out row i (from p (apart o))
+  at-space : {a b : Action} → End p a b → Agrees (turn f b n seen row i) n seen row i (from p (apart o))
   unfolding turn
   at-space (fails e) = rw (apart-fails p o e) refl
-  at-space (ends z neg m e v t) =
-      rw (apart-ends p z o e, v, t)
-      (agrees-preceded _ n out row i z (from fresh o) (h fresh (n + 1) (out || outside z) (set row n (capped z)) (i + 1)))
+  at-space (ends z neg m e v t k) =
+      rw (apart-ends p z o e, v, t, k)
+      (agrees-preceded _ n seen row i z (from fresh o) (h fresh (n + 1) (seeingZ seen z) (set row n (capped z)) (i + 1)))
 
-  at-newline : {a b : Action} → End p a b → Agrees (turn f a n out row i) n out row i (from p (words [] []))
+  at-newline : {a b : Action} → End p a b → Agrees (turn f a n seen row i) n seen row i (from p (words [] []))
   unfolding turn
   at-newline (fails e) = rw e refl
-  at-newline (ends z neg m e v t) = rw (e, v, t, or-false (outside z)) (refl, refl)
+  at-newline (ends z neg m e v t k) = rw (e, v, t, k, or-false (outside z)) (refl, refl)
 
-scanned : (l : List Class) (p : Place) (n : ℕ) (out : Bool) (row : List ℤ) (i : ℕ) → Agrees (scan l (stateOf p) n out row i) n out row i (from p (cut l))
+scanned : (l : List Class) (p : Place) (n : ℕ) (seen : Seen) (row : List ℤ) (i : ℕ) → Agrees (scan l (stateOf p) n seen row i) n seen row i (from p (cut l))
 unfolding scan
-scanned [] p n out row i = refl
-scanned (Newline ∷ l) p n out row i = at-newline (scan l) (cut l) (scanned l) n out row i p (end p)
-scanned (Space ∷ l) p n out row i = at-space (scan l) (cut l) (scanned l) n out row i p (end p)
-scanned (Minus ∷ l) p n out row i = at-inside (scan l) (cut l) (scanned l) n out row i p Minus (inside-minus p)
-scanned (Digit d ∷ l) p n out row i = at-inside (scan l) (cut l) (scanned l) n out row i p (Digit d) (inside-digit p d)
-scanned (Step x ∷ l) p n out row i = at-inside (scan l) (cut l) (scanned l) n out row i p (Step x) (inside-step p x)
-scanned (Other ∷ l) p n out row i = at-inside (scan l) (cut l) (scanned l) n out row i p Other (inside-other p)
+scanned [] p n seen row i = refl
+scanned (Newline ∷ l) p n seen row i = at-newline (scan l) (cut l) (scanned l) n seen row i p (end p)
+scanned (Space ∷ l) p n seen row i = at-space (scan l) (cut l) (scanned l) n seen row i p (end p)
+scanned (Minus ∷ l) p n seen row i = at-inside (scan l) (cut l) (scanned l) n seen row i p Minus (inside-minus p)
+scanned (Digit d ∷ l) p n seen row i = at-inside (scan l) (cut l) (scanned l) n seen row i p (Digit d) (inside-digit p d)
+scanned (Step x ∷ l) p n seen row i = at-inside (scan l) (cut l) (scanned l) n seen row i p (Step x) (inside-step p x)
+scanned (Other ∷ l) p n seen row i = at-inside (scan l) (cut l) (scanned l) n seen row i p Other (inside-other p)
 
 -- The first byte
 
@@ -244,19 +265,20 @@ joined-fresh : (c : Class) (o : Words) → from fresh (joined c o) ≡ ofWords (
 joined-fresh c unended = refl
 joined-fresh c (words w ws) = refl
 
-agrees-told : (x : Scanned) (row : List ℤ) (l m : Line) → l ≡ m → Agrees x 0 false row 0 l → Told m row (x .row) (x .line)
+agrees-told : (x : Scanned) (row : List ℤ) (l m : Line) → l ≡ m → Agrees x 0 unseen row 0 l → Told m row (x .row) (x .line)
 agrees-told x row l broken e a = rw e at a
-agrees-told x row l (numbers zs k) e a = let b = rw e at a in (simp zero-add at (b .0), b .1)
+agrees-told x row l (numbers [] k) e a = absurd (rw e at a)
+agrees-told x row l (numbers (z ∷ zs) k) e a = let b = rw e at a in (simp zero-add at (b .0), b .1)
 
-scan-told : (l : List Class) (row : List ℤ) → (let x = scan l Start 0 false row 0 in Told (ofWords (cut l)) row (x .row) (x .line))
+scan-told : (l : List Class) (row : List ℤ) → (let x = scan l Start 0 unseen row 0 in Told (ofWords (cut l)) row (x .row) (x .line))
 unfolding scan turn
 scan-told [] row = refl
 scan-told (Newline ∷ l) row = (refl, refl)
-scan-told (Space ∷ l) row = agrees-told _ row _ _ (apart-fresh (cut l)) (scanned (Space ∷ l) fresh 0 false row 0)
-scan-told (Minus ∷ l) row = agrees-told _ row _ _ (joined-fresh Minus (cut l)) (scanned (Minus ∷ l) fresh 0 false row 0)
-scan-told (Digit d ∷ l) row = agrees-told _ row _ _ (joined-fresh (Digit d) (cut l)) (scanned (Digit d ∷ l) fresh 0 false row 0)
-scan-told (Step x ∷ l) row = agrees-told _ row _ _ (joined-fresh (Step x) (cut l)) (scanned (Step x ∷ l) fresh 0 false row 0)
-scan-told (Other ∷ l) row = agrees-told _ row _ _ (joined-fresh Other (cut l)) (scanned (Other ∷ l) fresh 0 false row 0)
+scan-told (Space ∷ l) row = agrees-told _ row _ _ (apart-fresh (cut l)) (scanned (Space ∷ l) fresh 0 unseen row 0)
+scan-told (Minus ∷ l) row = agrees-told _ row _ _ (joined-fresh Minus (cut l)) (scanned (Minus ∷ l) fresh 0 unseen row 0)
+scan-told (Digit d ∷ l) row = agrees-told _ row _ _ (joined-fresh (Digit d) (cut l)) (scanned (Digit d ∷ l) fresh 0 unseen row 0)
+scan-told (Step x ∷ l) row = agrees-told _ row _ _ (joined-fresh (Step x) (cut l)) (scanned (Step x ∷ l) fresh 0 unseen row 0)
+scan-told (Other ∷ l) row = agrees-told _ row _ _ (joined-fresh Other (cut l)) (scanned (Other ∷ l) fresh 0 unseen row 0)
 
 told-within : (l : Line) (n : ℕ) (row after : List ℤ) (r : LineRead) → Told l row after r → Bounds n l → Within n r
 told-within broken n row after r t b = rw t tt
@@ -264,7 +286,7 @@ told-within (numbers zs k) n row after r t b = rw (t .0) b
 
 -- what the scan from the beginning ends with is what `read_line` is to say
 pub reads : {s : List ℕ} {row after : List ℤ} {r : LineRead} → length after ≡ length row
-    → scan (map classOf s) Start 0 false row 0 ≡ record { line = r; row = after } → Reads s row after r
+    → scan (map classOf s) Start 0 unseen row 0 ≡ record { line = r; row = after } → Reads s row after r
 unfolding lineOf
 reads {s} {row} {after} {r} k e =
     let t : Told (lineOf s) row after r = subst (λ (x : Scanned). Told (lineOf s) row (x .row) (x .line)) e (scan-told (map classOf s) row) in

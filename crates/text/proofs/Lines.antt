@@ -7,12 +7,15 @@ use Prim.Native.Nat.{ℕ, suc, _*_, _≤_, _<_, min}
 use native.Mathlib.Omega.{arith}
 use lib.IntN.{ℤ, pos, negsuc, negℤ}
 use lib.ListN.{length, length-map}
+use lib.Seq.{sets}
 use borrow.Author.Tests.{ltb-false}
 use Rattle.words.specs.Limits.{largest}
 use Rattle.text.specs.Bytes.{classOf}
-use Rattle.text.specs.Line.{number, also, numbersOf, Words, unended, words, apart, joined, cut, span, Line, broken, numbers, spanned, ofWords, lineOf, outside, anyOutside, capped}
+use Rattle.text.specs.Line.{number, also, numbersOf, Words, unended, words, apart, joined, cut, span, Line, broken, numbers, spanned, ofWords, lineOf, outside, anyOutside, isClosed, capped, Told, Reads}
 use Rattle.text.specs.declared.Class.{Class}
 use Rattle.text.specs.declared.Class.the-variants.{Newline, Space, Minus, Digit, Step, Other}
+use Rattle.text.specs.declared.LineRead.{LineRead}
+use Rattle.text.specs.declared.LineRead.the-variants.{Numbers, Broken}
 
 -- Sizes
 
@@ -26,7 +29,7 @@ or-false-left : (a b : Bool) → a || b ≡ false → a ≡ false
 or-false-left true b e = e
 or-false-left false b e = refl
 
-or-false-right : (a b : Bool) → a || b ≡ false → b ≡ false
+pub or-false-right : (a b : Bool) → a || b ≡ false → b ≡ false
 or-false-right true b e = absurd (let z : _≡_ {A = ℕ} 0 1 = cc in omega arith)
 or-false-right false b e = e
 
@@ -102,3 +105,32 @@ bounds s = rw (← length-map s classOf) (bounds-words (length (map classOf s)) 
 -- a line takes a byte at least, within the text, and more bytes than numbers
 pub bounds-of : (s : List ℕ) (zs : List ℤ) (n : ℕ) → lineOf s ≡ numbers zs n → (0 < n) × (n ≤ length s) × (length zs < n)
 bounds-of s zs n e = subst (Bounds (length s)) e (bounds s)
+
+-- What `read_line` tells
+
+-- of a line of numbers
+pub record Numbered (s : List ℕ) (before after : List ℤ) (count next : ℕ) (out closed : Bool) : Type 0 where
+  pub list : List ℤ
+  pub is : lineOf s ≡ numbers list next
+  pub long : count ≡ length list
+  pub large : out ≡ anyOutside list
+  pub shut : closed ≡ isClosed list
+  pub row : after ≡ sets before 0 (map capped list)
+
+pub numbered : {s : List ℕ} {before after : List ℤ} {r : LineRead} {count next : ℕ} {out closed : Bool} → Reads s before after r → r ≡ Numbers count next out closed
+    → Numbered s before after count next out closed
+numbered {s} {before} {after} {r} {count} {next} {out} {closed} h e = by (lineOf s) refl (h .told)
+  where
+    by : (l : Line) → lineOf s ≡ l → Told l before after r → Numbered s before after count next out closed
+    by broken q t = absurd (let z : _≡_ {A = ℕ} 0 1 = cc in omega arith)
+    by (numbers zs n) q t =
+        let k = t .0 in
+        record { list = zs; is = cc; long = cc; large = cc; shut = cc; row = t .1 }
+
+-- of any other text
+pub not-numbered : {s : List ℕ} {before after : List ℤ} {r : LineRead} → Reads s before after r → r ≡ Broken → lineOf s ≡ broken
+not-numbered {s} {before} {after} {r} h e = by (lineOf s) refl (h .told)
+  where
+    by : (l : Line) → lineOf s ≡ l → Told l before after r → lineOf s ≡ broken
+    by broken q t = q
+    by (numbers zs n) q t = absurd (let k = t .0 in let z : _≡_ {A = ℕ} 0 1 = cc in omega arith)

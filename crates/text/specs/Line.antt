@@ -1,7 +1,7 @@
 -- Numbers and lines, as document 01, 'Program text', has them.
 -- Assumes nothing.
-use mathlib.Core.Path.{_≡_, refl}
-use mathlib.Core.Bool.{Bool, true, false, _||_}
+use mathlib.Core.Path.{_≡_}
+use mathlib.Core.Bool.{Bool, false, not, _&&_, _||_}
 use mathlib.Core.Option.{Option, none, some}
 use mathlib.Core.List.{List, [], _∷_, map}
 use Prim.Native.Nat.{ℕ, zero, suc, _+_, _*_, _<_, _≤_, min}
@@ -10,7 +10,7 @@ use lib.IntN.{ℤ, pos, negsuc, negℤ}
 use lib.ListN.{length}
 use lib.Seq.{sets}
 use Rattle.words.specs.Limits.{largest}
-use Rattle.words.specs.Literals.{variable}
+use Rattle.words.specs.Literals.{variable, same}
 use Rattle.text.specs.Bytes.{classOf}
 use Rattle.text.specs.declared.Class.{Class}
 use Rattle.text.specs.declared.Class.the-variants.{Newline, Space, Minus, Digit, Step, Other}
@@ -132,6 +132,12 @@ abbrev pub anyOutside : List ℤ → Bool
 anyOutside [] = false
 anyOutside (z ∷ zs) = outside z || anyOutside zs
 
+-- "nonzero numbers, a closing `0`": the last number is 0 and no other is
+abbrev pub isClosed : List ℤ → Bool
+isClosed [] = false
+isClosed (z ∷ []) = same z (pos 0)
+isClosed (z ∷ y ∷ zs) = not (same z (pos 0)) && isClosed (y ∷ zs)
+
 -- A number as a word keeps it: one past the largest variable stands for every larger size, so that no size wraps.
 abbrev pub capped : ℤ → ℤ
 capped (pos m) = pos (min m (suc largest))
@@ -139,14 +145,16 @@ capped (negsuc m) = negℤ (pos (min (suc m) (suc largest)))
 
 -- What `read_line` says of the line at the start of a text
 
--- the count, the bytes taken and whether a size is outside; the numbers stand in the lent words, as many as fit
+-- the count, the bytes taken, whether a size is outside and whether the line is closed; the numbers stand in the lent words,
+-- as many as fit
 abbrev pub Told : Line → List ℤ → List ℤ → LineRead → Type 0
 Told broken before after r = r ≡ Broken
-Told (numbers zs n) before after r = (r ≡ Numbers (length zs) n (anyOutside zs)) × (after ≡ sets before 0 (map capped zs))
+Told (numbers zs n) before after r =
+    (r ≡ Numbers (length zs) n (anyOutside zs) (isClosed zs)) × (after ≡ sets before 0 (map capped zs))
 
 -- a line takes a byte at least, within the text, and more bytes than numbers
 abbrev pub Within : ℕ → LineRead → Type 0
-Within n (Numbers count next out) = (0 < next) × (next ≤ n) × (count < next)
+Within n (Numbers count next out closed) = (0 < next) × (next ≤ n) × (count < next)
 Within n Broken = Unit {0}
 
 pub record Reads (s : List ℕ) (before after : List ℤ) (r : LineRead) : Type 0 where

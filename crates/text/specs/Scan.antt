@@ -2,7 +2,7 @@
 -- `read_line` only: no reader of that contract needs it.
 -- Assumes nothing.
 use Prim.Native.Nat.{ℕ, suc, _+_, _*_, min}
-use mathlib.Core.Bool.{Bool, true, false, cond, _||_}
+use mathlib.Core.Bool.{Bool, true, false, cond, not, _&&_, _||_}
 use mathlib.Core.List.{List, [], _∷_}
 use lib.Dec.{eqb, ltb}
 use lib.IntN.{ℤ, pos, negℤ}
@@ -14,6 +14,7 @@ use Rattle.text.specs.declared.State.{State}
 use Rattle.text.specs.declared.State.the-variants.{Start, Word, Sign, Zero, Digits}
 use Rattle.text.specs.declared.Action.{Action}
 use Rattle.text.specs.declared.Action.the-variants.{Go, Put, Last, Empty, Fail}
+use Rattle.text.specs.declared.Seen.{Seen}
 use Rattle.text.specs.declared.LineRead.{LineRead}
 use Rattle.text.specs.declared.LineRead.the-variants.{Numbers, Broken}
 
@@ -68,23 +69,31 @@ abbrev pub valueOf : Bool → ℕ → ℤ
 valueOf true m = negℤ (pos m)
 valueOf false m = pos m
 
-abbrev pub outsideOf : Bool → ℕ → Bool
-outsideOf out m = out || ltb largest m
+-- what is seen with one number more, of size m
+abbrev pub seeing : Seen → ℕ → Seen
+seeing seen m = record { outside = seen .outside || ltb largest m; nought = seen .nought || eqb m 0 }
+
+-- the line that ends with a number of size m
+abbrev pub endOf : Seen → ℕ → ℕ → ℕ → LineRead
+endOf seen m n i = Numbers n i (seen .outside || ltb largest m) (not (seen .nought) && eqb m 0)
+
+-- nothing was seen yet
+abbrev pub unseen : Seen
+unseen = record { outside = false; nought = false }
 
 -- what is answered, and what the row holds
 pub record Scanned : Type 0 where
   pub line : LineRead
   pub row : List ℤ
 
--- what an action does, with n numbers in the row so far, whether one was outside, and the position; f scans what is left
-unfoldable pub turn : (State → ℕ → Bool → List ℤ → ℕ → Scanned) → Action → ℕ → Bool → List ℤ → ℕ → Scanned
-turn f (Go st) n out row i = f st n out row (i + 1)
-turn f (Put neg m) n out row i = f Word (n + 1) (outsideOf out m) (set row n (valueOf neg m)) (i + 1)
-turn f (Last neg m) n out row i =
-    record { line = Numbers (n + 1) (i + 1) (outsideOf out m); row = set row n (valueOf neg m) }
-turn f Empty n out row i = record { line = Numbers 0 1 false; row = row }
-turn f Fail n out row i = record { line = Broken; row = row }
+-- what an action does, with n numbers in the row so far, what was seen of them, and the position; f scans what is left
+unfoldable pub turn : (State → ℕ → Seen → List ℤ → ℕ → Scanned) → Action → ℕ → Seen → List ℤ → ℕ → Scanned
+turn f (Go st) n seen row i = f st n seen row (i + 1)
+turn f (Put neg m) n seen row i = f Word (n + 1) (seeing seen m) (set row n (valueOf neg m)) (i + 1)
+turn f (Last neg m) n seen row i = record { line = endOf seen m (n + 1) (i + 1); row = set row n (valueOf neg m) }
+turn f Empty n seen row i = record { line = Numbers 0 1 false false; row = row }
+turn f Fail n seen row i = record { line = Broken; row = row }
 
-unfoldable pub scan : List Class → State → ℕ → Bool → List ℤ → ℕ → Scanned
-scan [] st n out row i = record { line = Broken; row = row }
-scan (c ∷ s) st n out row i = turn (scan s) (actionOf st c) n out row i
+unfoldable pub scan : List Class → State → ℕ → Seen → List ℤ → ℕ → Scanned
+scan [] st n seen row i = record { line = Broken; row = row }
+scan (c ∷ s) st n seen row i = turn (scan s) (actionOf st c) n seen row i

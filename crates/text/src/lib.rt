@@ -4,7 +4,7 @@ ghost use mathlib.Core.Path.{_≡_};
 ghost use lib.ListN.{set};
 ghost use Rattle.text.specs.Bytes.{classOf, letterOr};
 ghost use Rattle.text.specs.Line.{Reads};
-ghost use Rattle.text.specs.Scan.{actionOf, digitOf, firstOf, moreOf, outsideOf, valueOf};
+ghost use Rattle.text.specs.Scan.{actionOf, digitOf, endOf, firstOf, moreOf, seeing, valueOf};
 
 // The proof's seven letters, by the names of source document 000.
 pub enum Letter {
@@ -27,12 +27,13 @@ pub enum Class {
 }
 
 // The line that a text begins with. `next` is the number of bytes that it takes, its newline included; `outside` tells that
-// some number's size is above the largest variable.
+// some number's size is above the largest variable, `closed` that the last number is 0 and no other is.
 pub enum LineRead {
     Numbers {
         count: usize,
         next: usize,
         outside: bool,
+        closed: bool,
     },
     Broken,
 }
@@ -54,6 +55,12 @@ enum Action {
     Last(bool, u16),
     Empty,
     Fail,
+}
+
+// Of the numbers so far: some size was above the largest variable, some number was 0.
+struct Seen {
+    outside: bool,
+    nought: bool,
 }
 
 // One past the largest variable. It stands for every larger size, so that no size wraps.
@@ -157,11 +164,28 @@ fn value(neg: bool, m: u16) -> i32
     if neg { 0 - (m as i32) } else { m as i32 }
 }
 
-// Whether a size so far was above the largest variable, or this one is.
-fn or_outside(outside: bool, m: u16) -> bool
-    ensures { λ r. ⌜ r ≡ outsideOf outside m ⌝ }
-{
-    if outside { true } else { m >= CAP }
+impl Seen {
+    // With one number more, of size m.
+    fn with(self, m: u16) -> Seen
+        ensures { λ r. ⌜ r ≡ seeing self m ⌝ }
+    {
+        Seen {
+            outside: self.outside | (m >= CAP),
+            nought: self.nought | (m == 0),
+        }
+    }
+
+    // The line that ends with a number of size m.
+    fn end(self, m: u16, count: usize, next: usize) -> LineRead
+        ensures { λ r. ⌜ r ≡ endOf self m count next ⌝ }
+    {
+        LineRead::Numbers {
+            count,
+            next,
+            outside: self.outside | (m >= CAP),
+            closed: !self.nought & (m == 0),
+        }
+    }
 }
 
 // A store past the end changes nothing.
@@ -179,7 +203,10 @@ pub fn read_line(text: &[u8], row: &mut [i32]) -> LineRead
 {
     let mut state = State::Start;
     let mut count: usize = 0;
-    let mut outside = false;
+    let mut seen = Seen {
+        outside: false,
+        nought: false,
+    };
     let mut i: usize = 0;
     while i < text.len() {
         let at = i;
@@ -189,23 +216,20 @@ pub fn read_line(text: &[u8], row: &mut [i32]) -> LineRead
             Action::Go(s) => state = s,
             Action::Put(neg, m) => {
                 store(row, count, neg, m);
-                outside = or_outside(outside, m);
+                seen = seen.with(m);
                 count += 1;
                 state = State::Word;
             }
             Action::Last(neg, m) => {
                 store(row, count, neg, m);
-                return LineRead::Numbers {
-                    count: count + 1,
-                    next: i,
-                    outside: or_outside(outside, m),
-                };
+                return seen.end(m, count + 1, i);
             }
             Action::Empty => {
                 return LineRead::Numbers {
                     count: 0,
                     next: 1,
                     outside: false,
+                    closed: false,
                 };
             }
             Action::Fail => return LineRead::Broken,

@@ -1,11 +1,11 @@
 -- A part of a list, and a list with another part in its place: what a lent part `&mut s[a..e]` that is back has made of s.
 -- Assumes nothing.
-use mathlib.Core.Path.{_≡_, sym, _∙_, ap}
-use mathlib.Core.List.{List, [], _∷_, _++_, append-nil, append-assoc}
-use Prim.Native.Nat.{ℕ, _+_, _-_, _≤_}
+use mathlib.Core.Path.{_≡_, refl, sym, _∙_, ap}
+use mathlib.Core.List.{List, [], _∷_, _++_, append-nil}
+use Prim.Native.Nat.{ℕ, zero, suc, _+_, _-_, _≤_}
 use native.Mathlib.Omega.{arith}
 use lib.ListN.{length, take, drop, length-drop, length-append}
-use lib.Seq.{drop-length, take-all, drop-drop, length-take-le, take-at, drop-at, take-append-le, drop-append-le, take-take}
+use lib.Seq.{drop-length, take-all, drop-drop, length-take-le, take-at, drop-at, take-append-le, take-take}
 use borrow.Rule.Slice.PartMut.{putMid, midOf, post-is}
 
 module _ {X : Type 0} (a : ℕ) (xs : List X) where
@@ -48,3 +48,19 @@ module _ {X : Type 0} (a n : ℕ) (xs ys : List X) (fits : a + n ≤ length xs) 
 
   pub length-put : length (putMid a n xs ys) ≡ length xs
   length-put = simp (length-append, length-drop, length-front, size) (omega arith)
+
+-- new elements written after a front that stands
+pub put-next : {X : Type 0} (front rest new xs ys : List X) (a : ℕ) → length front ≡ a → xs ≡ front ++ rest
+    → ys ≡ new ++ drop (length new) (take (length xs - a) (drop a xs)) → putMid a (length xs - a) xs ys ≡ front ++ (new ++ drop (length new) rest)
+put-next front rest new xs ys a size e q =
+    let h : a ≤ length xs = omega (arith, ap length e, length-append front rest) in
+    let t : take a xs ≡ front = rw e (take-at front rest a size) in
+    let d : drop a xs ≡ rest = rw e (drop-at front rest a size) in
+    put-front a xs new ys (length new) h q ∙ rw (t, ← drop-drop (length new) a xs, d)
+
+-- a part that ends by b is a part of the first b elements
+pub mid-front : {X : Type 0} (a n b : ℕ) (xs : List X) → a + n ≤ b → midOf a n (take b xs) ≡ midOf a n xs
+mid-front zero n b xs h = take-take n b xs (omega arith)
+mid-front (suc a) n zero xs h = absurd (omega arith)
+mid-front (suc a) n (suc b) [] h = refl
+mid-front (suc a) n (suc b) (x ∷ xs) h = mid-front a n b xs (omega arith)

@@ -15,13 +15,6 @@ use Rattle.aspif.proofs.Counts.{count-small}
 use borrow.Author.Needs.{needs}
 use Rattle.aspif.proofs.rules.body_shape.Statement.{statement}
 use Rattle.aspif.proofs.rules.body_shape.Tie as tie
-use Rattle.aspif.proofs.rules.body_shape.Reads as reads
-use Rattle.aspif.proofs.rules.body_shape.Lts as lts
-use Rattle.aspif.proofs.rules.is_at.Reads as is-at-reads
-use Rattle.aspif.proofs.rules.is_count.Reads as is-count-reads
-use Rattle.aspif.proofs.rules.suited_shape.Reads as suited-shape-reads
-use Rattle.words.proofs.variable_of.Reads as variable-of-reads
-use Rattle.words.proofs.word_at.Reads as word-at-reads
 
 -- the body count, and that it is one, after a body kind
 module _ (c : tie.After-variable-of) where
@@ -40,46 +33,10 @@ module _ (c : tie.After-variable-of) where
   small : c .variable-of .result ≤ 64
   small = rw body (let a = c .before .before .before .before .before .before .args in count-small (a .row .now) (a .count) (4 + a .heads) counted)
 
--- src/rules.rt:69:26
-add-is-at : tie.Need-add-is-at
-add-is-at c = search needs
-
--- src/rules.rt:69:8
-is-at-requires : tie.Need-is-at-requires
-is-at-requires c κs = search needs
-
--- src/rules.rt:70:33
-add-is-count : tie.Need-add-is-count
-add-is-count c = search needs
-
--- src/rules.rt:70:12
-is-count-requires : tie.Need-is-count-requires
-is-count-requires c κs = search needs
-
--- src/rules.rt:71:63
-add-word-at : tie.Need-add-word-at
-add-word-at c = search needs
-
--- src/rules.rt:71:43
-word-at-requires : tie.Need-word-at-requires
-word-at-requires c κs = search needs
-
--- src/rules.rt:71:17
-variable-of-requires : tie.Need-variable-of-requires
-variable-of-requires c κs = search needs
-
--- src/rules.rt:72:16
-add-if3 : tie.Need-add-if3
-add-if3 c = search needs
-
 -- src/rules.rt:72:16
 add-if3-2 : tie.Need-add-if3-2
 add-if3-2 c =
     record { fits = omega (arith, small c, c .before .before .before .before .before .before .pre) }
-
--- src/rules.rt:73:17
-suited-shape-requires : tie.Need-suited-shape-requires
-suited-shape-requires c κs = search needs
 
 -- src/rules.rt:73:17
 returns : tie.Need-returns
@@ -106,16 +63,16 @@ pub body-shape-spec : {M : Type 1} → statement M
 body-shape-spec =
     tie.close
     (tie.spec
-    add-is-at
-    is-at-requires
-    add-is-count
-    is-count-requires
-    add-word-at
-    word-at-requires
-    variable-of-requires
-    add-if3
+    (λ c. search needs)
+    (λ c κs. search needs)
+    (λ c. search needs)
+    (λ c κs. search needs)
+    (λ c. search needs)
+    (λ c κs. search needs)
+    (λ c κs. search needs)
+    (λ c. search needs)
     add-if3-2
-    suited-shape-requires
+    (λ c κs. search needs)
     returns
     returns-2
     returns-3

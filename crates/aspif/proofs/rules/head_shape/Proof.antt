@@ -15,12 +15,6 @@ use Rattle.aspif.proofs.Counts.{count-small}
 use borrow.Author.Needs.{needs}
 use Rattle.aspif.proofs.rules.head_shape.Statement.{statement}
 use Rattle.aspif.proofs.rules.head_shape.Tie as tie
-use Rattle.aspif.proofs.rules.head_shape.Reads as reads
-use Rattle.aspif.proofs.rules.head_shape.Lts as lts
-use Rattle.aspif.proofs.rules.body_shape.Reads as body-shape-reads
-use Rattle.aspif.proofs.rules.is_count.Reads as is-count-reads
-use Rattle.words.proofs.variable_of.Reads as variable-of-reads
-use Rattle.words.proofs.word_at.Reads as word-at-reads
 
 -- the head count, and that it is one
 module _ (c : tie.After-variable-of) where
@@ -34,18 +28,6 @@ module _ (c : tie.After-variable-of) where
 
   small : c .variable-of .result ≤ 64
   small = rw heads (let a = c .before .before .before .before .args in count-small (a .row .now) (a .count) 2 counted)
-
--- src/rules.rt:85:8
-is-count-requires : tie.Need-is-count-requires
-is-count-requires c κs = search needs
-
--- src/rules.rt:86:40
-word-at-requires : tie.Need-word-at-requires
-word-at-requires c κs = search needs
-
--- src/rules.rt:86:13
-variable-of-requires : tie.Need-variable-of-requires
-variable-of-requires c κs = search needs
 
 -- src/rules.rt:87:12
 add-if2 : tie.Need-add-if2
@@ -78,9 +60,9 @@ pub head-shape-spec : {M : Type 1} → statement M
 head-shape-spec =
     tie.close
     (tie.spec
-    is-count-requires
-    word-at-requires
-    variable-of-requires
+    (λ c κs. search needs)
+    (λ c κs. search needs)
+    (λ c κs. search needs)
     add-if2
     body-shape-requires
     returns

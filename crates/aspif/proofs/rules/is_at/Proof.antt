@@ -9,18 +9,6 @@ use lib.ListN.{getD}
 use borrow.Author.Needs.{needs}
 use Rattle.aspif.proofs.rules.is_at.Statement.{statement}
 use Rattle.aspif.proofs.rules.is_at.Tie as tie
-use Rattle.aspif.proofs.rules.is_at.Reads as reads
-use Rattle.aspif.proofs.rules.is_at.Lts as lts
-use Rattle.words.proofs.is_same.Reads as is-same-reads
-use Rattle.words.proofs.word_at.Reads as word-at-reads
-
--- src/rules.rt:28:24
-word-at-requires : tie.Need-word-at-requires
-word-at-requires c κs = search needs
-
--- src/rules.rt:28:9
-is-same-requires : tie.Need-is-same-requires
-is-same-requires c κs = search needs
 
 -- src/rules.rt:24:1
 returns : tie.Need-returns
@@ -36,4 +24,4 @@ returns-2 c =
     rw (le-ltb _ _ (c .if1 .left))
 
 pub is-at-spec : {M : Type 1} → statement M
-is-at-spec = tie.close (tie.spec word-at-requires is-same-requires returns returns-2)
+is-at-spec = tie.close (tie.spec (λ c κs. search needs) (λ c κs. search needs) returns returns-2)

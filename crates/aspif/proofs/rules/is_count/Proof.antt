@@ -9,10 +9,6 @@ use lib.ListN.{getD}
 use borrow.Author.Needs.{needs}
 use Rattle.aspif.proofs.rules.is_count.Statement.{statement}
 use Rattle.aspif.proofs.rules.is_count.Tie as tie
-use Rattle.aspif.proofs.rules.is_count.Reads as reads
-use Rattle.aspif.proofs.rules.is_count.Lts as lts
-use Rattle.words.proofs.variable_of.Reads as variable-of-reads
-use Rattle.words.proofs.word_at.Reads as word-at-reads
 
 -- the word read is number i of the row
 word : (c : tie.After-word-at)
@@ -23,14 +19,6 @@ word c = toZ-ofZ (sfits-of {z = c .word-at .result} (c .word-at .ok)) ∙ c .wor
 returns : tie.Need-returns
 returns c =
     rw (le-ltb _ _ (c .if1 .taken))
-
--- src/rules.rt:41:9
-word-at-requires : tie.Need-word-at-requires
-word-at-requires c κs = search needs
-
--- src/rules.rt:42:20
-variable-of-requires : tie.Need-variable-of-requires
-variable-of-requires c κs = search needs
 
 -- src/rules.rt:35:1
 returns-2 : tie.Need-returns-2
@@ -45,4 +33,4 @@ returns-3 c =
 
 pub is-count-spec : {M : Type 1} → statement M
 is-count-spec =
-    tie.close (tie.spec returns word-at-requires variable-of-requires returns-2 returns-3)
+    tie.close (tie.spec returns (λ c κs. search needs) (λ c κs. search needs) returns-2 returns-3)

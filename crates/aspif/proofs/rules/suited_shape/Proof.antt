@@ -2,8 +2,6 @@ use borrow.Author.Tests.{le-leb, lt-leb}
 use borrow.Author.Needs.{needs}
 use Rattle.aspif.proofs.rules.suited_shape.Statement.{statement}
 use Rattle.aspif.proofs.rules.suited_shape.Tie as tie
-use Rattle.aspif.proofs.rules.suited_shape.Reads as reads
-use Rattle.aspif.proofs.rules.suited_shape.Lts as lts
 
 -- src/rules.rt:51:16
 enum-told : tie.Need-enum-told
@@ -13,10 +11,6 @@ enum-told c = search needs
 returns : tie.Need-returns
 returns c =
     rw (c .before .enum-told .given .1, le-leb _ _ (c .if1 .taken))
-
--- src/rules.rt:56:16
-enum-told-2 : tie.Need-enum-told-2
-enum-told-2 c = search needs
 
 -- src/rules.rt:57:17
 returns-2 : tie.Need-returns-2
@@ -35,4 +29,4 @@ returns-4 c =
 
 pub suited-shape-spec : {M : Type 1} → statement M
 suited-shape-spec =
-    tie.close (tie.spec enum-told returns enum-told-2 returns-2 returns-3 returns-4)
+    tie.close (tie.spec enum-told returns (λ c. search needs) returns-2 returns-3 returns-4)

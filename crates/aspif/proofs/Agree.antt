@@ -1,0 +1,86 @@
+-- A line's numbers and the row that keeps the first of them: the questions to a rule line see no difference.
+-- Assumes nothing.
+use mathlib.Core.Path.{_≡_, refl, sym, _∙_}
+use mathlib.Core.Bool.{Bool, true, false, cond, _&&_}
+use mathlib.Core.List.{List, _++_}
+use Prim.Native.Nat.{ℕ, _+_, _≤_, _<_}
+use native.Mathlib.Omega.{arith}
+use native.Mathlib.Nat.{zero-add}
+use borrow.Author.Tests.{leb-true, leb-false}
+use lib.Dec.{eqb, leb}
+use lib.IntN.{ℤ, pos}
+use lib.ListN.{length, take, drop, getD, replicate, length-replicate, getD-replicate, length-drop, List·getD-eq-default}
+use lib.Seq.{sets, sets-eq, drop-append-le, take-append-le}
+use Rattle.words.specs.Literals.{variable, same}
+use Rattle.words.proofs.Laws.{sets-in, sets-after}
+use Rattle.aspif.specs.Reading.{isAt, isCount, suited, bodyShape, headShape, shapeOf, isLast, ruleOf}
+use Rattle.aspif.specs.Turns.{rowSize}
+use Rattle.aspif.specs.declared.Kind.{Kind}
+use Rattle.aspif.specs.declared.Kind.the-variants.{Normal, Choice}
+use Rattle.aspif.specs.declared.rules.Shape.{Shape}
+use Rattle.aspif.specs.declared.rules.Shape.the-variants.{Wrong, Shaped}
+use Rattle.aspif.proofs.Counts.{count-small, and-left, Counted, shape-counted}
+
+-- the row that holds a line's numbers, as many as it has room for, and 0 after them
+abbrev pub rowOf : List ℤ → List ℤ
+rowOf zs = sets (replicate rowSize (pos 0)) 0 zs
+
+module _ (zs : List ℤ) where
+  row-at : (i : ℕ) → i < rowSize → getD (rowOf zs) i (pos 0) ≡ getD zs i (pos 0)
+  row-at i h = by (leb (length zs) i) refl
+    where
+      by : (t : Bool) → leb (length zs) i ≡ t → getD (rowOf zs) i (pos 0) ≡ getD zs i (pos 0)
+      by true e =
+          let l = leb-true (length zs) i e in
+          sets-after (pos 0) zs (replicate rowSize (pos 0)) 0 i (omega arith) ∙ getD-replicate rowSize i (pos 0) (pos 0) h ∙ sym (List·getD-eq-default zs (pos 0) l)
+      by false e =
+          let l = leb-false (length zs) i e in
+          rw zero-add at (sets-in (pos 0) zs (replicate rowSize (pos 0)) 0 i (omega (arith, length-replicate rowSize (pos 0))) l)
+
+-- two lists that agree where a row has room give the same shape
+module _ (a b : List ℤ) (n : ℕ) (f : (i : ℕ) → i < rowSize → getD a i (pos 0) ≡ getD b i (pos 0)) where
+  at-agree : (i : ℕ) (z : ℤ) → i < rowSize → isAt a n i z ≡ isAt b n i z
+  at-agree i z h = rw (f i h)
+
+  count-agree : (i : ℕ) → i < rowSize → isCount a n i ≡ isCount b n i
+  count-agree i h = rw (f i h)
+
+  body-agree : (k : Kind) (h : ℕ) → h ≤ 64 → bodyShape a n k h ≡ bodyShape b n k h
+  body-agree k h l = rw (at-agree (3 + h) (pos 0) (omega arith), count-agree (4 + h) (omega arith), f (4 + h) (omega arith))
+
+  head-agree : (k : Kind) → headShape a n k ≡ headShape b n k
+  head-agree k = rw (count-agree 2 (omega arith), f 2 (omega arith)) (by (isCount b n 2 && leb (3 + h) n) refl)
+    where
+      h : ℕ
+      h = variable (getD b 2 (pos 0))
+
+      by : (t : Bool) → (isCount b n 2 && leb (3 + h) n) ≡ t → cond t (bodyShape a n k h) (Wrong 6) ≡ cond t (bodyShape b n k h) (Wrong 6)
+      by true e = body-agree k h (count-small b n 2 (and-left (isCount b n 2) (leb (3 + h) n) e))
+      by false e = refl
+
+  pub shape-agree : shapeOf a n ≡ shapeOf b n
+  unfolding shapeOf
+  shape-agree = rw (at-agree 0 (pos 1) (omega arith), at-agree 1 (pos 0) (omega arith), at-agree 1 (pos 1) (omega arith), head-agree Normal, head-agree Choice)
+
+module _ (zs : List ℤ) where
+  part-agree : (from m : ℕ) → from + m ≤ length zs → length zs ≤ rowSize → take m (drop from (rowOf zs)) ≡ take m (drop from zs)
+  part-agree from m h l =
+      let rest = drop (0 + length zs) (replicate rowSize (pos 0)) in
+      let e : rowOf zs ≡ zs ++ rest = sets-eq zs (replicate rowSize (pos 0)) 0 (omega (arith, length-replicate rowSize (pos 0))) in
+      rw (e, drop-append-le from zs rest (omega arith)) (take-append-le m (drop from zs) rest (omega (arith, length-drop from zs)))
+
+  -- a line of numbers and its row make the same rule
+  rule-agree : ruleOf (rowOf zs) (shapeOf (rowOf zs) (length zs)) ≡ ruleOf zs (shapeOf zs (length zs))
+  rule-agree = rw (shape-agree (rowOf zs) zs (length zs) (row-at zs)) (by (shapeOf zs (length zs)) (shape-counted zs (length zs)))
+    where
+      by : (s : Shape) → Counted (length zs) s → ruleOf (rowOf zs) s ≡ ruleOf zs s
+      by (Wrong k) w = refl
+      by (Shaped k h b) w = rw (part-agree 3 h (omega arith) (omega arith), part-agree (5 + h) b (omega arith) (omega arith))
+
+-- the same of a row and a count that are told to be the line's
+module _ (zs row : List ℤ) (count : ℕ) (long : count ≡ length zs) (is : row ≡ rowOf zs) where
+  pub row-last : (eqb count 1 && same (getD row 0 (pos 0)) (pos 0)) ≡ isLast zs
+  row-last = rw (long, is, row-at zs 0 (omega arith))
+
+  pub row-rule : ruleOf row (shapeOf row count) ≡ ruleOf zs (shapeOf zs (length zs))
+  row-rule = rw (long, is) (rule-agree zs)

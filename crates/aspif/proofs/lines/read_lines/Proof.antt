@@ -1,0 +1,98 @@
+use Prim.Native.Nat.{_-_}
+use native.Mathlib.Omega.{arith}
+use lib.ListN.{length}
+use Rattle.words.proofs.Parts.{tail-of}
+use Rattle.aspif.specs.Turns.{TurnTaken}
+use Rattle.aspif.proofs.Passes.{Stands, stands-start, free, turn, lines-refused, lines-ended, lines-added, Onward}
+use borrow.Author.Needs.{needs}
+use Rattle.aspif.proofs.lines.read_lines.Statement.{statement}
+use Rattle.aspif.proofs.lines.read_lines.Tie as tie
+
+abbrev Inv-loop : tie.InvT-loop
+Inv-loop text table₀ at₀ line₀ used₀ rules₀ atoms₀ table at line used rules atoms = Stands text table₀ table at line used rules atoms
+
+abbrev μ-loop : tie.MeasureT-loop
+μ-loop text table₀ at₀ line₀ used₀ rules₀ atoms₀ table at line used rules atoms = length text - at
+
+-- the turn that a call took, of the text and the words that are left
+taken : (c : tie.After-read-rule Inv-loop μ-loop)
+    → (let S = c .before .before .before .loop .inv in TurnTaken (turn S) (free S) (c .read-rule .last .1 .0) (c .read-rule .result))
+taken c =
+    let l = c .before .before .before .loop in
+    let a = c .before .before .before .before .before .args in
+    rw (tail-of (l .at) (a .text .now), tail-of (l .used) (l .table)) at (c .read-rule .ensures)
+
+-- what a rule added leaves
+onward : (c : tie.After-turn2 Inv-loop μ-loop)
+    → (let d = c .before .before .before in let g = c .turn2 .given .0 in
+    Onward (d .before .before .before .loop .inv) (taken d) (g .0) (g .1 .0) (g .1 .1 .0))
+onward c = let d = c .before .before .before in lines-added (d .before .before .before .loop .inv) (taken d) (c .turn2 .given .1)
+
+-- src/lines.rt:104:5
+loop-holds : tie.Need-loop-holds Inv-loop μ-loop
+loop-holds c =
+    stands-start _ _ (c .before .pre)
+
+-- src/lines.rt:108:17
+returns : tie.Need-returns Inv-loop μ-loop
+returns c =
+    let d = c .before .before .before .before in lines-refused (d .before .before .before .loop .inv) (taken d) (c .before .turn .given .1)
+
+-- src/lines.rt:111:17
+enum-told : tie.Need-enum-told Inv-loop μ-loop
+enum-told c = search needs
+
+-- src/lines.rt:111:17
+returns-2 : tie.Need-returns-2 Inv-loop μ-loop
+returns-2 c =
+    let d = c .before .before .before in lines-ended (d .before .before .before .loop .inv) (taken d) (c .enum-told .given .1)
+
+-- src/lines.rt:114:17
+add-at : tie.Need-add-at Inv-loop μ-loop
+add-at c =
+    let o = onward (c .before) in omega (arith, o .text-left)
+
+-- src/lines.rt:116:17
+add-used : tie.Need-add-used Inv-loop μ-loop
+add-used c =
+    let o = onward (c .before) in omega (arith, o .words-left)
+
+-- src/lines.rt:104:5
+loop-less : tie.Need-loop-less Inv-loop μ-loop
+loop-less c =
+    let o = onward (c .before .before) in omega (arith, o .text-left, o .bytes)
+
+-- src/lines.rt:104:5
+loop-again : tie.Need-loop-again Inv-loop μ-loop
+loop-again c =
+    rw (c .larger .ensures) (onward (c .before .before) .stands)
+
+pub read-lines-spec : {M : Type 1} → statement M
+read-lines-spec =
+    tie.close
+    (tie.spec
+    Inv-loop
+    μ-loop
+    loop-holds
+    (λ c. search needs)
+    (λ c. search needs)
+    (λ c. search needs)
+    (λ c. search needs)
+    (λ c. search needs)
+    (λ c. search needs)
+    (λ c. search needs)
+    (λ c κs. search needs)
+    (λ c. search needs)
+    (λ c. search needs)
+    returns
+    enum-told
+    (λ c. search needs)
+    returns-2
+    (λ c. search needs)
+    add-at
+    (λ c. search needs)
+    add-used
+    (λ c. search needs)
+    (λ c κs. search needs)
+    loop-less
+    loop-again)

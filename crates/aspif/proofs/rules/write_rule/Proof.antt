@@ -1,0 +1,56 @@
+use mathlib.Core.Path.{_≡_, refl, ap, _∙_}
+use mathlib.Core.List.{[], _∷_}
+use Prim.Native.Nat.{ℕ, _+_, _-_}
+use lib.IntN.{pos}
+use lib.ListN.{take, drop}
+use Rattle.aspif.specs.Rules.{kindWord}
+use Rattle.aspif.specs.Turns.{rowHeads, rowBody}
+use Rattle.aspif.proofs.Rows.{rule-written, heads-long, body-long}
+use native.Mathlib.Omega.{arith}
+use borrow.Author.Needs.{needs}
+use Rattle.aspif.proofs.rules.write_rule.Statement.{statement}
+use Rattle.aspif.proofs.rules.write_rule.Tie as tie
+
+-- src/rules.rt:165:1
+returns : tie.Need-returns
+returns c =
+    let s = c .before .before .before .before .before .before .before .before .before .before .before in
+    let a = s .args in
+    let row = a .row .now in
+    let h = a .heads in
+    let b = a .body in
+    let counts = kindWord (a .kind) ∷ pos h ∷ pos b ∷ [] in
+    let nh : 3 + h - 3 ≡ h = omega arith in
+    let nb : 5 + h + b - (5 + h) ≡ b = omega arith in
+    let lh = heads-long row h b (s .pre .2) in
+    let lb = body-long row h b (s .pre .2) in
+    rule-written counts (rowHeads row h) (rowBody row h b) (a .free .now) (c .before .before .before .before .before .before .before .before .before .write-counts .last .0) (c .before .before .before .before .before .copy .last .0) (c .before .copy2 .last .0) (3 + h)
+    refl (c .before .before .before .before .before .before .before .before .before .write-counts .ensures) (rw nh at (c .before .before .before .before .before .copy .ensures)) (rw lh) (rw nb at (c .before .copy2 .ensures))
+    ∙ rw (lh, lb)
+
+pub write-rule-spec : {M : Type 1} → statement M
+write-rule-spec =
+    tie.close
+    (tie.spec
+    (λ c κs. search needs)
+    (λ c. search needs)
+    (λ c. search needs)
+    (λ c. search needs)
+    (λ c. search needs)
+    (λ c. search needs)
+    (λ c. search needs)
+    (λ c. search needs)
+    (λ c. search needs)
+    (λ c. search needs)
+    (λ c κs. search needs)
+    (λ c. search needs)
+    (λ c. search needs)
+    (λ c. search needs)
+    (λ c. search needs)
+    (λ c. search needs)
+    (λ c. search needs)
+    (λ c. search needs)
+    (λ c. search needs)
+    (λ c κs. search needs)
+    (λ c. search needs)
+    returns)

@@ -1,0 +1,2 @@
+-- Laws of proof lines.
+pub mod Lines

@@ -1,0 +1,199 @@
+-- Laws of `lineAt` and its parts: which answer each test leads to, what the row keeps, and what an answered line passed.
+-- Assumes nothing.
+use mathlib.Core.Path.{_≡_, refl, sym, ap, subst}
+use mathlib.Core.Bool.{Bool, true, false, cond, not, _&&_, _||_, true≢false}
+use mathlib.Core.Option.{Option, none, some}
+use mathlib.Core.List.{List, [], _∷_}
+use Prim.Native.Nat.{ℕ, zero, suc, _+_, _-_, _<_, _≤_}
+use native.Mathlib.Omega.{arith}
+use lib.IntN.{ℤ, pos}
+use lib.Dec.{ltb, eqb}
+use lib.ListN.{length, take, drop, getD, replicate, length-replicate, length-drop, drop-of-length-le}
+use lib.Seq.{sets-eq, take-append-le}
+use borrow.Author.Tests.{le-ltb, lt-ltb, ltb-false, eq-eqb, ne-eqb}
+use Rattle.words.specs.Limits.{longest}
+use Rattle.words.specs.Lists.{all}
+use Rattle.words.specs.Literals.{noneTwice, same}
+use Rattle.words.proofs.Words.{same-eq}
+use Rattle.text.specs.Bytes.{classOf}
+use Rattle.text.specs.Line.{Line, broken, numbers, lineOf, outside, anyOutside, isClosed}
+use Rattle.text.proofs.Lines.{capped-all, or-false-right, Numbered, bounds-of}
+use Rattle.text.specs.declared.Letter.{Letter}
+use Rattle.text.specs.declared.Class.{Class}
+use Rattle.text.specs.declared.Class.the-variants.{Newline, Space, Minus, Digit, Step, Other}
+use Rattle.drupe.specs.Lines.{mostNumbers, signsOf, isPositive, signed, lineRefusal, LineAt, end, refused, line, refusedOr, asked, ofNumbers, isSpace, afterLetter, afterFirst, lineFrom, lineAt, answerOf, readingOf, Within, Reads}
+use Rattle.drupe.specs.declared.Signs.{Signs}
+use Rattle.drupe.specs.declared.LineReading.{LineReading}
+
+-- Signs
+
+pub signed-none : (k : Signs) (zs : List ℤ) → length zs ≡ 0 → signed k zs ≡ not (k .needed)
+signed-none k [] e = refl
+signed-none k (z ∷ zs) e = absurd (omega arith)
+
+pub signed-some : (k : Signs) (zs : List ℤ) → (length zs ≡ 0 → ⊥)
+    → signed k zs ≡ ((not (k .first) || isPositive (getD zs 0 (pos 0))) && (not (k .later) || all isPositive (drop 1 zs)))
+signed-some k [] e = absurd (e refl)
+signed-some k (z ∷ zs) e = refl
+
+-- Questions 24 and 25, of numbers that passed 23
+
+module _ (x : Letter) (zs : List ℤ) (next : ℕ) (inside : anyOutside zs ≡ false) (few : length zs ≤ mostNumbers) where
+  pub asked-24 : signed (signsOf x) zs ≡ false → asked x zs next ≡ refused 24
+  asked-24 e = rw (inside, le-ltb mostNumbers (length zs) few, e)
+
+  pub asked-25 : signed (signsOf x) zs ≡ true → noneTwice zs ≡ false → asked x zs next ≡ refused 25
+  asked-25 e d = rw (inside, le-ltb mostNumbers (length zs) few, e, d)
+
+  pub asked-line : signed (signsOf x) zs ≡ true → noneTwice zs ≡ true → asked x zs next ≡ line x zs next
+  asked-line e d = rw (inside, le-ltb mostNumbers (length zs) few, e, d)
+
+pub drop-replicate : {A : Type 0} (n m : ℕ) (a : A) → drop n (replicate m a) ≡ replicate (m - n) a
+drop-replicate zero m a = let e : m - 0 ≡ m = omega arith in rw e
+drop-replicate (suc n) zero a = let e : 0 - suc n ≡ 0 = omega arith in rw e
+drop-replicate (suc n) (suc m) a = let e : suc m - suc n ≡ m - n = omega arith in rw e (drop-replicate n m a)
+
+-- The numbers before a closing 0
+
+and-right : (a b : Bool) → (a && b) ≡ true → b ≡ true
+and-right true b e = e
+and-right false b e = absurd (true≢false (sym e))
+
+pub closed-some : (zs : List ℤ) → isClosed zs ≡ true → 0 < length zs
+closed-some [] e = absurd (true≢false (sym e))
+closed-some (z ∷ zs) e = omega arith
+
+pub outside-before : (zs : List ℤ) → isClosed zs ≡ true → anyOutside (take (length zs - 1) zs) ≡ anyOutside zs
+outside-before [] e = refl
+outside-before (z ∷ []) e = rw (same-eq z (pos 0) e)
+outside-before (z ∷ y ∷ zs) e =
+    let h : suc (suc (length zs)) - 1 ≡ suc (suc (length zs) - 1) = omega arith in
+    rw h (ap (λ (t : Bool). outside z || t) (outside-before (y ∷ zs) (and-right (not (same z (pos 0))) (isClosed (y ∷ zs)) e)))
+
+-- a row of m zeros that holds the whole line keeps the numbers themselves
+pub row-before : (m : ℕ) {s : List ℕ} {after : List ℤ} {count next : ℕ} {out closed : Bool} (f : Numbered s (replicate m (pos 0)) after count next out closed)
+    → anyOutside (f .list) ≡ false → count ≤ m → take (count - 1) after ≡ take (length (f .list) - 1) (f .list)
+row-before m {s} {after} {count} f o h =
+    let zs = f .list in
+    let row : List ℤ = replicate m (pos 0) in
+    let l : length zs ≤ m = omega (arith, f .long) in
+    rw (f .row, f .long, capped-all zs o, sets-eq zs row 0 (omega (arith, length-replicate m (pos 0)))) (take-append-le (length zs - 1) zs (drop (0 + length zs) row) (omega arith))
+
+-- The first two bytes
+
+module _ (x : Letter) (from : ℕ) where
+  pub after-empty : (s : List ℕ) → length s ≡ 0 → afterLetter x from s ≡ refused 22
+  after-empty [] e = refl
+  after-empty (b ∷ s) e = absurd (omega arith)
+
+  pub after-other : (s : List ℕ) → isSpace (classOf (getD s 0 0)) ≡ false → afterLetter x from s ≡ refused 22
+  after-other [] e = refl
+  after-other (b ∷ s) e = rw e
+
+  pub after-space : (s : List ℕ) → (length s ≡ 0 → ⊥) → isSpace (classOf (getD s 0 0)) ≡ true → afterLetter x from s ≡ ofNumbers x (from + 1) (lineOf (drop 1 s))
+  after-space [] h e = absurd (h refl)
+  after-space (b ∷ s) h e = rw e
+
+pub line-empty : (from : ℕ) (s : List ℕ) → length s ≡ 0 → lineFrom from s ≡ refused 22
+line-empty from [] e = refl
+line-empty from (b ∷ s) e = absurd (omega arith)
+
+pub line-first : (from : ℕ) (s : List ℕ) (k : Class) → (length s ≡ 0 → ⊥) → classOf (getD s 0 0) ≡ k → lineFrom from s ≡ afterFirst k (from + 1) (drop 1 s)
+line-first from [] k h e = absurd (h refl)
+line-first from (b ∷ s) k h e = rw e
+
+-- The position
+
+module _ (s : List ℕ) (at : ℕ) where
+  pub at-long : longest < length s → lineAt s at ≡ refused 21
+  at-long h = rw (lt-ltb longest (length s) h)
+
+  module _ (h : length s ≤ longest) where
+    pub at-end : at ≡ length s → lineAt s at ≡ end
+    at-end e = rw (le-ltb longest (length s) h, eq-eqb at (length s) e)
+
+    pub at-line : (at ≡ length s → ⊥) → lineAt s at ≡ lineFrom at (drop at s)
+    at-line k = rw (le-ltb longest (length s) h, ne-eqb at (length s) k)
+
+    pub at-past : length s < at → lineAt s at ≡ refused 22
+    at-past l =
+        let e : drop at s ≡ [] = drop-of-length-le s {i = at} (omega arith) in
+        rw (le-ltb longest (length s) h, ne-eqb at (length s) (λ k. omega arith), e)
+
+-- An answered line
+
+-- it ends past the position, within a text of n bytes, and its numbers pass questions 23 to 25
+abbrev pub Passed : ℕ → ℕ → LineAt → Type 0
+Passed at n end = Unit {0}
+Passed at n (refused k) = Unit {0}
+Passed at n (line x zs next) = (at < next) × (next ≤ n) × (lineRefusal x zs ≡ none)
+
+module _ (at n : ℕ) where
+  asked-passed : (x : Letter) (zs : List ℤ) (next : ℕ) → at < next → next ≤ n → Passed at n (asked x zs next)
+  asked-passed x zs next h l = by (lineRefusal x zs) refl
+    where
+      by : (o : Option ℕ) → lineRefusal x zs ≡ o → Passed at n (refusedOr o (line x zs next))
+      by none e = (h, l, e)
+      by (some k) e = tt
+
+  cond-passed : (t : Bool) (l : LineAt) → Passed at n l → Passed at n (cond t l (refused 22))
+  cond-passed true l p = p
+  cond-passed false l p = tt
+
+  numbers-passed : (x : Letter) (from : ℕ) (s : List ℕ) → at < from → from + length s ≤ n → Passed at n (ofNumbers x from (lineOf s))
+  numbers-passed x from s h l = by (lineOf s) refl
+    where
+      by : (k : Line) → lineOf s ≡ k → Passed at n (ofNumbers x from k)
+      by broken e = tt
+      by (numbers zs k) e =
+          let b = bounds-of s zs k e in
+          cond-passed (isClosed zs) _ (asked-passed x (take (length zs - 1) zs) (from + k) (omega arith) (omega arith))
+
+  letter-passed : (x : Letter) (from : ℕ) (s : List ℕ) → at < from → from + length s ≤ n → Passed at n (afterLetter x from s)
+  letter-passed x from [] h l = tt
+  letter-passed x from (b ∷ s) h l = cond-passed (isSpace (classOf b)) _ (numbers-passed x (from + 1) s (omega arith) (omega arith))
+
+  first-passed : (k : Class) (from : ℕ) (s : List ℕ) → at < from → from + length s ≤ n → Passed at n (afterFirst k from s)
+  first-passed (Step x) from s h l = letter-passed x from s h l
+  first-passed Newline from s h l = tt
+  first-passed Space from s h l = tt
+  first-passed Minus from s h l = tt
+  first-passed (Digit d) from s h l = tt
+  first-passed Other from s h l = tt
+
+  -- s is what is left at the position
+  line-passed : (s : List ℕ) → length s ≡ n - at → Passed at n (lineFrom at s)
+  line-passed [] e = tt
+  line-passed (b ∷ s) e = first-passed (classOf b) (at + 1) s (omega arith) (omega arith)
+
+pub passed : (s : List ℕ) (at : ℕ) → Passed at (length s) (lineAt s at)
+passed s at = by (ltb longest (length s)) (eqb at (length s))
+  where
+    by : (t u : Bool) → Passed at (length s) (cond t (refused 21) (cond u end (lineFrom at (drop at s))))
+    by true u = tt
+    by false true = tt
+    by false false = line-passed at (length s) (drop at s) (length-drop at s)
+
+pub passed-line : (s : List ℕ) (at : ℕ) {x : Letter} {zs : List ℤ} {next : ℕ} → lineAt s at ≡ line x zs next → (at < next) × (next ≤ length s) × (lineRefusal x zs ≡ none)
+passed-line s at e = subst (Passed at (length s)) e (passed s at)
+
+-- no more numbers than the array has
+pub few : (x : Letter) (zs : List ℤ) → lineRefusal x zs ≡ none → length zs ≤ mostNumbers
+few x zs e = by (anyOutside zs || ltb mostNumbers (length zs)) _ refl e
+  where
+    by : (t : Bool) (o : Option ℕ) → (anyOutside zs || ltb mostNumbers (length zs)) ≡ t → cond t (some 23) o ≡ none → length zs ≤ mostNumbers
+    by true o k e = absurd (let z : _≡_ {A = ℕ} 0 1 = cc in omega arith)
+    by false o k e = ltb-false mostNumbers (length zs) (or-false-right (anyOutside zs) (ltb mostNumbers (length zs)) k)
+
+within : (at n : ℕ) (l : LineAt) → Passed at n l → Within at n (answerOf l)
+within at n end p = tt
+within at n (refused k) p = tt
+within at n (line x zs next) p = (p .0, p .1, few x zs (p .2))
+
+pub reads-of : {s : List ℕ} {at : ℕ} {r : LineReading} → r ≡ readingOf (lineAt s at) → Reads s at r
+reads-of {s} {at} {r} e =
+    record {
+      answer = ap (λ (x : LineReading). x .answer) e;
+      numbers = ap (λ (x : LineReading). x .numbers) e;
+      within = subst (λ (x : LineReading). Within at (length s) (x .answer)) (sym e) (within at (length s) (lineAt s at) (passed s at));
+    }
