@@ -173,8 +173,7 @@ fn rule_top(words: &[i32]) -> usize
     ensures { λ r. ⌜ r ≡ ruleTop (ruleAt (now (words .entry))) ⌝ }
 {
     let heads = words::largest_variable(heads_of(words));
-    let body = words::largest_variable(body_of(words));
-    if heads < body { body } else { heads }
+    words::larger(heads, words::largest_variable(body_of(words)))
 }
 
 // N: the largest atom named, 0 if none.
@@ -187,10 +186,7 @@ pub fn largest_atom(table: &[i32], rules: usize) -> usize
     let mut i = 0;
     while 0 < left {
         let rest = &table[i..];
-        let top = rule_top(rest);
-        if most < top {
-            most = top;
-        }
+        most = words::larger(most, rule_top(rest));
         i += rule_size(rest);
         left -= 1;
     }

@@ -17,13 +17,9 @@ module _ (c : tie.After-largest-variable2) where
   body : c .largest-variable2 .result ≡ top (bodyAt (c .before .before .before .before .args .words .now))
   body = rw (c .before .body-of .ensures) at (c .largest-variable2 .ensures)
 
--- src/tables.rt:160:1
+-- src/tables.rt:171:1
 returns : tie.Need-returns
-returns c = let h = heads (c .before) in let b = body (c .before) in omega arith
-
--- src/tables.rt:160:1
-returns-2 : tie.Need-returns-2
-returns-2 c = let h = heads (c .before) in let b = body (c .before) in omega arith
+returns c = let d = c .before in c .larger .ensures ∙ rw (heads d, body d)
 
 pub rule-top-spec : {M : Type 1} → statement M
 rule-top-spec =
@@ -33,5 +29,5 @@ rule-top-spec =
     (λ c κs. search needs)
     (λ c κs. search needs)
     (λ c κs. search needs)
-    returns
-    returns-2)
+    (λ c κs. search needs)
+    returns)
