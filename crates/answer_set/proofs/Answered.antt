@@ -1,28 +1,30 @@
 -- The marks and the answer of specs/SetTest.antt are those of specs/AnswerSets.antt: `marks-least` and `yes-answer-set`.
 -- Assumes nothing.
-use mathlib.Core.Path.{_≡_, refl, sym, _∙_, ap, subst}
-use mathlib.Core.Logic.{_⊎_, inl, inr, _↔_}
-use mathlib.Core.Bool.{Bool, true, false, cond, not, _&&_, _||_, true≢false}
-use mathlib.Core.Option.{Option, none, some, Option·some-injective, Option·none-ne-some}
-use mathlib.Core.List.{List, [], _∷_, map, nil≢cons, List·Memᴰ·head, List·Memᴰ·tail, Memᴰ·cast}
-use Prim.Native.Nat.{ℕ, zero, suc, _+_, _≤_, _<_, max}
+use mathlib.Core.Path.{_≡_, refl, sym, _∙_, subst}
+use mathlib.Core.Logic.{inl, _↔_}
+use mathlib.Core.Bool.{Bool, true, false, cond, _||_, true≢false}
+use mathlib.Core.Option.{none, some, Option·some-injective, Option·none-ne-some}
+use mathlib.Core.List.{List, [], _∷_, nil≢cons, List·Memᴰ·head, List·Memᴰ·tail, Memᴰ·cast}
+use Prim.Native.Nat.{ℕ, zero, suc, _+_, _≤_, _<_}
 use native.Mathlib.Omega.{arith}
-use borrow.Author.Tests.{ltb-true, leb-true, eq-eqb, eqb-true, eqb-false}
-use lib.Dec.{T, eqb, ltb, leb}
+use borrow.Author.Tests.{ltb-true, eqb-true, eqb-false}
+use lib.Dec.{T, eqb, ltb}
 use lib.IntN.{ℤ, pos, negsuc}
 use lib.Signed.{ltZ}
-use lib.ListN.{length, drop, getD, replicate, length-replicate}
+use lib.ListN.{length, drop, replicate, length-replicate}
 use Rattle.words.specs.Limits.{largest}
-use Rattle.words.specs.Lists.{_∈_, any, all}
+use Rattle.words.specs.Lists.{_∈_, all}
 use Rattle.words.specs.Literals.{variable, top}
-use Rattle.words.proofs.Lists.{Decides, itself, passed, failed, answered, reworded, and-decides, not-decides, eqb-decides, any-decides, all-decides}
+use Rattle.words.proofs.Lists.{Decides, itself, passed, failed, reworded, and-decides, not-decides, eqb-decides, any-decides, all-decides}
 use Rattle.aspif.specs.Rules.{Rule, isNormal, isEmpty, ruleTop, atoms}
 use Rattle.aspif.specs.declared.Kind.{Kind}
 use Rattle.aspif.specs.declared.Kind.the-variants.{Normal, Choice}
-use Rattle.answer_set.specs.AnswerSets.{Constraint, Taken, LeastModel, derive, Met, AnswerSet}
-use Rattle.answer_set.specs.SetTest.{ascends, headsSound, bodySound, sizeAt, headsAt, bodyAt, ruleAt, shapeSound, soundAt, rulesAt, soundRules, soundTable, rulesOf, listed, marksLent, marked, literalHolds, bodyHolds, rounds, least, isConstraint, isBroken, anyBelow, justOne, Verdict, yes, differs, broken, brokenFrom, apart, verdictOf}
-use Rattle.answer_set.specs.Claims.{Listed, Ready, LeastMarks, MarksLeast, YesAnswerSet}
-use Rattle.answer_set.proofs.Fronts.{and-left, and-right, sound-rules}
+use Rattle.aspif.proofs.Counts.{and-left, and-right}
+use Rattle.answer_set.specs.AnswerSets.{Constraint, LeastModel, derive, Met, AnswerSet}
+use Rattle.answer_set.specs.SetTest.{headsSound, sizeAt, headsAt, shapeSound, soundAt, rulesAt, soundRules, soundTable, rulesOf, listed, marksLent, marked, rounds, least, isBroken, anyBelow, justOne, yes, differs, broken, brokenFrom, apart, verdictOf}
+use Rattle.answer_set.specs.Claims.{Listed, Ready, MarksLeast, YesAnswerSet}
+use Rattle.answer_set.proofs.Ascending.{ascends-in}
+use Rattle.answer_set.proofs.Fronts.{sound-rules}
 use Rattle.answer_set.proofs.Tested.{atoms-small, none-marked}
 use Rattle.answer_set.proofs.LeastModels.{Bits, Head, met-decides, rounds-decide, rounds-bits, rounds-length}
 
@@ -36,17 +38,8 @@ in-atoms : {r : Rule} {rs : List Rule} → r ∈ rs → ruleTop r ≤ atoms rs
 in-atoms (List·Memᴰ·head {xs = rs} p) = rw p (omega arith)
 in-atoms (List·Memᴰ·tail {xs = rs} i) = let h = in-atoms i in omega arith
 
--- the numbers of an ascending list are above `low` and at most `high`
-ascends-in : (low high : ℕ) {l : List ℕ} {v : ℕ} → ascends low high l ≡ true → v ∈ l → (low < v) × (v ≤ high)
-ascends-in low high e (List·Memᴰ·head {x = x} {xs = l} p) =
-    let f = and-right (ltb low x) _ e in
-    rw p (ltb-true low x (and-left (ltb low x) _ e), leb-true x high (and-left (leb x high) _ f))
-ascends-in low high e (List·Memᴰ·tail {x = x} {xs = l} i) =
-    let f = and-right (ltb low x) _ e in
-    let h = ascends-in x high (and-right (leb x high) _ f) i in
-    (omega (arith, ltb-true low x (and-left (ltb low x) _ e)), h .1)
-
-positive : (z : ℤ) → T (ltZ (pos 0) z) → (z ≡ pos (variable z)) × (1 ≤ variable z)
+-- a word above 0 is its variable
+pub positive : (z : ℤ) → T (ltZ (pos 0) z) → (z ≡ pos (variable z)) × (1 ≤ variable z)
 positive (pos n) t = (refl, ltb-true 0 n (passed (ltb 0 n) .to t))
 positive (negsuc n) t = absurd t
 

@@ -1,7 +1,7 @@
 -- What is known of a rule that stands at the front of some words, and of the words that a loop over the table has yet to read.
 -- Assumes nothing.
 use mathlib.Core.Path.{_≡_, refl, sym, _∙_}
-use mathlib.Core.Bool.{Bool, true, false, _&&_, true≢false}
+use mathlib.Core.Bool.{true, _&&_}
 use mathlib.Core.List.{List, [], _∷_}
 use Prim.Native.Nat.{ℕ, zero, suc, _+_, _-_, _≤_, _<_}
 use native.Mathlib.Omega.{arith}
@@ -15,16 +15,8 @@ use Rattle.words.specs.Lists.{all}
 use Rattle.words.specs.Literals.{variable, same}
 use Rattle.aspif.specs.Rules.{isEmpty}
 use Rattle.aspif.specs.Reading.{mostRules}
+use Rattle.aspif.proofs.Counts.{and-left, and-right}
 use Rattle.answer_set.specs.SetTest.{isCount, suits, headsSound, bodySound, headCount, bodyCount, sizeAt, headsAt, bodyAt, ruleAt, shapeSound, soundAt, rulesAt, soundRules, soundTable}
-
--- both parts of a test that is passed
-pub and-left : (a b : Bool) → (a && b) ≡ true → a ≡ true
-and-left true b e = refl
-and-left false b e = e
-
-pub and-right : (a b : Bool) → (a && b) ≡ true → b ≡ true
-and-right true b e = e
-and-right false b e = absurd (true≢false (sym e))
 
 -- a count is at most 64
 pub count-small : (w : ℤ) → isCount w ≡ true → variable w ≤ 64

@@ -7,7 +7,7 @@ use mathlib.Core.List.{List, [], _∷_, List·Memᴰ·head, List·Memᴰ·tail, 
 use Prim.Native.Nat.{ℕ, zero, suc, _≤_, _<_}
 use native.Mathlib.Omega.{arith}
 use borrow.Author.Tests.{ltb-true, ltb-false, leb-true, leb-false, eqb-true, eqb-false}
-use lib.Dec.{T, eqb, ltb, leb, eqb-refl}
+use lib.Dec.{T, eqb, ltb, leb}
 use lib.IntN.{ℤ, pos, negsuc}
 use lib.ListN.{length, getD, set, length-set}
 use lib.Seq.{getD-set-same, getD-set-other, set-out, set-getD}
@@ -17,7 +17,7 @@ use Rattle.words.proofs.Lists.{Decides, itself, passed, answered, reworded, not
 use Rattle.aspif.specs.Rules.{Rule}
 use Rattle.aspif.specs.declared.Kind.{Kind}
 use Rattle.aspif.specs.declared.Kind.the-variants.{Normal, Choice}
-use Rattle.answer_set.specs.AnswerSets.{Taken, Chosen, Gives, LeastModel, derive}
+use Rattle.answer_set.specs.AnswerSets.{Taken, Chosen, LeastModel, derive}
 use Rattle.answer_set.specs.SetTest.{marked, literalHolds, bodyHolds, gives, giveHead, giveHeads, giveRule, round, rounds}
 use Rattle.answer_set.proofs.Marks.{rounds-still}
 

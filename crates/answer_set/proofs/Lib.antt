@@ -5,3 +5,5 @@ pub mod Marks
 pub mod Tested
 pub mod LeastModels
 pub mod Answered
+pub mod Readable
+pub mod Service

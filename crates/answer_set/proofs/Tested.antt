@@ -1,25 +1,25 @@
 -- The contract of `test_set` from what its calls tell.
 -- Assumes nothing.
-use mathlib.Core.Path.{_≡_, refl, sym, _∙_, ap, subst, fun-ext}
-use mathlib.Core.Bool.{Bool, true, false, cond, _&&_, _||_, or-false, or-assoc, or-comm}
+use mathlib.Core.Path.{_≡_, refl, _∙_, fun-ext}
+use mathlib.Core.Bool.{Bool, true, false, cond, _||_, or-false, or-comm}
 use mathlib.Core.List.{List, [], _∷_, map}
 use Prim.Native.Nat.{ℕ, zero, suc, _+_, _≤_, _<_}
 use native.Mathlib.Omega.{arith}
-use borrow.Author.Tests.{leb-true, ltb-true, eqb-true, eqb-false, eq-eqb, ne-eqb}
+use borrow.Author.Tests.{leb-true, eqb-true, eqb-false, eq-eqb, ne-eqb}
 use lib.Dec.{eqb, ltb, leb}
 use lib.IntN.{ℤ, pos}
 use lib.Signed.{ltZ}
-use lib.ListN.{length, drop, getD, set, replicate, length-set, length-replicate, getD-replicate, List·getD-eq-default}
+use lib.ListN.{length, drop, set, replicate, length-set, length-replicate}
 use lib.Seq.{getD-set-same, getD-set-other}
 use Rattle.words.specs.Limits.{largest}
 use Rattle.words.specs.Lists.{all}
 use Rattle.words.specs.Literals.{variable, top}
 use Rattle.aspif.specs.Rules.{Rule, ruleTop, atoms}
-use Rattle.answer_set.specs.SetTest.{ascends, headsSound, bodySound, sizeAt, headsAt, bodyAt, ruleAt, shapeSound, soundAt, rulesAt, soundRules, soundTable, listed, marksLent, marked, rounds, least, anyBelow, Verdict, differs, brokenFrom, apart, verdictOf, Asked, refused, passed, asked, Says, Answers, marksOf, SetTested}
+use Rattle.aspif.proofs.Counts.{and-left, and-right}
+use Rattle.answer_set.specs.SetTest.{ascends, headsSound, sizeAt, headsAt, bodyAt, ruleAt, shapeSound, soundAt, rulesAt, soundRules, soundTable, listed, marksLent, marked, rounds, least, anyBelow, differs, brokenFrom, apart, verdictOf, Asked, refused, passed, asked, Says, Answers, marksOf, SetTested}
 use Rattle.answer_set.specs.Private.{markAll}
 use Rattle.answer_set.specs.declared.SetAnswer.{SetAnswer}
 use Rattle.answer_set.specs.declared.SetAnswer.the-variants.{Refused}
-use Rattle.answer_set.proofs.Fronts.{and-left, and-right}
 
 -- N is at most 4,095
 

@@ -1,5 +1,5 @@
 -- How the executable definitions of specs/SetTest.antt stand to the program reader's definition and to specs/AnswerSets.antt, as
--- statements: proofs/Readable.antt and proofs/Answered.antt prove them.
+-- statements. proofs/Readable.antt proves the first, proofs/Answered.antt those on marks and answers, proofs/Service.antt the last.
 -- Assumes nothing.
 use mathlib.Core.Path.{_≡_}
 use mathlib.Core.Logic.{_↔_, _⊎_}

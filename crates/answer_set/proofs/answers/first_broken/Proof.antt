@@ -1,13 +1,12 @@
-use mathlib.Core.Path.{_≡_, sym, _∙_, ap, refl, subst}
+use mathlib.Core.Path.{_≡_, sym, _∙_, ap, refl}
 use mathlib.Core.Bool.{Bool, cond}
 use mathlib.Core.List.{List}
 use Prim.Native.Nat.{ℕ, _+_, _-_}
 use native.Mathlib.Omega.{arith}
 use lib.IntN.{ℤ}
-use lib.ListN.{length, drop}
-use Rattle.aspif.specs.Rules.{Rule}
+use lib.ListN.{drop}
 use Rattle.words.proofs.Parts.{tail-of}
-use Rattle.answer_set.specs.SetTest.{sizeAt, ruleAt, rulesAt, marked, isBroken, brokenFrom, Verdict, broken, Says}
+use Rattle.answer_set.specs.SetTest.{sizeAt, ruleAt, rulesAt, marked, isBroken, brokenFrom, broken}
 use Rattle.answer_set.proofs.Fronts.{Cursor, Turn, turn, shape-of, no-rules, few-rules, sound-rules}
 use borrow.Author.Needs.{needs}
 use Rattle.answer_set.proofs.answers.first_broken.Statement.{statement}

@@ -1,4 +1,4 @@
-use mathlib.Core.Path.{_≡_, sym, _∙_, ap}
+use mathlib.Core.Path.{sym, _∙_}
 use borrow.Author.Needs.{needs}
 use Rattle.answer_set.proofs.answers.is_broken.Statement.{statement}
 use Rattle.answer_set.proofs.answers.is_broken.Tie as tie

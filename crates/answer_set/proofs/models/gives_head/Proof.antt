@@ -1,4 +1,3 @@
-use mathlib.Core.Path.{_≡_, _∙_}
 use borrow.Author.Needs.{needs}
 use Rattle.answer_set.proofs.models.gives_head.Statement.{statement}
 use Rattle.answer_set.proofs.models.gives_head.Tie as tie

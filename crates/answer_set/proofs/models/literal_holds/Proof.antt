@@ -1,5 +1,5 @@
-use mathlib.Core.Path.{_≡_, _∙_, refl, sym, ap}
-use mathlib.Core.Bool.{Bool, not}
+use mathlib.Core.Path.{_≡_, _∙_, sym, ap}
+use mathlib.Core.Bool.{not}
 use mir.Facts.{toZ-ofZ}
 use Rattle.words.specs.Literals.{variable}
 use Rattle.answer_set.specs.SetTest.{marked}

@@ -1,11 +1,10 @@
 use mathlib.Core.Path.{_≡_, _∙_}
-use borrow.Author.Needs.{sfits-of}
+use borrow.Author.Needs.{sfits-of, needs}
 use lib.IntN.{pos}
 use lib.ListN.{getD}
 use mir.Syntax.{w32}
 use mir.Val.{toZ, ofZ}
 use mir.Facts.{toZ-ofZ}
-use borrow.Author.Needs.{needs}
 use Rattle.answer_set.proofs.tables.is_count.Statement.{statement}
 use Rattle.answer_set.proofs.tables.is_count.Tie as tie
 

@@ -1,18 +1,15 @@
-use mathlib.Core.Path.{_≡_, _∙_, sym, ap}
+use mathlib.Core.Path.{_≡_, _∙_, sym}
 use mathlib.Core.Bool.{true}
 use mathlib.Core.List.{List}
-use Prim.Native.Nat.{ℕ, _≤_}
 use native.Mathlib.Omega.{arith}
-use borrow.Author.Needs.{sfits-of}
+use borrow.Author.Needs.{sfits-of, needs}
 use lib.IntN.{ℤ, pos}
 use lib.ListN.{getD}
 use mir.Syntax.{w32}
 use mir.Val.{toZ, ofZ}
 use mir.Facts.{toZ-ofZ}
-use Rattle.words.specs.Literals.{variable}
 use Rattle.answer_set.specs.SetTest.{isCount, suits, headCount, sizeAt, shapeSound}
 use Rattle.answer_set.proofs.Fronts.{count-small}
-use borrow.Author.Needs.{needs}
 use Rattle.answer_set.proofs.tables.is_shaped.Statement.{statement}
 use Rattle.answer_set.proofs.tables.is_shaped.Tie as tie
 

@@ -1,12 +1,12 @@
 use mathlib.Core.Path.{_≡_, sym, _∙_}
-use mathlib.Core.Bool.{Bool, true}
+use mathlib.Core.Bool.{true}
 use mathlib.Core.List.{List, map}
 use lib.IntN.{ℤ, pos}
 use lib.Signed.{ltZ}
 use Rattle.words.specs.Limits.{largest}
 use Rattle.words.specs.Lists.{all}
 use Rattle.words.specs.Literals.{variable}
-use Rattle.answer_set.specs.SetTest.{ascends, headsAt, bodyAt, shapeSound, soundAt}
+use Rattle.answer_set.specs.SetTest.{ascends, headsAt, shapeSound, soundAt}
 use borrow.Author.Needs.{needs}
 use Rattle.answer_set.proofs.tables.is_sound.Statement.{statement}
 use Rattle.answer_set.proofs.tables.is_sound.Tie as tie

@@ -1,12 +1,11 @@
 use mathlib.Core.Path.{_≡_, _∙_, sym}
-use borrow.Author.Needs.{sfits-of}
+use borrow.Author.Needs.{sfits-of, needs}
 use lib.IntN.{pos}
 use lib.ListN.{getD}
 use mir.Syntax.{w32}
 use mir.Val.{toZ, ofZ}
 use mir.Facts.{toZ-ofZ}
 use Rattle.words.specs.Literals.{same}
-use borrow.Author.Needs.{needs}
 use Rattle.answer_set.proofs.tables.kind_of.Statement.{statement}
 use Rattle.answer_set.proofs.tables.kind_of.Tie as tie
 

@@ -1,4 +1,3 @@
-use mathlib.Core.Path.{_≡_, _∙_}
 use native.Mathlib.Omega.{arith}
 use Rattle.answer_set.specs.SetTest.{sizeAt}
 use Rattle.answer_set.proofs.Fronts.{shaped}

@@ -1,8 +1,4 @@
-use mathlib.Core.Path.{_≡_, sym, _∙_, ap}
-use mathlib.Core.List.{List}
-use Prim.Native.Nat.{ℕ}
-use native.Mathlib.Omega.{arith}
-use lib.IntN.{ℤ}
+use mathlib.Core.Path.{_≡_, _∙_}
 use Rattle.words.specs.Literals.{top}
 use Rattle.answer_set.specs.SetTest.{headsAt, bodyAt}
 use borrow.Author.Needs.{needs}

@@ -1,8 +1,7 @@
 use mathlib.Core.Path.{_∙_, ap}
-use borrow.Author.Needs.{sfits-of}
+use borrow.Author.Needs.{sfits-of, needs}
 use mir.Facts.{toZ-ofZ}
 use Rattle.words.specs.Literals.{variable}
-use borrow.Author.Needs.{needs}
 use Rattle.answer_set.proofs.tables.size_at.Statement.{statement}
 use Rattle.answer_set.proofs.tables.size_at.Tie as tie
 

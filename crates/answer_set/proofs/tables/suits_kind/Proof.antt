@@ -1,5 +1,4 @@
 use mathlib.Core.Path.{_≡_, _∙_, sym}
-use mathlib.Core.Bool.{Bool}
 use lib.IntN.{pos}
 use mir.Facts.{toZ-ofZ}
 use Rattle.words.specs.Literals.{same}
