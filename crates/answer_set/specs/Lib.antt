@@ -1,2 +1,5 @@
--- What an answer set is.
+-- What an answer set is, and what the set test answers.
 pub mod AnswerSets
+pub mod SetTest
+pub mod Private
+pub mod Claims

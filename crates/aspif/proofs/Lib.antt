@@ -5,3 +5,6 @@ pub mod Agree
 pub mod Passes
 pub mod Fronts
 pub mod Programs
+pub mod Decimals
+pub mod Formed
+pub mod Written

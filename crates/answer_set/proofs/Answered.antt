@@ -1,0 +1,222 @@
+-- The marks and the answer of specs/SetTest.antt are those of specs/AnswerSets.antt: `marks-least` and `yes-answer-set`.
+-- Assumes nothing.
+use mathlib.Core.Path.{_≡_, refl, sym, _∙_, subst}
+use mathlib.Core.Logic.{inl, _↔_}
+use mathlib.Core.Bool.{Bool, true, false, cond, _||_, true≢false}
+use mathlib.Core.Option.{none, some, Option·some-injective, Option·none-ne-some}
+use mathlib.Core.List.{List, [], _∷_, nil≢cons, List·Memᴰ·head, List·Memᴰ·tail, Memᴰ·cast}
+use Prim.Native.Nat.{ℕ, zero, suc, _+_, _≤_, _<_}
+use native.Mathlib.Omega.{arith}
+use borrow.Author.Tests.{ltb-true, eqb-true, eqb-false}
+use lib.Dec.{T, eqb, ltb}
+use lib.IntN.{ℤ, pos, negsuc}
+use lib.Signed.{ltZ}
+use lib.ListN.{length, drop, replicate, length-replicate}
+use Rattle.words.specs.Limits.{largest}
+use Rattle.words.specs.Lists.{_∈_, all}
+use Rattle.words.specs.Literals.{variable, top}
+use Rattle.words.proofs.Lists.{Decides, itself, passed, failed, reworded, and-decides, not-decides, eqb-decides, any-decides, all-decides}
+use Rattle.aspif.specs.Rules.{Rule, isNormal, isEmpty, ruleTop, atoms}
+use Rattle.aspif.specs.declared.Kind.{Kind}
+use Rattle.aspif.specs.declared.Kind.the-variants.{Normal, Choice}
+use Rattle.aspif.proofs.Counts.{and-left, and-right}
+use Rattle.answer_set.specs.AnswerSets.{Constraint, LeastModel, derive, Met, AnswerSet}
+use Rattle.answer_set.specs.SetTest.{headsSound, sizeAt, headsAt, shapeSound, soundAt, rulesAt, soundRules, soundTable, rulesOf, listed, marksLent, marked, rounds, least, isBroken, anyBelow, justOne, yes, differs, broken, brokenFrom, apart, verdictOf}
+use Rattle.answer_set.specs.Claims.{Listed, Ready, MarksLeast, YesAnswerSet}
+use Rattle.answer_set.proofs.Ascending.{ascends-in}
+use Rattle.answer_set.proofs.Fronts.{sound-rules}
+use Rattle.answer_set.proofs.Tested.{atoms-small, none-marked}
+use Rattle.answer_set.proofs.LeastModels.{Bits, Head, met-decides, rounds-decide, rounds-bits, rounds-length}
+
+-- Heads of the rules of a table
+
+in-top : {z : ℤ} {l : List ℤ} → z ∈ l → variable z ≤ top l
+in-top (List·Memᴰ·head {xs = l} p) = rw p (omega arith)
+in-top (List·Memᴰ·tail {xs = l} i) = let h = in-top i in omega arith
+
+in-atoms : {r : Rule} {rs : List Rule} → r ∈ rs → ruleTop r ≤ atoms rs
+in-atoms (List·Memᴰ·head {xs = rs} p) = rw p (omega arith)
+in-atoms (List·Memᴰ·tail {xs = rs} i) = let h = in-atoms i in omega arith
+
+-- a word above 0 is its variable
+pub positive : (z : ℤ) → T (ltZ (pos 0) z) → (z ≡ pos (variable z)) × (1 ≤ variable z)
+positive (pos n) t = (refl, ltb-true 0 n (passed (ltb 0 n) .to t))
+positive (negsuc n) t = absurd t
+
+-- every rule of sound words has such heads
+sound-heads : (n : ℕ) (ws : List ℤ) → soundRules n ws ≡ true → {r : Rule} → r ∈ rulesAt n ws → headsSound (r .heads) ≡ true
+unfolding soundAt
+sound-heads zero ws e i = elim i [ ]
+sound-heads (suc n) ws e (List·Memᴰ·head p) = rw p (and-left (headsSound (headsAt ws)) _ (and-right (shapeSound ws) _ (and-left (soundAt ws) _ e)))
+sound-heads (suc n) ws e (List·Memᴰ·tail i) = sound-heads n (drop (sizeAt ws) ws) (and-right (soundAt ws) _ e) i
+
+head-of : (rs : List Rule) (r : Rule) → r ∈ rs → headsSound (r .heads) ≡ true → (z : ℤ) → z ∈ r .heads → Head (atoms rs) z
+head-of rs r i e z j =
+    let p = positive z (all-decides (λ h. itself (ltZ (pos 0) h)) (r .heads) .to (passed _ .from (and-left (all (λ h. ltZ (pos 0) h) (r .heads)) _ e)) z j) in
+    record { is = p .0; low = p .1; high = omega (arith, in-atoms i, in-top j) }
+
+-- The set as listed, and the marks
+
+pub listed-decides : (l : List ℕ) (v : ℕ) → Decides (listed l v) (Listed l v)
+listed-decides l v = reworded (λ r. Memᴰ·cast (r .2) (r .1)) (λ m. (v, m, refl)) (any-decides (eqb-decides v) l)
+
+pub rules-of : (table : List ℤ) (rules : ℕ) (rs : List Rule) → rulesOf table rules ≡ some rs → (soundTable table rules ≡ true) × (rulesAt rules table ≡ rs)
+rules-of table rules rs = by (soundTable table rules) refl
+  where
+    by : (b : Bool) → soundTable table rules ≡ b → cond b (some (rulesAt rules table)) none ≡ some rs → (soundTable table rules ≡ true) × (rulesAt rules table ≡ rs)
+    by true e p = (e, Option·some-injective _ _ p)
+    by false e p = absurd (Option·none-ne-some rs p)
+
+no-bits : (n : ℕ) → Bits (replicate n 0)
+no-bits zero v = inl refl
+no-bits (suc n) zero = inl refl
+no-bits (suc n) (suc v) = no-bits n v
+
+module _ (table : List ℤ) (rules : ℕ) (l : List ℕ) (rs : List Rule) (ready : Ready table rules l rs) where
+  sound : soundRules rules table ≡ true
+  sound = sound-rules table rules (rules-of table rules rs (ready .readable) .0)
+
+  are : rulesAt rules table ≡ rs
+  are = rules-of table rules rs (ready .readable) .1
+
+  heads : (r : Rule) → r ∈ rs → (z : ℤ) → z ∈ r .heads → Head (atoms rs) z
+  heads r i = head-of rs r i (sound-heads rules table sound {r = r} (rw are i))
+
+  few : atoms rs ≤ largest
+  few = rw (← are) (atoms-small rules table sound)
+
+  module _ (n : ℕ) (h : atoms rs < n) where
+    abbrev m : List ℕ
+    m = rounds (listed l) (atoms rs) rs (replicate n 0)
+
+    in-model : (v : ℕ) → Decides (marked m v) (LeastModel (Listed l) rs v)
+    in-model =
+        rounds-decide (listed l) (Listed l) (listed-decides l) rs (atoms rs) heads (replicate n 0) (rw (length-replicate n) h)
+        (λ v t. true≢false (sym (passed _ .to t) ∙ none-marked n v))
+
+    marks-of : length m ≡ n
+    marks-of = rounds-length (listed l) (Listed l) (listed-decides l) rs (atoms rs) heads (atoms rs) (replicate n 0) ∙ length-replicate n 0
+
+    bits-of : Bits m
+    bits-of = rounds-bits (listed l) (Listed l) (listed-decides l) rs (atoms rs) heads (atoms rs) (replicate n 0) (no-bits n)
+
+  fits : atoms rs < marksLent
+  fits = let h = few in omega arith
+
+  model : (v : ℕ) → Decides (marked (least (listed l) rs) v) (LeastModel (Listed l) rs v)
+  unfolding least
+  model = in-model marksLent fits
+
+pub marks-least : MarksLeast
+unfolding least
+marks-least table rules l rs h =
+    record {
+      count = marks-of table rules l rs h marksLent (fits table rules l rs h);
+      bytes = bits-of table rules l rs h marksLent (fits table rules l rs h);
+      ones = λ v.
+          let d = model table rules l rs h v in
+          (λ e. d .to (eqb-decides _ 1 .from e), λ k. eqb-decides _ 1 .to (d .from k));
+    }
+
+-- The answer
+
+or-false-left : (a b : Bool) → (a || b) ≡ false → a ≡ false
+or-false-left true b e = e
+or-false-left false b e = refl
+
+or-false-right : (a b : Bool) → (a || b) ≡ false → b ≡ false
+or-false-right true b e = absurd (true≢false e)
+or-false-right false b e = e
+
+below-all : (f : ℕ → Bool) (n : ℕ) → anyBelow f n ≡ false → (v : ℕ) → v < n → f v ≡ false
+below-all f zero e v h = absurd (omega arith)
+below-all f (suc n) e v h = by (eqb v n) refl (λ k. below-all f n (or-false-right (f n) _ e) v k)
+  where
+    by : (b : Bool) → eqb v n ≡ b → (v < n → f v ≡ false) → f v ≡ false
+    by true p k = rw (eqb-true v n p) (or-false-left (f n) _ e)
+    by false p k = let q = eqb-false v n p in k (omega arith)
+
+below-none : (f : ℕ → Bool) (n : ℕ) → ((v : ℕ) → v < n → f v ≡ false) → anyBelow f n ≡ false
+below-none f zero g = refl
+below-none f (suc n) g = rw (g n (omega arith)) (below-none f n (λ v h. g v (omega arith)))
+
+just-one : (a b : Bool) → justOne a b ≡ false → a ≡ b
+just-one true true e = refl
+just-one true false e = e
+just-one false b e = sym e
+
+same-both : (b : Bool) → justOne b b ≡ false
+same-both true = refl
+same-both false = refl
+
+same-test : {b c : Bool} {A B : Type 0} → Decides b A → Decides c B → A ↔ B → b ≡ c
+same-test {b = true} {c = true} i j e = refl
+same-test {b = true} {c = false} i j e = absurd (j .from (e .0 (i .to tt)))
+same-test {b = false} {c = true} i j e = absurd (i .from (e .1 (j .to tt)))
+same-test {b = false} {c = false} i j e = refl
+
+module _ (M : ℕ → Bool) where
+  no-broken : (k : ℕ) (rs : List Rule) → brokenFrom M k rs ≡ yes → {r : Rule} → r ∈ rs → isBroken M r ≡ false
+  no-broken k [] e i = elim i [ ]
+  no-broken k (s ∷ rs) e {r} i = by (isBroken M s) refl e (λ f j. no-broken (k + 1) rs f j) i
+    where
+      by : (b : Bool) → isBroken M s ≡ b → cond b (broken k) (brokenFrom M (k + 1) rs) ≡ yes → (brokenFrom M (k + 1) rs ≡ yes → r ∈ rs → isBroken M r ≡ false) → r ∈ s ∷ rs → isBroken M r ≡ false
+      by true p q f j = absurd (let z : _≡_ {A = ℕ} 0 1 = cc in omega arith)
+      by false p q f (List·Memᴰ·head t) = rw t p
+      by false p q f (List·Memᴰ·tail j) = f q j
+
+  none-broken : (k : ℕ) (rs : List Rule) → ((r : Rule) → r ∈ rs → isBroken M r ≡ false) → brokenFrom M k rs ≡ yes
+  none-broken k [] g = refl
+  none-broken k (s ∷ rs) g = rw (g s (List·Memᴰ·head refl)) (none-broken (k + 1) rs (λ r i. g r (List·Memᴰ·tail i)))
+
+normal-decides : (k : Kind) → Decides (isNormal k) (k ≡ Normal)
+normal-decides Normal = record { to = λ t. refl; from = λ p. tt }
+normal-decides Choice = record { to = λ t. absurd t; from = λ p. absurd (let z : _≡_ {A = ℕ} 0 1 = cc in omega arith) }
+
+empty-decides : (g : List ℤ) → Decides (isEmpty g) (g ≡ [])
+empty-decides [] = record { to = λ t. refl; from = λ p. tt }
+empty-decides (x ∷ g) = record { to = λ t. absurd t; from = λ p. nil≢cons (sym p) }
+
+broken-decides : (l : List ℕ) (r : Rule) → Decides (isBroken (listed l) r) (Constraint r × Met (Listed l) r)
+broken-decides l r =
+    and-decides (and-decides (normal-decides (r .kind)) (empty-decides (r .heads)))
+    (met-decides (listed l) (Listed l) (listed-decides l) (listed l) (Listed l) (listed-decides l) (r .body))
+
+module _ (table : List ℤ) (rules : ℕ) (l : List ℕ) (rs : List Rule) (ready : Ready table rules l rs) where
+  abbrev f : ℕ → Bool
+  f = apart (listed l) (least (listed l) rs)
+
+  least-small : {v : ℕ} → LeastModel (Listed l) rs v → v ≤ atoms rs
+  least-small (derive {h = h} r i taken g below) = heads table rules l rs ready r i (pos h) (g .0) .high
+
+  verdict : verdictOf (listed l) rs ≡ yes → (anyBelow f (atoms rs + 1) ≡ false) × (brokenFrom (listed l) 1 rs ≡ yes)
+  unfolding verdictOf
+  verdict = by (anyBelow f (atoms rs + 1)) refl
+    where
+      by : (b : Bool) → anyBelow f (atoms rs + 1) ≡ b → cond b differs (brokenFrom (listed l) 1 rs) ≡ yes → (anyBelow f (atoms rs + 1) ≡ false) × (brokenFrom (listed l) 1 rs ≡ yes)
+      by true e p = absurd (let z : _≡_ {A = ℕ} 0 1 = cc in omega arith)
+      by false e p = (e, p)
+
+  answers : verdictOf (listed l) rs ≡ yes → AnswerSet (Listed l) rs
+  answers e =
+      let w = verdict e in
+      let same : (v : ℕ) → v ≤ atoms rs → listed l v ≡ marked (least (listed l) rs) v =
+      λ v h. just-one _ _ (below-all f (atoms rs + 1) (w .0) v (omega arith)) in
+      record {
+        least = λ v. (
+          λ i. model table rules l rs ready v .to (subst T (same v (ascends-in 0 (atoms rs) (ready .ascending) i .1)) (listed-decides l v .from i)),
+          λ d. listed-decides l v .to (subst T (sym (same v (least-small d))) (model table rules l rs ready v .from d)),
+        );
+        kept = λ r i c met. true≢false (sym (passed _ .to (broken-decides l r .from (c, met))) ∙ no-broken (listed l) 1 rs (w .1) i);
+      }
+
+  agree : AnswerSet (Listed l) rs → (v : ℕ) → f v ≡ false
+  agree s v = rw (same-test (listed-decides l v) (model table rules l rs ready v) (s .least v)) (same-both (marked (least (listed l) rs) v))
+
+  answered-yes : AnswerSet (Listed l) rs → verdictOf (listed l) rs ≡ yes
+  unfolding verdictOf
+  answered-yes s =
+      rw (below-none f (atoms rs + 1) (λ v h. agree s v), none-broken (listed l) 1 rs (λ r i. failed _ (not-decides (broken-decides l r) .from (λ p. s .kept r i (p .0) (p .1)))))
+
+pub yes-answer-set : YesAnswerSet
+yes-answer-set table rules l rs h = (answers table rules l rs h, answered-yes table rules l rs h)

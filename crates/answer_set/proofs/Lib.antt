@@ -1,0 +1,9 @@
+-- The laws that the proofs share.
+pub mod Fronts
+pub mod Ascending
+pub mod Marks
+pub mod Tested
+pub mod LeastModels
+pub mod Answered
+pub mod Readable
+pub mod Service

@@ -1,0 +1,39 @@
+use mathlib.Core.Path.{_≡_, sym, _∙_, refl}
+use Rattle.answer_set.specs.SetTest.{bodyAt, marked, bodyHolds, giveRule}
+use borrow.Author.Needs.{needs}
+use Rattle.answer_set.proofs.models.give_rule.Statement.{statement}
+use Rattle.answer_set.proofs.models.give_rule.Tie as tie
+
+-- the call tells of the body
+tells : (c : tie.After-body-holds)
+    → (let a = c .before .before .before .before .before .args in
+    bodyHolds (marked (a .inside .now)) (marked (a .marks .now)) (bodyAt (a .words .now)) ≡ c .body-holds .result)
+tells c = sym (rw (c .before .before .body-of .ensures) at (c .body-holds .ensures))
+
+-- src/models.rt:98:9
+returns : tie.Need-returns
+unfolding giveRule
+returns c =
+    let d = c .before .before in
+    let h = d .before .before in
+    let k = h .before in
+    rw (tells (k .before .before) ∙ k .before .if1 .taken) (rw (h .heads-of .ensures, k .kind-of .ensures) at (d .give-heads .ensures))
+
+-- src/models.rt:92:1
+returns-2 : tie.Need-returns-2
+unfolding giveRule
+returns-2 c = rw (tells (c .before) ∙ c .if1 .left) (record { marks = refl; still = λ e. refl })
+
+pub give-rule-spec : {M : Type 1} → statement M
+give-rule-spec =
+    tie.close
+    (tie.spec
+    (λ c κs. search needs)
+    (λ c κs. search needs)
+    (λ c κs. search needs)
+    (λ c κs. search needs)
+    (λ c κs. search needs)
+    (λ c. search needs)
+    returns
+    (λ c. search needs)
+    returns-2)

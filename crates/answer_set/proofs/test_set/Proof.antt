@@ -1,0 +1,91 @@
+use mathlib.Core.Path.{_≡_, sym, _∙_, ap}
+use mathlib.Core.Bool.{true}
+use native.Mathlib.Omega.{arith}
+use borrow.Author.Tests.{not-true, not-false}
+use Rattle.aspif.specs.Rules.{atoms}
+use Rattle.answer_set.specs.SetTest.{ascends, rulesAt, soundTable, listed, marked}
+use Rattle.answer_set.proofs.Fronts.{sound-rules}
+use Rattle.answer_set.proofs.Tested.{atoms-small, marks-listed, refused-41, refused-42, refused-43, tested}
+use borrow.Author.Needs.{needs}
+use Rattle.answer_set.proofs.test_set.Statement.{statement}
+use Rattle.answer_set.proofs.test_set.Tie as tie
+
+-- question 41 is passed
+sound : (c : tie.Else1) → (let a = c .before .before .before .before .before .before .before .before .args in soundTable (a .table .now) (a .rules) ≡ true)
+sound c = sym (c .before .is-readable .ensures) ∙ not-false _ (c .if1 .left)
+
+-- what is told of question 42
+told : (c : tie.After-ascends-within)
+    → (let a = c .before .before .before .before .before .before .before .before .before .before .args in
+    c .ascends-within .result ≡ ascends 0 (atoms (rulesAt (a .rules) (a .table .now))) (a .set .now))
+told c = rw (c .before .largest-atom .ensures) at (c .ascends-within .ensures)
+
+-- src/lib.rt:28:9
+returns : tie.Need-returns
+returns c = refused-41 _ _ _ _ _ (c .before .before .before .before .zero-marks .ensures) (sym (c .before .is-readable .ensures) ∙ not-true _ (c .if1 .taken))
+
+-- src/lib.rt:30:9
+largest-atom-requires : tie.Need-largest-atom-requires
+largest-atom-requires c κs = sound-rules _ _ (sound c)
+
+-- src/lib.rt:32:9
+returns-2 : tie.Need-returns-2
+returns-2 c =
+    let d = c .before in
+    refused-42 _ _ _ _ _ (d .before .before .before .before .before .before .zero-marks .ensures) (sound (d .before .before)) (sym (told d) ∙ not-true _ (c .if2 .taken))
+
+-- src/lib.rt:35:9
+returns-3 : tie.Need-returns-3
+returns-3 c =
+    let d = c .before .before in
+    let z = d .before .before .before .before .before in
+    refused-43 _ _ _ _ _ (z .before .zero-marks .ensures) (sound (d .before .before)) (sym (told d) ∙ not-false _ (c .before .if2 .left)) (λ e. c .if3 .taken (z .marks .given ∙ e))
+
+-- src/lib.rt:39:5
+close-requires : tie.Need-close-requires
+close-requires c κs = sound-rules _ _ (sound (c .before .before .before .before .before .before .before .before .before))
+
+-- src/lib.rt:40:5
+judge-requires : tie.Need-judge-requires
+judge-requires c κs =
+    let d = c .before .before .before .before .before .before .before .before .before .before .before .before .before in
+    let a = d .before .before .before .before .before .before .before .before .before .args in
+    (sound (d .before), rw (d .largest-atom .ensures) (atoms-small (a .rules) (a .table .now) (sound-rules _ _ (sound (d .before)))))
+
+-- src/lib.rt:23:1
+returns-4 : tie.Need-returns-4
+returns-4 c =
+    let k = c .before .before .before .before .before in
+    let m = k .before .before .before .before in
+    let g = m .before .before .before in
+    let d = g .before in
+    let z = d .before .before .before .before .before in
+    let a = z .before .before .before .before .before .args in
+    let s = sound (d .before .before) in
+    let w = sym (told d) ∙ not-false _ (g .if2 .left) in
+    let h = atoms-small (a .rules) (a .table .now) (sound-rules _ _ s) in
+    let e : marked (m .mark-all .last .1 .0) ≡ listed (a .set .now) = ap marked (m .mark-all .ensures) ∙ marks-listed (atoms (rulesAt (a .rules) (a .table .now))) 4096 (a .set .now) w (omega arith) in
+    tested (a .table .now) (a .rules) (a .set .now) (a .marks .now) (k .close .last .1 .1 .1 .1 .0) s w (sym (z .marks .given) ∙ m .before .before .if3 .left) e (d .before .largest-atom .ensures) (z .before .zero-marks .ensures) (k .close .ensures) (c .judge .ensures)
+
+pub test-set-spec : {M : Type 1} → statement M
+test-set-spec =
+    tie.close
+    (tie.spec
+    (λ c κs. search needs)
+    (λ c κs. search needs)
+    (λ c. search needs)
+    returns
+    largest-atom-requires
+    (λ c κs. search needs)
+    (λ c. search needs)
+    returns-2
+    (λ c. search needs)
+    returns-3
+    (λ c. search needs)
+    (λ c κs. search needs)
+    (λ c. search needs)
+    close-requires
+    (λ c. search needs)
+    judge-requires
+    (λ c. search needs)
+    returns-4)

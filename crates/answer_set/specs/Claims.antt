@@ -1,0 +1,50 @@
+-- How the executable definitions of specs/SetTest.antt stand to the program reader's definition and to specs/AnswerSets.antt, as
+-- statements. proofs/Readable.antt proves the first, proofs/Answered.antt those on marks and answers, proofs/Service.antt the last.
+-- Assumes nothing.
+use mathlib.Core.Path.{_≡_}
+use mathlib.Core.Logic.{_↔_, _⊎_}
+use mathlib.Core.Bool.{true}
+use mathlib.Core.Option.{some}
+use mathlib.Core.List.{List}
+use Prim.Native.Nat.{ℕ}
+use lib.IntN.{ℤ}
+use lib.ListN.{length, getD}
+use Rattle.words.specs.Lists.{_∈_}
+use Rattle.aspif.specs.Rules.{Rule, atoms}
+use Rattle.answer_set.specs.AnswerSets.{LeastModel, AnswerSet}
+use Rattle.answer_set.specs.SetTest.{ReadAs, ascends, rulesOf, marksLent, listed, least, verdictOf, yes, SetTested}
+use Rattle.answer_set.specs.declared.SetAnswer.{SetAnswer}
+use Rattle.answer_set.specs.declared.SetAnswer.the-variants.{Yes}
+
+-- question 41: the rules computed from a table are those of a program that the reader reads so
+abbrev pub TableRead : Type 0
+TableRead = (table : List ℤ) (rules : ℕ) (rs : List Rule) → (rulesOf table rules ≡ some rs) ↔ ReadAs table rules rs
+
+-- the set of the numbers listed
+abbrev pub Listed : List ℕ → ℕ → Type 0
+Listed l v = v ∈ l
+
+-- a table that question 41 lets pass, with its rules, and a set that question 42 does
+pub record Ready (table : List ℤ) (rules : ℕ) (l : List ℕ) (rs : List Rule) : Type 0 where
+  pub readable : rulesOf table rules ≡ some rs
+  pub ascending : ascends 0 (atoms rs) l ≡ true
+
+-- "The marks afterwards hold 1 at each atom of the least model and 0 elsewhere"
+pub record LeastMarks (l : List ℕ) (rs : List Rule) (m : List ℕ) : Type 0 where
+  pub count : length m ≡ marksLent
+  pub bytes : (v : ℕ) → (getD m v 0 ≡ 0) ⊎ (getD m v 0 ≡ 1)
+  pub ones : (v : ℕ) → (getD m v 0 ≡ 1) ↔ LeastModel (Listed l) rs v
+
+abbrev pub MarksLeast : Type 0
+MarksLeast = (table : List ℤ) (rules : ℕ) (l : List ℕ) (rs : List Rule) → Ready table rules l rs → LeastMarks l rs (least (listed l) rs)
+
+-- "M is an answer set when .."
+abbrev pub YesAnswerSet : Type 0
+YesAnswerSet =
+    (table : List ℤ) (rules : ℕ) (l : List ℕ) (rs : List Rule) → Ready table rules l rs → (verdictOf (listed l) rs ≡ yes) ↔ AnswerSet (Listed l) rs
+
+-- the service: its contract holds of the answer yes exactly where questions 41 to 43 are passed and the set is an answer set
+abbrev pub ServiceYes : Type 0
+ServiceYes =
+    (table : List ℤ) (rules : ℕ) (l before after : List ℕ) (r : SetAnswer) → SetTested table rules l before after r
+    → (r ≡ Yes) ↔ ((rs : List Rule) × ReadAs table rules rs × (ascends 0 (atoms rs) l ≡ true) × (length before ≡ marksLent) × AnswerSet (Listed l) rs)

@@ -1,0 +1,95 @@
+// The answer on a set, once the least model is marked.
+ghost use mathlib.Core.Path.{_≡_};
+ghost use mathlib.Core.Bool.{Bool, true, cond};
+ghost use Prim.Native.Nat.{ℕ, _+_, _≤_};
+ghost use Rattle.answer_set.specs.SetTest.{ruleAt, shapeSound, rulesAt, soundTable, marked, isConstraint, isBroken, anyBelow, justOne, differs, brokenFrom, apart, Says};
+ghost use Rattle.answer_set.specs.Private.{Finds};
+use crate::SetAnswer;
+use crate::models;
+use crate::tables;
+use aspif::Kind;
+
+// What a search finds.
+pub enum Found {
+    At(u16),
+    Nothing,
+}
+
+// One of the two holds.
+fn just_one(a: bool, b: bool) -> bool
+    ensures { λ r. ⌜ r ≡ justOne a b ⌝ }
+{
+    if a { !b } else { b }
+}
+
+// A number below n that lies in just one of M and the least model, if there is one.
+fn differing(inside: &[u8], marks: &[u8], n: usize) -> Found
+    requires { ⌜ n ≤ 4096 ⌝ }
+    ensures { λ r. ⌜ Finds (apart (marked (now (inside .entry))) (now (marks .entry))) n r ⌝ }
+{
+    let mut i = n;
+    while 0 < i {
+        i -= 1;
+        if just_one(models::is_marked(inside, i), models::is_marked(marks, i)) {
+            return Found::At(i as u16);
+        }
+    }
+    Found::Nothing
+}
+
+// The rule at the front is a constraint.
+fn is_constraint(words: &[i32]) -> bool
+    requires { ⌜ shapeSound (now words) ≡ true ⌝ }
+    ensures { λ r. ⌜ r ≡ isConstraint (ruleAt (now (words .entry))) ⌝ }
+{
+    let kind = tables::kind_of(words);
+    match kind {
+        Kind::Normal => tables::heads_of(words).len() == 0,
+        Kind::Choice => false,
+    }
+}
+
+// The rule at the front is a constraint that M breaks.
+fn is_broken(words: &[i32], inside: &[u8]) -> bool
+    requires { ⌜ shapeSound (now words) ≡ true ⌝ }
+    ensures { λ r. ⌜ r ≡ isBroken (marked (now (inside .entry))) (ruleAt (now (words .entry))) ⌝ }
+{
+    if is_constraint(words) {
+        return models::body_holds(tables::body_of(words), inside, inside);
+    }
+    false
+}
+
+// The lowest broken constraint, or yes.
+fn first_broken(table: &[i32], rules: usize, inside: &[u8]) -> SetAnswer
+    requires { ⌜ soundTable (now table) rules ≡ true ⌝ }
+    ensures { λ r. ⌜ ((just : ℕ → Bool) → Says just (brokenFrom (marked (now (inside .entry))) 1 (rulesAt rules (now (table .entry)))) r) ⌝ }
+{
+    let mut number = 1;
+    let mut left = rules;
+    let mut i = 0;
+    while 0 < left {
+        let rest = &table[i..];
+        if is_broken(rest, inside) {
+            return SetAnswer::Broken(number);
+        }
+        i += tables::rule_size(rest);
+        number += 1;
+        left -= 1;
+    }
+    SetAnswer::Yes
+}
+
+// The answer for a set M and the marks of the least model, with atoms from 1 to the number given.
+pub fn judge(table: &[i32], rules: usize, atoms: usize, inside: &[u8], marks: &[u8]) -> SetAnswer
+    requires { ⌜ (soundTable (now table) rules ≡ true) × (atoms ≤ 4095) ⌝ }
+    ensures { λ r. ⌜ (let M = marked (now (inside .entry)) in
+        let just = apart M (now (marks .entry)) in
+        Says just (cond (anyBelow just (atoms + 1)) differs (brokenFrom M 1 (rulesAt rules (now (table .entry))))) r) ⌝ }
+{
+    let found = differing(inside, marks, atoms + 1);
+    match found {
+        Found::At(v) => SetAnswer::Differs(v),
+        Found::Nothing => first_broken(table, rules, inside),
+    }
+}

@@ -1,0 +1,139 @@
+// The least model of a reduct, as marks. The set M is lent as marks too: `inside` holds 1 at each number of M.
+ghost use mathlib.Core.Path.{_≡_};
+ghost use mathlib.Core.Bool.{true};
+ghost use lib.ListN.{set};
+ghost use Rattle.answer_set.specs.SetTest.{ruleAt, shapeSound, rulesAt, soundRules, marked, literalHolds, bodyHolds, gives, giveHead, giveHeads, giveRule, round, rounds};
+ghost use Rattle.answer_set.specs.Private.{Marking};
+use crate::tables;
+use aspif::Kind;
+
+// Byte v is 1.
+pub fn is_marked(marks: &[u8], v: usize) -> bool
+    ensures { λ r. ⌜ r ≡ marked (now (marks .entry)) v ⌝ }
+{
+    if v < marks.len() {
+        marks[v] == 1
+    } else {
+        false
+    }
+}
+
+// Byte v becomes 1; whether it was not.
+pub fn mark(marks: &mut [u8], v: usize) -> bool
+    ensures { λ r. ⌜ Marking (set (now (marks .entry)) v 1) (now (marks .entry)) (now (marks .exit)) r ⌝ }
+{
+    if v < marks.len() {
+        if marks[v] != 1 {
+            marks[v] = 1;
+            return true;
+        }
+    }
+    false
+}
+
+// A positive literal's atom is marked; a negated one's is outside M.
+fn literal_holds(word: i32, inside: &[u8], marks: &[u8]) -> bool
+    ensures { λ r. ⌜ r ≡ literalHolds (marked (now (inside .entry))) (marked (now (marks .entry))) word ⌝ }
+{
+    let v = words::variable_of(word);
+    if word < 0 {
+        return !is_marked(inside, v);
+    }
+    is_marked(marks, v)
+}
+
+// Every literal of a body holds.
+pub fn body_holds(body: &[i32], inside: &[u8], marks: &[u8]) -> bool
+    ensures { λ r. ⌜ r ≡ bodyHolds (marked (now (inside .entry))) (marked (now (marks .entry))) (now (body .entry)) ⌝ }
+{
+    let mut i = 0;
+    while i < body.len() {
+        if literal_holds(body[i], inside, marks) {
+            i += 1;
+        } else {
+            return false;
+        }
+    }
+    true
+}
+
+// A choice rule gives a head only where it is in M.
+fn gives_head(kind: Kind, inside: &[u8], v: usize) -> bool
+    ensures { λ r. ⌜ r ≡ gives (marked (now (inside .entry))) kind v ⌝ }
+{
+    match kind {
+        Kind::Normal => true,
+        Kind::Choice => is_marked(inside, v),
+    }
+}
+
+// A head that its rule gives is marked; whether it was not.
+fn give_head(head: i32, kind: Kind, inside: &[u8], marks: &mut [u8]) -> bool
+    ensures { λ r. ⌜ Marking (giveHead (marked (now (inside .entry))) kind head (now (marks .entry))) (now (marks .entry)) (now (marks .exit)) r ⌝ }
+{
+    let v = words::variable_of(head);
+    if gives_head(kind, inside, v) {
+        return mark(marks, v);
+    }
+    false
+}
+
+// So for every head of a rule; whether a mark is new.
+fn give_heads(heads: &[i32], kind: Kind, inside: &[u8], marks: &mut [u8]) -> bool
+    ensures { λ r. ⌜ Marking (giveHeads (marked (now (inside .entry))) kind (now (heads .entry)) (now (marks .entry))) (now (marks .entry)) (now (marks .exit)) r ⌝ }
+{
+    let mut new = false;
+    let mut i = 0;
+    while i < heads.len() {
+        if give_head(heads[i], kind, inside, marks) {
+            new = true;
+        }
+        i += 1;
+    }
+    new
+}
+
+// The rule at the front marks what it gives; whether a mark is new.
+fn give_rule(words: &[i32], inside: &[u8], marks: &mut [u8]) -> bool
+    requires { ⌜ shapeSound (now words) ≡ true ⌝ }
+    ensures { λ r. ⌜ Marking (giveRule (marked (now (inside .entry))) (ruleAt (now (words .entry))) (now (marks .entry))) (now (marks .entry)) (now (marks .exit)) r ⌝ }
+{
+    if body_holds(tables::body_of(words), inside, marks) {
+        let kind = tables::kind_of(words);
+        return give_heads(tables::heads_of(words), kind, inside, marks);
+    }
+    false
+}
+
+// One round over the rules; whether a mark is new.
+fn give_all(table: &[i32], rules: usize, inside: &[u8], marks: &mut [u8]) -> bool
+    requires { ⌜ soundRules rules (now table) ≡ true ⌝ }
+    ensures { λ r. ⌜ Marking (round (marked (now (inside .entry))) (rulesAt rules (now (table .entry))) (now (marks .entry))) (now (marks .entry)) (now (marks .exit)) r ⌝ }
+{
+    let mut new = false;
+    let mut left = rules;
+    let mut i = 0;
+    while 0 < left {
+        let rest = &table[i..];
+        if give_rule(rest, inside, marks) {
+            new = true;
+        }
+        i += tables::rule_size(rest);
+        left -= 1;
+    }
+    new
+}
+
+// Rounds until no mark is new, and at most so many.
+pub fn close(table: &[i32], rules: usize, most: usize, inside: &[u8], marks: &mut [u8])
+    requires { ⌜ soundRules rules (now table) ≡ true ⌝ }
+    ensures { λ _. ⌜ now (marks .exit) ≡ rounds (marked (now (inside .entry))) most (rulesAt rules (now (table .entry))) (now (marks .entry)) ⌝ }
+{
+    let mut left = most;
+    while 0 < left {
+        if !give_all(table, rules, inside, marks) {
+            return;
+        }
+        left -= 1;
+    }
+}

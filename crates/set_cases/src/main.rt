@@ -1,0 +1,123 @@
+// Worked cases of the set test: document 01's starred examples 4, 6, 7 and 8, constraints, and questions 41 to 43 at their edges.
+// A line for each case: its name, the answer, and how many marks are 1 afterwards.
+use answer_set::SetAnswer;
+use libc::STDOUT_FILENO;
+
+fn say(word: &[u8]) {
+    io::write_all(STDOUT_FILENO, word);
+}
+
+fn say_number(n: usize) {
+    say(b" ");
+    io::print_decimal(STDOUT_FILENO, n as u64);
+}
+
+fn ones(marks: &[u8]) -> usize {
+    let mut n = 0;
+    let mut i = 0;
+    while i < marks.len() {
+        if marks[i] == 1 {
+            n += 1;
+        }
+        i += 1;
+    }
+    n
+}
+
+fn say_answer(answer: SetAnswer) {
+    match answer {
+        SetAnswer::Yes => say(b" yes"),
+        SetAnswer::Differs(_) => say(b" no, an atom differs"),
+        SetAnswer::Broken(k) => {
+            say(b" no, broken constraint");
+            say_number(k);
+        }
+        SetAnswer::Refused(k) => {
+            say(b" refused");
+            say_number(k as usize);
+        }
+    }
+}
+
+// The test on marks that are not zero before.
+fn case_with(name: &[u8], table: &[i32], rules: usize, set: &[u16], marks: &mut [u8]) {
+    say(name);
+    say(b":");
+    say_answer(answer_set::test_set(table, rules, set, marks));
+    say(b", marks");
+    say_number(ones(marks));
+    say(b"\n");
+}
+
+fn case(name: &[u8], table: &[i32], rules: usize, set: &[u16]) {
+    let mut marks = [1u8; 4096];
+    case_with(name, table, rules, set, &mut marks);
+}
+
+fn starred() {
+    case(b"4 {}", &[], 0, &[]);
+    let loop_of_two = [0i32, 1, 1, 1, 2, 0, 1, 1, 2, 1, 0, 0];
+    case(b"6 {}", &loop_of_two, 2, &[]);
+    case(b"6 {1, 2}", &loop_of_two, 2, &[1, 2]);
+    let choice = [1i32, 1, 0, 1];
+    case(b"7 {}", &choice, 1, &[]);
+    case(b"7 {1}", &choice, 1, &[1]);
+    let with_fact = [0i32, 1, 1, 1, -1, 0, 1, 0, 1, 0];
+    case(b"8 {1}", &with_fact, 2, &[1]);
+    case(b"8 {}", &with_fact, 2, &[]);
+}
+
+fn constraints() {
+    let table = [1i32, 2, 0, 1, 2, 0, 0, 1, -1, 0, 0, 1, -2];
+    case(b"constraints {1, 2}", &table, 3, &[1, 2]);
+    case(b"constraints {1}", &table, 3, &[1]);
+    case(b"constraints {2}", &table, 3, &[2]);
+    case(b"constraints {}", &table, 3, &[]);
+}
+
+fn refused_41() {
+    case(b"41 a word after the rules", &[0, 1, 0, 1, 1], 1, &[]);
+    case(b"41 a rule too many", &[0, 1, 0, 1, 0], 2, &[]);
+    case(b"41 a rule too few", &[0, 1, 0, 1, 0, 1, 0, 1], 1, &[]);
+    case(b"41 zeros are a constraint", &[0, 0, 0], 1, &[]);
+    case(b"41 head kind 2", &[2, 1, 0, 1], 1, &[]);
+    case(b"41 no choice head", &[1, 0, 0], 1, &[]);
+    case(b"41 two normal heads", &[0, 2, 0, 1, 2], 1, &[]);
+    case(b"41 head count -1", &[0, -1, 0], 1, &[]);
+    case(b"41 a head that is missing", &[0, 1, 0], 1, &[]);
+    case(b"41 head 0", &[0, 1, 0, 0], 1, &[]);
+    case(b"41 head 4095", &[0, 1, 0, 4095], 1, &[4095]);
+    case(b"41 head 4096", &[0, 1, 0, 4096], 1, &[]);
+    case(b"41 heads 2 1", &[1, 2, 0, 2, 1], 1, &[]);
+    case(b"41 body 1 -1", &[0, 0, 2, 1, -1], 1, &[]);
+    case(b"41 body -1 2", &[0, 0, 2, -1, 2], 1, &[]);
+}
+
+fn refused_42() {
+    let fact = [0i32, 1, 0, 2];
+    case(b"42 {0}", &fact, 1, &[0]);
+    case(b"42 {2}", &fact, 1, &[2]);
+    case(b"42 {3}", &fact, 1, &[3]);
+    case(b"42 {2, 2}", &fact, 1, &[2, 2]);
+    case(b"42 {2, 1}", &fact, 1, &[2, 1]);
+    case(b"41 before 42", &[2], 1, &[0]);
+}
+
+fn refused_43() {
+    let mut none: [u8; 0] = [];
+    case_with(b"43 no marks", &[], 0, &[], &mut none);
+    let mut short = [1u8; 4095];
+    case_with(b"43 4095 marks", &[], 0, &[], &mut short);
+    let mut long = [1u8; 4097];
+    case_with(b"43 4097 marks", &[], 0, &[], &mut long);
+    let mut few = [1u8; 3];
+    case_with(b"42 before 43", &[], 0, &[1], &mut few);
+}
+
+fn main() {
+    starred();
+    constraints();
+    refused_41();
+    refused_42();
+    refused_43();
+}
