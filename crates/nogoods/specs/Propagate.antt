@@ -5,9 +5,10 @@ use mathlib.Core.Path.{_≡_}
 use mathlib.Core.Logic.{_⊎_}
 use mathlib.Core.Bool.{Bool, true, false}
 use mathlib.Core.List.{List, [], _∷_}
-use Prim.Native.Nat.{ℕ, zero, suc, _+_, _-_, _≤_, _<_}
+use Prim.Native.Nat.{ℕ, zero, suc, _+_, _≤_, _<_}
 use lib.IntN.{ℤ, pos, negsuc, natAbs}
 use lib.ListN.{length, take, drop, getD, set}
+use Rattle.words.specs.Limits.{largest}
 use Rattle.words.specs.Lists.{_∈_}
 use Rattle.words.specs.Literals.{variable, complement}
 use Rattle.derivation.specs.Propagation.{Closure, Conflict}
@@ -22,6 +23,10 @@ use Rattle.nogoods.specs.declared.propagation.Swept.{Swept}
 use Rattle.nogoods.specs.declared.propagation.Swept.the-variants.{Refuted, Changed, Same}
 
 -- Assignments: an entry for each variable, 0 free, 1 true, 2 false
+
+-- "arrays of 4,096 entries hold .. the propagation's assignment": as many as there are variables, and one for 0
+abbrev pub entries : ℕ
+entries = suc largest
 
 -- the entry of its variable that makes a literal true
 abbrev pub entry : ℤ → ℕ

@@ -6,9 +6,9 @@ use borrow.Author.Needs.{needs}
 use lib.IntN.{ℤ, pos}
 use lib.ListN.{length, getD}
 use Rattle.words.proofs.Words.{back}
+use Rattle.words.proofs.Places.{in-at}
 use Rattle.nogoods.specs.Propagate.{Valued}
 use Rattle.nogoods.specs.declared.units.Value.{Value}
-use Rattle.nogoods.proofs.Places.{in-at}
 use Rattle.nogoods.proofs.Looks.{Seen, seen-none, seen-true, seen-false, seen-free, seen-second, seen-all, seen-one}
 use Rattle.nogoods.proofs.units.look_at.Statement.{statement}
 use Rattle.nogoods.proofs.units.look_at.Tie as tie

@@ -4,15 +4,15 @@ use mathlib.Core.Path.{_≡_, refl, sym, ap}
 use mathlib.Core.Logic.{_⊎_, inl, inr}
 use mathlib.Core.Bool.{true}
 use mathlib.Core.List.{List, [], _∷_, List·Memᴰ·head, List·Memᴰ·tail}
-use Prim.Native.Nat.{ℕ, zero, suc, _≤_, _<_}
+use Prim.Native.Nat.{ℕ, zero, suc, _<_}
 use native.Mathlib.Omega.{arith}
 use lib.Dec.{eqb}
 use lib.IntN.{ℤ, pos}
 use lib.ListN.{length, getD, set}
 use Rattle.words.specs.Lists.{_∈_}
 use Rattle.words.specs.Literals.{variable, same, mentions, noneTwice}
 use Rattle.words.proofs.Lists.{Decides, passed, answered, and-decides, not-decides, any-decides, eqb-decides}
 use Rattle.words.proofs.Literals.{same-decides}
 
 -- two numbers, or two words, are equal or not
 pub equal? : (a b : ℕ) → (a ≡ b) ⊎ (¬ (a ≡ b))
