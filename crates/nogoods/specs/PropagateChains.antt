@@ -31,6 +31,7 @@ pub record Queue (m queue : List ℕ) (t : ℕ) : Type 0 where
   pub inside : Below places queue
   pub room : t + free m ≤ entries
 
+-- what a walk along a chain says, with the assignment and the queue afterwards
 abbrev pub Walks : List ℤ → List ℕ → List ℕ → List ℕ → Walk → Type 0
 Walks s m m′ queue Clash = Clashes s m
 Walks s m m′ queue (Queued t) = Grows s m m′ × Queue m′ queue t

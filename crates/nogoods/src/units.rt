@@ -38,6 +38,7 @@ fn entry_of(word: i32) -> u8
     if word < 0 { 2 } else { 1 }
 }
 
+// What an assignment says of a literal.
 fn value_of(word: i32, assignment: &[u8; ENTRIES]) -> Value
     requires { ⌜ (1 ≤ variable word) × (variable word ≤ largest) ⌝ }
     ensures { λ r. ⌜ Valued (now (assignment .entry)) word r ⌝ }
@@ -66,6 +67,7 @@ pub fn make_true(word: i32, assignment: &mut [u8; ENTRIES]) -> usize
     v
 }
 
+// The complement of a literal.
 fn complement_of(word: i32) -> i32
     requires { ⌜ variable word ≤ largest ⌝ }
     ensures { λ r. ⌜ r ≡ complement word ⌝ }
@@ -73,6 +75,7 @@ fn complement_of(word: i32) -> i32
     0 - word
 }
 
+// A look at a nogood's literals under an assignment.
 fn look_at(literals: &[i32], assignment: &[u8; ENTRIES]) -> Look
     requires { ⌜ Literals (now literals) ⌝ }
     ensures { λ r. ⌜ Looked (now (assignment .entry)) (now (literals .entry)) r ⌝ }

@@ -51,7 +51,8 @@ first : (x : ℤ) (l : List ℤ) → noneTwice (x ∷ l) ≡ true → (j : ℕ) 
 first x l o j h e = once-decides x l .to (passed _ .from o) .0 (getD l j (pos 0), in-at (pos 0) l j h, e)
 
 -- no variable stands twice: at two places stand two variables
-pub distinct : (l : List ℤ) → noneTwice l ≡ true → (i j : ℕ) → i < length l → j < length l → ¬ (i ≡ j) → ¬ (variable (getD l i (pos 0)) ≡ variable (getD l j (pos 0)))
+pub distinct : (l : List ℤ) → noneTwice l ≡ true → (i j : ℕ) → i < length l → j < length l → ¬ (i ≡ j)
+    → ¬ (variable (getD l i (pos 0)) ≡ variable (getD l j (pos 0)))
 distinct [] o i j h k n e = omega arith
 distinct (x ∷ l) o zero zero h k n e = n refl
 distinct (x ∷ l) o zero (suc j) h k n e = first x l o j (omega arith) e

@@ -35,7 +35,8 @@ loop-holds c = let s = c .before in (omega arith, omega arith, s .pre .1 .1 .0, 
 abbrev word : tie.In-loop Inv-loop μ-loop → ℤ
 word c = getD (c .before .before .before .args .nogoods .now) (c .before .loop .p) (pos 0)
 
-inside : (c : tie.In-loop Inv-loop μ-loop) → (c .before .loop .p < length (c .before .before .before .args .nogoods .now)) × (length (c .before .before .before .args .nogoods .now) ≤ reach)
+inside : (c : tie.In-loop Inv-loop μ-loop) → let s = c .before .before .before in
+    (c .before .loop .p < length (s .args .nogoods .now)) × (length (s .args .nogoods .now) ≤ reach)
 inside c = let k = room (c .before .before) in (omega (arith, c .loop-test .taken), k .1)
 
 mul-place-of : tie.Need-mul-place-of Inv-loop μ-loop

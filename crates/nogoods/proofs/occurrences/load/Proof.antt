@@ -38,7 +38,8 @@ loop-again c =
     let i = o .before .before .before in
     let l = i .before .loop in
     let e = o .is-assigned .ensures (c .if1 .taken) in
-    (omega (arith, i .loop-test .taken), loading-assigned _ (l .queue) (l .v) (l .t) (l .inv .1) (inside i) (o .before .before .true-place .result) (o .before .before .true-place .ensures) (e .0) (e .1))
+    let z = o .before .before .true-place in
+    (omega (arith, i .loop-test .taken), loading-assigned _ (l .queue) (l .v) (l .t) (l .inv .1) (inside i) (z .result) (z .ensures) (e .0) (e .1))
 
 loop-again-2 : tie.Need-loop-again-2 Inv-loop μ-loop
 loop-again-2 c =

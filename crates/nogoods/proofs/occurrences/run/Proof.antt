@@ -7,7 +7,7 @@ use lib.ListN.{length, getD}
 use Rattle.nogoods.specs.Propagate.{entries, Grows}
 use Rattle.nogoods.specs.PropagateChains.{places, reach, Queue, Walks}
 use Rattle.nogoods.specs.declared.occurrences.Walk.{Walk}
-use Rattle.nogoods.proofs.Closures.{grows-not, grows-on}
+use Rattle.nogoods.proofs.Closures.{grows-not, grows-on, clashes-before}
 use Rattle.nogoods.proofs.occurrences.run.Statement.{statement}
 use Rattle.nogoods.proofs.occurrences.run.Tie as tie
 
@@ -79,9 +79,7 @@ module _ (c : tie.After-visit Inv-loop μ-loop) where
   told x e = rw e at (c .visit .ensures)
 
 returns : tie.Need-returns Inv-loop μ-loop
-returns c live L h w =
-    let o = c .before .before in
-    told o _ (c .enum-told .given .1) live L h (l (i o) .loop .inv .0 .sound live L h w)
+returns c = let o = c .before .before in clashes-before _ _ _ (l (i o) .loop .inv .0) (told o _ (c .enum-told .given .1))
 
 loop-less : tie.Need-loop-less Inv-loop μ-loop
 loop-less c = let k = early (i (c .before .before .before)) in omega arith

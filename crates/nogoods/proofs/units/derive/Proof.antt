@@ -21,7 +21,8 @@ told : (c : tie.After-look-at) (x : Look) → c .look-at .result ≡ x → Looke
 told c x e = rw e at (c .look-at .ensures)
 
 -- the one free literal
-unit : (c : tie.After-known-told) → let s = c .before .before .before .before .before in Looked (s .args .assignment .now) (s .args .literals .now) (Unit (c .before .look .given .0 .0))
+unit : (c : tie.After-known-told) → let s = c .before .before .before .before .before in
+    Looked (s .args .assignment .now) (s .args .literals .now) (Unit (c .before .look .given .0 .0))
 unit c = told (c .before .before .before) _ (c .before .look .given .1)
 
 abbrev one : tie.After-known-told → ℤ
