@@ -10,11 +10,11 @@ use lib.ListN.{length, getD, set, replicate}
 use lib.Seq.{getD-set-same, getD-set-other}
 use Rattle.words.specs.Lists.{_∈_}
 use Rattle.words.specs.Literals.{variable, complement}
-use Rattle.words.proofs.Literals.{variable-complement, complement-twice}
+use Rattle.words.proofs.Literals.{variable-complement}
+use Rattle.words.proofs.Places.{equal?, in-at, place-of, distinct}
 use Rattle.nogoods.specs.Store.{Literals}
 use Rattle.nogoods.specs.Propagate.{entry, Assigns, Valued, free}
-use Rattle.nogoods.specs.declared.units.Value.the-variants.{True, False, Free}
-use Rattle.nogoods.proofs.Places.{equal?, in-at, place-of, distinct}
+use Rattle.nogoods.specs.declared.units.Value.the-variants.{Free}
 
 pub entry-cases : (z : ℤ) → (entry z ≡ 1) ⊎ (entry z ≡ 2)
 entry-cases (pos n) = inl refl

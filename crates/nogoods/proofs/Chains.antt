@@ -8,11 +8,11 @@ use native.Mathlib.Omega.{arith}
 use lib.IntN.{ℤ}
 use lib.ListN.{length, drop, getD, set, replicate, drop-of-length-le}
 use lib.Seq.{drop-cons}
-use Rattle.nogoods.specs.Propagate.{free, Stands}
-use Rattle.nogoods.specs.PropagateChains.{Links, Below, Queue}
-use Rattle.nogoods.proofs.Places.{set-each}
+use Rattle.words.proofs.Places.{set-each}
+use Rattle.nogoods.specs.Propagate.{entries, free, Stands}
+use Rattle.nogoods.specs.PropagateChains.{places, Links, Below, Queue}
 use Rattle.nogoods.proofs.Assignments.{zeros, free-assigned, free-cons}
-use Rattle.nogoods.proofs.Segments.{walk-start, walk-here}
+use Rattle.nogoods.proofs.Segments.{rest-start, rest-here}
 
 -- Entries below a bound
 
@@ -30,7 +30,7 @@ below-weaker p q l h b j = omega (arith, b j)
 module _ (s : List ℤ) where
   pub links-none : (n : ℕ) → 0 < length s → Links s (replicate n 0) (replicate n 0)
   links-none n some = record {
-    stands = λ p. rw (zeros n p) (λ live h. walk-here s live 0 (walk-start s live h) some);
+    stands = λ p. rw (zeros n p) (λ live h. rest-here s live 0 (rest-start s live h) some);
     down = λ p h. rw (zeros n p) h;
   }
 
@@ -44,13 +44,13 @@ module _ (s : List ℤ) where
 -- The queue
 
 -- one literal more is queued, and one variable less is free
-pub queue-on : (m m′ queue : List ℕ) (t z : ℕ) → Queue m queue t → z < 8192 → suc (free m′) ≡ free m → Queue m′ (set queue t z) (t + 1)
-queue-on m m′ queue t z q h e = record { places = below-set 8192 queue t z (q .places) h; room = omega (arith, q .room) }
+pub queue-on : (m m′ queue : List ℕ) (t z : ℕ) → Queue m queue t → z < places → suc (free m′) ≡ free m → Queue m′ (set queue t z) (t + 1)
+queue-on m m′ queue t z q h e = record { inside = below-set places queue t z (q .inside) h; room = omega (arith, q .room) }
 
 module _ (m : List ℕ) where
   -- the literals of the variables below v are queued
   pub record Loading (queue : List ℕ) (v t : ℕ) : Type 0 where
-    pub places : Below 8192 queue
+    pub inside : Below places queue
     pub few : t ≤ v
     pub room : t + free m ≤ v + free (drop v m)
 
@@ -60,17 +60,17 @@ module _ (m : List ℕ) where
 
     pub loading-free : Loading queue (v + 1) t
     loading-free = record {
-      places = l .places;
+      inside = l .inside;
       few = omega (arith, l .few);
       room = omega (arith, l .room, here, free-cons (getD m v 0) (drop (v + 1) m));
     }
 
-    pub loading-assigned : (z : ℕ) → z < 8192 → 1 ≤ getD m v 0 → getD m v 0 ≤ 2 → Loading (set queue t z) (v + 1) (t + 1)
+    pub loading-assigned : (z : ℕ) → z < places → 1 ≤ getD m v 0 → getD m v 0 ≤ 2 → Loading (set queue t z) (v + 1) (t + 1)
     loading-assigned z k a b = record {
-      places = below-set 8192 queue t z (l .places) k;
+      inside = below-set places queue t z (l .inside) k;
       few = omega (arith, l .few);
       room = omega (arith, l .room, here, free-assigned (getD m v 0) (drop (v + 1) m) a b);
     }
 
-  pub loaded : (queue : List ℕ) (v t : ℕ) → Loading queue v t → length m ≤ v → v ≤ 4096 → Queue m queue t
-  loaded queue v t l h k = record { places = l .places; room = omega (arith, l .room, ap free (drop-of-length-le m {i = v} h)) }
+  pub loaded : (queue : List ℕ) (v t : ℕ) → Loading queue v t → length m ≤ v → v ≤ entries → Queue m queue t
+  loaded queue v t l h k = record { inside = l .inside; room = omega (arith, l .room, ap free (drop-of-length-le m {i = v} h)) }

@@ -1,10 +1,10 @@
 -- What one nogood adds to the closure, and what an assignment from which nothing follows says of it.
 -- Assumes nothing.
 use mathlib.Core.Path.{_≡_, refl, sym, ap, _∙_}
-use mathlib.Core.Logic.{_⊎_, inl, inr}
+use mathlib.Core.Logic.{inl, inr}
 use mathlib.Core.Bool.{Bool, true, false}
 use mathlib.Core.List.{List, [], _∷_, List·Memᴰ·head, List·Memᴰ·not-nil, Memᴰ·cast}
-use Prim.Native.Nat.{ℕ, suc, _+_, _≤_, _<_}
+use Prim.Native.Nat.{ℕ, suc, _≤_, _<_}
 use native.Mathlib.Omega.{arith}
 use lib.IntN.{ℤ}
 use lib.ListN.{length, set, length-set}
@@ -12,11 +12,11 @@ use Rattle.words.specs.Lists.{_∈_}
 use Rattle.words.specs.Literals.{variable, complement}
 use Rattle.words.proofs.Literals.{complement-twice, variable-complement}
 use Rattle.derivation.specs.Propagation.{Closure, given, unit, Conflict}
+use Rattle.words.proofs.Places.{same?}
 use Rattle.nogoods.specs.Store.{Literals}
-use Rattle.nogoods.specs.Propagate.{entry, Assigns, Valued, free, Settled, Last, AllTrue, Derives, nogoodAt, Stands, Within, Grows, Clashes, Ends}
+use Rattle.nogoods.specs.Propagate.{entries, entry, Assigns, Valued, free, Settled, AllTrue, Derives, nogoodAt, Stands, Within, Grows, Clashes, Ends}
 use Rattle.nogoods.specs.declared.units.Value.the-variants.{Free}
 use Rattle.nogoods.specs.declared.units.Derived.the-variants.{Assigned}
-use Rattle.nogoods.proofs.Places.{same?}
 use Rattle.nogoods.proofs.Assignments.{positive-complement, apart, assigned→, assigned-kept, assigned-fewer}
 
 module _ (live : List (List ℤ)) (L : List ℤ) (m : List ℕ) (w : Within live L m) (g : List ℤ) (u : g ∈ live) where
@@ -75,12 +75,12 @@ module _ (s : List ℤ) (a b : List ℕ) (g : Grows s a b) where
   ends-before c true k = clashes-before k
   ends-before c false k = (grows-on g (k .0), k .1)
 
-module _ (s : List ℤ) (r : ℕ) (here : Stands s r) (lits : Literals (nogoodAt s r)) (m : List ℕ) (size : length m ≡ 4096) where
+module _ (s : List ℤ) (r : ℕ) (here : Stands s r) (lits : Literals (nogoodAt s r)) (m : List ℕ) (size : length m ≡ entries) where
   pub conflicting : AllTrue m (nogoodAt s r) → Clashes s m
   conflicting f live L h w = all-true live L m w (nogoodAt s r) (here live h .0) f
 
   pub derived : (m′ : List ℕ) (v : ℕ) → Derives (nogoodAt s r) m m′ (Assigned v)
-      → Grows s m m′ × (suc (free m′) ≡ free m) × (1 ≤ v) × (v < 4096)
+      → Grows s m m′ × (suc (free m′) ≡ free m) × (1 ≤ v) × (v < entries)
   derived m′ v (z, last, e, p) =
       let x = complement z in
       let i = last .here in

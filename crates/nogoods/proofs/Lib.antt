@@ -1,5 +1,4 @@
 -- The laws that the proofs share.
-pub mod Places
 pub mod Assignments
 pub mod Looks
 pub mod Segments

@@ -8,13 +8,12 @@ use native.Mathlib.Omega.{arith}
 use borrow.Author.Count.{below-more}
 use lib.IntN.{ℤ, pos}
 use lib.ListN.{length, getD}
-use Rattle.words.specs.Lists.{_∈_}
 use Rattle.words.specs.Literals.{variable, complement}
+use Rattle.words.proofs.Places.{in-at, place-of, distinct}
 use Rattle.nogoods.specs.Store.{Literals}
-use Rattle.nogoods.specs.Propagate.{Assigns, Valued, Settled, Last, AllTrue, Looked}
+use Rattle.nogoods.specs.Propagate.{Assigns, Valued, Settled, AllTrue, Looked}
 use Rattle.nogoods.specs.declared.units.Value.the-variants.{Free}
 use Rattle.nogoods.specs.declared.units.Look.the-variants.{Unit}
-use Rattle.nogoods.proofs.Places.{in-at, place-of, distinct}
 
 module _ (m : List ℕ) (g : List ℤ) where
   abbrev at : ℕ → ℤ

@@ -1,19 +1,19 @@
 -- The words of nogoods from one to the next.
 -- Assumes nothing.
 use mathlib.Core.Path.{_≡_, refl, sym, ap, _∙_}
-use mathlib.Core.List.{List, [], _∷_, _++_, append-assoc, List·Memᴰ·head, List·Memᴰ·tail}
+use mathlib.Core.List.{List, [], _∷_, _++_, List·Memᴰ·head, List·Memᴰ·tail}
 use Prim.Native.Nat.{ℕ, suc, _+_, _-_, _≤_, _<_}
 use native.Mathlib.Nat.{add-zero}
 use native.Mathlib.Omega.{arith}
-use lib.IntN.{ℤ, pos, natAbs}
+use lib.IntN.{ℤ, pos}
 use lib.ListN.{length, take, drop, getD, length-drop, length-append}
 use lib.Seq.{getD-drop, drop-drop, take-at, drop-append-seam, take-append-seam, getD-take, length-take-le}
 use Rattle.words.specs.Lists.{_∈_}
 use Rattle.words.specs.Limits.{largest}
 use Rattle.words.specs.Literals.{variable}
+use Rattle.words.proofs.Places.{in-at}
 use Rattle.nogoods.specs.Store.{liveWords, Holds}
 use Rattle.nogoods.specs.Propagate.{Encodes, countAt, nogoodAt, Readable, Stands}
-use Rattle.nogoods.proofs.Places.{in-at}
 
 -- the first words of a store are those of its nogoods
 pub front : (s : List ℤ) (used : ℕ) (live : List (List ℤ)) → Holds s used live → Encodes (take used s) live
@@ -41,13 +41,13 @@ module _ (s : List ℤ) (i : ℕ) (g t : List ℤ) (e : drop i s ≡ pos (length
 
 module _ (s : List ℤ) where
   -- the words from i on are those of the nogoods that are left
-  pub record Walk (live : List (List ℤ)) (i : ℕ) : Type 0 where
+  pub record Rest (live : List (List ℤ)) (i : ℕ) : Type 0 where
     pub left : List (List ℤ)
     pub words : drop i s ≡ liveWords left
     pub inside : (g : List ℤ) → g ∈ left → g ∈ live
 
-  abbrev pub walk-start : (live : List (List ℤ)) → Encodes s live → Walk live 0
-  walk-start live e = record { left = live; words = e .words; inside = λ g u. u }
+  abbrev pub rest-start : (live : List (List ℤ)) → Encodes s live → Rest live 0
+  rest-start live e = record { left = live; words = e .words; inside = λ g u. u }
 
   -- the first nogood of those that are left
   pub record Next (i : ℕ) (left : List (List ℤ)) : Type 0 where
@@ -65,22 +65,22 @@ module _ (s : List ℤ) where
     room = room-is s i g (liveWords gs) w;
   }
 
-  module _ (live : List (List ℤ)) (i : ℕ) (w : Walk live i) (h : i < length s) where
-    abbrev pub walk-next : Next i (w .left)
-    walk-next = next i (w .left) (w .words) h
+  module _ (live : List (List ℤ)) (i : ℕ) (w : Rest live i) (h : i < length s) where
+    abbrev pub rest-next : Next i (w .left)
+    rest-next = next i (w .left) (w .words) h
 
-    pub walk-here : (nogoodAt s i ∈ live) × (i + 1 + countAt s i ≤ length s)
-    walk-here = (w .inside _ (rw (walk-next .is) (List·Memᴰ·head refl)), walk-next .room)
+    pub rest-here : (nogoodAt s i ∈ live) × (i + 1 + countAt s i ≤ length s)
+    rest-here = (w .inside _ (rw (rest-next .is) (List·Memᴰ·head refl)), rest-next .room)
 
-    abbrev pub walk-on : Walk live (i + 1 + countAt s i)
-    walk-on = record {
-      left = walk-next .rest;
-      words = walk-next .words;
-      inside = λ g u. w .inside g (rw (walk-next .is) (List·Memᴰ·tail u));
+    abbrev pub rest-on : Rest live (i + 1 + countAt s i)
+    rest-on = record {
+      left = rest-next .rest;
+      words = rest-next .words;
+      inside = λ g u. w .inside g (rw (rest-next .is) (List·Memᴰ·tail u));
     }
 
-  pub walk-over : (live : List (List ℤ)) (i : ℕ) (w : Walk live i) → length s ≤ i → w .left ≡ []
-  walk-over live i w h = none (w .left) (let n : length (drop i s) ≡ length (liveWords (w .left)) = ap length (w .words) in omega (arith, length-drop i s))
+  pub rest-over : (live : List (List ℤ)) (i : ℕ) (w : Rest live i) → length s ≤ i → w .left ≡ []
+  rest-over live i w h = none (w .left) (let n : length (drop i s) ≡ length (liveWords (w .left)) = ap length (w .words) in omega (arith, length-drop i s))
     where
       none : (l : List (List ℤ)) → length (liveWords l) ≡ 0 → l ≡ []
       none [] z = refl

@@ -4,43 +4,43 @@ use mathlib.Core.Path.{_≡_, refl, sym, _∙_}
 use mathlib.Core.Logic.{_⊎_, inl, inr}
 use mathlib.Core.Bool.{Bool, true, false, true≢false}
 use mathlib.Core.List.{List, [], List·Memᴰ·cases-cons}
-use Prim.Native.Nat.{ℕ, suc, _+_, _≤_, _<_}
+use Prim.Native.Nat.{ℕ, _+_, _≤_, _<_}
 use native.Mathlib.Omega.{arith}
 use lib.IntN.{ℤ}
 use lib.ListN.{length}
 use Rattle.words.specs.Lists.{_∈_}
 use Rattle.nogoods.specs.Store.{Literals}
-use Rattle.nogoods.specs.Propagate.{Encodes, free, Settled, Derives, countAt, nogoodAt, Stands, Grows, AllSettled}
+use Rattle.nogoods.specs.Propagate.{entries, Encodes, free, Settled, Derives, countAt, nogoodAt, Stands, Grows, AllSettled}
 use Rattle.nogoods.specs.declared.units.Derived.the-variants.{Assigned}
-use Rattle.nogoods.proofs.Segments.{Walk, walk-start, walk-next, walk-here, walk-on, walk-over}
+use Rattle.nogoods.proofs.Segments.{Rest, rest-start, rest-next, rest-here, rest-on, rest-over}
 use Rattle.nogoods.proofs.Closures.{grows-not, grows-on, derived}
 
 module _ (s : List ℤ) where
   -- where nothing has changed, nothing follows from the nogoods before i
   pub record Passed (live : List (List ℤ)) (m : List ℕ) (changed : Bool) (i : ℕ) : Type 0 where
-    pub walk : Walk s live i
-    pub done : changed ≡ false → (g : List ℤ) → g ∈ live → (g ∈ walk .left) ⊎ Settled m g
+    pub onward : Rest s live i
+    pub done : changed ≡ false → (g : List ℤ) → g ∈ live → (g ∈ onward .left) ⊎ Settled m g
 
   -- from m₀ to m, by the nogoods before i
   pub record Going (m₀ m : List ℕ) (changed : Bool) (i : ℕ) : Type 0 where
-    pub size : length m ≡ 4096
+    pub size : length m ≡ entries
     pub grows : Grows s m₀ m
     pub more : changed ≡ true → free m < free m₀
     pub same : changed ≡ false → m ≡ m₀
     pub passed : (live : List (List ℤ)) → Encodes s live → Passed live m changed i
 
-  pub start : (m : List ℕ) → length m ≡ 4096 → Going m m false 0
+  pub start : (m : List ℕ) → length m ≡ entries → Going m m false 0
   start m size = record {
     size = size;
     grows = grows-not;
     more = λ e. absurd (true≢false (sym e));
     same = λ e. refl;
-    passed = λ live h. record { walk = walk-start s live h; done = λ e g u. inl u };
+    passed = λ live h. record { onward = rest-start s live h; done = λ e g u. inl u };
   }
 
   module _ (m₀ m : List ℕ) (changed : Bool) (i : ℕ) (k : Going m₀ m changed i) (h : i < length s) where
     pub here : Stands s i
-    here live e = walk-here s live i (k .passed live e .walk) h
+    here live e = rest-here s live i (k .passed live e .onward) h
 
     -- the nogood at i is passed
     past : (live : List (List ℤ)) → Encodes s live → (m′ : List ℕ) (c : Bool)
@@ -48,10 +48,10 @@ module _ (s : List ℤ) where
     past live enc m′ c q =
         let p = k .passed live enc in
         record {
-          walk = walk-on s live i (p .walk) h;
+          onward = rest-on s live i (p .onward) h;
           done = λ e g u. rw (q e .1) (elim (p .done (q e .0) g u) [
             | inr a ↦ inr a
-            | inl v ↦ elim (List·Memᴰ·cases-cons (rw (walk-next s live i (p .walk) h .is) at v)) [ inl r ↦ inr (rw r (q e .2)) | inr t ↦ inl t ]
+            | inl v ↦ elim (List·Memᴰ·cases-cons (rw (rest-next s live i (p .onward) h .is) at v)) [ inl r ↦ inr (rw r (q e .2)) | inr t ↦ inl t ]
           ]);
         }
 
@@ -80,7 +80,7 @@ module _ (s : List ℤ) where
   pub over : (m₀ m : List ℕ) (changed : Bool) (i : ℕ) → Going m₀ m changed i → length s ≤ i → changed ≡ false → AllSettled s m₀
   over m₀ m changed i k h e live enc g u =
       let p = k .passed live enc in
-      rw (← k .same e) (elim (p .done e g u) [ inr a ↦ a | inl v ↦ absurd (gone (walk-over s live i (p .walk) h) v) ])
+      rw (← k .same e) (elim (p .done e g u) [ inr a ↦ a | inl v ↦ absurd (gone (rest-over s live i (p .onward) h) v) ])
     where
       gone : {l : List (List ℤ)} → l ≡ [] → g ∈ l → ⊥
       gone p v = elim (rw p at v) [ ]

@@ -5,9 +5,10 @@ use mathlib.Core.Path.{_≡_}
 use mathlib.Core.Logic.{_⊎_}
 use mathlib.Core.Bool.{Bool, true, false}
 use mathlib.Core.List.{List, [], _∷_}
-use Prim.Native.Nat.{ℕ, zero, suc, _+_, _-_, _≤_, _<_}
+use Prim.Native.Nat.{ℕ, zero, suc, _+_, _≤_, _<_}
 use lib.IntN.{ℤ, pos, negsuc, natAbs}
 use lib.ListN.{length, take, drop, getD, set}
+use Rattle.words.specs.Limits.{largest}
 use Rattle.words.specs.Lists.{_∈_}
 use Rattle.words.specs.Literals.{variable, complement}
 use Rattle.derivation.specs.Propagation.{Closure, Conflict}
@@ -23,6 +24,10 @@ use Rattle.nogoods.specs.declared.propagation.Swept.the-variants.{Refute
 
 -- Assignments: an entry for each variable, 0 free, 1 true, 2 false
 
+-- "arrays of 4,096 entries hold .. the propagation's assignment": as many as there are variables, and one for 0
+abbrev pub entries : ℕ
+entries = suc largest
+
 -- the entry of its variable that makes a literal true
 abbrev pub entry : ℤ → ℕ
 entry (pos n) = 1
@@ -32,6 +37,7 @@ entry (negsuc n) = 2
 abbrev pub Assigns : List ℕ → ℤ → Type 0
 Assigns m z = getD m (variable z) 0 ≡ entry z
 
+-- what a literal's value says
 abbrev pub Valued : List ℕ → ℤ → Value → Type 0
 Valued m z True = Assigns m z
 Valued m z False = Assigns m (complement z)
@@ -59,9 +65,11 @@ pub record Last (m : List ℕ) (g : List ℤ) (z : ℤ) : Type 0 where
   pub left : Valued m z Free
   pub others : (y : ℤ) → y ∈ g → ¬ (y ≡ z) → Assigns m y
 
+-- every literal of g is true
 abbrev pub AllTrue : List ℕ → List ℤ → Type 0
 AllTrue m g = (z : ℤ) → z ∈ g → Assigns m z
 
+-- what a look at g says
 abbrev pub Looked : List ℕ → List ℤ → Look → Type 0
 Looked m g All = AllTrue m g
 Looked m g (Unit j) = (j < length g) × Last m g (getD g j (pos 0))
@@ -118,6 +126,7 @@ Clashes s m = (live : List (List ℤ)) (L : List ℤ) → Encodes s live → Wit
 abbrev pub AllSettled : List ℤ → List ℕ → Type 0
 AllSettled s m = (live : List (List ℤ)) → Encodes s live → (g : List ℤ) → g ∈ live → Settled m g
 
+-- what one pass over the nogoods says, and the assignment afterwards
 abbrev pub Sweeps : List ℤ → List ℕ → List ℕ → Swept → Type 0
 Sweeps s m m′ Refuted = Clashes s m
 Sweeps s m m′ Changed = Grows s m m′ × (free m′ < free m)

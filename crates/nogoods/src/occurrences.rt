@@ -12,10 +12,17 @@ ghost use lib.IntN.{ℤ};
 ghost use lib.ListN.{length};
 ghost use Rattle.words.specs.Limits.{largest};
 ghost use Rattle.words.specs.Literals.{variable};
-ghost use Rattle.nogoods.specs.Propagate.{countAt, Encodes, Readable, Stands, Runs};
-ghost use Rattle.nogoods.specs.PropagateChains.{Links, Below, Queue, Walks};
+ghost use Rattle.nogoods.specs.Propagate.{entries, countAt, Encodes, Readable, Stands, Runs};
+ghost use Rattle.nogoods.specs.PropagateChains.{places, reach, Links, Below, Queue, Walks};
 use crate::units;
 use crate::units::Derived;
+use crate::units::ENTRIES;
+
+// There is a place for each literal: that of v is v, and that of -v comes an assignment's length later.
+const PLACES: usize = 8192;
+
+// As many words of nogoods the chains can hold.
+const REACH: usize = 16384;
 
 // What a walk along one chain gave: a conflict, or the queue's end.
 enum Walk {
@@ -23,33 +30,33 @@ enum Walk {
     Queued(usize),
 }
 
-// A literal's place in `head`: that of v is v, that of -v is 4,096 + v.
+// A literal's place in `head`.
 fn place_of(word: i32) -> usize
     requires { ⌜ variable word ≤ largest ⌝ }
-    ensures { λ z. ⌜ z < 8192 ⌝ }
+    ensures { λ z. ⌜ z < places ⌝ }
 {
     let v = words::variable_of(word);
-    if word < 0 { v + 4096 } else { v }
+    if word < 0 { v + ENTRIES } else { v }
 }
 
 // The place of the literal of a variable that is true.
-fn true_place(assignment: &[u8; 4096], v: usize) -> usize
-    requires { ⌜ v < 4096 ⌝ }
-    ensures { λ z. ⌜ z < 8192 ⌝ }
+fn true_place(assignment: &[u8; ENTRIES], v: usize) -> usize
+    requires { ⌜ v < entries ⌝ }
+    ensures { λ z. ⌜ z < places ⌝ }
 {
-    if assignment[v] == 2 { v + 4096 } else { v }
+    if assignment[v] == 2 { v + ENTRIES } else { v }
 }
 
 // The literals of the nogood at r go to the front of their chains.
 fn enter(
     nogoods: &[i32],
     r: usize,
-    owner: &mut [u16; 16384],
-    next: &mut [u16; 16384],
-    head: &mut [u16; 8192],
+    owner: &mut [u16; REACH],
+    next: &mut [u16; REACH],
+    head: &mut [u16; PLACES],
 )
     requires { ⌜ Readable (now nogoods) r × Stands (now nogoods) r ⌝ }
-    requires { ⌜ length (now nogoods) ≤ 16384 ⌝ }
+    requires { ⌜ length (now nogoods) ≤ reach ⌝ }
     requires { ⌜ Links (now nogoods) (now owner) (now next) ⌝ }
     requires { ⌜ Below (r + 1) (now head) ⌝ }
     ensures { λ _. ⌜ Links (now (nogoods .entry)) (now (owner .exit)) (now (next .exit)) ⌝ }
@@ -69,13 +76,13 @@ fn enter(
 // The chains and counters of all nogoods.
 fn enter_all(
     nogoods: &[i32],
-    owner: &mut [u16; 16384],
-    next: &mut [u16; 16384],
-    head: &mut [u16; 8192],
-    counts: &mut [u16; 16384],
+    owner: &mut [u16; REACH],
+    next: &mut [u16; REACH],
+    head: &mut [u16; PLACES],
+    counts: &mut [u16; REACH],
 )
     requires { ⌜ ((live : List (List ℤ)) × Encodes (now nogoods) live) ⌝ }
-    requires { ⌜ (0 < length (now nogoods)) × (length (now nogoods) ≤ 16384) ⌝ }
+    requires { ⌜ (0 < length (now nogoods)) × (length (now nogoods) ≤ reach) ⌝ }
     requires { ⌜ Links (now nogoods) (now owner) (now next) ⌝ }
     requires { ⌜ Below 1 (now head) ⌝ }
     ensures { λ _. ⌜ Links (now (nogoods .entry)) (now (owner .exit)) (now (next .exit)) ⌝ }
@@ -101,14 +108,14 @@ fn is_assigned(entry: u8) -> bool
 }
 
 // The literals that are true are queued. The queue's end.
-fn load(assignment: &[u8; 4096], queue: &mut [u16; 4096]) -> usize
-    requires { ⌜ length (now assignment) ≡ 4096 ⌝ }
-    requires { ⌜ Below 8192 (now queue) ⌝ }
+fn load(assignment: &[u8; ENTRIES], queue: &mut [u16; ENTRIES]) -> usize
+    requires { ⌜ length (now assignment) ≡ entries ⌝ }
+    requires { ⌜ Below places (now queue) ⌝ }
     ensures { λ t. ⌜ Queue (now (assignment .entry)) (now (queue .exit)) t ⌝ }
 {
     let mut t = 0;
     let mut v = 0;
-    while v < 4096 {
+    while v < ENTRIES {
         let z = true_place(assignment, v);
         let assigned = is_assigned(assignment[v]);
         v += 1;
@@ -121,8 +128,8 @@ fn load(assignment: &[u8; 4096], queue: &mut [u16; 4096]) -> usize
 }
 
 // One literal less is open in the nogood at r. Whether just one is left now.
-fn one_left(counts: &mut [u16; 16384], r: usize) -> bool
-    requires { ⌜ r < 16384 ⌝ }
+fn one_left(counts: &mut [u16; REACH], r: usize) -> bool
+    requires { ⌜ r < reach ⌝ }
 {
     let n = counts[r];
     if n < 2 {
@@ -136,18 +143,18 @@ fn one_left(counts: &mut [u16; 16384], r: usize) -> bool
 fn visit(
     nogoods: &[i32],
     first: usize,
-    owner: &[u16; 16384],
-    next: &[u16; 16384],
-    counts: &mut [u16; 16384],
-    assignment: &mut [u8; 4096],
-    queue: &mut [u16; 4096],
+    owner: &[u16; REACH],
+    next: &[u16; REACH],
+    counts: &mut [u16; REACH],
+    assignment: &mut [u8; ENTRIES],
+    queue: &mut [u16; ENTRIES],
     start: usize,
 ) -> Walk
     requires { ⌜ ((live : List (List ℤ)) × Encodes (now nogoods) live) ⌝ }
-    requires { ⌜ length (now nogoods) ≤ 16384 ⌝ }
+    requires { ⌜ length (now nogoods) ≤ reach ⌝ }
     requires { ⌜ Links (now nogoods) (now owner) (now next) ⌝ }
     requires { ⌜ first < length (now nogoods) ⌝ }
-    requires { ⌜ length (now assignment) ≡ 4096 ⌝ }
+    requires { ⌜ length (now assignment) ≡ entries ⌝ }
     requires { ⌜ Queue (now assignment) (now queue) start ⌝ }
     ensures { λ w. ⌜ Walks (now (nogoods .entry)) (now (assignment .entry)) (now (assignment .exit)) (now (queue .exit)) w ⌝ }
 {
@@ -176,19 +183,19 @@ fn visit(
 // All chains of the literals that are true, and of those that become so. Whether that comes to a conflict.
 fn run(
     nogoods: &[i32],
-    owner: &[u16; 16384],
-    next: &[u16; 16384],
-    head: &[u16; 8192],
-    counts: &mut [u16; 16384],
-    assignment: &mut [u8; 4096],
-    queue: &mut [u16; 4096],
+    owner: &[u16; REACH],
+    next: &[u16; REACH],
+    head: &[u16; PLACES],
+    counts: &mut [u16; REACH],
+    assignment: &mut [u8; ENTRIES],
+    queue: &mut [u16; ENTRIES],
 ) -> bool
     requires { ⌜ ((live : List (List ℤ)) × Encodes (now nogoods) live) ⌝ }
-    requires { ⌜ length (now nogoods) ≤ 16384 ⌝ }
+    requires { ⌜ length (now nogoods) ≤ reach ⌝ }
     requires { ⌜ Links (now nogoods) (now owner) (now next) ⌝ }
     requires { ⌜ Below (length (now nogoods)) (now head) ⌝ }
-    requires { ⌜ length (now assignment) ≡ 4096 ⌝ }
-    requires { ⌜ Below 8192 (now queue) ⌝ }
+    requires { ⌜ length (now assignment) ≡ entries ⌝ }
+    requires { ⌜ Below places (now queue) ⌝ }
     ensures { λ r. ⌜ Runs (now (nogoods .entry)) (now (assignment .entry)) (now (assignment .exit)) r ⌝ }
 {
     let mut t = load(assignment, queue);
@@ -210,23 +217,23 @@ fn run(
     false
 }
 
-// The assignment grows by what follows from the nogoods, where they are of at most 16,384 words. Whether there is a conflict.
-pub fn saturate(nogoods: &[i32], assignment: &mut [u8; 4096]) -> bool
+// The assignment grows by what follows from the nogoods, unless these are too long. Whether there is a conflict.
+pub fn saturate(nogoods: &[i32], assignment: &mut [u8; ENTRIES]) -> bool
     requires { ⌜ ((live : List (List ℤ)) × Encodes (now nogoods) live) ⌝ }
-    requires { ⌜ length (now assignment) ≡ 4096 ⌝ }
+    requires { ⌜ length (now assignment) ≡ entries ⌝ }
     ensures { λ r. ⌜ Runs (now (nogoods .entry)) (now (assignment .entry)) (now (assignment .exit)) r ⌝ }
 {
     if nogoods.len() == 0 {
         return false;
     }
-    if 16384 < nogoods.len() {
+    if REACH < nogoods.len() {
         return false;
     }
-    let mut owner = [0u16; 16384];
-    let mut next = [0u16; 16384];
-    let mut head = [0u16; 8192];
-    let mut counts = [0u16; 16384];
-    let mut queue = [0u16; 4096];
+    let mut owner = [0u16; REACH];
+    let mut next = [0u16; REACH];
+    let mut head = [0u16; PLACES];
+    let mut counts = [0u16; REACH];
+    let mut queue = [0u16; ENTRIES];
     enter_all(nogoods, &mut owner, &mut next, &mut head, &mut counts);
     run(
         nogoods,

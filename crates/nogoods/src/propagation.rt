@@ -8,10 +8,11 @@ ghost use lib.ListN.{length};
 ghost use Rattle.words.specs.Lists.{_∈_};
 ghost use Rattle.derivation.specs.Propagation.{refuted};
 ghost use Rattle.nogoods.specs.Store.{Literals, Holds};
-ghost use Rattle.nogoods.specs.Propagate.{Assigns, Encodes, Sweeps, Settles, Ends};
+ghost use Rattle.nogoods.specs.Propagate.{entries, Assigns, Encodes, Sweeps, Settles, Ends};
 use crate::occurrences;
 use crate::units;
 use crate::units::Derived;
+use crate::units::ENTRIES;
 
 // What one pass over the nogoods gave: a conflict; variables that are assigned now; nothing.
 enum Swept {
@@ -21,9 +22,9 @@ enum Swept {
 }
 
 // One pass over the nogoods, each with what those before it gave.
-fn sweep(nogoods: &[i32], assignment: &mut [u8; 4096]) -> Swept
+fn sweep(nogoods: &[i32], assignment: &mut [u8; ENTRIES]) -> Swept
     requires { ⌜ ((live : List (List ℤ)) × Encodes (now nogoods) live) ⌝ }
-    requires { ⌜ length (now assignment) ≡ 4096 ⌝ }
+    requires { ⌜ length (now assignment) ≡ entries ⌝ }
     ensures { λ r. ⌜ Sweeps (now (nogoods .entry)) (now (assignment .entry)) (now (assignment .exit)) r ⌝ }
 {
     let mut changed = false;
@@ -48,12 +49,12 @@ fn sweep(nogoods: &[i32], assignment: &mut [u8; 4096]) -> Swept
 }
 
 // The assignment that makes just the literals true.
-fn assigned(literals: &[i32]) -> [u8; 4096]
+fn assigned(literals: &[i32]) -> [u8; ENTRIES]
     requires { ⌜ Literals (now literals) ⌝ }
-    ensures { λ m. ⌜ length m ≡ 4096 ⌝ }
+    ensures { λ m. ⌜ length m ≡ entries ⌝ }
     ensures { λ m. ⌜ ((z : ℤ) → (Assigns m z) ↔ (z ∈ now (literals .entry))) ⌝ }
 {
-    let mut assignment = [0u8; 4096];
+    let mut assignment = [0u8; ENTRIES];
     let mut i = 0;
     while i < literals.len() {
         units::make_true(literals[i], &mut assignment);
@@ -63,9 +64,9 @@ fn assigned(literals: &[i32]) -> [u8; 4096]
 }
 
 // Sweeps until nothing changes, at most so many.
-fn settle(nogoods: &[i32], rounds: usize, assignment: &mut [u8; 4096]) -> Swept
+fn settle(nogoods: &[i32], rounds: usize, assignment: &mut [u8; ENTRIES]) -> Swept
     requires { ⌜ ((live : List (List ℤ)) × Encodes (now nogoods) live) ⌝ }
-    requires { ⌜ length (now assignment) ≡ 4096 ⌝ }
+    requires { ⌜ length (now assignment) ≡ entries ⌝ }
     ensures { λ r. ⌜ Settles (now (nogoods .entry)) rounds (now (assignment .entry)) (now (assignment .exit)) r ⌝ }
 {
     let mut left = rounds;
@@ -85,17 +86,17 @@ fn settle(nogoods: &[i32], rounds: usize, assignment: &mut [u8; 4096]) -> Swept
     Swept::Changed
 }
 
-// What a few sweeps leave: the counters, and then sweeps until nothing changes. There are at most 4,096 that change something,
-// since each of these assigns a variable.
-fn finish(nogoods: &[i32], assignment: &mut [u8; 4096]) -> bool
+// What a few sweeps leave: the counters, and then sweeps until nothing changes. Each before the last one assigns a variable, so
+// that one more than there are entries is enough.
+fn finish(nogoods: &[i32], assignment: &mut [u8; ENTRIES]) -> bool
     requires { ⌜ ((live : List (List ℤ)) × Encodes (now nogoods) live) ⌝ }
-    requires { ⌜ length (now assignment) ≡ 4096 ⌝ }
+    requires { ⌜ length (now assignment) ≡ entries ⌝ }
     ensures { λ r. ⌜ Ends (now (nogoods .entry)) (now (assignment .entry)) (now (assignment .exit)) r ⌝ }
 {
     if occurrences::saturate(nogoods, assignment) {
         return true;
     }
-    let swept = settle(nogoods, 4097, assignment);
+    let swept = settle(nogoods, ENTRIES + 1, assignment);
     match swept {
         Swept::Refuted => true,
         Swept::Same => false,
@@ -104,9 +105,9 @@ fn finish(nogoods: &[i32], assignment: &mut [u8; 4096]) -> bool
 }
 
 // Propagation to its end. Whether that is a conflict.
-fn propagate(nogoods: &[i32], assignment: &mut [u8; 4096]) -> bool
+fn propagate(nogoods: &[i32], assignment: &mut [u8; ENTRIES]) -> bool
     requires { ⌜ ((live : List (List ℤ)) × Encodes (now nogoods) live) ⌝ }
-    requires { ⌜ length (now assignment) ≡ 4096 ⌝ }
+    requires { ⌜ length (now assignment) ≡ entries ⌝ }
     ensures { λ r. ⌜ Ends (now (nogoods .entry)) (now (assignment .entry)) (now (assignment .exit)) r ⌝ }
 {
     let swept = settle(nogoods, 3, assignment);

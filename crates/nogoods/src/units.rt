@@ -5,7 +5,10 @@ ghost use lib.ListN.{length, set};
 ghost use Rattle.words.specs.Limits.{largest};
 ghost use Rattle.words.specs.Literals.{variable, complement};
 ghost use Rattle.nogoods.specs.Store.{Literals};
-ghost use Rattle.nogoods.specs.Propagate.{entry, Valued, Looked, Derives, countAt, nogoodAt, Readable};
+ghost use Rattle.nogoods.specs.Propagate.{entries, entry, Valued, Looked, Derives, countAt, nogoodAt, Readable};
+
+// An assignment has an entry for each variable, and one for 0.
+pub const ENTRIES: usize = 4096;
 
 // A literal under an assignment.
 enum Value {
@@ -35,7 +38,8 @@ fn entry_of(word: i32) -> u8
     if word < 0 { 2 } else { 1 }
 }
 
-fn value_of(word: i32, assignment: &[u8; 4096]) -> Value
+// What an assignment says of a literal.
+fn value_of(word: i32, assignment: &[u8; ENTRIES]) -> Value
     requires { ⌜ (1 ≤ variable word) × (variable word ≤ largest) ⌝ }
     ensures { λ r. ⌜ Valued (now (assignment .entry)) word r ⌝ }
 {
@@ -52,9 +56,9 @@ fn value_of(word: i32, assignment: &[u8; 4096]) -> Value
 }
 
 // A literal becomes true. Its variable.
-pub fn make_true(word: i32, assignment: &mut [u8; 4096]) -> usize
+pub fn make_true(word: i32, assignment: &mut [u8; ENTRIES]) -> usize
     requires { ⌜ variable word ≤ largest ⌝ }
-    requires { ⌜ length (now assignment) ≡ 4096 ⌝ }
+    requires { ⌜ length (now assignment) ≡ entries ⌝ }
     ensures { λ v. ⌜ v ≡ variable word ⌝ }
     ensures { λ v. ⌜ now (assignment .exit) ≡ set (now (assignment .entry)) (variable word) (entry word) ⌝ }
 {
@@ -63,6 +67,7 @@ pub fn make_true(word: i32, assignment: &mut [u8; 4096]) -> usize
     v
 }
 
+// The complement of a literal.
 fn complement_of(word: i32) -> i32
     requires { ⌜ variable word ≤ largest ⌝ }
     ensures { λ r. ⌜ r ≡ complement word ⌝ }
@@ -70,7 +75,8 @@ fn complement_of(word: i32) -> i32
     0 - word
 }
 
-fn look_at(literals: &[i32], assignment: &[u8; 4096]) -> Look
+// A look at a nogood's literals under an assignment.
+fn look_at(literals: &[i32], assignment: &[u8; ENTRIES]) -> Look
     requires { ⌜ Literals (now literals) ⌝ }
     ensures { λ r. ⌜ Looked (now (assignment .entry)) (now (literals .entry)) r ⌝ }
 {
@@ -100,9 +106,9 @@ fn look_at(literals: &[i32], assignment: &[u8; 4096]) -> Look
 }
 
 // One nogood's part: where all its literals but one are true and that one is free, its complement becomes true.
-fn derive(literals: &[i32], assignment: &mut [u8; 4096]) -> Derived
+fn derive(literals: &[i32], assignment: &mut [u8; ENTRIES]) -> Derived
     requires { ⌜ Literals (now literals) ⌝ }
-    requires { ⌜ length (now assignment) ≡ 4096 ⌝ }
+    requires { ⌜ length (now assignment) ≡ entries ⌝ }
     ensures { λ r. ⌜ Derives (now (literals .entry)) (now (assignment .entry)) (now (assignment .exit)) r ⌝ }
 {
     let look = look_at(literals, assignment);
@@ -124,9 +130,9 @@ pub fn count_at(nogoods: &[i32], r: usize) -> usize
 }
 
 // The same of the nogood whose count stands at r.
-pub fn derive_at(nogoods: &[i32], r: usize, assignment: &mut [u8; 4096]) -> Derived
+pub fn derive_at(nogoods: &[i32], r: usize, assignment: &mut [u8; ENTRIES]) -> Derived
     requires { ⌜ Readable (now nogoods) r ⌝ }
-    requires { ⌜ length (now assignment) ≡ 4096 ⌝ }
+    requires { ⌜ length (now assignment) ≡ entries ⌝ }
     ensures { λ d. ⌜ Derives (nogoodAt (now (nogoods .entry)) r) (now (assignment .entry)) (now (assignment .exit)) d ⌝ }
 {
     let n = count_at(nogoods, r);

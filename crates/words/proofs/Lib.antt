@@ -3,6 +3,7 @@ pub mod Laws
 pub mod Lists
 pub mod Literals
 pub mod Parts
+pub mod Places
 pub mod Segments
 pub mod Sorting
 pub mod Tops

@@ -1,13 +1,11 @@
 -- The loop: the places before p are in their chains.
-use mathlib.Core.Path.{_≡_}
-use Prim.Native.Nat.{ℕ, _+_, _-_, _≤_, _<_}
+use Prim.Native.Nat.{_+_, _-_, _≤_, _<_}
 use native.Mathlib.Omega.{arith}
 use borrow.Author.Needs.{needs}
 use lib.IntN.{ℤ, pos}
 use lib.ListN.{length, getD}
 use Rattle.words.proofs.Words.{back}
-use Rattle.nogoods.specs.Propagate.{countAt}
-use Rattle.nogoods.specs.PropagateChains.{Links, Below}
+use Rattle.nogoods.specs.PropagateChains.{reach, Links, Below}
 use Rattle.nogoods.proofs.Segments.{literal-at}
 use Rattle.nogoods.proofs.Chains.{below-set, below-weaker, linked}
 use Rattle.nogoods.proofs.occurrences.enter.Statement.{statement}
@@ -21,7 +19,7 @@ abbrev μ-loop : tie.MeasureT-loop
 
 -- the nogood's end
 room : (c : tie.After-count-at Inv-loop μ-loop) → let s = c .before in
-    (s .args .r + 1 + c .count-at .result ≤ length (s .args .nogoods .now)) × (length (s .args .nogoods .now) ≤ 16384)
+    (s .args .r + 1 + c .count-at .result ≤ length (s .args .nogoods .now)) × (length (s .args .nogoods .now) ≤ reach)
 room c = let s = c .before in (omega (arith, s .pre .0 .0 .room, c .count-at .ensures), s .pre .1 .0)
 
 add-end : tie.Need-add-end Inv-loop μ-loop
@@ -37,7 +35,8 @@ loop-holds c = let s = c .before in (omega arith, omega arith, s .pre .1 .1 .0, 
 abbrev word : tie.In-loop Inv-loop μ-loop → ℤ
 word c = getD (c .before .before .before .args .nogoods .now) (c .before .loop .p) (pos 0)
 
-inside : (c : tie.In-loop Inv-loop μ-loop) → (c .before .loop .p < length (c .before .before .before .args .nogoods .now)) × (length (c .before .before .before .args .nogoods .now) ≤ 16384)
+inside : (c : tie.In-loop Inv-loop μ-loop) → let s = c .before .before .before in
+    (c .before .loop .p < length (s .args .nogoods .now)) × (length (s .args .nogoods .now) ≤ reach)
 inside c = let k = room (c .before .before) in (omega (arith, c .loop-test .taken), k .1)
 
 mul-place-of : tie.Need-mul-place-of Inv-loop μ-loop

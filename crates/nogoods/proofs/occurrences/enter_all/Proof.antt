@@ -1,21 +1,21 @@
 -- The loop: the nogoods before r are entered.
 use mathlib.Core.Path.{_≡_}
 use mathlib.Core.List.{List}
-use Prim.Native.Nat.{ℕ, _+_, _-_, _≤_, _<_}
+use Prim.Native.Nat.{_+_, _-_, _≤_}
 use native.Mathlib.Omega.{arith}
 use borrow.Author.Needs.{needs}
 use lib.IntN.{ℤ}
 use lib.ListN.{length}
 use Rattle.nogoods.specs.Propagate.{Encodes, Stands, countAt}
-use Rattle.nogoods.specs.PropagateChains.{Links, Below}
-use Rattle.nogoods.proofs.Segments.{Walk, walk-start, walk-here, walk-on, readable}
+use Rattle.nogoods.specs.PropagateChains.{reach, Links, Below}
+use Rattle.nogoods.proofs.Segments.{Rest, rest-start, rest-here, rest-on, readable}
 use Rattle.nogoods.proofs.Chains.{below-weaker}
 use Rattle.nogoods.proofs.occurrences.enter_all.Statement.{statement}
 use Rattle.nogoods.proofs.occurrences.enter_all.Tie as tie
 
 abbrev Inv-loop : tie.InvT-loop
 Inv-loop nogoods owner₀ next₀ head₀ counts₀ r₀ owner next head counts r =
-    ((live : List (List ℤ)) → Encodes nogoods live → Walk nogoods live r)
+    ((live : List (List ℤ)) → Encodes nogoods live → Rest nogoods live r)
     × Links nogoods owner next × Below (r + 1) head × Below (length nogoods) head
 
 abbrev μ-loop : tie.MeasureT-loop
@@ -24,7 +24,7 @@ abbrev μ-loop : tie.MeasureT-loop
 loop-holds : tie.Need-loop-holds Inv-loop μ-loop
 loop-holds c =
     let p = c .pre in
-    (λ live e. walk-start _ live e, p .1 .1 .0, p .1 .1 .1, below-weaker 1 _ (c .args .head .now) (p .1 .0 .0) (p .1 .1 .1))
+    (λ live e. rest-start _ live e, p .1 .1 .0, p .1 .1 .1, below-weaker 1 _ (c .args .head .now) (p .1 .0 .0) (p .1 .1 .1))
 
 -- the nogood at r
 module _ (c : tie.In-loop Inv-loop μ-loop) where
@@ -32,9 +32,9 @@ module _ (c : tie.In-loop Inv-loop μ-loop) where
   words = c .before .before .args .nogoods .now
 
   stands : Stands words (c .before .loop .r)
-  stands live e = walk-here words live (c .before .loop .r) (c .before .loop .inv .0 live e) (c .loop-test .taken)
+  stands live e = rest-here words live (c .before .loop .r) (c .before .loop .inv .0 live e) (c .loop-test .taken)
 
-  room : (c .before .loop .r + 1 + countAt words (c .before .loop .r) ≤ length words) × (length words ≤ 16384)
+  room : (c .before .loop .r + 1 + countAt words (c .before .loop .r) ≤ length words) × (length words ≤ reach)
   room = let p = c .before .before .pre in (stands (p .0 .0) (p .0 .1) .1, p .1 .0 .1)
 
 enter-requires : tie.Need-enter-requires Inv-loop μ-loop
@@ -77,7 +77,7 @@ loop-again c =
     let head = c .enter .last .1 .1 .1 .1 .0 in
     let b : Below e head = c .enter .ensures .1 in
     rw (count c) (
-      λ live enc. walk-on (words i) live r (i .before .loop .inv .0 live enc) (i .loop-test .taken),
+      λ live enc. rest-on (words i) live r (i .before .loop .inv .0 live enc) (i .loop-test .taken),
       c .enter .ensures .0,
       below-weaker e (e + 1) head (omega arith) b,
       below-weaker e _ head (room i .0) b,

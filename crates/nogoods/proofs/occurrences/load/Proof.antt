@@ -1,26 +1,26 @@
 -- The loop keeps `Loading`: the variables below v that are assigned are queued.
-use mathlib.Core.Path.{_≡_}
 use Prim.Native.Nat.{_-_, _≤_, _<_}
 use native.Mathlib.Omega.{arith}
 use borrow.Author.Needs.{needs}
-use lib.ListN.{length, getD}
+use lib.ListN.{length}
+use Rattle.nogoods.specs.Propagate.{entries}
 use Rattle.nogoods.proofs.Chains.{Loading, loading-free, loading-assigned, loaded}
 use Rattle.nogoods.proofs.occurrences.load.Statement.{statement}
 use Rattle.nogoods.proofs.occurrences.load.Tie as tie
 
 abbrev Inv-loop : tie.InvT-loop
-Inv-loop assignment queue₀ t₀ v₀ queue t v = (v ≤ 4096) × Loading assignment queue v t
+Inv-loop assignment queue₀ t₀ v₀ queue t v = (v ≤ entries) × Loading assignment queue v t
 
 abbrev μ-loop : tie.MeasureT-loop
-μ-loop assignment queue₀ t₀ v₀ queue t v = 4096 - v
+μ-loop assignment queue₀ t₀ v₀ queue t v = entries - v
 
 loop-holds : tie.Need-loop-holds Inv-loop μ-loop
-loop-holds c = (omega arith, record { places = c .pre .1; few = omega arith; room = omega arith })
+loop-holds c = (omega arith, record { inside = c .pre .1; few = omega arith; room = omega arith })
 
 inside : (c : tie.In-loop Inv-loop μ-loop) → c .before .loop .v < length (c .before .before .args .assignment .now)
 inside c = omega (arith, c .before .before .pre .0, c .loop-test .taken)
 
-few : (c : tie.After-is-assigned Inv-loop μ-loop) → c .before .before .before .before .loop .t < 4096
+few : (c : tie.After-is-assigned Inv-loop μ-loop) → c .before .before .before .before .loop .t < entries
 few c = let l = c .before .before .before in omega (arith, l .before .loop .inv .1 .few, l .loop-test .taken)
 
 mul-queue : tie.Need-mul-queue Inv-loop μ-loop
@@ -38,7 +38,8 @@ loop-again c =
     let i = o .before .before .before in
     let l = i .before .loop in
     let e = o .is-assigned .ensures (c .if1 .taken) in
-    (omega (arith, i .loop-test .taken), loading-assigned _ (l .queue) (l .v) (l .t) (l .inv .1) (inside i) (o .before .before .true-place .result) (o .before .before .true-place .ensures) (e .0) (e .1))
+    let z = o .before .before .true-place in
+    (omega (arith, i .loop-test .taken), loading-assigned _ (l .queue) (l .v) (l .t) (l .inv .1) (inside i) (z .result) (z .ensures) (e .0) (e .1))
 
 loop-again-2 : tie.Need-loop-again-2 Inv-loop μ-loop
 loop-again-2 c =

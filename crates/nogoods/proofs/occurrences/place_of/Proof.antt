@@ -1,11 +1,11 @@
 -- The variable is at most 4,095.
+use mathlib.Core.Path.{_≡_}
 use native.Mathlib.Omega.{arith}
 use mir.Facts.{toZ-ofZ}
+use Rattle.words.specs.Literals.{variable}
 use borrow.Author.Needs.{needs}
 use Rattle.nogoods.proofs.occurrences.place_of.Statement.{statement}
 use Rattle.nogoods.proofs.occurrences.place_of.Tie as tie
-use mathlib.Core.Path.{_≡_}
-use Rattle.words.specs.Literals.{variable}
 
 v-is : (c : tie.After-variable-of) → c .variable-of .result ≡ variable (c .before .args .word)
 v-is c = rw (toZ-ofZ (c .before .fits .word)) at (c .variable-of .ensures)

@@ -1,15 +1,13 @@
 -- The loop: the assignment has grown, and the queue has room for what it can still grow by.
 use mathlib.Core.Path.{_≡_, _∙_}
-use mathlib.Core.List.{List}
 use Prim.Native.Nat.{ℕ, _-_, _≤_, _<_}
 use native.Mathlib.Omega.{arith}
 use borrow.Author.Needs.{needs}
-use lib.IntN.{ℤ}
 use lib.ListN.{length, getD}
-use Rattle.nogoods.specs.Propagate.{Grows}
-use Rattle.nogoods.specs.PropagateChains.{Queue, Walks}
+use Rattle.nogoods.specs.Propagate.{entries, Grows}
+use Rattle.nogoods.specs.PropagateChains.{places, reach, Queue, Walks}
 use Rattle.nogoods.specs.declared.occurrences.Walk.{Walk}
-use Rattle.nogoods.proofs.Closures.{grows-not, grows-on}
+use Rattle.nogoods.proofs.Closures.{grows-not, grows-on, clashes-before}
 use Rattle.nogoods.proofs.occurrences.run.Statement.{statement}
 use Rattle.nogoods.proofs.occurrences.run.Tie as tie
 
@@ -18,7 +16,7 @@ Inv-loop nogoods owner next head counts₀ assignment₀ queue₀ t₀ h₀ coun
     Grows nogoods assignment₀ assignment × Queue assignment queue t
 
 abbrev μ-loop : tie.MeasureT-loop
-μ-loop nogoods owner next head counts₀ assignment₀ queue₀ t₀ h₀ counts assignment queue t h = 4096 - h
+μ-loop nogoods owner next head counts₀ assignment₀ queue₀ t₀ h₀ counts assignment queue t h = entries - h
 
 load-requires : tie.Need-load-requires Inv-loop μ-loop
 load-requires c κs = c .before .before .pre .1 .1 .1 .1
@@ -34,13 +32,13 @@ module _ (c : tie.In-loop Inv-loop μ-loop) where
   abbrev l : tie.At-loop Inv-loop μ-loop
   l = c .before
 
-  early : l .loop .h < 4096
+  early : l .loop .h < entries
   early = omega (arith, c .loop-test .taken, l .loop .inv .1 .room)
 
-  place : getD (l .loop .queue) (l .loop .h) 0 < 8192
-  place = l .loop .inv .1 .places (l .loop .h)
+  place : getD (l .loop .queue) (l .loop .h) 0 < places
+  place = l .loop .inv .1 .inside (l .loop .h)
 
-  begins : (z : ℕ) → (getD (s .args .head .now) z 0 < length (s .args .nogoods .now)) × (length (s .args .nogoods .now) ≤ 16384)
+  begins : (z : ℕ) → (getD (s .args .head .now) z 0 < length (s .args .nogoods .now)) × (length (s .args .nogoods .now) ≤ reach)
   begins z = (s .pre .1 .1 .1 .0 z, s .pre .1 .0)
 
 mul-z : tie.Need-mul-z Inv-loop μ-loop
@@ -81,9 +79,7 @@ module _ (c : tie.After-visit Inv-loop μ-loop) where
   told x e = rw e at (c .visit .ensures)
 
 returns : tie.Need-returns Inv-loop μ-loop
-returns c live L h w =
-    let o = c .before .before in
-    told o _ (c .enum-told .given .1) live L h (l (i o) .loop .inv .0 .sound live L h w)
+returns c = let o = c .before .before in clashes-before _ _ _ (l (i o) .loop .inv .0) (told o _ (c .enum-told .given .1))
 
 loop-less : tie.Need-loop-less Inv-loop μ-loop
 loop-less c = let k = early (i (c .before .before .before)) in omega arith

@@ -1,17 +1,16 @@
 -- The loop: the assignment has grown, and the queue has what it grew by. The chain descends.
 use mathlib.Core.Path.{_≡_, _∙_}
 use mathlib.Core.List.{List}
-use Prim.Native.Nat.{ℕ, suc, _+_, _≤_, _<_}
+use Prim.Native.Nat.{ℕ, suc, _≤_, _<_}
 use native.Mathlib.Omega.{arith}
 use borrow.Author.Needs.{needs}
 use lib.IntN.{ℤ}
 use lib.ListN.{length, getD}
-use Rattle.nogoods.specs.Propagate.{free, nogoodAt, countAt, Stands, Readable, Derives, Grows}
-use Rattle.nogoods.specs.PropagateChains.{Queue}
+use Rattle.nogoods.specs.Propagate.{entries, free, nogoodAt, Stands, Readable, Derives, Grows}
+use Rattle.nogoods.specs.PropagateChains.{reach, Queue}
 use Rattle.nogoods.specs.declared.units.Derived.{Derived}
-use Rattle.nogoods.specs.declared.units.Derived.the-variants.{Assigned}
 use Rattle.nogoods.proofs.Segments.{readable}
-use Rattle.nogoods.proofs.Closures.{grows-not, grows-on, conflicting, derived}
+use Rattle.nogoods.proofs.Closures.{grows-not, grows-on, clashes-before, conflicting, derived}
 use Rattle.nogoods.proofs.Chains.{queue-on}
 use Rattle.nogoods.proofs.occurrences.visit.Statement.{statement}
 use Rattle.nogoods.proofs.occurrences.visit.Tie as tie
@@ -40,7 +39,7 @@ module _ (c : tie.In-loop Inv-loop μ-loop) where
   abbrev r : ℕ
   r = getD (s .args .owner .now) p 0
 
-  inside : (p < length words) × (length words ≤ 16384)
+  inside : (p < length words) × (length words ≤ reach)
   inside = (c .before .loop .inv .0, s .pre .1 .0)
 
   stands : Stands words r
@@ -49,7 +48,7 @@ module _ (c : tie.In-loop Inv-loop μ-loop) where
   read : Readable words r
   read = readable words r (s .pre .0) stands
 
-  size : length (c .before .loop .assignment) ≡ 4096
+  size : length (c .before .loop .assignment) ≡ entries
   size = c .before .loop .inv .1 .size ∙ s .pre .1 .1 .1 .1 .0
 
   -- the next place is lower
@@ -85,14 +84,16 @@ module _ (c : tie.After-derive-at Inv-loop μ-loop) where
   abbrev in-loop : tie.In-loop Inv-loop μ-loop
   in-loop = c .before .before .before .before .before .before .before
 
-  told : (x : Derived) → c .derive-at .result ≡ x → Derives (nogoodAt (words in-loop) (r in-loop)) (in-loop .before .loop .assignment) (c .derive-at .last .1 .1 .0) x
+  told : (x : Derived) → c .derive-at .result ≡ x
+      → Derives (nogoodAt (words in-loop) (r in-loop)) (in-loop .before .loop .assignment) (c .derive-at .last .1 .1 .0) x
   told x e = rw e at (c .derive-at .ensures)
 
 returns : tie.Need-returns Inv-loop μ-loop
-returns c live L h w =
+returns c =
     let o = c .before .before in
     let i = in-loop o in
-    conflicting _ (r i) (stands i) (read i .literals) (i .before .loop .assignment) (size i) (told o _ (c .enum-told .given .1)) live L h (i .before .loop .inv .1 .sound live L h w)
+    clashes-before _ _ _ (i .before .loop .inv .1)
+    (conflicting _ (r i) (stands i) (read i .literals) (i .before .loop .assignment) (size i) (told o _ (c .enum-told .given .1)))
 
 -- the variable that became assigned
 module _ (c : tie.After-known-told Inv-loop μ-loop) where
@@ -103,10 +104,12 @@ module _ (c : tie.After-known-told Inv-loop μ-loop) where
   v = c .before .given .given .0 .0
 
   gave : let i = in-loop after in let m = i .before .loop .assignment in let m′ = after .derive-at .last .1 .1 .0 in
-      Grows (words i) m m′ × (suc (free m′) ≡ free m) × (1 ≤ v) × (v < 4096)
-  gave = let i = in-loop after in derived _ (r i) (stands i) (read i .literals) (i .before .loop .assignment) (size i) _ v (told after _ (c .before .given .given .1))
+      Grows (words i) m m′ × (suc (free m′) ≡ free m) × (1 ≤ v) × (v < entries)
+  gave =
+      let i = in-loop after in
+      derived _ (r i) (stands i) (read i .literals) (i .before .loop .assignment) (size i) _ v (told after _ (c .before .given .given .1))
 
-  few : in-loop after .before .loop .t < 4096
+  few : in-loop after .before .loop .t < entries
   few = omega (arith, gave .1, in-loop after .before .loop .inv .2 .room)
 
 true-place-requires : tie.Need-true-place-requires Inv-loop μ-loop
@@ -128,8 +131,11 @@ loop-again : tie.Need-loop-again Inv-loop μ-loop
 loop-again c =
     let o = c .before .before in
     let i = in-loop (after o) in
-    let l = i .before .loop in
-    (omega (arith, lower i, inside i .0), grows-on (l .inv .1) (gave o .0), queue-on (l .assignment) _ (l .queue) (l .t) _ (l .inv .2) (c .true-place .ensures) (gave o .1))
+    let l = i .before .loop in (
+      omega (arith, lower i, inside i .0),
+      grows-on (l .inv .1) (gave o .0),
+      queue-on (l .assignment) _ (l .queue) (l .t) _ (l .inv .2) (c .true-place .ensures) (gave o .1),
+    )
 
 loop-less-2 : tie.Need-loop-less-2 Inv-loop μ-loop
 loop-less-2 c = lower (in-loop (c .before .before))

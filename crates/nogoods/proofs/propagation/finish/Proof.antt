@@ -1,8 +1,9 @@
--- What the counters give and what the sweeps after them give, together. 4,097 sweeps that each assign a variable are too many.
+-- What the counters give and what the sweeps after them give, together. More sweeps than there are entries cannot each assign a
+-- variable.
 use mathlib.Core.Path.{_≡_, _∙_}
-use mathlib.Core.Bool.{false}
+use Prim.Native.Nat.{_+_}
 use native.Mathlib.Omega.{arith}
-use Rattle.nogoods.specs.Propagate.{Grows, Settles}
+use Rattle.nogoods.specs.Propagate.{entries, Grows, Settles}
 use Rattle.nogoods.specs.declared.propagation.Swept.{Swept}
 use Rattle.nogoods.proofs.Assignments.{free-most}
 use Rattle.nogoods.proofs.Closures.{grows-on, clashes-before}
@@ -22,7 +23,7 @@ settle-requires c κs = let s = c .before .before .before .before in (s .pre .0,
 
 -- what the sweeps gave
 told : (c : tie.After-settle) (x : Swept) → c .settle .result ≡ x → let a = c .before .before .before in
-    Settles (a .before .before .args .nogoods .now) 4097 (a .saturate .last .1 .0) (c .settle .last .1 .1 .0) x
+    Settles (a .before .before .args .nogoods .now) (entries + 1) (a .saturate .last .1 .0) (c .settle .last .1 .1 .0) x
 told c x e = rw e at (c .settle .ensures)
 
 returns-2 : tie.Need-returns-2
@@ -44,6 +45,7 @@ finish-spec =
     (tie.spec
     (λ c κs. search needs)
     returns
+    (λ c. search needs)
     settle-requires
     (λ c. search needs)
     (λ c. search needs)

@@ -5,7 +5,7 @@ use native.Mathlib.Omega.{arith}
 use borrow.Author.Needs.{needs}
 use Rattle.nogoods.specs.Propagate.{free, Grows, Sweeps}
 use Rattle.nogoods.specs.declared.propagation.Swept.{Swept}
-use Rattle.nogoods.proofs.Closures.{grows-not, grows-on}
+use Rattle.nogoods.proofs.Closures.{grows-not, grows-on, clashes-before}
 use Rattle.nogoods.proofs.propagation.settle.Statement.{statement}
 use Rattle.nogoods.proofs.propagation.settle.Tie as tie
 
@@ -31,9 +31,7 @@ module _ (c : tie.After-sweep Inv-loop μ-loop) where
   told x e = rw e at (c .sweep .ensures)
 
 returns : tie.Need-returns Inv-loop μ-loop
-returns c live L h w =
-    let o = c .before .before in
-    told o _ (c .enum-told .given .1) live L h (l o .loop .inv .1 .sound live L h w)
+returns c = let o = c .before .before in clashes-before _ _ _ (l o .loop .inv .1) (told o _ (c .enum-told .given .1))
 
 returns-2 : tie.Need-returns-2 Inv-loop μ-loop
 returns-2 c =

@@ -1,7 +1,7 @@
 -- The loop keeps `Going`: what the nogoods before i have given.
-use mathlib.Core.Path.{_≡_, refl, ap, _∙_}
+use mathlib.Core.Path.{_≡_}
 use mathlib.Core.List.{List}
-use Prim.Native.Nat.{ℕ, _+_, _-_, _≤_, _<_}
+use Prim.Native.Nat.{_+_, _-_, _≤_}
 use native.Mathlib.Omega.{arith}
 use borrow.Author.Needs.{needs}
 use lib.IntN.{ℤ}
@@ -9,7 +9,7 @@ use lib.ListN.{length}
 use Rattle.nogoods.specs.Propagate.{Derives, Readable, Stands, countAt, nogoodAt}
 use Rattle.nogoods.specs.declared.units.Derived.{Derived}
 use Rattle.nogoods.proofs.Segments.{readable}
-use Rattle.nogoods.proofs.Closures.{conflicting}
+use Rattle.nogoods.proofs.Closures.{clashes-before, conflicting}
 use Rattle.nogoods.proofs.Sweeps.{Going, start, here, nothing, assigned, over}
 use Rattle.nogoods.proofs.propagation.sweep.Statement.{statement}
 use Rattle.nogoods.proofs.propagation.sweep.Tie as tie
@@ -48,14 +48,15 @@ add-i-2 c = let h = room (c .before .before .before) in let e = c .count-at .ens
 
 -- what the nogood gave
 told : (c : tie.After-derive-at Inv-loop μ-loop) (x : Derived) → c .derive-at .result ≡ x
-    → Derives (nogoodAt (words (c .before .before)) (c .before .before .before .loop .i)) (c .before .before .before .loop .assignment) (c .derive-at .last .1 .1 .0) x
+    → let l = c .before .before .before .loop in Derives (nogoodAt (words (c .before .before)) (l .i)) (l .assignment) (c .derive-at .last .1 .1 .0) x
 told c x e = rw e at (c .derive-at .ensures)
 
 returns : tie.Need-returns Inv-loop μ-loop
-returns c live L h w =
+returns c =
     let o = c .before .before .before in
     let k = o .before .before in
-    conflicting _ _ (stands k) (read k .literals) (k .before .loop .assignment) (going k .size) (told o _ (c .enum-told .given .1)) live L h (going k .grows .sound live L h w)
+    clashes-before _ _ _ (going k .grows)
+    (conflicting _ _ (stands k) (read k .literals) (k .before .loop .assignment) (going k .size) (told o _ (c .enum-told .given .1)))
 
 loop-less : tie.Need-loop-less Inv-loop μ-loop
 loop-less c = omega (arith, c .before .before .before .before .before .loop-test .taken)

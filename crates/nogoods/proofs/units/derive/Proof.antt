@@ -1,9 +1,8 @@
 -- What `look_at` tells of the nogood; the complement of the one free literal is made true.
 use mathlib.Core.Path.{_≡_, refl, sym, _∙_}
-use Prim.Native.Nat.{_≤_, _<_}
-use native.Mathlib.Omega.{arith}
+use Prim.Native.Nat.{_≤_}
 use lib.IntN.{ℤ, pos}
-use lib.ListN.{length, getD}
+use lib.ListN.{getD}
 use mir.Syntax.{w32}
 use mir.Val.{toZ, ofZ}
 use mir.Facts.{toZ-ofZ}
@@ -22,7 +21,8 @@ told : (c : tie.After-look-at) (x : Look) → c .look-at .result ≡ x → Looke
 told c x e = rw e at (c .look-at .ensures)
 
 -- the one free literal
-unit : (c : tie.After-known-told) → let s = c .before .before .before .before .before in Looked (s .args .assignment .now) (s .args .literals .now) (Unit (c .before .look .given .0 .0))
+unit : (c : tie.After-known-told) → let s = c .before .before .before .before .before in
+    Looked (s .args .assignment .now) (s .args .literals .now) (Unit (c .before .look .given .0 .0))
 unit c = told (c .before .before .before) _ (c .before .look .given .1)
 
 abbrev one : tie.After-known-told → ℤ

@@ -6,9 +6,9 @@ use borrow.Author.Needs.{needs}
 use lib.IntN.{ℤ, pos}
 use lib.ListN.{length, getD}
 use Rattle.words.proofs.Words.{back}
+use Rattle.words.proofs.Places.{in-at}
 use Rattle.nogoods.specs.Propagate.{Valued}
 use Rattle.nogoods.specs.declared.units.Value.{Value}
-use Rattle.nogoods.proofs.Places.{in-at}
 use Rattle.nogoods.proofs.Looks.{Seen, seen-none, seen-true, seen-false, seen-free, seen-second, seen-all, seen-one}
 use Rattle.nogoods.proofs.units.look_at.Statement.{statement}
 use Rattle.nogoods.proofs.units.look_at.Tie as tie
@@ -39,7 +39,8 @@ told c x e = rw (back (read (c .before .before)) (c .before .value-of-arg .given
 
 -- what is known before the turn
 module _ (c : tie.After-value-of Inv-loop μ-loop) where
-  abbrev before : Seen (c .before .before .before .before .args .assignment .now) (c .before .before .before .before .args .literals .now) (c .before .before .before .loop .i) (c .before .before .before .loop .one)
+  abbrev before : let l = c .before .before .before in
+      Seen (l .before .args .assignment .now) (l .before .args .literals .now) (l .loop .i) (l .loop .one)
   before = c .before .before .before .loop .inv .1
 
   abbrev within : c .before .before .before .loop .i < length (c .before .before .before .before .args .literals .now)

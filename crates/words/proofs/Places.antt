@@ -4,15 +4,15 @@ use mathlib.Core.Path.{_≡_, refl, sym, ap}
 use mathlib.Core.Logic.{_⊎_, inl, inr}
 use mathlib.Core.Bool.{true}
 use mathlib.Core.List.{List, [], _∷_, List·Memᴰ·head, List·Memᴰ·tail}
-use Prim.Native.Nat.{ℕ, zero, suc, _≤_, _<_}
+use Prim.Native.Nat.{ℕ, zero, suc, _<_}
 use native.Mathlib.Omega.{arith}
 use lib.Dec.{eqb}
 use lib.IntN.{ℤ, pos}
 use lib.ListN.{length, getD, set}
 use Rattle.words.specs.Lists.{_∈_}
 use Rattle.words.specs.Literals.{variable, same, mentions, noneTwice}
 use Rattle.words.proofs.Lists.{Decides, passed, answered, and-decides, not-decides, any-decides, eqb-decides}
 use Rattle.words.proofs.Literals.{same-decides}
 
 -- two numbers, or two words, are equal or not
 pub equal? : (a b : ℕ) → (a ≡ b) ⊎ (¬ (a ≡ b))
@@ -51,7 +51,8 @@ first : (x : ℤ) (l : List ℤ) → noneTwice (x ∷ l) ≡ true → (j : ℕ) 
 first x l o j h e = once-decides x l .to (passed _ .from o) .0 (getD l j (pos 0), in-at (pos 0) l j h, e)
 
 -- no variable stands twice: at two places stand two variables
-pub distinct : (l : List ℤ) → noneTwice l ≡ true → (i j : ℕ) → i < length l → j < length l → ¬ (i ≡ j) → ¬ (variable (getD l i (pos 0)) ≡ variable (getD l j (pos 0)))
+pub distinct : (l : List ℤ) → noneTwice l ≡ true → (i j : ℕ) → i < length l → j < length l → ¬ (i ≡ j)
+    → ¬ (variable (getD l i (pos 0)) ≡ variable (getD l j (pos 0)))
 distinct [] o i j h k n e = omega arith
 distinct (x ∷ l) o zero zero h k n e = n refl
 distinct (x ∷ l) o zero (suc j) h k n e = first x l o j (omega arith) e
