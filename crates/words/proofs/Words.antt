@@ -8,8 +8,8 @@ use borrow.Author.Tests.{ltb-true, eq-eqb, ne-eqb}
 use lib.Dec.{T, eqb}
 use lib.IntN.{ℤ, pos, negsuc, negℤ, natAbs}
 use lib.Signed.{mag, ltZ, nonNeg}
-use mir.Syntax.{Width, w32, w64, hbits}
-use mir.Val.{SFits, toZ, ofZ}
+use mir.Syntax.{Width, w32, w64}
+use mir.Val.{SFits, toZ, ofZ, hbits}
 use mir.Facts.{toZ-ofZ, sfits-widen}
 use Rattle.words.specs.Literals.{same}
 use Rattle.words.proofs.Lists.{if-true, is-true}
