@@ -14,7 +14,7 @@ use Rattle.aspif.specs.Reading.{shapeOf, readLines, readText, linesFrom}
 use Rattle.aspif.specs.declared.Kind.the-variants.{Normal, Choice}
 use Rattle.answer_set.specs.AnswerSets.{Gives, LeastModel, derive, AnswerSet}
 use Rattle.checker.specs.Check.{check}
-use Rattle.checker.specs.Examples.{Nothing, One, OneTwo, Starred}
+use Rattle.checker.specs.Examples.{Nothing, One, OneTwo, Starred, Source000}
 
 -- Which sets pass: the programs as they are read
 
@@ -91,3 +91,7 @@ starred = record {
   tooLarge = refl;
   leftOut = refl;
 }
+
+pub source000 : Source000
+unfolding check readText readLines linesFrom shapeOf lineOf insert insertAll
+source000 = refl
