@@ -1,7 +1,7 @@
-// Worked cases of the program reader: each of questions 1 to 11 at its edges. A case on standard input is a name with a colon, `[`, the
-// table's length, a newline, a text and `]`. In the text `{`, a number, a newline, a part and `}` stand for the part so many
-// times. Each case is written with its answer: N, the rule count, how many words of the table are not 0 and the first of them;
-// or the number and line of the refusal with how many words are not 0.
+// Worked cases of the program reader: each of questions 1 to 11 at its edges. A case on standard input is a name with a colon,
+// `[`, the table's length, a newline, a text and `]`. In the text `{`, a number, a newline, a part and `}` stand for the part so
+// many times. Each case is written with its answer: N, the rule count, how many words of the table are not 0 and its first 16
+// words; or the number and the line of the refusal, and how many words are not 0.
 use aspif::ProgramReading;
 use cases::before;
 use cases::say;
@@ -27,7 +27,7 @@ fn nonzero(table: &[i32]) -> usize {
     count
 }
 
-// What is read into a table whose words are not 0 before.
+// What is read into the table, whose words are 7 before.
 fn answer(text: &[u8], table: &mut [i32]) {
     let reading = aspif::read_program(text, table);
     match reading {
@@ -103,7 +103,7 @@ fn repeat(out: &mut [u8], n: usize, part: &[u8], times: usize) -> usize {
     m
 }
 
-// A part to be taken once, and after `{` one to be repeated.
+// A part to be taken once and, after `{`, a number and a newline, one to be repeated.
 fn push_piece(out: &mut [u8], n: usize, piece: &[u8]) -> usize {
     let open = before(piece, b'{');
     let line = open + before(&piece[open..], b'\n');
