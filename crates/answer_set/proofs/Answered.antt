@@ -19,7 +19,7 @@ use Rattle.words.proofs.Lists.{Decides, itself, passed, failed, reworded, and-d
 use Rattle.aspif.specs.Rules.{Rule, isNormal, isEmpty, ruleTop, atoms}
 use Rattle.aspif.specs.declared.Kind.{Kind}
 use Rattle.aspif.specs.declared.Kind.the-variants.{Normal, Choice}
-use Rattle.aspif.proofs.Counts.{and-left, and-right}
+use Rattle.words.proofs.Lists.{and-left, and-right}
 use Rattle.answer_set.specs.AnswerSets.{Constraint, LeastModel, derive, Met, AnswerSet}
 use Rattle.answer_set.specs.SetTest.{headsSound, sizeAt, headsAt, shapeSound, soundAt, rulesAt, soundRules, soundTable, rulesOf, listed, marksLent, marked, rounds, least, isBroken, anyBelow, justOne, yes, differs, broken, brokenFrom, apart, verdictOf}
 use Rattle.answer_set.specs.Claims.{Listed, Ready, MarksLeast, YesAnswerSet}

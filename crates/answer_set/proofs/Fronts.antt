@@ -15,7 +15,7 @@ use Rattle.words.specs.Lists.{all}
 use Rattle.words.specs.Literals.{variable, same}
 use Rattle.aspif.specs.Rules.{isEmpty}
 use Rattle.aspif.specs.Reading.{mostRules}
-use Rattle.aspif.proofs.Counts.{and-left, and-right}
+use Rattle.words.proofs.Lists.{and-left, and-right}
 use Rattle.answer_set.specs.SetTest.{isCount, suits, headsSound, bodySound, headCount, bodyCount, sizeAt, headsAt, bodyAt, ruleAt, shapeSound, soundAt, rulesAt, soundRules, soundTable}
 
 -- a count is at most 64

@@ -16,15 +16,15 @@ use Rattle.words.specs.Limits.{largest}
 use Rattle.words.specs.Lists.{_∈_, all}
 use Rattle.words.specs.Literals.{variable, same, has}
 use Rattle.words.proofs.Lists.{itself, passed, failed, not-decides, all-decides}
-use Rattle.words.proofs.Literals.{has-decides, variable-positive}
-use Rattle.words.proofs.Words.{same-eq}
+use Rattle.words.proofs.Literals.{same-decides, has-decides, variable-positive}
+use Rattle.words.proofs.Lists.{if-true}
 use Rattle.text.specs.Line.{anyOutside}
 use Rattle.aspif.specs.Rules.{Rule, kindWord, ruleWords, programWords, tableWords}
 use Rattle.aspif.specs.Reading.{mostLiterals, mostRules, suited}
 use Rattle.aspif.specs.declared.Kind.{Kind}
 use Rattle.aspif.specs.declared.Kind.the-variants.{Normal, Choice}
 use Rattle.aspif.specs.declared.rules.Shape.the-variants.{Wrong, Shaped}
-use Rattle.aspif.proofs.Counts.{and-left, and-right}
+use Rattle.words.proofs.Lists.{and-left, and-right}
 use Rattle.aspif.proofs.Formed.{Formed, Fits, inside-decides, read-fits}
 use Rattle.aspif.proofs.Written.{textOf, written-read}
 use Rattle.answer_set.specs.SetTest.{ReadAs, ascends, kindOf, suits, isCount, headsSound, bodySound, headCount, bodyCount, sizeAt, headsAt, bodyAt, ruleAt, shapeSound, soundAt, rulesAt, soundRules, soundTable, rulesOf}
@@ -71,8 +71,8 @@ kind-suits w h b = by (same w (pos 0)) refl
     choice w p e = rw p (rw e refl, refl)
 
     by : (t : Bool) → same w (pos 0) ≡ t → cond t (leb h 1) (same w (pos 1) && leb 1 h) ≡ true → (suited (kindOf w) h b ≡ Shaped (kindOf w) h b) × (w ≡ kindWord (kindOf w))
-    by true p e = normal w (same-eq w (pos 0) p) e
-    by false p e = choice w (same-eq w (pos 1) (and-left _ _ e)) (and-right (same w (pos 1)) _ e)
+    by true p e = normal w (if-true (same-decides w (pos 0)) p) e
+    by false p e = choice w (if-true (same-decides w (pos 1)) (and-left _ _ e)) (and-right (same w (pos 1)) _ e)
 
 suits-kind : (k : Kind) (h b : ℕ) → suited k h b ≡ Shaped k h b → suits (kindWord k) h ≡ true
 suits-kind Normal h b = by (leb h 1)
@@ -222,7 +222,7 @@ front-words (a ∷ c ∷ d ∷ t) s =
 
 zero-words : (ws : List ℤ) → all (same (pos 0)) ws ≡ true → ws ≡ replicate (length ws) (pos 0)
 zero-words [] e = refl
-zero-words (w ∷ ws) e = ap₂ (λ a l. a ∷ l) (sym (same-eq (pos 0) w (and-left _ _ e))) (zero-words ws (and-right (same (pos 0) w) _ e))
+zero-words (w ∷ ws) e = ap₂ (λ a l. a ∷ l) (sym (if-true (same-decides (pos 0) w) (and-left _ _ e))) (zero-words ws (and-right (same (pos 0) w) _ e))
 
 rules-count : (n : ℕ) (ws : List ℤ) → length (rulesAt n ws) ≡ n
 rules-count zero ws = refl

@@ -15,7 +15,7 @@ use Rattle.words.specs.Limits.{largest}
 use Rattle.words.specs.Lists.{all}
 use Rattle.words.specs.Literals.{variable, top}
 use Rattle.aspif.specs.Rules.{Rule, ruleTop, atoms}
-use Rattle.aspif.proofs.Counts.{and-left, and-right}
+use Rattle.words.proofs.Lists.{and-left, and-right}
 use Rattle.answer_set.specs.SetTest.{ascends, headsSound, sizeAt, headsAt, bodyAt, ruleAt, shapeSound, soundAt, rulesAt, soundRules, soundTable, listed, marksLent, marked, rounds, least, anyBelow, differs, brokenFrom, apart, verdictOf, Asked, refused, passed, asked, Says, Answers, marksOf, SetTested}
 use Rattle.answer_set.specs.Private.{markAll}
 use Rattle.answer_set.specs.declared.SetAnswer.{SetAnswer}

@@ -24,7 +24,8 @@ use Rattle.aspif.specs.declared.Kind.{Kind}
 use Rattle.aspif.specs.declared.Kind.the-variants.{Normal, Choice}
 use Rattle.aspif.specs.declared.rules.Shape.{Shape}
 use Rattle.aspif.specs.declared.rules.Shape.the-variants.{Wrong, Shaped}
-use Rattle.aspif.proofs.Counts.{and-left, and-right, Counted, shape-counted}
+use Rattle.aspif.proofs.Counts.{Counted, shape-counted}
+use Rattle.words.proofs.Lists.{and-left, and-right}
 
 -- A rule that passes questions 4 to 8, its heads and its body ascending
 pub record Formed (r : Rule) : Type 0 where

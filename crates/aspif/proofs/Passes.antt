@@ -12,6 +12,7 @@ use lib.ListN.{length, take, drop, length-append, length-drop, take-append-drop}
 use lib.Seq.{drop-drop, take-at, length-take-le}
 use borrow.Rule.Slice.PartMut.{putMid}
 use Rattle.words.proofs.Parts.{put-tail, length-put}
+use Rattle.words.proofs.Segments.{record-append}
 use Rattle.text.specs.Line.{Line, broken, numbers, lineOf, anyOutside}
 use Rattle.text.proofs.Lines.{bounds-of}
 use Rattle.aspif.specs.Rules.{Rule, ruleTop, atoms, ruleWords, programWords}
@@ -75,8 +76,7 @@ module _ (rules free left : ℕ) where
 -- One rule more
 
 words-more : (rs : List Rule) (r : Rule) → programWords (rs ++ (r ∷ [])) ≡ programWords rs ++ ruleWords r
-words-more [] r = append-nil (ruleWords r)
-words-more (x ∷ rs) r = ap (λ (l : List ℤ). ruleWords x ++ l) (words-more rs r) ∙ sym (append-assoc (ruleWords x) (programWords rs) (ruleWords r))
+words-more rs r = record-append ruleWords rs (r ∷ []) ∙ ap (λ (l : List ℤ). programWords rs ++ l) (append-nil (ruleWords r))
 
 atoms-more : (rs : List Rule) (r : Rule) → atoms (rs ++ (r ∷ [])) ≡ max (ruleTop r) (atoms rs)
 atoms-more [] r = refl

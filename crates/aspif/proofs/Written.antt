@@ -21,7 +21,7 @@ use Rattle.aspif.specs.Rules.{Rule, kindWord, ruleWords, programWords}
 use Rattle.aspif.specs.Reading.{mostLiterals, mostRules, suited, bodyShape, headShape, shapeOf, headsGood, bodyGood, reads, ruleOf, adds, isLast, room, turnOf, linesFrom, program, header, readLines}
 use Rattle.aspif.specs.declared.Kind.{Kind}
 use Rattle.aspif.specs.declared.Kind.the-variants.{Normal, Choice}
-use Rattle.aspif.proofs.Counts.{and-left, and-right}
+use Rattle.words.proofs.Lists.{and-left, and-right}
 use Rattle.aspif.proofs.Decimals.{lineBytes, line-read}
 use Rattle.aspif.proofs.Formed.{Formed, Fits, words-append}
 
