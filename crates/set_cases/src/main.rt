@@ -75,25 +75,34 @@ fn constraints() {
     case(b"constraints {}", &table, 3, &[]);
 }
 
-fn refused_41() {
+fn rule_counts() {
     case(b"41 a word after the rules", &[0, 1, 0, 1, 1], 1, &[]);
     case(b"41 a rule too many", &[0, 1, 0, 1, 0], 2, &[]);
     case(b"41 a rule too few", &[0, 1, 0, 1, 0, 1, 0, 1], 1, &[]);
     case(b"41 zeros are a constraint", &[0, 0, 0], 1, &[]);
+}
+
+fn shapes() {
     case(b"41 head kind 2", &[2, 1, 0, 1], 1, &[]);
     case(b"41 no choice head", &[1, 0, 0], 1, &[]);
     case(b"41 two normal heads", &[0, 2, 0, 1, 2], 1, &[]);
     case(b"41 head count -1", &[0, -1, 0], 1, &[]);
     case(b"41 a head that is missing", &[0, 1, 0], 1, &[]);
+}
+
+fn heads() {
     case(b"41 head 0", &[0, 1, 0, 0], 1, &[]);
     case(b"41 head 4095", &[0, 1, 0, 4095], 1, &[4095]);
     case(b"41 head 4096", &[0, 1, 0, 4096], 1, &[]);
     case(b"41 heads 2 1", &[1, 2, 0, 2, 1], 1, &[]);
+}
+
+fn bodies() {
     case(b"41 body 1 -1", &[0, 0, 2, 1, -1], 1, &[]);
     case(b"41 body -1 2", &[0, 0, 2, -1, 2], 1, &[]);
 }
 
-fn refused_42() {
+fn sets() {
     let fact = [0i32, 1, 0, 2];
     case(b"42 {0}", &fact, 1, &[0]);
     case(b"42 {2}", &fact, 1, &[2]);
@@ -103,7 +112,7 @@ fn refused_42() {
     case(b"41 before 42", &[2], 1, &[0]);
 }
 
-fn refused_43() {
+fn mark_counts() {
     let mut none: [u8; 0] = [];
     case_with(b"43 no marks", &[], 0, &[], &mut none);
     let mut short = [1u8; 4095];
@@ -117,7 +126,10 @@ fn refused_43() {
 fn main() {
     starred();
     constraints();
-    refused_41();
-    refused_42();
-    refused_43();
+    rule_counts();
+    shapes();
+    heads();
+    bodies();
+    sets();
+    mark_counts();
 }
