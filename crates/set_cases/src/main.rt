@@ -1,16 +1,8 @@
 // Worked cases of the set test: document 01's starred examples 4, 6, 7 and 8, constraints, and questions 41 to 43 at their edges.
 // A line for each case: its name, the answer, and how many marks are 1 afterwards.
 use answer_set::SetAnswer;
-use libc::STDOUT_FILENO;
-
-fn say(word: &[u8]) {
-    io::write_all(STDOUT_FILENO, word);
-}
-
-fn say_number(n: usize) {
-    say(b" ");
-    io::print_decimal(STDOUT_FILENO, n as u64);
-}
+use cases::say;
+use cases::say_number;
 
 fn ones(marks: &[u8]) -> usize {
     let mut n = 0;
