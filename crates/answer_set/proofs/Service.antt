@@ -1,4 +1,4 @@
--- What the service's answer yes says of a set: `service-yes`.
+-- What the service's answers say: `table-refused` of refusal 41, `service-yes` of yes.
 -- Assumes nothing.
 use mathlib.Core.Path.{_≡_, refl, subst}
 use mathlib.Core.Bool.{Bool, true, false, cond}
@@ -11,11 +11,34 @@ use lib.Dec.{eqb}
 use lib.ListN.{length}
 use Rattle.aspif.specs.Rules.{Rule, atoms}
 use Rattle.answer_set.specs.AnswerSets.{AnswerSet}
-use Rattle.answer_set.specs.SetTest.{ReadAs, ascends, rulesOf, listed, marksLent, least, Verdict, yes, differs, broken, apart, verdictOf, Asked, refused, passed, askedOf, asked, Says, Answers}
-use Rattle.answer_set.specs.Claims.{Listed, ServiceYes}
+use Rattle.answer_set.specs.SetTest.{ReadAs, ReadTable, ascends, rulesOf, listed, marksLent, least, Verdict, yes, differs, broken, apart, verdictOf, Asked, refused, passed, askedOf, asked, Says, Answers}
+use Rattle.answer_set.specs.Claims.{TableRefused, Listed, ServiceYes}
 use Rattle.answer_set.specs.declared.SetAnswer.the-variants.{Yes}
 use Rattle.answer_set.proofs.Answered.{yes-answer-set}
 use Rattle.answer_set.proofs.Readable.{table-read}
+
+-- Refusal 41
+
+no-41 : (rs : List Rule) (l : List ℕ) (n : ℕ) → askedOf (some rs) l n ≡ refused 41 → ⊥
+no-41 rs l n = by (ascends 0 (atoms rs) l) (eqb n marksLent)
+  where
+    by : (b c : Bool) → cond b (cond c (passed rs) (refused 43)) (refused 42) ≡ refused 41 → ⊥
+    by true true e = let z : _≡_ {A = ℕ} 0 1 = cc in omega arith
+    by true false e = let z : _≡_ {A = ℕ} 43 41 = cc in omega arith
+    by false c e = let z : _≡_ {A = ℕ} 42 41 = cc in omega arith
+
+pub table-refused : TableRefused
+unfolding asked
+table-refused table rules l n = (there, back (rulesOf table rules) refl)
+  where
+    there : askedOf (rulesOf table rules) l n ≡ refused 41 → ¬ ReadTable table rules
+    there e p = no-41 (p .0) l n (rw (table-read table rules (p .0) .1 (p .1)) at e)
+
+    back : (o : Option (List Rule)) → rulesOf table rules ≡ o → ¬ ReadTable table rules → askedOf o l n ≡ refused 41
+    back none e f = refl
+    back (some rs) e f = absurd (f (rs, table-read table rules rs .0 e))
+
+-- The answer yes
 
 says-yes : (just : ℕ → Bool) (v : Verdict) → Says just v Yes → v ≡ yes
 says-yes just yes e = refl

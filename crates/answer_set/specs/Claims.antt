@@ -1,5 +1,6 @@
 -- How the executable definitions of specs/SetTest.antt stand to the program reader's definition and to specs/AnswerSets.antt, as
--- statements. proofs/Readable.antt proves the first, proofs/Answered.antt those on marks and answers, proofs/Service.antt the last.
+-- statements. proofs/Readable.antt proves the first, proofs/Answered.antt those on marks and answers, proofs/Service.antt those on
+-- what the service answers.
 -- Assumes nothing.
 use mathlib.Core.Path.{_≡_}
 use mathlib.Core.Logic.{_↔_, _⊎_}
@@ -12,13 +13,17 @@ use lib.ListN.{length, getD}
 use Rattle.words.specs.Lists.{_∈_}
 use Rattle.aspif.specs.Rules.{Rule, atoms}
 use Rattle.answer_set.specs.AnswerSets.{LeastModel, AnswerSet}
-use Rattle.answer_set.specs.SetTest.{ReadAs, ascends, rulesOf, marksLent, listed, least, verdictOf, yes, SetTested}
+use Rattle.answer_set.specs.SetTest.{ReadAs, ReadTable, ascends, rulesOf, marksLent, listed, least, verdictOf, yes, refused, asked, SetTested}
 use Rattle.answer_set.specs.declared.SetAnswer.{SetAnswer}
 use Rattle.answer_set.specs.declared.SetAnswer.the-variants.{Yes}
 
 -- question 41: the rules computed from a table are those of a program that the reader reads so
 abbrev pub TableRead : Type 0
 TableRead = (table : List ℤ) (rules : ℕ) (rs : List Rule) → (rulesOf table rules ≡ some rs) ↔ ReadAs table rules rs
+
+-- and question 41 is answered no exactly where there is no such program
+abbrev pub TableRefused : Type 0
+TableRefused = (table : List ℤ) (rules : ℕ) (l : List ℕ) (marks : ℕ) → (asked table rules l marks ≡ refused 41) ↔ ¬ ReadTable table rules
 
 -- the set of the numbers listed
 abbrev pub Listed : List ℕ → ℕ → Type 0

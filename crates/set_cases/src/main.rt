@@ -72,6 +72,9 @@ fn rule_counts() {
     case(b"41 a rule too many", &[0, 1, 0, 1, 0], 2, &[]);
     case(b"41 a rule too few", &[0, 1, 0, 1, 0, 1, 0, 1], 1, &[]);
     case(b"41 zeros are a constraint", &[0, 0, 0], 1, &[]);
+    let zeros = [0i32; 3075];
+    case(b"41 1024 rules", &zeros, 1024, &[]);
+    case(b"41 1025 rules", &zeros, 1025, &[]);
 }
 
 fn shapes() {

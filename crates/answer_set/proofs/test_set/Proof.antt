@@ -20,39 +20,32 @@ told : (c : tie.After-ascends-within)
     c .ascends-within .result ≡ ascends 0 (atoms (rulesAt (a .rules) (a .table .now))) (a .set .now))
 told c = rw (c .before .largest-atom .ensures) at (c .ascends-within .ensures)
 
--- src/lib.rt:28:9
 returns : tie.Need-returns
 returns c = refused-41 _ _ _ _ _ (c .before .before .before .before .zero-marks .ensures) (sym (c .before .is-readable .ensures) ∙ not-true _ (c .if1 .taken))
 
--- src/lib.rt:30:9
 largest-atom-requires : tie.Need-largest-atom-requires
 largest-atom-requires c κs = sound-rules _ _ (sound c)
 
--- src/lib.rt:32:9
 returns-2 : tie.Need-returns-2
 returns-2 c =
     let d = c .before in
     refused-42 _ _ _ _ _ (d .before .before .before .before .before .before .zero-marks .ensures) (sound (d .before .before)) (sym (told d) ∙ not-true _ (c .if2 .taken))
 
--- src/lib.rt:35:9
 returns-3 : tie.Need-returns-3
 returns-3 c =
     let d = c .before .before in
     let z = d .before .before .before .before .before in
     refused-43 _ _ _ _ _ (z .before .zero-marks .ensures) (sound (d .before .before)) (sym (told d) ∙ not-false _ (c .before .if2 .left)) (λ e. c .if3 .taken (z .marks .given ∙ e))
 
--- src/lib.rt:39:5
 close-requires : tie.Need-close-requires
 close-requires c κs = sound-rules _ _ (sound (c .before .before .before .before .before .before .before .before .before))
 
--- src/lib.rt:40:5
 judge-requires : tie.Need-judge-requires
 judge-requires c κs =
     let d = c .before .before .before .before .before .before .before .before .before .before .before .before .before in
     let a = d .before .before .before .before .before .before .before .before .before .args in
     (sound (d .before), rw (d .largest-atom .ensures) (atoms-small (a .rules) (a .table .now) (sound-rules _ _ (sound (d .before)))))
 
--- src/lib.rt:23:1
 returns-4 : tie.Need-returns-4
 returns-4 c =
     let k = c .before .before .before .before .before in

@@ -12,7 +12,6 @@ Inv-loop marks n₀ i₀ n i = (i ≤ length marks) × (n ≤ i)
 abbrev μ-loop : tie.MeasureT-loop
 μ-loop marks n₀ i₀ n i = length marks - i
 
--- src/main.rt:18:5
 loop-again : tie.Need-loop-again Inv-loop μ-loop
 loop-again c = ⊎-elim (λ w. omega arith) (λ w. omega arith) (c .if1 .came)
 

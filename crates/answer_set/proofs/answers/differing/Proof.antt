@@ -28,27 +28,21 @@ module _ (c : tie.After-just-one Inv-loop μ-loop) where
   tells : f (i - 1) ≡ c .just-one .result
   tells = sym (rw (c .before .before .is-marked .ensures, c .before .is-marked2 .ensures) at (c .just-one .ensures))
 
--- src/answers.rt:32:5
 loop-holds : tie.Need-loop-holds Inv-loop μ-loop
 loop-holds c = (omega arith, refl)
 
--- src/answers.rt:35:30
 cast-t8 : tie.Need-cast-t8 Inv-loop μ-loop
 cast-t8 c = let l = c .before .before .before .before .before .loop in record { fits = omega (arith, c .before .before .before .before .before .before .before .before .pre, l .inv .0) }
 
--- src/answers.rt:35:13
 returns : tie.Need-returns Inv-loop μ-loop
 returns c = let d = c .before in let l = d .before .before .before .before .loop in (tells d ∙ c .if1 .taken, l .inv .1 ∙ below-here (f d) (i d) (d .before .before .before .loop-test .taken) (tells d ∙ c .if1 .taken))
 
--- src/answers.rt:32:5
 loop-less : tie.Need-loop-less Inv-loop μ-loop
 loop-less c = omega arith
 
--- src/answers.rt:32:5
 loop-again : tie.Need-loop-again Inv-loop μ-loop
 loop-again c = let d = c .before in let l = d .before .before .before .before .loop in (omega arith, l .inv .1 ∙ below-on (f d) (i d) (d .before .before .before .loop-test .taken) (tells d ∙ c .if1 .left))
 
--- src/answers.rt:27:1
 returns-2 : tie.Need-returns-2 Inv-loop μ-loop
 returns-2 c = let l = c .before .loop in l .inv .1 ∙ below-end _ (l .i) (c .loop-test .left)
 

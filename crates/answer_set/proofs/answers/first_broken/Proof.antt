@@ -47,46 +47,36 @@ tells c = let d = c .before in sym (rw (tail-of (i d) (t d)) at (c .is-broken .e
 size : (c : tie.After-rule-size Inv-loop μ-loop) → (let d = c .before .before .before in c .rule-size .result ≡ sizeAt (drop (i d) (t d)))
 size c = let d = c .before .before .before in (rw (tail-of (i d) (t d)) at (c .rule-size .ensures)) .0
 
--- src/answers.rt:72:5
 loop-holds : tie.Need-loop-holds Inv-loop μ-loop
 loop-holds c = (record { within = omega arith; sound = sound-rules _ _ (c .before .pre) }, omega arith, refl)
 
--- src/answers.rt:73:20
 mul-rest : tie.Need-mul-rest Inv-loop μ-loop
 mul-rest c = let w = c .before .loop .inv .0 .within in search needs
 
--- src/answers.rt:74:12
 is-broken-requires : tie.Need-is-broken-requires Inv-loop μ-loop
 is-broken-requires c κs = rw (tail-of (i c) (t c)) (shape-of _ (at c .sound))
 
--- src/answers.rt:75:13
 returns : tie.Need-returns Inv-loop μ-loop
 returns c = λ just. let d = c .before .before in rw (whole d, tells (c .before) ∙ c .if1 .taken) refl
 
--- src/answers.rt:77:14
 rule-size-requires : tie.Need-rule-size-requires Inv-loop μ-loop
 rule-size-requires c κs = let d = c .before .before in rw (tail-of (i d) (t d)) (shape-of _ (at d .sound))
 
--- src/answers.rt:77:9
 add-i : tie.Need-add-i Inv-loop μ-loop
 add-i c = let n = at (c .before .before .before) .next .within in record { fits = omega (arith, size c) }
 
--- src/answers.rt:78:9
 add-number : tie.Need-add-number Inv-loop μ-loop
 add-number c = let l = c .before .before .before .before .before .loop in let f = few-rules _ _ (s (c .before .before .before) .pre) in record { fits = omega (arith, l .inv .1) }
 
--- src/answers.rt:72:5
 loop-less : tie.Need-loop-less Inv-loop μ-loop
 loop-less c = omega arith
 
--- src/answers.rt:72:5
 loop-again : tie.Need-loop-again Inv-loop μ-loop
 loop-again c =
     let d = c .before .before .before in
     let l = d .before .before .loop in
     rw (size c) (at d .next, omega (arith, l .inv .1, d .before .loop-test .taken), whole d ∙ rw (tells (c .before .before) ∙ c .before .if1 .left))
 
--- src/answers.rt:65:1
 returns-2 : tie.Need-returns-2 Inv-loop μ-loop
 returns-2 c = λ just. let l = c .before .loop in rw (l .inv .2, no-rules (l .left) (drop (l .i) (c .before .before .before .args .table .now)) (c .loop-test .left)) refl
 

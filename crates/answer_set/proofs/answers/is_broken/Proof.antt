@@ -3,13 +3,11 @@ use borrow.Author.Needs.{needs}
 use Rattle.answer_set.proofs.answers.is_broken.Statement.{statement}
 use Rattle.answer_set.proofs.answers.is_broken.Tie as tie
 
--- src/answers.rt:59:9
 returns : tie.Need-returns
 returns c =
     let k = c .before .before .before in
     rw (sym (k .is-constraint .ensures) ∙ c .before .before .if1 .taken) (rw (c .before .body-of .ensures) at (c .body-holds .ensures))
 
--- src/answers.rt:54:1
 returns-2 : tie.Need-returns-2
 returns-2 c = rw (sym (c .before .is-constraint .ensures) ∙ c .if1 .left)
 

@@ -4,17 +4,14 @@ use borrow.Author.Needs.{needs}
 use Rattle.answer_set.proofs.answers.is_constraint.Statement.{statement}
 use Rattle.answer_set.proofs.answers.is_constraint.Tie as tie
 
--- src/answers.rt:48:25
 enum-told : tie.Need-enum-told
 enum-told c = search needs
 
--- src/answers.rt:42:1
 returns : tie.Need-returns
 returns c =
     let k = c .before .before .before in
     rw (sym (k .kind-of .ensures) ∙ c .before .enum-told .given .1, ← c .heads-of .ensures) (empty-length (c .heads-of .result .now))
 
--- src/answers.rt:42:1
 returns-2 : tie.Need-returns-2
 returns-2 c =
     let k = c .before .before in

@@ -16,23 +16,18 @@ module _ (c : tie.After-differing) where
   found : Finds just (c .before .before .before .args .atoms + 1) (c .differing .result)
   found = c .differing .ensures
 
--- src/answers.rt:90:42
 add-differing : tie.Need-add-differing
 add-differing c = record { fits = omega (arith, c .before .before .pre .1) }
 
--- src/answers.rt:90:9
 differing-requires : tie.Need-differing-requires
 differing-requires c κs = omega (arith, c .before .before .pre .1)
 
--- src/answers.rt:93:27
 enum-told : tie.Need-enum-told
 enum-told c = search needs
 
--- src/answers.rt:93:27
 first-broken-requires : tie.Need-first-broken-requires
 first-broken-requires c κs = c .before .before .before .before .before .pre .0
 
--- src/answers.rt:84:1
 returns : tie.Need-returns
 returns c =
     let k = c .before .found .given in
@@ -40,7 +35,6 @@ returns c =
     let f = rw (k .1) at (found d) in
     rw (f .1) (k .0 .0, refl, f .0)
 
--- src/answers.rt:84:1
 returns-2 : tie.Need-returns-2
 returns-2 c =
     let d = c .before .before .before in

@@ -23,19 +23,16 @@ tells : (c : tie.After-literal-holds Inv-loop μ-loop)
     literalHolds (marked (a .inside .now)) (marked (a .marks .now)) (getD (a .body .now) (l .i) (pos 0)) ≡ c .literal-holds .result)
 tells c = sym (rw (back (getD (c .before .before .before .before .before .before .args .body .now) (c .before .before .before .loop .i) (pos 0)) (c .before .literal-holds-arg .given)) at (c .literal-holds .ensures))
 
--- src/models.rt:45:5
 loop-again : tie.Need-loop-again Inv-loop μ-loop
 loop-again c =
     let l = c .before .before .before .before .loop in
     (omega arith, l .inv .1 ∙ all-on _ _ (l .i) (pos 0) (c .before .before .before .loop-test .taken) (tells (c .before) ∙ c .if1 .taken))
 
--- src/models.rt:49:13
 returns : tie.Need-returns Inv-loop μ-loop
 returns c =
     let l = c .before .before .before .before .loop in
     sym (l .inv .1 ∙ all-here _ _ (l .i) (pos 0) (c .before .before .before .loop-test .taken) (tells (c .before) ∙ c .if1 .left))
 
--- src/models.rt:41:1
 returns-2 : tie.Need-returns-2 Inv-loop μ-loop
 returns-2 c =
     let l = c .before .loop in sym (l .inv .1 ∙ all-none _ _ (c .loop-test .left))

@@ -16,41 +16,33 @@ Inv-loop table rules most inside marks₀ left₀ marks left =
 abbrev μ-loop : tie.MeasureT-loop
 μ-loop table rules most inside marks₀ left₀ marks left = left
 
--- src/models.rt:128:5
 loop-holds : tie.Need-loop-holds Inv-loop μ-loop
 loop-holds c = (refl, refl)
 
--- src/models.rt:129:13
 give-all-requires : tie.Need-give-all-requires Inv-loop μ-loop
 give-all-requires c κs = c .before .before .before .before .before .pre
 
--- src/models.rt:130:13
 same-length : tie.Need-same-length Inv-loop μ-loop
 same-length c = c .before .before .marks .given ∙ c .before .before .before .before .before .before .loop .inv .0
 
--- src/models.rt:130:13
 returns : tie.Need-returns Inv-loop μ-loop
 returns c =
     let d = c .before .before .before in
     let l = d .before .before .before .loop in
     last-round _ (l .left) _ (l .inv .1) (d .give-all .ensures) (not-true _ (c .if1 .taken))
 
--- src/models.rt:128:5
 loop-less : tie.Need-loop-less Inv-loop μ-loop
 loop-less c = omega arith
 
--- src/models.rt:128:5
 loop-again : tie.Need-loop-again Inv-loop μ-loop
 loop-again c =
     let d = c .before .before .before in
     let l = d .before .before .before .loop in
     (c .before .before .marks .given ∙ l .inv .0, l .inv .1 ∙ rounds-on _ (l .left) _ (l .marks) (d .before .before .loop-test .taken) ∙ rw (d .give-all .ensures .marks))
 
--- src/models.rt:123:1
 same-length-2 : tie.Need-same-length-2 Inv-loop μ-loop
 same-length-2 c = c .before .loop .inv .0
 
--- src/models.rt:123:1
 returns-2 : tie.Need-returns-2 Inv-loop μ-loop
 returns-2 c = let l = c .before .loop in sym (l .inv .1 ∙ rounds-end _ (l .left) _ (l .marks) (c .loop-test .left))
 

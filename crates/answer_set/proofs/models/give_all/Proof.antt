@@ -48,31 +48,24 @@ told c = let d = c .before .before in rw (tail-of (i d) (t d)) at (c .give-rule 
 size : (c : tie.After-rule-size Inv-loop μ-loop) → (let d = c .before .before .before .before .before .before in c .rule-size .result ≡ sizeAt (drop (i d) (t d)))
 size c = let d = c .before .before .before .before .before .before in (rw (tail-of (i d) (t d)) at (c .rule-size .ensures)) .0
 
--- src/models.rt:111:5
 loop-holds : tie.Need-loop-holds Inv-loop μ-loop
 loop-holds c = (record { within = omega arith; sound = c .before .before .pre }, refl, refl, λ e. refl)
 
--- src/models.rt:112:20
 mul-rest : tie.Need-mul-rest Inv-loop μ-loop
 mul-rest c = let w = c .before .loop .inv .0 .within in search needs
 
--- src/models.rt:113:12
 give-rule-requires : tie.Need-give-rule-requires Inv-loop μ-loop
 give-rule-requires c κs = let d = c .before in rw (tail-of (i d) (t d)) (shape-of _ (at d .sound))
 
--- src/models.rt:116:14
 rule-size-requires : tie.Need-rule-size-requires Inv-loop μ-loop
 rule-size-requires c κs = let d = c .before .before .before .before .before in rw (tail-of (i d) (t d)) (shape-of _ (at d .sound))
 
--- src/models.rt:116:9
 add-i : tie.Need-add-i Inv-loop μ-loop
 add-i c = let n = at (c .before .before .before .before .before .before) .next .within in record { fits = omega (arith, size c) }
 
--- src/models.rt:111:5
 loop-less : tie.Need-loop-less Inv-loop μ-loop
 loop-less c = omega arith
 
--- src/models.rt:111:5
 loop-again : tie.Need-loop-again Inv-loop μ-loop
 loop-again c =
     let g = c .before .before .before .before in
@@ -85,11 +78,9 @@ loop-again c =
       ⊎-elim (λ w z. absurd (true≢false (sym (w .1) ∙ z))) (λ w z. told g .still (w .0 .left) ∙ l .inv .3 (sym (w .1) ∙ z)) (c .before .if1 .came),
     )
 
--- src/models.rt:104:1
 same-length : tie.Need-same-length Inv-loop μ-loop
 same-length c = c .before .loop .inv .1
 
--- src/models.rt:104:1
 returns : tie.Need-returns Inv-loop μ-loop
 returns c =
     let l = c .before .loop in

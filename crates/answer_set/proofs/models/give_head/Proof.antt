@@ -12,7 +12,6 @@ size c = c .variable-of .ensures ∙ ap variable (toZ-ofZ (c .before .before .be
 tells : (c : tie.After-gives-head) → (let a = c .before .before .before .before .args in gives (marked (a .inside .now)) (a .kind) (variable (a .head)) ≡ c .gives-head .result)
 tells c = sym (rw (size (c .before)) at (c .gives-head .ensures))
 
--- src/models.rt:71:9
 returns : tie.Need-returns
 unfolding giveHead
 returns c =
@@ -20,7 +19,6 @@ returns c =
     let g = d .before .before .before in
     rw (tells g ∙ d .before .before .if1 .taken) (rw (size (g .before)) at (d .mark .ensures))
 
--- src/models.rt:66:1
 returns-2 : tie.Need-returns-2
 unfolding giveHead
 returns-2 c = rw (tells (c .before) ∙ c .if1 .left) (record { marks = refl; still = λ e. refl })

@@ -38,7 +38,6 @@ module _ (c : tie.After-give-head Inv-loop μ-loop) where
   told : (let m = c .before .before .before .before .loop .marks in Marking (giveHead (marked (s .args .inside .now)) (s .args .kind) head m) m after (c .give-head .result))
   told = rw (back head (c .before .before .give-head-arg .given)) at (c .give-head .ensures)
 
--- src/models.rt:82:5
 loop-again : tie.Need-loop-again Inv-loop μ-loop
 loop-again c =
     let d = c .before .before .before in
@@ -50,11 +49,9 @@ loop-again c =
       ⊎-elim (λ w z. absurd (true≢false (sym (w .1) ∙ z))) (λ w z. told d .still (w .0 .left) ∙ l .inv .3 (sym (w .1) ∙ z)) (c .if1 .came),
     )
 
--- src/models.rt:77:1
 same-length : tie.Need-same-length Inv-loop μ-loop
 same-length c = c .before .loop .inv .1
 
--- src/models.rt:77:1
 returns : tie.Need-returns Inv-loop μ-loop
 returns c =
     let l = c .before .loop in

@@ -10,7 +10,6 @@ tells : (c : tie.After-body-holds)
     bodyHolds (marked (a .inside .now)) (marked (a .marks .now)) (bodyAt (a .words .now)) ≡ c .body-holds .result)
 tells c = sym (rw (c .before .before .body-of .ensures) at (c .body-holds .ensures))
 
--- src/models.rt:98:9
 returns : tie.Need-returns
 unfolding giveRule
 returns c =
@@ -19,7 +18,6 @@ returns c =
     let k = h .before in
     rw (tells (k .before .before) ∙ k .before .if1 .taken) (rw (h .heads-of .ensures, k .kind-of .ensures) at (d .give-heads .ensures))
 
--- src/models.rt:92:1
 returns-2 : tie.Need-returns-2
 unfolding giveRule
 returns-2 c = rw (tells (c .before) ∙ c .if1 .left) (record { marks = refl; still = λ e. refl })

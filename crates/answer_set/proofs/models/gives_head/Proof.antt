@@ -2,7 +2,6 @@ use borrow.Author.Needs.{needs}
 use Rattle.answer_set.proofs.models.gives_head.Statement.{statement}
 use Rattle.answer_set.proofs.models.gives_head.Tie as tie
 
--- src/models.rt:56:1
 returns-2 : tie.Need-returns-2
 returns-2 c = rw (c .before .enum-told2 .given .1) (c .is-marked .ensures)
 

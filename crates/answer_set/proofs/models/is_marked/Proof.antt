@@ -3,7 +3,6 @@ use borrow.Author.Needs.{needs}
 use Rattle.answer_set.proofs.models.is_marked.Statement.{statement}
 use Rattle.answer_set.proofs.models.is_marked.Tie as tie
 
--- src/models.rt:10:1
 returns-2 : tie.Need-returns-2
 returns-2 c = rw (List·getD-eq-default (c .before .args .marks .now) 0 (c .if1 .left))
 

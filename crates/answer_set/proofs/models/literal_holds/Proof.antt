@@ -11,7 +11,6 @@ use Rattle.answer_set.proofs.models.literal_holds.Tie as tie
 size : (c : tie.After-variable-of) → c .variable-of .result ≡ variable (c .before .before .before .args .word)
 size c = c .variable-of .ensures ∙ ap variable (toZ-ofZ (c .before .before .before .fits .word))
 
--- src/models.rt:35:9
 returns : tie.Need-returns
 returns c =
     let d = c .before .before in
@@ -19,7 +18,6 @@ returns c =
     ap not (c .is-marked .ensures)
     ∙ rw (size d) (sym (holds-neg (marked (s .args .inside .now)) (marked (s .args .marks .now)) (s .args .word) (rw (toZ-ofZ (s .fits .word)) at (c .before .if1 .taken))))
 
--- src/models.rt:30:1
 returns-2 : tie.Need-returns-2
 returns-2 c =
     let d = c .before .before in

@@ -5,17 +5,14 @@ use borrow.Author.Needs.{needs}
 use Rattle.answer_set.proofs.models.mark.Statement.{statement}
 use Rattle.answer_set.proofs.models.mark.Tie as tie
 
--- src/models.rt:23:13
 returns : tie.Need-returns
 returns c = record { marks = refl; still = λ e. absurd (true≢false e) }
 
--- src/models.rt:17:1
 returns-2 : tie.Need-returns-2
 returns-2 c =
     let a = c .before .before .before .args in
     record { marks = sym (rw (c .if2 .left) at (set-getD (a .marks .now) (a .v) 0)); still = λ e. refl }
 
--- src/models.rt:17:1
 returns-3 : tie.Need-returns-3
 returns-3 c = record { marks = sym (set-out _ _ 1 (c .if1 .left)); still = λ e. refl }
 

@@ -29,28 +29,24 @@ module _ (c : tie.After-wide Inv-loop μ-loop) where
   tells : c .wide .result ≡ getD l i 0
   tells = c .wide .ensures
 
--- src/sets.rt:25:13
 returns : tie.Need-returns Inv-loop μ-loop
 returns c =
     let d = c .before in
     let e = tells d in
     sym (d .before .before .before .loop .inv .1 ∙ ascends-low _ (high d) (l d) (i d) (d .before .before .loop-test .taken) (omega arith))
 
--- src/sets.rt:28:13
 returns-2 : tie.Need-returns-2 Inv-loop μ-loop
 returns-2 c =
     let d = c .before .before in
     let e = tells d in
     sym (d .before .before .before .loop .inv .1 ∙ ascends-high _ (high d) (l d) (i d) (d .before .before .loop-test .taken) (omega arith) (omega arith))
 
--- src/sets.rt:21:5
 loop-again : tie.Need-loop-again Inv-loop μ-loop
 loop-again c =
     let d = c .before .before in
     let e = tells d in
     (omega arith, d .before .before .before .loop .inv .1 ∙ ascends-on _ (high d) (l d) (i d) (d .before .before .loop-test .taken) (omega arith) (omega arith) ∙ rw (← e))
 
--- src/sets.rt:16:1
 returns-3 : tie.Need-returns-3 Inv-loop μ-loop
 returns-3 c =
     let l = c .before .loop in sym (l .inv .1 ∙ ascends-end _ _ _ (c .loop-test .left))

@@ -14,11 +14,9 @@ Inv-loop l marks₀ i₀ marks i = (i ≤ length l) × (length marks ≡ length 
 abbrev μ-loop : tie.MeasureT-loop
 μ-loop l marks₀ i₀ marks i = length l - i
 
--- src/sets.rt:40:5
 loop-holds : tie.Need-loop-holds Inv-loop μ-loop
 loop-holds c = (omega arith, refl, refl)
 
--- src/sets.rt:40:5
 loop-again : tie.Need-loop-again Inv-loop μ-loop
 loop-again c =
     let d = c .before .before in
@@ -30,11 +28,9 @@ loop-again c =
       k .inv .2 ∙ mark-on (a .set .now) (k .marks) (k .i) (n .loop-test .taken) ∙ rw (d .mark .ensures .marks, d .before .wide .ensures),
     )
 
--- src/sets.rt:36:1
 same-length : tie.Need-same-length Inv-loop μ-loop
 same-length c = c .before .loop .inv .1
 
--- src/sets.rt:36:1
 returns : tie.Need-returns Inv-loop μ-loop
 returns c = let k = c .before .loop in sym (k .inv .2 ∙ mark-end _ (k .marks) (c .loop-test .left))
 

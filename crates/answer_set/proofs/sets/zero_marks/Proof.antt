@@ -15,14 +15,12 @@ Inv-loop marks₀ at₀ marks at = (at ≤ length marks₀) × (marks ≡ replic
 abbrev μ-loop : tie.MeasureT-loop
 μ-loop marks₀ at₀ marks at = length marks₀ - at
 
--- src/sets.rt:51:5
 loop-again : tie.Need-loop-again Inv-loop μ-loop
 loop-again c =
     let l = c .before .loop in
     let h : l .at < length (c .before .before .args .marks .now) = omega arith in
     (omega arith, rw (l .inv .1) (fill-more 0 _ _ h), simp length-set (l .inv .2))
 
--- src/sets.rt:47:1
 returns : tie.Need-returns Inv-loop μ-loop
 returns c =
     let l = c .before .loop in

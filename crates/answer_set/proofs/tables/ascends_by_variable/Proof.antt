@@ -36,28 +36,24 @@ module _ (c : tie.After-variable-of Inv-loop μ-loop) where
   inside : i < length vs
   inside = rw (length-map ws variable) (c .before .before .loop-test .taken)
 
--- src/tables.rt:98:13
 returns : tie.Need-returns Inv-loop μ-loop
 returns c =
     let d = c .before in
     let e = tells d in
     sym (d .before .before .before .loop .inv .1 ∙ ascends-low _ largest (vs d) (i d) (inside d) (omega arith))
 
--- src/tables.rt:101:13
 returns-2 : tie.Need-returns-2 Inv-loop μ-loop
 returns-2 c =
     let d = c .before .before in
     let e = tells d in
     sym (d .before .before .before .loop .inv .1 ∙ ascends-high _ largest (vs d) (i d) (inside d) (omega arith) (omega arith))
 
--- src/tables.rt:94:5
 loop-again : tie.Need-loop-again Inv-loop μ-loop
 loop-again c =
     let d = c .before .before in
     let e = tells d in
     (omega arith, d .before .before .before .loop .inv .1 ∙ ascends-on _ largest (vs d) (i d) (inside d) (omega arith) (omega arith) ∙ rw (← e))
 
--- src/tables.rt:89:1
 returns-3 : tie.Need-returns-3 Inv-loop μ-loop
 returns-3 c =
     let l = c .before .loop in

@@ -7,25 +7,20 @@ use borrow.Author.Needs.{needs}
 use Rattle.answer_set.proofs.tables.body_of.Statement.{statement}
 use Rattle.answer_set.proofs.tables.body_of.Tie as tie
 
--- src/tables.rt:83:17
 add-start : tie.Need-add-start
 add-start c = let s = shaped _ (c .before .pre) in record { fits = omega (arith, c .size-at .ensures) }
 
--- src/tables.rt:85:5
 mul-result : tie.Need-mul-result
 mul-result c = let s = shaped _ (c .before .before .pre) in record { fits = omega (arith, c .before .size-at .ensures) }
 
--- src/tables.rt:85:5
 sub-result : tie.Need-sub-result
 unfolding sizeAt
 sub-result c = let s = shaped _ (c .before .before .pre) in omega (arith, c .rule-size .ensures .0)
 
--- src/tables.rt:85:5
 part-result-start : tie.Need-part-result-start
 unfolding sizeAt
 part-result-start c = let s = shaped _ (c .before .before .pre) in omega (arith, c .rule-size .ensures .0)
 
--- src/tables.rt:79:1
 returns : tie.Need-returns
 unfolding bodyAt sizeAt
 returns c =

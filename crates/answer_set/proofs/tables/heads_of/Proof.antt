@@ -7,15 +7,12 @@ use borrow.Author.Needs.{needs}
 use Rattle.answer_set.proofs.tables.heads_of.Statement.{statement}
 use Rattle.answer_set.proofs.tables.heads_of.Tie as tie
 
--- src/tables.rt:74:15
 add-end : tie.Need-add-end
 add-end c = let s = shaped _ (c .before .pre) in record { fits = omega (arith, c .size-at .ensures) }
 
--- src/tables.rt:75:5
 part-result-end : tie.Need-part-result-end
 part-result-end c = let s = shaped _ (c .before .pre) in omega arith
 
--- src/tables.rt:70:1
 returns : tie.Need-returns
 unfolding headsAt
 returns c = let e : 3 + c .before .size-at .result - 3 ≡ headCount (c .before .before .args .words .now) = omega (arith, c .before .size-at .ensures) in rw e

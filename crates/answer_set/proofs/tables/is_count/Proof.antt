@@ -13,11 +13,9 @@ word : (c : tie.After-word-at)
     → (let a = c .before .args in toZ w32 (ofZ w32 (c .word-at .result)) ≡ getD (a .words .now) (a .i) (pos 0))
 word c = toZ-ofZ (sfits-of {z = c .word-at .result} (c .word-at .ok)) ∙ c .word-at .ensures
 
--- src/tables.rt:21:1
 returns : tie.Need-returns
 returns c = rw (c .variable-of .ensures, word (c .before .before), rw (word (c .before .before)) at (c .before .if1 .taken))
 
--- src/tables.rt:21:1
 returns-2 : tie.Need-returns-2
 returns-2 c = rw (rw (word (c .before)) at (c .if1 .left))
 

@@ -45,29 +45,23 @@ module _ (c : tie.After-rule-size Inv-loop μ-loop) where
   size : (c .rule-size .result ≡ sizeAt (drop (i at) (t at))) × (c .rule-size .result ≤ length (drop (i at) (t at)))
   size = rw (tail-of (i at) (t at)) at (c .rule-size .ensures)
 
--- src/tables.rt:144:9
 returns : tie.Need-returns Inv-loop μ-loop
 unfolding soundTable
 returns c = rw (lt-leb _ _ (c .if1 .taken))
 
--- src/tables.rt:151:13
 returns-2 : tie.Need-returns-2 Inv-loop μ-loop
 unfolding soundTable
 returns-2 c = rw (le-leb _ _ (c .before .before .before .before .before .if1 .left), whole (c .before), tells (c .before) ∙ not-true _ (c .if2 .taken))
 
--- src/tables.rt:153:14
 rule-size-requires : tie.Need-rule-size-requires Inv-loop μ-loop
 rule-size-requires c κs = let d = c .before in rw (tail-of (i d) (t d)) (shape-of _ (tells d ∙ not-false _ (c .if2 .left)))
 
--- src/tables.rt:153:9
 add-i : tie.Need-add-i Inv-loop μ-loop
 add-i c = record { fits = omega (arith, size c .1, length-drop (i (at c)) (t (at c))) }
 
--- src/tables.rt:148:5
 loop-less : tie.Need-loop-less Inv-loop μ-loop
 loop-less c = omega arith
 
--- src/tables.rt:148:5
 loop-again : tie.Need-loop-again Inv-loop μ-loop
 loop-again c =
     let d = at c in
@@ -76,7 +70,6 @@ loop-again c =
       whole d ∙ rw (tells d ∙ not-false _ (c .before .if2 .left), ← s .0, drop-drop (c .rule-size .result) (i d) (t d)),
     )
 
--- src/tables.rt:140:1
 returns-3 : tie.Need-returns-3 Inv-loop μ-loop
 unfolding soundTable
 returns-3 c =

@@ -31,35 +31,29 @@ kind c =
     let e : toZ w32 (ofZ w32 (w .result)) ≡ getD (ws (c .before .before .before .before)) 0 (pos 0) = toZ-ofZ (sfits-of {z = w .result} (w .ok)) ∙ w .ensures in
     c .suits-kind .ensures ∙ rw (e, c .before .before .before .size-at .ensures)
 
--- src/tables.rt:52:24
 add-size : tie.Need-add-size
 add-size c = record { fits = omega (arith, count-small (getD (ws (c .before)) 1 (pos 0)) (first (c .before))) }
 
--- src/tables.rt:52:24
 add-size-2 : tie.Need-add-size-2
 add-size-2 c = record { fits = omega (arith, count-small (getD (ws (c .before .before)) 1 (pos 0)) (first (c .before .before)), count-small (getD (ws (c .before .before)) 2 (pos 0)) (second (c .before .before))) }
 
--- src/tables.rt:54:17
 returns : tie.Need-returns
 unfolding shapeSound sizeAt
 returns c =
     let s = c .before .before .before .before .before in
     rw (first s, second s, sym (kind (c .before)) ∙ c .if3 .taken, c .before .before .before .size-at2 .ensures, c .before .before .before .before .size-at .ensures)
 
--- src/tables.rt:46:1
 returns-2 : tie.Need-returns-2
 unfolding shapeSound
 returns-2 c =
     let s = c .before .before .before .before .before in
     rw (first s, second s, sym (kind (c .before)) ∙ c .if3 .left)
 
--- src/tables.rt:46:1
 returns-3 : tie.Need-returns-3
 unfolding shapeSound
 returns-3 c =
     rw (sym (c .before .before .before .is-count .ensures) ∙ c .before .before .if1 .taken, sym (c .before .is-count2 .ensures) ∙ c .if2 .left)
 
--- src/tables.rt:46:1
 returns-4 : tie.Need-returns-4
 unfolding shapeSound
 returns-4 c =

@@ -24,15 +24,12 @@ positive c = sym (rw (c .before .heads-of .ensures) at (c .all-positive .ensures
 ascending : (c : tie.After-ascends-by-variable) → ascends 0 largest (map variable (headsAt (ws (c .before .before .before)))) ≡ c .ascends-by-variable .result
 ascending c = sym (rw (c .before .before .before .heads-of .ensures) at (c .ascends-by-variable .ensures))
 
--- src/tables.rt:129:13
 heads-of-requires : tie.Need-heads-of-requires
 heads-of-requires c κs = shape c
 
--- src/tables.rt:132:44
 body-of-requires : tie.Need-body-of-requires
 body-of-requires c κs = shape (c .before .before .before .before .before)
 
--- src/tables.rt:132:17
 returns : tie.Need-returns
 unfolding soundAt
 returns c =
@@ -41,7 +38,6 @@ returns c =
     rw (shape (o .before .before), positive o ∙ d .before .if2 .taken, ascending d ∙ c .before .before .if3 .taken)
     (rw (c .before .body-of .ensures) at (c .ascends-by-variable2 .ensures))
 
--- src/tables.rt:125:1
 returns-2 : tie.Need-returns-2
 unfolding soundAt
 returns-2 c =
@@ -49,12 +45,10 @@ returns-2 c =
     let o = d .before .before in
     rw (shape (o .before .before), positive o ∙ d .before .if2 .taken, ascending d ∙ c .if3 .left)
 
--- src/tables.rt:125:1
 returns-3 : tie.Need-returns-3
 unfolding soundAt
 returns-3 c = rw (shape (c .before .before .before), positive (c .before) ∙ c .if2 .left)
 
--- src/tables.rt:125:1
 returns-4 : tie.Need-returns-4
 unfolding soundAt
 returns-4 c = rw (sym (c .before .is-shaped .ensures) ∙ c .if1 .left)

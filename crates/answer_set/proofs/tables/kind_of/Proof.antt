@@ -15,11 +15,9 @@ tells c =
     let e : toZ w32 (ofZ w32 (w .result)) ≡ getD (c .before .before .args .words .now) 0 (pos 0) = toZ-ofZ (sfits-of {z = w .result} (w .ok)) ∙ w .ensures in
     sym (rw e at (c .is-same .ensures))
 
--- src/tables.rt:68:9
 returns : tie.Need-returns
 returns c = rw (tells (c .before) ∙ c .if1 .taken)
 
--- src/tables.rt:64:1
 returns-2 : tie.Need-returns-2
 returns-2 c = rw (tells (c .before) ∙ c .if1 .left)
 

@@ -32,31 +32,24 @@ module _ (c : tie.After-rest Inv-loop μ-loop) where
 size : (c : tie.After-rule-size Inv-loop μ-loop) → (let d = c .before .before .before in c .rule-size .result ≡ sizeAt (drop (i d) (t d)))
 size c = let d = c .before .before .before in (rw (tail-of (i d) (t d)) at (c .rule-size .ensures)) .0
 
--- src/tables.rt:187:5
 loop-holds : tie.Need-loop-holds Inv-loop μ-loop
 loop-holds c = (record { within = omega arith; sound = c .pre }, omega arith)
 
--- src/tables.rt:188:20
 mul-rest : tie.Need-mul-rest Inv-loop μ-loop
 mul-rest c = let w = c .before .loop .inv .0 .within in search needs
 
--- src/tables.rt:189:36
 rule-top-requires : tie.Need-rule-top-requires Inv-loop μ-loop
 rule-top-requires c κs = rw (tail-of (i c) (t c)) (shape-of _ (at c .sound))
 
--- src/tables.rt:190:14
 rule-size-requires : tie.Need-rule-size-requires Inv-loop μ-loop
 rule-size-requires c κs = let d = c .before .before in rw (tail-of (i d) (t d)) (shape-of _ (at d .sound))
 
--- src/tables.rt:190:9
 add-i : tie.Need-add-i Inv-loop μ-loop
 add-i c = let n = at (c .before .before .before) .next .within in record { fits = omega (arith, size c) }
 
--- src/tables.rt:187:5
 loop-less : tie.Need-loop-less Inv-loop μ-loop
 loop-less c = omega arith
 
--- src/tables.rt:187:5
 loop-again : tie.Need-loop-again Inv-loop μ-loop
 loop-again c =
     let d = c .before .before .before in
@@ -65,7 +58,6 @@ loop-again c =
     let m = c .before .larger .ensures in
     rw (size c) (at d .next, l .inv .1 ∙ ap (λ (rs : List Rule). max (l .most) (atoms rs)) (at d .rules) ∙ omega arith)
 
--- src/tables.rt:180:1
 returns : tie.Need-returns Inv-loop μ-loop
 returns c =
     let l = c .before .loop in

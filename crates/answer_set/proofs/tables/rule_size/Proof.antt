@@ -5,15 +5,12 @@ use borrow.Author.Needs.{needs}
 use Rattle.answer_set.proofs.tables.rule_size.Statement.{statement}
 use Rattle.answer_set.proofs.tables.rule_size.Tie as tie
 
--- src/tables.rt:66:5
 add-result : tie.Need-add-result
 add-result c = let s = shaped _ (c .before .pre) in record { fits = omega (arith, c .size-at .ensures) }
 
--- src/tables.rt:66:5
 add-result-2 : tie.Need-add-result-2
 add-result-2 c = let s = shaped _ (c .before .before .pre) in record { fits = omega (arith, c .size-at2 .ensures, c .before .size-at .ensures) }
 
--- src/tables.rt:62:1
 returns : tie.Need-returns
 unfolding sizeAt
 returns c = let s = shaped _ (c .before .before .pre) in (omega arith, omega arith)

@@ -13,7 +13,6 @@ module _ (c : tie.After-largest-variable2) where
   body : c .largest-variable2 .result ≡ top (bodyAt (c .before .before .before .before .args .words .now))
   body = rw (c .before .body-of .ensures) at (c .largest-variable2 .ensures)
 
--- src/tables.rt:171:1
 returns : tie.Need-returns
 returns c = let d = c .before in c .larger .ensures ∙ rw (heads d, body d)
 

@@ -5,7 +5,6 @@ use Rattle.words.specs.Literals.{variable}
 use Rattle.answer_set.proofs.tables.size_at.Statement.{statement}
 use Rattle.answer_set.proofs.tables.size_at.Tie as tie
 
--- src/tables.rt:14:1
 returns : tie.Need-returns
 returns c = let w = c .before .word-at in c .variable-of .ensures ∙ ap variable (toZ-ofZ (sfits-of {z = w .result} (w .ok)) ∙ w .ensures)
 

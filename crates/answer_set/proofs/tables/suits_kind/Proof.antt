@@ -12,15 +12,12 @@ first c = sym (rw (toZ-ofZ (c .before .fits .word)) at (c .is-same .ensures))
 second : (c : tie.After-is-same2) → same (c .before .before .before .args .word) (pos 1) ≡ c .is-same2 .result
 second c = sym (rw (toZ-ofZ (c .before .before .before .fits .word)) at (c .is-same2 .ensures))
 
--- src/tables.rt:37:9
 returns : tie.Need-returns
 returns c = rw (first (c .before) ∙ c .if1 .taken)
 
--- src/tables.rt:40:9
 returns-2 : tie.Need-returns-2
 returns-2 c = rw (first (c .before .before .before) ∙ c .before .before .if1 .left, second (c .before) ∙ c .if2 .taken)
 
--- src/tables.rt:33:1
 returns-3 : tie.Need-returns-3
 returns-3 c = rw (first (c .before .before .before) ∙ c .before .before .if1 .left, second (c .before) ∙ c .if2 .left)
 
