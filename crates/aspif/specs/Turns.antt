@@ -8,7 +8,7 @@ use lib.IntN.{ℤ, pos}
 use lib.ListN.{length, take, drop}
 use Rattle.words.specs.Literals.{ascending}
 use Rattle.aspif.specs.Rules.{Rule, atoms, ruleTop, kindWord, ruleWords, programWords}
-use Rattle.aspif.specs.Reading.{headsGood, bodyGood, Turn, refuses, ends, adds, Reading, refused, program}
+use Rattle.aspif.specs.Reading.{mostLiterals, headsGood, bodyGood, Turn, refuses, ends, adds, Reading, refused, program}
 use Rattle.aspif.specs.declared.Kind.{Kind}
 use Rattle.aspif.specs.declared.lines.LineTurn.{LineTurn}
 use Rattle.aspif.specs.declared.lines.LineTurn.the-variants.{Refuses, Ends, Adds}
@@ -17,7 +17,7 @@ use Rattle.aspif.specs.declared.lines.Lines.the-variants.{Program, Refus
 
 -- the numbers of the longest rule line: three before the heads, two before the body, 64 of each
 abbrev pub rowSize : ℕ
-rowSize = 133
+rowSize = 5 + mostLiterals + mostLiterals
 
 -- the heads and the body of a rule line, as they stand in its row
 abbrev pub rowHeads : List ℤ → ℕ → List ℤ

@@ -1,7 +1,7 @@
 -- The whole check: document 01, 'The proof's seven letters', 'Questions put to the input' and 'What `verdict` prints'.
 -- Assumes nothing.
-use mathlib.Core.Bool.{Bool, true, false, cond}
-use mathlib.Core.List.{List, [], _∷_}
+use mathlib.Core.Bool.{Bool, cond}
+use mathlib.Core.List.{List}
 use Prim.Native.Nat.{ℕ, zero, suc, _+_}
 use lib.Dec.{ltb, leb}
 use lib.IntN.{ℤ, pos}
@@ -12,7 +12,7 @@ use Rattle.aspif.specs.Reading.{Reading, refused, program, readText}
 use Rattle.drupe.specs.Lines.{LineAt, end, line, lineAt}
 use Rattle.drupe.specs.Lines as Lines
 use Rattle.derivation.specs.States.{State, start}
-use Rattle.derivation.specs.Steps.{Step, Outcome, next, step, emptyLive}
+use Rattle.derivation.specs.Steps.{Outcome, next, step, emptyLive}
 use Rattle.derivation.specs.Steps as Steps
 use Rattle.nogoods.specs.Store.{liveWords, storeWords}
 use Rattle.checker.specs.declared.Counts.{Counts}

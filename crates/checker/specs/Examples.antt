@@ -13,7 +13,7 @@ use lib.ListN.{replicate}
 use Rattle.aspif.specs.Rules.{Rule}
 use Rattle.aspif.specs.Reading.{program, readText}
 use Rattle.answer_set.specs.AnswerSets.{AnswerSet}
-use Rattle.checker.specs.Check.{Checked, check}
+use Rattle.checker.specs.Check.{check}
 use Rattle.checker.specs.declared.Verdict.{Verdict}
 use Rattle.checker.specs.declared.Verdict.the-variants.{Inconsistent, Open, RefusedProgram, RefusedProof}
 
@@ -158,16 +158,16 @@ pub record Starred : Type 0 where
 abbrev pub program000 : List ℕ
 program000 =
     rules (
-      "1 0 1 1 0 2 2 4" ∷ "1 0 1 2 0 2 1 4" ∷ "1 0 1 1 0 1 3" ∷ "1 0 1 2 0 2 3 4" ∷ "1 0 1 3 0 1 -4" ∷
-      "1 0 1 4 0 1 -3" ∷ "1 0 1 5 0 2 3 -5" ∷ "1 0 1 5 0 2 -1 -5" ∷ [])
+    "1 0 1 1 0 2 2 4" ∷ "1 0 1 2 0 2 1 4" ∷ "1 0 1 1 0 1 3" ∷ "1 0 1 2 0 2 3 4" ∷ "1 0 1 3 0 1 -4" ∷
+    "1 0 1 4 0 1 -3" ∷ "1 0 1 5 0 2 3 -5" ∷ "1 0 1 5 0 2 -1 -5" ∷ [])
 
 abbrev pub proof000 : List ℕ
 proof000 =
     lines (
-      "b 6 3 0" ∷ "b 7 -3 0" ∷ "b 8 -4 0" ∷ "b 9 1 4 0" ∷ "b 10 2 4 0" ∷ "b 11 3 4 0" ∷ "b 12 -1 -5 0" ∷
-      "b 13 3 -5 0" ∷ "s 1 10 6 0" ∷ "c 8 3 0" ∷ "c 7 4 0" ∷ "c 9 2 0" ∷ "s 5 13 12 0" ∷ "l 1 2 0" ∷ "a -6 1 0" ∷
-      "s 3 8 0" ∷ "s 4 7 0" ∷ "s 2 9 11 0" ∷ "a 5 -12 0" ∷ "c 13 5 0" ∷ "a 1 0" ∷ "c 10 1 0" ∷ "c 6 1 0" ∷ "a 5 0" ∷
-      "c 12 5 0" ∷ "a 0" ∷ [])
+    "b 6 3 0" ∷ "b 7 -3 0" ∷ "b 8 -4 0" ∷ "b 9 1 4 0" ∷ "b 10 2 4 0" ∷ "b 11 3 4 0" ∷ "b 12 -1 -5 0" ∷
+    "b 13 3 -5 0" ∷ "s 1 10 6 0" ∷ "c 8 3 0" ∷ "c 7 4 0" ∷ "c 9 2 0" ∷ "s 5 13 12 0" ∷ "l 1 2 0" ∷ "a -6 1 0" ∷
+    "s 3 8 0" ∷ "s 4 7 0" ∷ "s 2 9 11 0" ∷ "a 5 -12 0" ∷ "c 13 5 0" ∷ "a 1 0" ∷ "c 10 1 0" ∷ "c 6 1 0" ∷ "a 5 0" ∷
+    "c 12 5 0" ∷ "a 0" ∷ [])
 
 abbrev pub Source000 : Type 0
 Source000 = verdict program000 proof000 ≡ inconsistent 5 8 26 39

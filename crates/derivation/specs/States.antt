@@ -1,7 +1,7 @@
 -- "The steps work on three things: the live nogoods oldest first, the known variables, and which rule body has which name."
 -- Assumes nothing.
 use mathlib.Core.Bool.{Bool, _&&_, _||_}
-use mathlib.Core.List.{List, [], _∷_}
+use mathlib.Core.List.{List, []}
 use Prim.Native.Nat.{ℕ}
 use lib.Dec.{eqb, leb}
 use lib.IntN.{ℤ}
@@ -14,7 +14,8 @@ pub record Named : Type 0 where
   pub name : ℕ
   pub body : List ℤ
 
--- A nogood is a set of literals, kept ascending by variable.
+-- The three things: the live nogoods, each a set of literals kept ascending by variable; the names that `b` and `e` introduced,
+-- which with the atoms are the known variables; and the rule bodies that have names.
 pub record State : Type 0 where
   pub live : List (List ℤ)
   pub introduced : List ℕ

@@ -1,12 +1,12 @@
 -- The seven steps, with questions 22 to 33: document 01, 'The proof's seven letters' and 'Questions put to the input'.
 -- Assumes nothing.
-use mathlib.Core.Bool.{Bool, true, false, cond, not, _&&_, _||_}
-use mathlib.Core.Option.{Option, none, some}
+use mathlib.Core.Bool.{Bool, cond, not, _&&_, _||_}
+use mathlib.Core.Option.{none, some}
 use mathlib.Core.List.{List, [], _∷_, _++_, map}
 use Prim.Native.Nat.{ℕ}
 use lib.IntN.{ℤ, pos, negℤ}
 use Rattle.words.specs.Lists.{any, all, keep, dropFirst}
-use Rattle.words.specs.Literals.{variable, complement, same, sameList, has, ascending}
+use Rattle.words.specs.Literals.{variable, complement, sameList, has, ascending}
 use Rattle.text.specs.declared.Letter.{Letter}
 use Rattle.text.specs.declared.Letter.the-variants.{Addition, Body, Completion, Deletion, Extension, Loop, Support}
 use Rattle.aspif.specs.Rules.{Rule, isNormal, isEmpty}

@@ -75,6 +75,7 @@ abbrev pub refusedOr : Option ℕ → LineAt → LineAt
 refusedOr (some k) l = refused k
 refusedOr none l = l
 
+-- questions 23 to 25 of a line's numbers, which end before position `next`
 abbrev pub asked : Letter → List ℤ → ℕ → LineAt
 asked x zs next = refusedOr (lineRefusal x zs) (line x zs next)
 
@@ -94,10 +95,12 @@ isSpace (Digit d) = false
 isSpace (Step x) = false
 isSpace Other = false
 
+-- the space after the letter and what follows it, from a position on
 abbrev pub afterLetter : Letter → ℕ → List ℕ → LineAt
 afterLetter x from [] = refused 22
 afterLetter x from (b ∷ s) = cond (isSpace (classOf b)) (ofNumbers x (from + 1) (lineOf s)) (refused 22)
 
+-- a line's first byte is a letter, and what follows it
 abbrev pub afterFirst : Class → ℕ → List ℕ → LineAt
 afterFirst (Step x) from s = afterLetter x from s
 afterFirst Newline from s = refused 22

@@ -1,4 +1,4 @@
--- The store: the words that hold the live nogoods.
+-- The store: the words that hold the live nogoods; and what the private functions of propagation and of the store cite.
 pub mod Store
 pub mod Propagate
 pub mod PropagateChains

@@ -1,4 +1,4 @@
--- What the functions of src/propagation.rt promise of the assignment and of the nogoods that they look at. Only private
+-- What the functions of src/propagation.rt, src/units.rt and src/occurrences.rt promise of the assignment and of the nogoods that they look at. Only private
 -- functions cite this file; the contract of `refutes` names the derivation's `refuted` alone.
 -- Assumes nothing.
 use mathlib.Core.Path.{_≡_}

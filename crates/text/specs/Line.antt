@@ -119,6 +119,7 @@ ofWords (words [] []) = numbers [] 1
 ofWords (words [] (w ∷ ws)) = spanned (numbersOf ([] ∷ w ∷ ws)) (span ([] ∷ w ∷ ws))
 ofWords (words (c ∷ w) ws) = spanned (numbersOf ((c ∷ w) ∷ ws)) (span ((c ∷ w) ∷ ws))
 
+-- the line that a text of bytes begins with
 unfoldable pub lineOf : List ℕ → Line
 lineOf s = ofWords (cut (map classOf s))
 
@@ -146,7 +147,7 @@ capped (negsuc m) = negℤ (pos (min (suc m) (suc largest)))
 -- What `read_line` says of the line at the start of a text
 
 -- the count, the bytes taken, whether a size is outside and whether the line is closed; the numbers stand in the lent words,
--- as many as fit
+-- as many as fit. `read_line` is no service: where the line is broken its caller refuses, and nothing is said of the lent words.
 abbrev pub Told : Line → List ℤ → List ℤ → LineRead → Type 0
 Told broken before after r = r ≡ Broken
 Told (numbers zs n) before after r =
