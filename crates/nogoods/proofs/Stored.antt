@@ -16,6 +16,7 @@ use Rattle.words.proofs.Literals.{sameList-decides}
 use Rattle.words.proofs.Segments.{Segment, at-front, next, record-append}
 use Rattle.nogoods.specs.Store.{nogoodWords, liveWords, Holds}
 use Rattle.nogoods.specs.Finds.{foundAt}
+use Rattle.nogoods.specs.Propagate.{countAt}
 use Rattle.nogoods.specs.declared.store.Found.the-variants.{At, Nothing}
 
 pub some-words : (g : List ℤ) → 0 < length (nogoodWords g)
@@ -56,6 +57,16 @@ turn {s} {i} {e} {n} S h c =
 -- A loop from nogood to nogood: of those live, some are left from i on, and Q ties the two.
 abbrev pub Going : (List (List ℤ) → List (List ℤ) → Type 0) → List ℤ → ℕ → ℕ → Type 0
 Going Q store used i = (live : List (List ℤ)) → Holds store used live → (left : List (List ℤ)) × Segment nogoodWords store i used left × Q live left
+
+module _ {Q : List (List ℤ) → List (List ℤ) → Type 0} {store : List ℤ} {used i n : ℕ} (G : Going Q store used i) (h : i < used)
+    (c : n ≡ countAt store i) where
+  -- the nogood at i, where n is the count that was read
+  pub here : {live : List (List ℤ)} (H : Holds store used live) → Turn store i used n (G live H .0)
+  here {live} H = turn (G live H .1) h c
+
+  -- it stands within the used words, of a store that holds some nogoods
+  pub room : (live : List (List ℤ)) × Holds store used live → (i + 1 + n ≤ used) × (used ≤ length store)
+  room some = (here (some .1) .room, some .1 .fits)
 
 -- Deleting
 

@@ -9,6 +9,7 @@ ghost use Rattle.words.specs.Literals.{sameList};
 ghost use Rattle.aspif.specs.Rules.{isEmpty};
 ghost use Rattle.nogoods.specs.Store.{Holds, nogoodWords};
 ghost use Rattle.nogoods.specs.Finds.{foundAt};
+use crate::units;
 
 // Where a nogood stands.
 pub enum Found {
@@ -33,7 +34,7 @@ fn find(store: &[i32], used: usize, literals: &[i32]) -> Found
     let mut i = 0;
     while i < used {
         let from = i + 1;
-        let end = from + words::variable_of(words::word_at(store, i));
+        let end = from + units::count_at(store, i);
         if words::is_same_list(&store[from..end], literals) {
             return Found::At(i);
         }
@@ -65,7 +66,7 @@ pub fn count(store: &[i32], used: usize) -> usize
     let mut n = 0;
     let mut i = 0;
     while i < used {
-        i = i + 1 + words::variable_of(words::word_at(store, i));
+        i = i + 1 + units::count_at(store, i);
         n += 1;
     }
     n
@@ -78,7 +79,7 @@ pub fn has_empty(store: &[i32], used: usize) -> bool
 {
     let mut i = 0;
     while i < used {
-        let n = words::variable_of(words::word_at(store, i));
+        let n = units::count_at(store, i);
         if n == 0 {
             return true;
         }

@@ -1,16 +1,11 @@
 use borrow.Author.Needs.{needs}
-use mathlib.Core.Path.{_≡_, refl, sym, ap, _∙_}
-use Prim.Native.Nat.{ℕ, _+_, _-_, _≤_, _<_}
+use mathlib.Core.Path.{_≡_, ap}
+use Prim.Native.Nat.{_+_, _-_, _≤_}
 use native.Mathlib.Omega.{arith}
-use borrow.Author.Needs.{sfits-of}
-use mir.Facts.{toZ-ofZ}
-use lib.IntN.{ℤ, pos}
-use lib.ListN.{length, getD, drop, take}
-use mathlib.Core.List.{List, []}
-use Rattle.words.specs.Literals.{variable}
+use lib.ListN.{length}
 use Rattle.words.proofs.Segments.{none-left}
-use Rattle.nogoods.specs.Store.{nogoodWords, Holds}
-use Rattle.nogoods.proofs.Stored.{some-words, segment, Turn, turn, Going}
+use Rattle.nogoods.specs.Store.{nogoodWords}
+use Rattle.nogoods.proofs.Stored.{some-words, segment, Going, here, room}
 use Rattle.nogoods.proofs.store.count.Statement.{statement}
 use Rattle.nogoods.proofs.store.count.Tie as tie
 
@@ -20,65 +15,45 @@ Inv-loop store used n₀ i₀ n i = (n ≤ i) × (i ≤ used) × Going (λ live 
 abbrev μ-loop : tie.MeasureT-loop
 μ-loop store used n₀ i₀ n i = used - i
 
--- the nogood at i
-module _ (c : tie.After-variable-of Inv-loop μ-loop) (live : List (List ℤ)) where
-  abbrev at : ℕ
-  at = c .before .before .before .loop .i
+-- the nogood at i stands within the used words
+fits : (c : tie.After-count-at Inv-loop μ-loop)
+    → (let a = c .before .before .before .args in (c .before .before .loop .i + 1 + c .count-at .result ≤ a .used) × (a .used ≤ length (a .store .now)))
+fits c = room (c .before .before .loop .inv .2) (c .before .loop-test .taken) (c .count-at .ensures) (c .before .before .before .pre)
 
-  abbrev s : List ℤ
-  s = c .before .before .before .before .args .store .now
-
-  read : c .variable-of .result ≡ variable (getD s at (pos 0))
-  read =
-      let w = c .before .word-at in
-      c .variable-of .ensures ∙ ap variable (toZ-ofZ (sfits-of {z = w .result} (w .ok)) ∙ w .ensures)
-
-  here : (H : Holds s (c .before .before .before .before .args .used) live)
-      → Turn s at (c .before .before .before .before .args .used) (c .variable-of .result) (c .before .before .before .loop .inv .2 live H .0)
-  here H = turn (c .before .before .before .loop .inv .2 live H .1) (c .before .before .loop-test .taken) read
-
--- that of some live nogoods, which there are
-abbrev some : (c : tie.After-variable-of Inv-loop μ-loop) → (live : List (List ℤ)) × Holds (c .before .before .before .before .args .store .now) (c .before .before .before .before .args .used) live
-some c = c .before .before .before .before .pre
-
-room : (c : tie.After-variable-of Inv-loop μ-loop) → c .before .before .before .loop .i + 1 + c .variable-of .result ≤ c .before .before .before .before .args .used
-room c = here c (some c .0) (some c .1) .room
-
-used-in : (c : tie.After-variable-of Inv-loop μ-loop) → c .before .before .before .before .args .used ≤ length (c .before .before .before .before .args .store .now)
-used-in c = some c .1 .fits
-
--- src/store.rt:67:5
+-- src/store.rt:68:5
 loop-holds : tie.Need-loop-holds Inv-loop μ-loop
 loop-holds c =
     (omega arith, omega arith, λ live H. (live, segment H, omega arith))
 
--- src/store.rt:68:13
+-- src/store.rt:69:13
 add-i-2 : tie.Need-add-i-2 Inv-loop μ-loop
 add-i-2 c =
-    record { fits = omega (arith, room c, used-in c) }
+    record { fits = omega (arith, fits c) }
 
--- src/store.rt:69:9
+-- src/store.rt:70:9
 add-n : tie.Need-add-n Inv-loop μ-loop
 add-n c =
-    record { fits = omega (arith, room c, used-in c) }
+    record { fits = omega (arith, fits c) }
 
--- src/store.rt:67:5
+-- src/store.rt:68:5
 loop-less : tie.Need-loop-less Inv-loop μ-loop
 loop-less c =
-    omega (arith, room c)
+    omega (arith, fits c)
 
--- src/store.rt:67:5
+-- src/store.rt:68:5
 loop-again : tie.Need-loop-again Inv-loop μ-loop
 loop-again c =
-    let l = c .before .before .before .loop in
-    (omega arith, room c, λ live H. let t = here c live H in let k = l .inv .2 live H .2 in (t .gs, t .rest, omega (arith, ap length (t .is))))
+    let l = c .before .before .loop in (
+      omega (arith, fits c),
+      fits c .0,
+      λ live H. let t = here (l .inv .2) (c .before .loop-test .taken) (c .count-at .ensures) H in (t .gs, t .rest, omega (arith, ap length (t .is), l .inv .2 live H .2)),
+    )
 
--- src/store.rt:61:1
+-- src/store.rt:62:1
 returns : tie.Need-returns Inv-loop μ-loop
 returns c =
     λ live H.
-    let l = c .before .loop in
-    let k = l .inv .2 live H in
+    let k = c .before .loop .inv .2 live H in
     let z = none-left nogoodWords some-words (k .1) (c .loop-test .left) in
     omega (arith, ap length z, k .2)
 
@@ -90,7 +65,6 @@ count-spec =
     μ-loop
     loop-holds
     (λ c. search needs)
-    (λ c κs. search needs)
     (λ c κs. search needs)
     add-i-2
     add-n
