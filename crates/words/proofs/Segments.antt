@@ -3,10 +3,10 @@
 -- Assumes nothing.
 use mathlib.Core.Path.{_≡_, refl, sym, ap, _∙_}
 use mathlib.Core.List.{List, [], _∷_, _++_, map, append-assoc}
-use Prim.Native.Nat.{ℕ, suc, _+_, _≤_, _<_}
+use Prim.Native.Nat.{ℕ, _+_, _≤_, _<_}
 use native.Mathlib.Omega.{arith}
-use lib.ListN.{length, take, drop, getD, length-append}
-use lib.Seq.{drop-drop, drop-append-seam, take-append-seam, drop-at, take-at}
+use lib.ListN.{length, drop, length-append}
+use lib.Seq.{drop-drop, drop-append-seam, drop-at}
 use lib.IntN.{ℤ}
 use Rattle.words.specs.Lists.{joinAll}
 

@@ -1,6 +1,6 @@
 use mathlib.Core.Path.{refl}
 use borrow.Rule.Slice.PartMut.{mid-len}
-use mathlib.Core.Path.{_≡_, sym, _∙_}
+use mathlib.Core.Path.{sym, _∙_}
 use mathlib.Core.List.{List}
 use Prim.Native.Nat.{_+_, _≤_}
 use native.Mathlib.Omega.{arith}
