@@ -1,5 +1,5 @@
-// Propagation along the occurrences of the literals, with work linear in the live words. It derives what sweeps derive, and the
-// sweeps after it decide: of its answer only a conflict counts, and of its assignment that it grew by what follows.
+// Propagation along the occurrences of the literals, with work linear in the live words. What it derives follows; that it derives
+// all is not promised. The sweeps after it decide: of its answer only a conflict counts, and of its assignment that it grew.
 //
 // Each literal has a chain of the places where it stands: `head` by the literal, `next` by the place, 0 at the end, since
 // the word at 0 is a count. By the place, `owner` says where its nogood starts. By a nogood's start, `counts` says how
