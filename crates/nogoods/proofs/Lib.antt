@@ -1,8 +1,8 @@
 -- The laws that the proofs share.
 pub mod Assignments
 pub mod Looks
+pub mod Stored
 pub mod Segments
 pub mod Closures
 pub mod Sweeps
 pub mod Chains
-pub mod Stored

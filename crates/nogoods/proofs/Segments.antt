@@ -1,90 +1,51 @@
--- The words of nogoods from one to the next.
+-- The words of nogoods from one to the next, as propagation walks over them.
 -- Assumes nothing.
 use mathlib.Core.Path.{_≡_, refl, sym, ap, _∙_}
-use mathlib.Core.List.{List, [], _∷_, _++_, List·Memᴰ·head, List·Memᴰ·tail}
-use Prim.Native.Nat.{ℕ, suc, _+_, _-_, _≤_, _<_}
-use native.Mathlib.Nat.{add-zero}
+use mathlib.Core.List.{List, [], _∷_, append-nil, List·Memᴰ·head, List·Memᴰ·tail}
+use Prim.Native.Nat.{ℕ, _+_, _-_, _≤_, _<_}
 use native.Mathlib.Omega.{arith}
 use lib.IntN.{ℤ, pos}
-use lib.ListN.{length, take, drop, getD, length-drop, length-append}
-use lib.Seq.{getD-drop, drop-drop, take-at, drop-append-seam, take-append-seam, getD-take, length-take-le}
+use lib.ListN.{length, take, drop, getD, length-drop}
+use lib.Seq.{getD-drop, take-at, getD-take, length-take-le}
 use Rattle.words.specs.Lists.{_∈_}
 use Rattle.words.specs.Limits.{largest}
 use Rattle.words.specs.Literals.{variable}
 use Rattle.words.proofs.Places.{in-at}
-use Rattle.nogoods.specs.Store.{liveWords, Holds}
+use Rattle.words.proofs.Segments.{Segment, at-front}
+use Rattle.nogoods.specs.Store.{nogoodWords, liveWords, Holds}
 use Rattle.nogoods.specs.Propagate.{Encodes, countAt, nogoodAt, Readable, Stands}
+use Rattle.nogoods.proofs.Stored.{Turn, turn}
 
 -- the first words of a store are those of its nogoods
 pub front : (s : List ℤ) (used : ℕ) (live : List (List ℤ)) → Holds s used live → Encodes (take used s) live
 front s used live h = record { words = ap (take used) (h .words) ∙ take-at (liveWords live) _ used (sym (h .extent)); literals = h .literals }
 
--- a count, its literals, and what comes after them
-module _ (s : List ℤ) (i : ℕ) (g t : List ℤ) (e : drop i s ≡ pos (length g) ∷ (g ++ t)) where
-  count-is : countAt s i ≡ length g
-  count-is =
-      let n : getD (drop i s) 0 (pos 0) ≡ pos (length g) = rw e in
-      let k : getD (drop i s) 0 (pos 0) ≡ getD s i (pos 0) = getD-drop i s 0 (pos 0) ∙ rw (add-zero i) in
-      rw (← k, n)
-
-  after-count : drop (i + 1) s ≡ g ++ t
-  after-count = rw (← drop-drop 1 i s, e)
-
-  nogood-is : nogoodAt s i ≡ g
-  nogood-is = rw (count-is, after-count) (take-append-seam g t)
-
-  after-nogood : drop (i + 1 + countAt s i) s ≡ t
-  after-nogood = rw (count-is, ← drop-drop (length g) (i + 1) s, after-count) (drop-append-seam g t)
-
-  room-is : i + 1 + countAt s i ≤ length s
-  room-is = let n : length (drop i s) ≡ suc (length g + length t) = rw e (ap suc (length-append g t)) in omega (arith, length-drop i s, count-is)
-
 module _ (s : List ℤ) where
   -- the words from i on are those of the nogoods that are left
   pub record Rest (live : List (List ℤ)) (i : ℕ) : Type 0 where
     pub left : List (List ℤ)
-    pub words : drop i s ≡ liveWords left
+    pub seg : Segment nogoodWords s i (length s) left
     pub inside : (g : List ℤ) → g ∈ left → g ∈ live
 
   abbrev pub rest-start : (live : List (List ℤ)) → Encodes s live → Rest live 0
-  rest-start live e = record { left = live; words = e .words; inside = λ g u. u }
-
-  -- the first nogood of those that are left
-  pub record Next (i : ℕ) (left : List (List ℤ)) : Type 0 where
-    pub rest : List (List ℤ)
-    pub is : left ≡ nogoodAt s i ∷ rest
-    pub words : drop (i + 1 + countAt s i) s ≡ liveWords rest
-    pub room : i + 1 + countAt s i ≤ length s
-
-  pub next : (i : ℕ) (left : List (List ℤ)) → drop i s ≡ liveWords left → i < length s → Next i left
-  next i [] w h = let n : length (drop i s) ≡ 0 = rw w in absurd (omega (arith, length-drop i s))
-  next i (g ∷ gs) w h = record {
-    rest = gs;
-    is = rw (nogood-is s i g (liveWords gs) w);
-    words = after-nogood s i g (liveWords gs) w;
-    room = room-is s i g (liveWords gs) w;
+  rest-start live e = record {
+    left = live;
+    seg = at-front nogoodWords s [] (length s) live (e .words ∙ sym (append-nil (liveWords live))) (sym (ap length (e .words)));
+    inside = λ g u. u;
   }
 
   module _ (live : List (List ℤ)) (i : ℕ) (w : Rest live i) (h : i < length s) where
-    abbrev pub rest-next : Next i (w .left)
-    rest-next = next i (w .left) (w .words) h
+    abbrev rest-turn : Turn s i (length s) (countAt s i) (w .left)
+    rest-turn = turn (w .seg) h refl
+
+    pub rest-is : w .left ≡ nogoodAt s i ∷ rest-turn .gs
+    rest-is = rest-turn .is ∙ ap (λ (g : List ℤ). g ∷ rest-turn .gs) (sym (rest-turn .literals))
 
     pub rest-here : (nogoodAt s i ∈ live) × (i + 1 + countAt s i ≤ length s)
-    rest-here = (w .inside _ (rw (rest-next .is) (List·Memᴰ·head refl)), rest-next .room)
+    rest-here = (w .inside _ (rw rest-is (List·Memᴰ·head refl)), rest-turn .room)
 
     abbrev pub rest-on : Rest live (i + 1 + countAt s i)
-    rest-on = record {
-      left = rest-next .rest;
-      words = rest-next .words;
-      inside = λ g u. w .inside g (rw (rest-next .is) (List·Memᴰ·tail u));
-    }
-
-  pub rest-over : (live : List (List ℤ)) (i : ℕ) (w : Rest live i) → length s ≤ i → w .left ≡ []
-  rest-over live i w h = none (w .left) (let n : length (drop i s) ≡ length (liveWords (w .left)) = ap length (w .words) in omega (arith, length-drop i s))
-    where
-      none : (l : List (List ℤ)) → length (liveWords l) ≡ 0 → l ≡ []
-      none [] z = refl
-      none (g ∷ gs) z = absurd (omega arith)
+    rest-on = record { left = rest-turn .gs; seg = rest-turn .rest; inside = λ g u. w .inside g (rw rest-is (List·Memᴰ·tail u)) }
 
   pub readable : (r : ℕ) → (live : List (List ℤ)) × Encodes s live → Stands s r → Readable s r
   readable r p f =

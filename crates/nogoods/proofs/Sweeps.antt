@@ -9,10 +9,12 @@ use native.Mathlib.Omega.{arith}
 use lib.IntN.{ℤ}
 use lib.ListN.{length}
 use Rattle.words.specs.Lists.{_∈_}
-use Rattle.nogoods.specs.Store.{Literals}
+use Rattle.words.proofs.Segments.{none-left}
+use Rattle.nogoods.specs.Store.{nogoodWords, Literals}
 use Rattle.nogoods.specs.Propagate.{entries, Encodes, free, Settled, Derives, countAt, nogoodAt, Stands, Grows, AllSettled}
 use Rattle.nogoods.specs.declared.units.Derived.the-variants.{Assigned}
-use Rattle.nogoods.proofs.Segments.{Rest, rest-start, rest-next, rest-here, rest-on, rest-over}
+use Rattle.nogoods.proofs.Stored.{some-words}
+use Rattle.nogoods.proofs.Segments.{Rest, rest-start, rest-is, rest-here, rest-on}
 use Rattle.nogoods.proofs.Closures.{grows-not, grows-on, derived}
 
 module _ (s : List ℤ) where
@@ -51,7 +53,7 @@ module _ (s : List ℤ) where
           onward = rest-on s live i (p .onward) h;
           done = λ e g u. rw (q e .1) (elim (p .done (q e .0) g u) [
             | inr a ↦ inr a
-            | inl v ↦ elim (List·Memᴰ·cases-cons (rw (rest-next s live i (p .onward) h .is) at v)) [ inl r ↦ inr (rw r (q e .2)) | inr t ↦ inl t ]
+            | inl v ↦ elim (List·Memᴰ·cases-cons (rw (rest-is s live i (p .onward) h) at v)) [ inl r ↦ inr (rw r (q e .2)) | inr t ↦ inl t ]
           ]);
         }
 
@@ -80,7 +82,7 @@ module _ (s : List ℤ) where
   pub over : (m₀ m : List ℕ) (changed : Bool) (i : ℕ) → Going m₀ m changed i → length s ≤ i → changed ≡ false → AllSettled s m₀
   over m₀ m changed i k h e live enc g u =
       let p = k .passed live enc in
-      rw (← k .same e) (elim (p .done e g u) [ inr a ↦ a | inl v ↦ absurd (gone (rest-over s live i (p .onward) h) v) ])
+      rw (← k .same e) (elim (p .done e g u) [ inr a ↦ a | inl v ↦ absurd (gone (none-left nogoodWords some-words (p .onward .seg) h) v) ])
     where
       gone : {l : List (List ℤ)} → l ≡ [] → g ∈ l → ⊥
       gone p v = elim (rw p at v) [ ]
