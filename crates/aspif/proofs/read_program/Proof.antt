@@ -24,12 +24,10 @@ done c =
     let a = d .before .before .before .before .before .before .before .args in
     read-done (a .text .now) (a .table .now) (d .before .before .before .before .before .if1 .left) (begins (d .before .before)) (d .read-lines .ensures) (c .read2 .given .1)
 
--- src/lib.rt:44:9
 returns : tie.Need-returns
 returns c =
     let a = c .before .before .before .before .before .args in rw (c .before .refuse .ensures .0, c .before .refuse .ensures .1) (read-long (a .text .now) (a .table .now) (c .before .before .before .if1 .taken))
 
--- src/lib.rt:47:9
 returns-2 : tie.Need-returns-2
 returns-2 c =
     let d = c .before .before .before .before in
@@ -37,27 +35,22 @@ returns-2 c =
     rw (c .before .refuse2 .ensures .0, c .before .refuse2 .ensures .1)
     (read-other (a .text .now) (a .table .now) (d .before .before .if1 .left) (sym (d .starts-with .ensures) ∙ not-true _ (c .before .before .before .if2 .taken)))
 
--- src/lib.rt:49:9
 read-lines-requires : tie.Need-read-lines-requires
 read-lines-requires c κs =
     front-long header (c .before .before .before .before .before .before .args .text .now) (begins (c .before))
 
--- src/lib.rt:53:29
 mul-zero-all : tie.Need-mul-zero-all
 mul-zero-all c =
     record { fits = omega (arith, done (c .before) .fits, c .before .before .before .before .read-lines .kept .1 .0, c .before .before .before .before .before .before .before .before .before .before .before .good .1 .0) }
 
--- src/lib.rt:53:29
 sub-zero-all : tie.Need-sub-zero-all
 sub-zero-all c =
     done (c .before) .fits
 
--- src/lib.rt:53:29
 part-zero-all-start : tie.Need-part-zero-all-start
 part-zero-all-start c =
     done (c .before) .fits
 
--- src/lib.rt:40:1
 returns-3 : tie.Need-returns-3
 returns-3 c =
     let r = c .before .before .before .before in
@@ -66,7 +59,6 @@ returns-3 c =
     rw (c .before .refuse3 .ensures .0, c .before .refuse3 .ensures .1)
     (read-refused (a .text .now) (a .table .now) (d .before .before .before .before .before .if1 .left) (begins (d .before .before)) (d .read-lines .ensures) (r .read .given .1))
 
--- src/lib.rt:40:1
 returns-4 : tie.Need-returns-4
 returns-4 c =
     rw (c .before .zero-all .ensures) (done (c .before .before .before .before) .read)

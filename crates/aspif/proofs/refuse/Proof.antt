@@ -2,7 +2,6 @@ use borrow.Author.Needs.{needs}
 use Rattle.aspif.proofs.refuse.Statement.{statement}
 use Rattle.aspif.proofs.refuse.Tie as tie
 
--- src/lib.rt:32:1
 returns : tie.Need-returns
 returns c = search needs
 

@@ -6,11 +6,9 @@ use borrow.Author.Needs.{needs}
 use Rattle.aspif_cases.proofs.answer_of.Statement.{statement}
 use Rattle.aspif_cases.proofs.answer_of.Tie as tie
 
--- src/main.rt:126:20
 slice-aggregate-answer : tie.Need-slice-aggregate-answer
 slice-aggregate-answer c = sym (length-take-le _ _ (omega arith))
 
--- src/main.rt:126:31
 slice-aggregate-answer-2 : tie.Need-slice-aggregate-answer-2
 slice-aggregate-answer-2 c = sym (length-take-le _ _ (omega arith))
 

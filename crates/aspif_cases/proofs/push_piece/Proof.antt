@@ -6,7 +6,6 @@ use borrow.Author.Needs.{needs}
 use Rattle.aspif_cases.proofs.push_piece.Statement.{statement}
 use Rattle.aspif_cases.proofs.push_piece.Tie as tie
 
--- src/main.rt:111:30
 slice-aggregate-push-all : tie.Need-slice-aggregate-push-all
 slice-aggregate-push-all c = sym (length-take-le _ _ (omega arith))
 

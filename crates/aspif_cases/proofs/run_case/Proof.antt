@@ -6,7 +6,6 @@ use borrow.Author.Needs.{needs}
 use Rattle.aspif_cases.proofs.run_case.Statement.{statement}
 use Rattle.aspif_cases.proofs.run_case.Tie as tie
 
--- src/main.rt:133:9
 slice-aggregate-say : tie.Need-slice-aggregate-say
 slice-aggregate-say c = sym (length-take-le _ _ (omega arith))
 

@@ -10,7 +10,6 @@ use borrow.Author.Needs.{needs}
 use Rattle.aspif.proofs.lines.is_last.Statement.{statement}
 use Rattle.aspif.proofs.lines.is_last.Tie as tie
 
--- src/lines.rt:41:1
 returns : tie.Need-returns
 returns c =
     let s = c .before .before .before in
@@ -18,7 +17,6 @@ returns c =
     let e : toZ w32 (ofZ w32 (w .result)) ≡ getD (s .args .row .now) 0 (pos 0) = toZ-ofZ (sfits-of {z = w .result} (w .ok)) ∙ w .ensures in
     c .is-same .ensures ∙ rw (e, eq-eqb _ _ (c .before .before .if1 .taken))
 
--- src/lines.rt:41:1
 returns-2 : tie.Need-returns-2
 returns-2 c =
     rw (ne-eqb _ _ (c .if1 .left))

@@ -28,41 +28,33 @@ onward : (c : tie.After-turn2 Inv-loop μ-loop)
     Onward (d .before .before .before .loop .inv) (taken d) (g .0) (g .1 .0) (g .1 .1 .0))
 onward c = let d = c .before .before .before in lines-added (d .before .before .before .loop .inv) (taken d) (c .turn2 .given .1)
 
--- src/lines.rt:104:5
 loop-holds : tie.Need-loop-holds Inv-loop μ-loop
 loop-holds c =
     stands-start _ _ (c .before .pre)
 
--- src/lines.rt:108:17
 returns : tie.Need-returns Inv-loop μ-loop
 returns c =
     let d = c .before .before .before .before in lines-refused (d .before .before .before .loop .inv) (taken d) (c .before .turn .given .1)
 
--- src/lines.rt:111:17
 enum-told : tie.Need-enum-told Inv-loop μ-loop
 enum-told c = search needs
 
--- src/lines.rt:111:17
 returns-2 : tie.Need-returns-2 Inv-loop μ-loop
 returns-2 c =
     let d = c .before .before .before in lines-ended (d .before .before .before .loop .inv) (taken d) (c .enum-told .given .1)
 
--- src/lines.rt:114:17
 add-at : tie.Need-add-at Inv-loop μ-loop
 add-at c =
     let o = onward (c .before) in omega (arith, o .text-left)
 
--- src/lines.rt:116:17
 add-used : tie.Need-add-used Inv-loop μ-loop
 add-used c =
     let o = onward (c .before) in omega (arith, o .words-left)
 
--- src/lines.rt:104:5
 loop-less : tie.Need-loop-less Inv-loop μ-loop
 loop-less c =
     let o = onward (c .before .before) in omega (arith, o .text-left, o .bytes)
 
--- src/lines.rt:104:5
 loop-again : tie.Need-loop-again Inv-loop μ-loop
 loop-again c =
     rw (c .larger .ensures) (onward (c .before .before) .stands)

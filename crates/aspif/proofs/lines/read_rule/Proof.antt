@@ -32,17 +32,14 @@ last c =
     let f = found d in
     sym (c .is-last .ensures ∙ row-last (f .list) _ _ (f .long) (row (c .before .before)))
 
--- src/lines.rt:58:29
 enum-told : tie.Need-enum-told
 enum-told c = search needs
 
--- src/lines.rt:66:17
 returns : tie.Need-returns
 returns c =
     let f = found (c .before .before) in
     rw (f .is, sym (f .large) ∙ c .if1 .taken) (record { told = refl; words = refl })
 
--- src/lines.rt:70:21
 returns-2 : tie.Need-returns-2
 returns-2 c =
     let d = c .before .before in
@@ -50,7 +47,6 @@ returns-2 c =
     let f = found (r .before .before) in
     rw (f .is, inside r, last d ∙ c .before .if2 .taken, eq-eqb _ _ (c .if3 .taken)) (record { told = refl; words = refl })
 
--- src/lines.rt:72:17
 returns-3 : tie.Need-returns-3
 returns-3 c =
     let d = c .before .before in
@@ -58,12 +54,10 @@ returns-3 c =
     let f = found (r .before .before) in
     rw (f .is, inside r, last d ∙ c .before .if2 .taken, ne-eqb _ _ (c .if3 .left)) (record { told = refl; words = refl })
 
--- src/lines.rt:52:1
 returns-4 : tie.Need-returns-4
 returns-4 c =
     rw (not-numbered (c .before .before .before .read-line .ensures) (c .enum-told .given .1)) (record { told = refl; words = refl })
 
--- src/lines.rt:52:1
 returns-5 : tie.Need-returns-5
 returns-5 c =
     let e = c .before .before .before .before .before in

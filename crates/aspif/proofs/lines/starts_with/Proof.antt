@@ -14,28 +14,24 @@ Inv-loop text front i₀ i = (i ≤ length front) × (startsWith front text ≡ 
 abbrev μ-loop : tie.MeasureT-loop
 μ-loop text front i₀ i = length front - i
 
--- src/lines.rt:84:13
 returns : tie.Need-returns Inv-loop μ-loop
 returns c =
     let l = c .before .before .loop in
     let a = c .before .before .before .args in
     sym (l .inv .1 ∙ front-short (a .front .now) (a .text .now) (l .i) (c .before .loop-test .taken) (c .if1 .taken))
 
--- src/lines.rt:87:13
 returns-2 : tie.Need-returns-2 Inv-loop μ-loop
 returns-2 c =
     let l = c .before .before .before .before .before .loop in
     let a = c .before .before .before .before .before .before .args in
     sym (l .inv .1 ∙ front-no (a .front .now) (a .text .now) (l .i) (c .before .before .before .before .loop-test .taken) (c .before .before .before .if1 .left) (c .if2 .taken))
 
--- src/lines.rt:82:5
 loop-again : tie.Need-loop-again Inv-loop μ-loop
 loop-again c =
     let l = c .before .before .before .before .before .loop in
     let a = c .before .before .before .before .before .before .args in
     (omega arith, l .inv .1 ∙ front-on (a .front .now) (a .text .now) (l .i) (c .before .before .before .before .loop-test .taken) (c .before .before .before .if1 .left) (c .if2 .left))
 
--- src/lines.rt:78:1
 returns-3 : tie.Need-returns-3 Inv-loop μ-loop
 returns-3 c =
     let l = c .before .loop in

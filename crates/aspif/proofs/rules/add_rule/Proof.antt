@@ -21,18 +21,15 @@ in-body c =
     let a = c .before .before .before .before .before .before .before .before .before .args in
     let e : 5 + a .heads + a .body - (5 + a .heads) ≡ a .body = omega arith in rw e at (c .largest-variable2 .ensures)
 
--- src/rules.rt:195:9
 returns : tie.Need-returns
 returns c =
     let a = c .before .args in turn-full (a .row .now) (a .kind) (a .heads) (a .body) (c .before .pre .2) (a .free .now) (a .rules) (a .next) (c .if1 .taken)
 
--- src/rules.rt:199:9
 returns-2 : tie.Need-returns-2
 returns-2 c =
     let a = c .before .before .args in
     turn-short (a .row .now) (a .kind) (a .heads) (a .body) (c .before .before .pre .2) (a .free .now) (a .rules) (a .next) (c .before .if1 .left) (c .if2 .taken)
 
--- src/rules.rt:182:1
 returns-3 : tie.Need-returns-3
 returns-3 c =
     let s = c .before .before .before .before .before .before .before .before .before .before in

@@ -31,28 +31,23 @@ module _ (c : tie.After-variable-of) where
   small : c .variable-of .result ≤ 64
   small = rw body (let a = c .before .before .before .before .before .before .args in count-small (a .row .now) (a .count) (4 + a .heads) counted)
 
--- src/rules.rt:72:16
 add-if3-2 : tie.Need-add-if3-2
 add-if3-2 c =
     record { fits = omega (arith, small c, c .before .before .before .before .before .before .pre) }
 
--- src/rules.rt:73:17
 returns : tie.Need-returns
 returns c =
     let d = c .before .before in
     c .suited-shape .ensures ∙ rw (body d, placed d, counted d, eq-eqb _ _ (rw (body d) at (c .before .if3 .taken)))
 
--- src/rules.rt:76:9
 returns-2 : tie.Need-returns-2
 returns-2 c =
     let d = c .before in rw (placed d, counted d, ne-eqb _ _ (rw (body d) at (c .if3 .left)))
 
--- src/rules.rt:76:9
 returns-3 : tie.Need-returns-3
 returns-3 c =
     rw (sym (c .before .before .before .is-at .ensures) ∙ c .before .before .if1 .taken, sym (c .before .is-count .ensures) ∙ c .if2 .left)
 
--- src/rules.rt:65:1
 returns-4 : tie.Need-returns-4
 returns-4 c =
     rw (sym (c .before .is-at .ensures) ∙ c .if1 .left)

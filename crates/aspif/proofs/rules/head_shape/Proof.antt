@@ -27,29 +27,24 @@ module _ (c : tie.After-variable-of) where
   small : c .variable-of .result ≤ 64
   small = rw heads (let a = c .before .before .before .before .args in count-small (a .row .now) (a .count) 2 counted)
 
--- src/rules.rt:87:12
 add-if2 : tie.Need-add-if2
 add-if2 c =
     record { fits = omega (arith, small c) }
 
--- src/rules.rt:88:13
 body-shape-requires : tie.Need-body-shape-requires
 body-shape-requires c κs =
     small (c .before)
 
--- src/rules.rt:88:13
 returns : tie.Need-returns
 returns c =
     let d = c .before .before in
     c .body-shape .ensures
     ∙ rw (heads d, counted d, le-leb _ _ (rw (heads d) at (c .before .if2 .taken)))
 
--- src/rules.rt:82:1
 returns-2 : tie.Need-returns-2
 returns-2 c =
     let d = c .before in rw (counted d, lt-leb _ _ (rw (heads d) at (c .if2 .left)))
 
--- src/rules.rt:82:1
 returns-3 : tie.Need-returns-3
 returns-3 c =
     rw (sym (c .before .is-count .ensures) ∙ c .if1 .left)

@@ -10,7 +10,6 @@ use borrow.Author.Needs.{needs}
 use Rattle.aspif.proofs.rules.is_at.Statement.{statement}
 use Rattle.aspif.proofs.rules.is_at.Tie as tie
 
--- src/rules.rt:24:1
 returns : tie.Need-returns
 returns c =
     let s = c .before .before .before in
@@ -18,7 +17,6 @@ returns c =
     let e : toZ w32 (ofZ w32 (w .result)) ≡ getD (s .args .row .now) (s .args .i) (pos 0) = toZ-ofZ (sfits-of {z = w .result} (w .ok)) ∙ w .ensures in
     c .is-same .ensures ∙ rw (e, toZ-ofZ (s .fits .n), lt-ltb _ _ (c .before .before .if1 .taken))
 
--- src/rules.rt:24:1
 returns-2 : tie.Need-returns-2
 returns-2 c =
     rw (le-ltb _ _ (c .if1 .left))

@@ -15,18 +15,15 @@ word : (c : tie.After-word-at)
     → (let a = c .before .before .args in toZ w32 (ofZ w32 (c .word-at .result)) ≡ getD (a .row .now) (a .i) (pos 0))
 word c = toZ-ofZ (sfits-of {z = c .word-at .result} (c .word-at .ok)) ∙ c .word-at .ensures
 
--- src/rules.rt:39:9
 returns : tie.Need-returns
 returns c =
     rw (le-ltb _ _ (c .if1 .taken))
 
--- src/rules.rt:35:1
 returns-2 : tie.Need-returns-2
 returns-2 c =
     let s = c .before .before .before .before in
     rw (c .variable-of .ensures, word (c .before .before), lt-ltb _ _ (c .before .before .before .if1 .left), rw (word (c .before .before)) at (c .before .if2 .taken))
 
--- src/rules.rt:35:1
 returns-3 : tie.Need-returns-3
 returns-3 c =
     rw (lt-ltb _ _ (c .before .before .if1 .left), rw (word (c .before)) at (c .if2 .left))

@@ -2,16 +2,13 @@ use borrow.Author.Needs.{needs}
 use Rattle.aspif.proofs.rules.kind_word.Statement.{statement}
 use Rattle.aspif.proofs.rules.kind_word.Tie as tie
 
--- src/rules.rt:148:25
 enum-told : tie.Need-enum-told
 enum-told c = search needs
 
--- src/rules.rt:144:1
 returns : tie.Need-returns
 returns c =
     rw (c .enum-told .given .1)
 
--- src/rules.rt:144:1
 returns-2 : tie.Need-returns-2
 returns-2 c =
     rw (c .enum-told2 .given .1)

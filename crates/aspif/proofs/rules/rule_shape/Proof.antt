@@ -4,14 +4,12 @@ use borrow.Author.Needs.{needs}
 use Rattle.aspif.proofs.rules.rule_shape.Statement.{statement}
 use Rattle.aspif.proofs.rules.rule_shape.Tie as tie
 
--- src/rules.rt:100:13
 returns : tie.Need-returns
 unfolding shapeOf
 returns c =
     let s = c .before .before .before .before in
     c .head-shape .ensures ∙ rw (sym (s .is-at .ensures) ∙ c .before .before .before .if1 .taken, sym (c .before .before .is-at2 .ensures) ∙ c .before .if2 .taken)
 
--- src/rules.rt:103:13
 returns-2 : tie.Need-returns-2
 unfolding shapeOf
 returns-2 c =
@@ -19,14 +17,12 @@ returns-2 c =
     c .head-shape2 .ensures
     ∙ rw (sym (d .before .before .before .is-at .ensures) ∙ d .before .before .if1 .taken, sym (d .before .is-at2 .ensures) ∙ d .if2 .left, sym (c .before .before .is-at3 .ensures) ∙ c .before .if3 .taken)
 
--- src/rules.rt:95:1
 returns-3 : tie.Need-returns-3
 unfolding shapeOf
 returns-3 c =
     let d = c .before .before in
     rw (sym (d .before .before .before .is-at .ensures) ∙ d .before .before .if1 .taken, sym (d .before .is-at2 .ensures) ∙ d .if2 .left, sym (c .before .is-at3 .ensures) ∙ c .if3 .left)
 
--- src/rules.rt:95:1
 returns-4 : tie.Need-returns-4
 unfolding shapeOf
 returns-4 c =

@@ -3,12 +3,10 @@ use borrow.Author.Needs.{needs}
 use Rattle.aspif.proofs.rules.sort_body.Statement.{statement}
 use Rattle.aspif.proofs.rules.sort_body.Tie as tie
 
--- src/rules.rt:123:1
 returns : tie.Need-returns
 returns c =
     (rw (rw (c .before .before .before .before .contains .ensures) at (c .if1 .taken)), c .before .before .sort-distinct .ensures .1)
 
--- src/rules.rt:123:1
 returns-2 : tie.Need-returns-2
 returns-2 c =
     (c .before .before .sort-distinct .ensures .0 ∙ rw (rw (c .before .before .before .before .contains .ensures) at (c .if1 .left)), c .before .before .sort-distinct .ensures .1)

@@ -64,14 +64,12 @@ module _ (c : tie.After-row2) where
         long = long₂ row h b fits hs size-heads ls size-body;
       })
 
--- src/rules.rt:132:1
 returns : tie.Need-returns
 returns c =
     let d = c .before in
     let t : bodyGood (rowBody (row d) (h d) (b d)) ≡ true = sym (of-body d .0) ∙ c .if1 .taken in
     sorted d _ (of-heads d .0 ∙ sym (ap (λ (x : Bool). headsGood (rowHeads (row d) (h d)) && x) t ∙ and-true (headsGood (rowHeads (row d) (h d)))))
 
--- src/rules.rt:132:1
 returns-2 : tie.Need-returns-2
 returns-2 c =
     let d = c .before in

@@ -3,26 +3,21 @@ use borrow.Author.Needs.{needs}
 use Rattle.aspif.proofs.rules.suited_shape.Statement.{statement}
 use Rattle.aspif.proofs.rules.suited_shape.Tie as tie
 
--- src/rules.rt:51:16
 enum-told : tie.Need-enum-told
 enum-told c = search needs
 
--- src/rules.rt:52:17
 returns : tie.Need-returns
 returns c =
     rw (c .before .enum-told .given .1, le-leb _ _ (c .if1 .taken))
 
--- src/rules.rt:57:17
 returns-2 : tie.Need-returns-2
 returns-2 c =
     rw (c .before .enum-told2 .given .1, le-leb _ _ (c .if2 .taken))
 
--- src/rules.rt:46:1
 returns-3 : tie.Need-returns-3
 returns-3 c =
     rw (c .before .enum-told .given .1, lt-leb _ _ (c .if1 .left))
 
--- src/rules.rt:46:1
 returns-4 : tie.Need-returns-4
 returns-4 c =
     rw (c .before .enum-told2 .given .1, lt-leb _ _ (c .if2 .left))

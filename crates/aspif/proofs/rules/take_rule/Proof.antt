@@ -18,7 +18,6 @@ module _ (c : tie.After-kind) where
       Counted (a .count) (Shaped (g .0) (g .1 .0) (g .1 .1 .0)))
   counted = let a = c .before .before .before .before .args in subst (Counted (a .count)) shape (shape-counted (a .row .now) (a .count))
 
--- src/rules.rt:215:16
 sort-parts-requires : tie.Need-sort-parts-requires
 sort-parts-requires c κs =
     let d = c .before .before in
@@ -26,7 +25,6 @@ sort-parts-requires c κs =
     let p = d .before .before .before .before .pre in
     (k .0, k .1, omega (arith, k, p))
 
--- src/rules.rt:216:17
 add-rule-requires : tie.Need-add-rule-requires
 add-rule-requires c κs =
     let d = c .before .before .before .before .before .before .before in
@@ -35,20 +33,17 @@ add-rule-requires c κs =
     let l = c .before .before .before .before .sort-parts .ensures .long in
     (k .0, k .1, omega (arith, k, p, l))
 
--- src/rules.rt:216:17
 returns : tie.Need-returns
 returns c =
     let d = c .before .before .before .before .before .before .before .before .before in
     let S = rw (c .before .before .before .before .if1 .taken) at (c .before .before .before .before .before .before .sort-parts .ensures) in
     rw (shape d, sorted-reads _ _ (d .kind .given .0 .0) _ _ S) (c .before .add-rule .ensures)
 
--- src/rules.rt:202:1
 returns-2 : tie.Need-returns-2
 returns-2 c =
     let e = sym (c .before .before .before .rule-shape .ensures) ∙ c .before .k .given .1 in
     rw e (record { told = refl; words = refl })
 
--- src/rules.rt:202:1
 returns-3 : tie.Need-returns-3
 returns-3 c =
     let d = c .before .before .before .before .before in

@@ -9,12 +9,10 @@ use borrow.Author.Needs.{needs}
 use Rattle.aspif.proofs.rules.write_counts.Statement.{statement}
 use Rattle.aspif.proofs.rules.write_counts.Tie as tie
 
--- src/rules.rt:160:5
 slice-set-from-free-2 : tie.Need-slice-set-from-free-2
 slice-set-from-free-2 c =
     simp length-set (omega (arith, c .before .pre))
 
--- src/rules.rt:155:1
 returns : tie.Need-returns
 returns c =
     let s = c .before in

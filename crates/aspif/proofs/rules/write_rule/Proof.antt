@@ -10,7 +10,6 @@ use borrow.Author.Needs.{needs}
 use Rattle.aspif.proofs.rules.write_rule.Statement.{statement}
 use Rattle.aspif.proofs.rules.write_rule.Tie as tie
 
--- src/rules.rt:165:1
 returns : tie.Need-returns
 returns c =
     let s = c .before .before .before .before .before .before .before .before .before .before .before in

@@ -4,7 +4,6 @@ use borrow.Author.Needs.{needs}
 use Rattle.nogoods.proofs.occurrences.is_assigned.Statement.{statement}
 use Rattle.nogoods.proofs.occurrences.is_assigned.Tie as tie
 
--- src/occurrences.rt:99:9
 returns : tie.Need-returns
 returns c e = absurd (true≢false (sym e))
 

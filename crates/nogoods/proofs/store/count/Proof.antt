@@ -20,27 +20,22 @@ fits : (c : tie.After-count-at Inv-loop μ-loop)
     → (let a = c .before .before .before .args in (c .before .before .loop .i + 1 + c .count-at .result ≤ a .used) × (a .used ≤ length (a .store .now)))
 fits c = room (c .before .before .loop .inv .2) (c .before .loop-test .taken) (c .count-at .ensures) (c .before .before .before .pre)
 
--- src/store.rt:68:5
 loop-holds : tie.Need-loop-holds Inv-loop μ-loop
 loop-holds c =
     (omega arith, omega arith, λ live H. (live, segment H, omega arith))
 
--- src/store.rt:69:13
 add-i-2 : tie.Need-add-i-2 Inv-loop μ-loop
 add-i-2 c =
     record { fits = omega (arith, fits c) }
 
--- src/store.rt:70:9
 add-n : tie.Need-add-n Inv-loop μ-loop
 add-n c =
     record { fits = omega (arith, fits c) }
 
--- src/store.rt:68:5
 loop-less : tie.Need-loop-less Inv-loop μ-loop
 loop-less c =
     omega (arith, fits c)
 
--- src/store.rt:68:5
 loop-again : tie.Need-loop-again Inv-loop μ-loop
 loop-again c =
     let l = c .before .before .loop in (
@@ -49,7 +44,6 @@ loop-again c =
       λ live H. let t = here (l .inv .2) (c .before .loop-test .taken) (c .count-at .ensures) H in (t .gs, t .rest, omega (arith, ap length (t .is), l .inv .2 live H .2)),
     )
 
--- src/store.rt:62:1
 returns : tie.Need-returns Inv-loop μ-loop
 returns c =
     λ live H.

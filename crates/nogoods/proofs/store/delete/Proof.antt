@@ -21,22 +21,18 @@ room : (c : tie.After-i) → (let a = c .before .before .before .before .args in
     (c .i .given .0 .0 + (length (a .literals .now) + 1) ≤ a .used) × (a .used ≤ length (a .store .now)))
 room c = let p = c .before .before .before .before .pre in hit-room (p .1) (found c (p .0) (p .1))
 
--- src/store.rt:53:29
 mul-close-up : tie.Need-mul-close-up
 mul-close-up c =
     record { fits = omega (arith, room (c .before), c .before .before .before .before .before .good) }
 
--- src/store.rt:53:29
 sub-close-up : tie.Need-sub-close-up
 sub-close-up c =
     omega (arith, room (c .before))
 
--- src/store.rt:53:29
 part-close-up-start : tie.Need-part-close-up-start
 part-close-up-start c =
     omega (arith, room (c .before))
 
--- src/store.rt:53:13
 close-up-requires : tie.Need-close-up-requires
 close-up-requires c κs =
     let d = c .before .before in
@@ -44,21 +40,17 @@ close-up-requires c κs =
     let r = room d in
     omega (arith, mid-len (d .i .given .0 .0) (a .used) (a .store .now) (r .1), r)
 
--- src/store.rt:54:13
 sub-result : tie.Need-sub-result
 sub-result c =
     omega (arith, room (c .before .before .before .before))
 
--- src/store.rt:56:27
 enum-told : tie.Need-enum-told
 enum-told c = search needs
 
--- src/store.rt:46:1
 returns : tie.Need-returns
 returns c =
     λ live H. hit-cut H (found (c .before .before .before .before) live H) _ refl _ (c .before .close-up .ensures)
 
--- src/store.rt:46:1
 returns-2 : tie.Need-returns-2
 returns-2 c =
     λ live H. rw (miss 0 _ live (sym (c .before .before .find .ensures live H) ∙ c .enum-told .given .1)) H

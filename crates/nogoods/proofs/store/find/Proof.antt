@@ -43,22 +43,18 @@ tells c live H =
     let e : l .i + 1 + d .count-at .result - (l .i + 1) ≡ d .count-at .result = omega arith in
     sym (rw (e, here (l .inv .1) (d .before .loop-test .taken) (d .count-at .ensures) H .literals) at (c .is-same-list .ensures))
 
--- src/store.rt:35:5
 loop-holds : tie.Need-loop-holds Inv-loop μ-loop
 loop-holds c =
     (omega arith, λ live H. (live, segment H, refl))
 
--- src/store.rt:37:19
 add-end : tie.Need-add-end Inv-loop μ-loop
 add-end c =
     record { fits = omega (arith, fits c) }
 
--- src/store.rt:38:32
 part-is-same-list-end : tie.Need-part-is-same-list-end Inv-loop μ-loop
 part-is-same-list-end c =
     omega (arith, fits c)
 
--- src/store.rt:39:13
 returns : tie.Need-returns Inv-loop μ-loop
 returns c =
     λ live H.
@@ -68,12 +64,10 @@ returns c =
     let t = here (l .inv .1) (d .before .loop-test .taken) (d .count-at .ensures) H in
     sym (sym (l .inv .1 live H .2) ∙ ap (foundAt (l .i) L) (t .is) ∙ found-here (l .i) L (t .g) (t .gs) (tells (c .before) live H ∙ c .if1 .taken))
 
--- src/store.rt:35:5
 loop-less : tie.Need-loop-less Inv-loop μ-loop
 loop-less c =
     omega (arith, fits (c .before .before .before))
 
--- src/store.rt:35:5
 loop-again : tie.Need-loop-again Inv-loop μ-loop
 loop-again c = (
   fits (c .before .before .before) .0,
@@ -89,7 +83,6 @@ loop-again c = (
       ),
 )
 
--- src/store.rt:30:1
 returns-2 : tie.Need-returns-2 Inv-loop μ-loop
 returns-2 c =
     λ live H.

@@ -33,12 +33,10 @@ first-some : (g : List ℤ) (gs : List (List ℤ)) → (length g ≡ 0 → ⊥) 
 first-some [] gs e = absurd (e refl)
 first-some (x ∷ g) gs e = refl
 
--- src/store.rt:81:5
 loop-holds : tie.Need-loop-holds Inv-loop μ-loop
 loop-holds c =
     (omega arith, λ live H. (live, segment H, refl))
 
--- src/store.rt:84:13
 returns : tie.Need-returns Inv-loop μ-loop
 returns c =
     λ live H.
@@ -47,22 +45,18 @@ returns c =
     let t = here (l .inv .1) (d .before .loop-test .taken) (d .count-at .ensures) H in
     sym (sym (l .inv .1 live H .2) ∙ ap (any isEmpty) (t .is) ∙ first-empty (t .g) (t .gs) (sym (t .count) ∙ c .if1 .taken))
 
--- src/store.rt:86:13
 add-i : tie.Need-add-i Inv-loop μ-loop
 add-i c =
     record { fits = omega (arith, fits (c .before)) }
 
--- src/store.rt:86:13
 add-i-2 : tie.Need-add-i-2 Inv-loop μ-loop
 add-i-2 c =
     record { fits = omega (arith, fits (c .before)) }
 
--- src/store.rt:81:5
 loop-less : tie.Need-loop-less Inv-loop μ-loop
 loop-less c =
     omega (arith, fits (c .before))
 
--- src/store.rt:81:5
 loop-again : tie.Need-loop-again Inv-loop μ-loop
 loop-again c = (
   fits (c .before) .0,
@@ -73,7 +67,6 @@ loop-again c = (
       (t .gs, t .rest, sym (first-some (t .g) (t .gs) (λ z. c .if1 .left (t .count ∙ z))) ∙ sym (ap (any isEmpty) (t .is)) ∙ l .inv .1 live H .2),
 )
 
--- src/store.rt:76:1
 returns-2 : tie.Need-returns-2 Inv-loop μ-loop
 returns-2 c =
     λ live H.

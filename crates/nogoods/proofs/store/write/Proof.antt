@@ -19,31 +19,26 @@ first-set : (l : List ℤ) (x : ℤ) → 0 < length l → set l 0 x ≡ (x ∷ [
 first-set [] x h = absurd (omega arith)
 first-set (y ∷ l) x h = refl
 
--- src/store.rt:25:17
 sub-copy : tie.Need-sub-copy
 sub-copy c =
     simp length-set (omega (arith, c .pre))
 
--- src/store.rt:25:17
 part-copy-start : tie.Need-part-copy-start
 part-copy-start c =
     simp length-set (omega (arith, c .pre))
 
--- src/store.rt:25:5
 copy-requires : tie.Need-copy-requires
 copy-requires c κs =
     let a = c .before .args in
     let w = set (a .free .now) 0 (toZ w32 (length (a .literals .now))) in
     omega (arith, c .before .pre, length-set (a .free .now) 0 (toZ w32 (length (a .literals .now))), ap length (tail-of 1 w), length-drop 1 w)
 
--- src/store.rt:20:1
 same-length : tie.Need-same-length
 same-length c =
     let a = c .before .before .before .args in
     let w = set (a .free .now) 0 (toZ w32 (length (a .literals .now))) in
     same-len-mid 1 (length w - 1) w (c .before .copy .last .0) (c .before .copy .kept .0) ∙ length-set (a .free .now) 0 (toZ w32 (length (a .literals .now)))
 
--- src/store.rt:20:1
 returns : tie.Need-returns
 returns c =
     let s = c .before .before .before in
