@@ -19,7 +19,7 @@ use Rattle.aspif.specs.declared.Kind.{Kind}
 use Rattle.aspif.specs.declared.Kind.the-variants.{Normal, Choice}
 use Rattle.answer_set.specs.AnswerSets.{Taken, Chosen, LeastModel, derive}
 use Rattle.answer_set.specs.SetTest.{marked, literalHolds, bodyHolds, gives, giveHead, giveHeads, giveRule, round, rounds}
-use Rattle.answer_set.proofs.Marks.{rounds-still}
+use Rattle.answer_set.proofs.Marking.{rounds-still}
 
 -- Marks only grow
 

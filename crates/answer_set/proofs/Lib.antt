@@ -1,7 +1,7 @@
 -- The laws that the proofs share.
 pub mod Fronts
 pub mod Ascending
-pub mod Marks
+pub mod Marking
 pub mod Tested
 pub mod LeastModels
 pub mod Answered

@@ -5,6 +5,7 @@ ghost use Prim.Native.Nat.{ℕ, _+_, _≤_};
 ghost use Rattle.answer_set.specs.SetTest.{ruleAt, shapeSound, rulesAt, soundTable, marked, isConstraint, isBroken, anyBelow, justOne, differs, brokenFrom, apart, Says};
 ghost use Rattle.answer_set.specs.Private.{Finds};
 use crate::SetAnswer;
+use crate::marks;
 use crate::models;
 use crate::tables;
 use aspif::Kind;
@@ -30,7 +31,7 @@ fn differing(inside: &[u8], marks: &[u8], n: usize) -> Found
     let mut i = n;
     while 0 < i {
         i -= 1;
-        if just_one(models::is_marked(inside, i), models::is_marked(marks, i)) {
+        if just_one(marks::is_marked(inside, i), marks::is_marked(marks, i)) {
             return Found::At(i as u16);
         }
     }

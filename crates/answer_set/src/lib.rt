@@ -1,9 +1,10 @@
 // The set test: least model, marks and answer for a set, over a table that the program reader leaves. What it means is
 // specs/SetTest.antt.
 mod answers;
+pub mod marks;
 mod models;
 mod sets;
-mod tables;
+pub mod tables;
 
 ghost use Rattle.answer_set.specs.SetTest.{SetTested};
 

@@ -1,35 +1,11 @@
 // The least model of a reduct, as marks. The set M is lent as marks too: `inside` holds 1 at each number of M.
 ghost use mathlib.Core.Path.{_≡_};
 ghost use mathlib.Core.Bool.{true};
-ghost use lib.ListN.{set};
 ghost use Rattle.answer_set.specs.SetTest.{ruleAt, shapeSound, rulesAt, soundRules, marked, literalHolds, bodyHolds, gives, giveHead, giveHeads, giveRule, round, rounds};
 ghost use Rattle.answer_set.specs.Private.{Marking};
+use crate::marks;
 use crate::tables;
 use aspif::Kind;
-
-// Byte v is 1.
-pub fn is_marked(marks: &[u8], v: usize) -> bool
-    ensures { λ r. ⌜ r ≡ marked (now (marks .entry)) v ⌝ }
-{
-    if v < marks.len() {
-        marks[v] == 1
-    } else {
-        false
-    }
-}
-
-// Byte v becomes 1; whether it was not.
-pub fn mark(marks: &mut [u8], v: usize) -> bool
-    ensures { λ r. ⌜ Marking (set (now (marks .entry)) v 1) (now (marks .entry)) (now (marks .exit)) r ⌝ }
-{
-    if v < marks.len() {
-        if marks[v] != 1 {
-            marks[v] = 1;
-            return true;
-        }
-    }
-    false
-}
 
 // A positive literal's atom is marked; a negated one's is outside M.
 fn literal_holds(word: i32, inside: &[u8], marks: &[u8]) -> bool
@@ -37,9 +13,9 @@ fn literal_holds(word: i32, inside: &[u8], marks: &[u8]) -> bool
 {
     let v = words::variable_of(word);
     if word < 0 {
-        return !is_marked(inside, v);
+        return !marks::is_marked(inside, v);
     }
-    is_marked(marks, v)
+    marks::is_marked(marks, v)
 }
 
 // Every literal of a body holds.
@@ -63,7 +39,7 @@ fn gives_head(kind: Kind, inside: &[u8], v: usize) -> bool
 {
     match kind {
         Kind::Normal => true,
-        Kind::Choice => is_marked(inside, v),
+        Kind::Choice => marks::is_marked(inside, v),
     }
 }
 
@@ -73,7 +49,7 @@ fn give_head(head: i32, kind: Kind, inside: &[u8], marks: &mut [u8]) -> bool
 {
     let v = words::variable_of(head);
     if gives_head(kind, inside, v) {
-        return mark(marks, v);
+        return marks::mark(marks, v);
     }
     false
 }

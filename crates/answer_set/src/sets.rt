@@ -3,7 +3,7 @@ ghost use mathlib.Core.Path.{_≡_};
 ghost use lib.ListN.{length, replicate};
 ghost use Rattle.answer_set.specs.SetTest.{ascends};
 ghost use Rattle.answer_set.specs.Private.{markAll};
-use crate::models;
+use crate::marks;
 
 // A number of the set.
 fn wide(v: u16) -> usize
@@ -38,7 +38,7 @@ pub fn mark_all(set: &[u16], marks: &mut [u8])
 {
     let mut i = 0;
     while i < set.len() {
-        models::mark(marks, wide(set[i]));
+        marks::mark(marks, wide(set[i]));
         i += 1;
     }
 }

@@ -3,7 +3,7 @@ use mathlib.Core.Bool.{Bool}
 use Prim.Native.Nat.{ℕ, _≤_, _-_}
 use native.Mathlib.Omega.{arith}
 use Rattle.answer_set.specs.SetTest.{marked, anyBelow, apart}
-use Rattle.answer_set.proofs.Marks.{below-on, below-here, below-end}
+use Rattle.answer_set.proofs.Marking.{below-on, below-here, below-end}
 use borrow.Author.Needs.{needs}
 use Rattle.answer_set.proofs.answers.differing.Statement.{statement}
 use Rattle.answer_set.proofs.answers.differing.Tie as tie

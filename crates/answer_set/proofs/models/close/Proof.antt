@@ -3,7 +3,7 @@ use native.Mathlib.Omega.{arith}
 use borrow.Author.Tests.{not-true}
 use lib.ListN.{length}
 use Rattle.answer_set.specs.SetTest.{rulesAt, marked, rounds}
-use Rattle.answer_set.proofs.Marks.{rounds-on, rounds-end, last-round}
+use Rattle.answer_set.proofs.Marking.{rounds-on, rounds-end, last-round}
 use borrow.Author.Needs.{needs}
 use Rattle.answer_set.proofs.models.close.Statement.{statement}
 use Rattle.answer_set.proofs.models.close.Tie as tie

@@ -9,7 +9,7 @@ use Prim.Native.Nat.{ℕ, _≤_, _-_}
 use Rattle.words.proofs.Words.{back}
 use Rattle.answer_set.specs.SetTest.{marked, giveHead, giveHeads}
 use Rattle.answer_set.specs.Private.{Marking}
-use Rattle.answer_set.proofs.Marks.{heads-on, heads-end}
+use Rattle.answer_set.proofs.Marking.{heads-on, heads-end}
 use borrow.Author.Needs.{needs}
 use Rattle.answer_set.proofs.models.give_heads.Statement.{statement}
 use Rattle.answer_set.proofs.models.give_heads.Tie as tie

@@ -3,7 +3,7 @@ use mathlib.Core.Bool.{not}
 use mir.Facts.{toZ-ofZ}
 use Rattle.words.specs.Literals.{variable}
 use Rattle.answer_set.specs.SetTest.{marked}
-use Rattle.answer_set.proofs.Marks.{holds-neg, holds-pos}
+use Rattle.answer_set.proofs.Marking.{holds-neg, holds-pos}
 use borrow.Author.Needs.{needs}
 use Rattle.answer_set.proofs.models.literal_holds.Statement.{statement}
 use Rattle.answer_set.proofs.models.literal_holds.Tie as tie

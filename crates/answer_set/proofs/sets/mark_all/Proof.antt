@@ -3,7 +3,7 @@ use lib.ListN.{length, drop, set}
 use mathlib.Core.Path.{_≡_, sym, _∙_, refl}
 use Prim.Native.Nat.{_≤_, _-_}
 use Rattle.answer_set.specs.Private.{markAll}
-use Rattle.answer_set.proofs.Marks.{mark-on, mark-end}
+use Rattle.answer_set.proofs.Marking.{mark-on, mark-end}
 use borrow.Author.Needs.{needs}
 use Rattle.answer_set.proofs.sets.mark_all.Statement.{statement}
 use Rattle.answer_set.proofs.sets.mark_all.Tie as tie

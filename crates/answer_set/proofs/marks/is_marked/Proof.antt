@@ -1,7 +1,7 @@
 use lib.ListN.{List·getD-eq-default}
 use borrow.Author.Needs.{needs}
-use Rattle.answer_set.proofs.models.is_marked.Statement.{statement}
-use Rattle.answer_set.proofs.models.is_marked.Tie as tie
+use Rattle.answer_set.proofs.marks.is_marked.Statement.{statement}
+use Rattle.answer_set.proofs.marks.is_marked.Tie as tie
 
 returns-2 : tie.Need-returns-2
 returns-2 c = rw (List·getD-eq-default (c .before .args .marks .now) 0 (c .if1 .left))

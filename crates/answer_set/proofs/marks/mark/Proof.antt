@@ -2,8 +2,8 @@ use mathlib.Core.Path.{refl, sym}
 use mathlib.Core.Bool.{true≢false}
 use lib.Seq.{set-out, set-getD}
 use borrow.Author.Needs.{needs}
-use Rattle.answer_set.proofs.models.mark.Statement.{statement}
-use Rattle.answer_set.proofs.models.mark.Tie as tie
+use Rattle.answer_set.proofs.marks.mark.Statement.{statement}
+use Rattle.answer_set.proofs.marks.mark.Tie as tie
 
 returns : tie.Need-returns
 returns c = record { marks = refl; still = λ e. absurd (true≢false e) }
