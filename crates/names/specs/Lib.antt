@@ -1,0 +1,2 @@
+-- Which rules a step is about, the names of their bodies, and sets of variables as marks.
+pub mod Queries

@@ -1,0 +1,126 @@
+// Which rules a step is about, and the names of their bodies. Names are kept by rule, 0 for none.
+ghost use mathlib.Core.Path.{_≡_};
+ghost use mathlib.Core.Bool.{Bool, true, _&&_};
+ghost use Prim.Native.Nat.{_≤_};
+ghost use lib.ListN.{length};
+ghost use Rattle.words.specs.Lists.{any};
+ghost use Rattle.words.specs.Literals.{sameList};
+ghost use Rattle.aspif.specs.Rules.{isNormal};
+ghost use Rattle.answer_set.specs.SetTest.{ruleAt, shapeSound, rulesAt, soundRules};
+ghost use Rattle.names.specs.Queries.{Marks, isInside, isExternalBy, asks, picks, renamed};
+use crate::variables::ENTRIES;
+use answer_set::marks;
+use answer_set::tables;
+use aspif::Kind;
+
+// The rules that a step is about: those with a body; the normal ones with just some heads; those with a head; those with a head in
+// a set of atoms and no positive atom in it.
+pub enum Query {
+    Body,
+    Normal,
+    Head(i32),
+    External,
+}
+
+// The literal is positive, and its atom is in the set.
+fn is_inside(word: i32, inside: &[u8]) -> bool
+    ensures { λ r. ⌜ r ≡ isInside (now (inside .entry)) word ⌝ }
+{
+    if words::is_positive(word) {
+        return marks::is_marked(inside, words::variable_of(word));
+    }
+    false
+}
+
+// Some literal is positive with its atom in the set.
+fn any_inside(literals: &[i32], inside: &[u8]) -> bool
+    ensures { λ r. ⌜ r ≡ any (isInside (now (inside .entry))) (now (literals .entry)) ⌝ }
+{
+    let mut i = 0;
+    while i < literals.len() {
+        if is_inside(literals[i], inside) {
+            return true;
+        }
+        i += 1;
+    }
+    false
+}
+
+// The rule at the front has a head in the set and no positive atom in it.
+fn is_external(words: &[i32], inside: &[u8]) -> bool
+    requires { ⌜ shapeSound (now words) ≡ true ⌝ }
+    ensures { λ r. ⌜ r ≡ isExternalBy (now (inside .entry)) (ruleAt (now (words .entry))) ⌝ }
+{
+    if any_inside(tables::heads_of(words), inside) {
+        return !any_inside(tables::body_of(words), inside);
+    }
+    false
+}
+
+// The rule at the front is normal, with just these heads.
+fn is_normal_with(words: &[i32], heads: &[i32]) -> bool
+    requires { ⌜ shapeSound (now words) ≡ true ⌝ }
+    ensures { λ r. ⌜ r ≡ (isNormal (ruleAt (now (words .entry)) .kind) && sameList (ruleAt (now (words .entry)) .heads) (now (heads .entry))) ⌝ }
+{
+    let kind = tables::kind_of(words);
+    match kind {
+        Kind::Normal => words::is_same_list(tables::heads_of(words), heads),
+        Kind::Choice => false,
+    }
+}
+
+// The rule at the front is one that the query asks for.
+fn is_asked(words: &[i32], query: Query, literals: &[i32], inside: &[u8]) -> bool
+    requires { ⌜ shapeSound (now words) ≡ true ⌝ }
+    ensures { λ r. ⌜ r ≡ asks query (now (literals .entry)) (now (inside .entry)) (ruleAt (now (words .entry))) ⌝ }
+{
+    match query {
+        Query::Body => words::is_same_list(tables::body_of(words), literals),
+        Query::Normal => is_normal_with(words, literals),
+        Query::Head(h) => words::contains(tables::heads_of(words), h),
+        Query::External => is_external(words, inside),
+    }
+}
+
+// The names of the bodies of the rules that the query asks for, as marks; 0 is marked where a body has none.
+pub fn names_of(
+    table: &[i32],
+    rules: usize,
+    names: &[u16],
+    query: Query,
+    literals: &[i32],
+    inside: &[u8],
+) -> [u8; ENTRIES]
+    requires { ⌜ (soundRules rules (now table) ≡ true) × (rules ≤ length (now names)) ⌝ }
+    ensures { λ m. ⌜ Marks m (picks (asks query (now (literals .entry)) (now (inside .entry))) (rulesAt rules (now (table .entry))) (now (names .entry))) ⌝ }
+{
+    let mut found = [0u8; ENTRIES];
+    let mut k = 0;
+    let mut i = 0;
+    while k < rules {
+        let rest = &table[i..];
+        if is_asked(rest, query, literals, inside) {
+            marks::mark(&mut found, names[k] as usize);
+        }
+        i += tables::rule_size(rest);
+        k += 1;
+    }
+    found
+}
+
+// Every rule with the body gets the name.
+pub fn enter(table: &[i32], rules: usize, body: &[i32], name: u16, names: &mut [u16])
+    requires { ⌜ (soundRules rules (now table) ≡ true) × (rules ≤ length (now names)) ⌝ }
+    ensures { λ _. ⌜ now (names .exit) ≡ renamed (λ r. sameList (r .body) (now (body .entry))) name (rulesAt rules (now (table .entry))) (now (names .entry)) ⌝ }
+{
+    let mut k = 0;
+    let mut i = 0;
+    while k < rules {
+        let rest = &table[i..];
+        if words::is_same_list(tables::body_of(rest), body) {
+            names[k] = name;
+        }
+        i += tables::rule_size(rest);
+        k += 1;
+    }
+}

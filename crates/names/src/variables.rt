@@ -1,0 +1,70 @@
+// Sets of variables as marks.
+ghost use mathlib.Core.Path.{_≡_};
+ghost use mathlib.Core.List.{map};
+ghost use Prim.Native.Nat.{_≤_};
+ghost use lib.ListN.{length};
+ghost use Rattle.words.specs.Limits.{largest};
+ghost use Rattle.words.specs.Lists.{all};
+ghost use Rattle.words.specs.Literals.{variable};
+ghost use Rattle.answer_set.specs.SetTest.{marksLent, marked};
+ghost use Rattle.names.specs.Queries.{Marks, sameMarks, upTo};
+use answer_set::marks;
+
+// As many as there are variables, and one for 0.
+pub const ENTRIES: usize = 4096;
+
+// The variables of the literals.
+pub fn marks_of(literals: &[i32]) -> [u8; ENTRIES]
+    ensures { λ m. ⌜ Marks m (map variable (now (literals .entry))) ⌝ }
+{
+    let mut found = [0u8; ENTRIES];
+    let mut i = 0;
+    while i < literals.len() {
+        marks::mark(&mut found, words::variable_of(literals[i]));
+        i += 1;
+    }
+    found
+}
+
+// The numbers from 1 up.
+pub fn marks_to(last: usize) -> [u8; ENTRIES]
+    requires { ⌜ last ≤ largest ⌝ }
+    ensures { λ m. ⌜ Marks m (upTo last) ⌝ }
+{
+    let mut found = [0u8; ENTRIES];
+    let mut left = last;
+    while 0 < left {
+        marks::mark(&mut found, left);
+        left -= 1;
+    }
+    found
+}
+
+// Every literal's variable is marked.
+pub fn all_marked(literals: &[i32], found: &[u8]) -> bool
+    ensures { λ r. ⌜ r ≡ all (λ x. marked (now (found .entry)) (variable x)) (now (literals .entry)) ⌝ }
+{
+    let mut i = 0;
+    while i < literals.len() {
+        if marks::is_marked(found, words::variable_of(literals[i])) {
+            i += 1;
+        } else {
+            return false;
+        }
+    }
+    true
+}
+
+// Two lists of marks have the same numbers.
+pub fn is_same_set(a: &[u8; ENTRIES], b: &[u8; ENTRIES]) -> bool
+    ensures { λ r. ⌜ r ≡ sameMarks marksLent (now (a .entry)) (now (b .entry)) ⌝ }
+{
+    let mut left = ENTRIES;
+    while 0 < left {
+        left -= 1;
+        if marks::is_marked(a, left) != marks::is_marked(b, left) {
+            return false;
+        }
+    }
+    true
+}
