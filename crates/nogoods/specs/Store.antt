@@ -4,12 +4,14 @@
 use mathlib.Core.Path.{_≡_}
 use mathlib.Core.Bool.{true}
 use mathlib.Core.List.{List, _∷_, _++_, map}
-use Prim.Native.Nat.{ℕ, _-_, _≤_}
+use Prim.Native.Nat.{ℕ, _-_, _≤_, _<_}
 use lib.IntN.{ℤ, pos}
 use lib.ListN.{length, replicate}
 use Rattle.words.specs.Limits.{largest}
 use Rattle.words.specs.Lists.{_∈_, joinAll}
 use Rattle.words.specs.Literals.{variable, noneTwice}
+use Rattle.nogoods.specs.declared.store.Added.{Added}
+use Rattle.nogoods.specs.declared.store.Added.the-variants.{Uses, Full}
 
 -- "the literal count, then literals ascending by variable"
 abbrev pub nogoodWords : List ℤ → List ℤ
@@ -35,3 +37,8 @@ pub record Holds (store : List ℤ) (used : ℕ) (live : List (List ℤ)) : Type
   pub extent : used ≡ length (liveWords live)
   pub fits : used ≤ length store
   pub literals : (g : List ℤ) → g ∈ live → Literals g
+
+-- "Do the live words after the step fit the store?", with these nogoods live then: the store holds them, or is too short
+abbrev pub Fits : List (List ℤ) → List ℤ → Added → Type 0
+Fits live after (Uses n) = Holds after n live
+Fits live after Full = length after < length (liveWords live)

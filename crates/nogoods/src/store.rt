@@ -1,13 +1,13 @@
 // Nogoods in the store's words.
 ghost use mathlib.Core.Path.{_≡_};
-ghost use mathlib.Core.List.{List, _++_};
+ghost use mathlib.Core.List.{List, [], _∷_, _++_};
 ghost use Prim.Native.Nat.{suc, _≤_};
 ghost use lib.IntN.{ℤ};
 ghost use lib.ListN.{length, drop};
 ghost use Rattle.words.specs.Lists.{any, dropFirst};
 ghost use Rattle.words.specs.Literals.{sameList};
 ghost use Rattle.aspif.specs.Rules.{isEmpty};
-ghost use Rattle.nogoods.specs.Store.{Holds, nogoodWords};
+ghost use Rattle.nogoods.specs.Store.{Literals, Holds, Fits, nogoodWords};
 ghost use Rattle.nogoods.specs.Finds.{foundAt};
 use crate::units;
 
@@ -17,6 +17,12 @@ pub enum Found {
     Nothing,
 }
 
+// What it comes to that nogoods are added: how many words are used then, or that the store is too short for them.
+pub enum Added {
+    Uses(usize),
+    Full,
+}
+
 // The words of a nogood at the front of the free tail.
 pub fn write(free: &mut [i32], literals: &[i32])
     requires { ⌜ (suc (length (now literals)) ≤ length (now free)) × (length (now literals) ≤ 4096) ⌝ }
@@ -24,6 +30,20 @@ pub fn write(free: &mut [i32], literals: &[i32])
 {
     free[0] = literals.len() as i32;
     words::copy(&mut free[1..], literals);
+}
+
+// One more live nogood, after the others.
+pub fn append(store: &mut [i32], used: usize, literals: &[i32]) -> Added
+    requires { ⌜ ((live : List (List ℤ)) × Holds (now store) used live) ⌝ }
+    requires { ⌜ Literals (now literals) × (length (now literals) ≤ 4096) ⌝ }
+    ensures { λ r. ⌜ ((live : List (List ℤ)) → Holds (now (store .entry)) used live → Fits (live ++ (now (literals .entry) ∷ [])) (now (store .exit)) r) ⌝ }
+{
+    let size = literals.len() + 1;
+    if store.len() - used < size {
+        return Added::Full;
+    }
+    write(&mut store[used..], literals);
+    Added::Uses(used + size)
 }
 
 // The oldest live nogood that is the list of literals.

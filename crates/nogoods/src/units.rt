@@ -67,14 +67,6 @@ pub fn make_true(word: i32, assignment: &mut [u8; ENTRIES]) -> usize
     v
 }
 
-// The complement of a literal.
-fn complement_of(word: i32) -> i32
-    requires { ⌜ variable word ≤ largest ⌝ }
-    ensures { λ r. ⌜ r ≡ complement word ⌝ }
-{
-    0 - word
-}
-
 // A look at a nogood's literals under an assignment.
 fn look_at(literals: &[i32], assignment: &[u8; ENTRIES]) -> Look
     requires { ⌜ Literals (now literals) ⌝ }
@@ -116,7 +108,7 @@ fn derive(literals: &[i32], assignment: &mut [u8; ENTRIES]) -> Derived
         Look::All => Derived::Conflicting,
         Look::Idle => Derived::Nothing,
         Look::Unit(j) => {
-            let v = make_true(complement_of(literals[j]), assignment);
+            let v = make_true(words::complement_of(literals[j]), assignment);
             Derived::Assigned(v)
         }
     }
