@@ -1,4 +1,5 @@
 -- The whole check, from two texts and two lengths to a verdict and every word; what is claimed of it; the starred examples.
 pub mod Check
+pub mod Held
 pub mod Claims
 pub mod Examples

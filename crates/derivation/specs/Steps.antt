@@ -41,32 +41,39 @@ module _ (P : List Rule) (z : State) where
   abbrev pub allKnown : List ℤ → Bool
   allKnown L = all (λ x. isKnown P z (variable x)) L
 
+  -- question 28: "is it an unnamed rule body?"
+  abbrev pub isUnnamedBody : List ℤ → Bool
+  isUnnamedBody L = any (λ r. sameList (r .body) (ascending L)) P && not (hasName z (ascending L))
+
   -- `b`: "n names the rule body whose literal set is L; constraint bodies count. Each body is named once."
   abbrev pub body : ℤ → List ℤ → Outcome
   body n L =
-      cond (any (λ r. sameList (r .body) (ascending L)) P && not (hasName z (ascending L)))
-      (next (define z n L (record { name = variable n; body = ascending L } ∷ z .named))) (refused 28)
+      cond (isUnnamedBody L) (next (define z n L (record { name = variable n; body = ascending L } ∷ z .named))) (refused 28)
 
   -- `e`: "n is fresh. Adds the same nogoods for a free L."
   abbrev pub extension : ℤ → List ℤ → Outcome
   extension n L = next (define z n L (z .named))
 
-  -- `c`: "some normal rule has the body named n and head h, or no head. Adds n with -h, or n alone." The heads given are [h] or
-  -- []; "no more numbers": a normal rule has no more heads.
-  abbrev pub completion : ℤ → List ℤ → Outcome
-  completion n hs =
-      cond (any (λ r. isNormal (r .kind) && (sameList (r .heads) hs && isName z (variable n) (r .body))) P)
-      (next (add z (ascending (n ∷ map complement hs) ∷ []))) (refused 29)
+  -- question 29: "some normal rule has the body named n and head h, or no head". The heads given are [h] or []; "no more
+  -- numbers": a normal rule has no more heads.
+  abbrev pub isCompletion : ℤ → List ℤ → Bool
+  isCompletion n hs = any (λ r. isNormal (r .kind) && (sameList (r .heads) hs && isName z (variable n) (r .body))) P
 
-  -- `s`: "h is an atom, never a name; the n are the names of exactly the different bodies of all rules, choice included, with h
-  -- in the head. Adds h with every -n."
-  abbrev pub support : ℤ → List ℤ → Outcome
-  support h ns =
-      cond
-      (isAtom P (variable h)
+  -- `c`: "Adds n with -h, or n alone."
+  abbrev pub completion : ℤ → List ℤ → Outcome
+  completion n hs = cond (isCompletion n hs) (next (add z (ascending (n ∷ map complement hs) ∷ []))) (refused 29)
+
+  -- question 30: "h is an atom, never a name; the n are the names of exactly the different bodies of all rules, choice included,
+  -- with h in the head"
+  abbrev pub isSupport : ℤ → List ℤ → Bool
+  isSupport h ns =
+      isAtom P (variable h)
       && (all (λ r. not (has h (r .heads)) || any (λ n. isName z (variable n) (r .body)) ns) P
-      && all (λ n. any (λ r. has h (r .heads) && isName z (variable n) (r .body)) P) ns))
-      (next (add z (ascending (h ∷ map complement ns) ∷ []))) (refused 30)
+      && all (λ n. any (λ r. has h (r .heads) && isName z (variable n) (r .body)) P) ns)
+
+  -- `s`: "Adds h with every -n."
+  abbrev pub support : ℤ → List ℤ → Outcome
+  support h ns = cond (isSupport h ns) (next (add z (ascending (h ∷ map complement ns) ∷ []))) (refused 30)
 
   -- "External bodies are the different bodies of rules with a head in U and no positive atom in U." U's numbers are positive.
   abbrev pub isExternal : List ℤ → Rule → Bool
@@ -76,11 +83,19 @@ module _ (P : List Rule) (z : State) where
   abbrev pub externalNames : List ℤ → List ℕ
   externalNames U = map (λ x. x .name) (keep (λ x. any (λ r. isExternal U r && sameList (x .body) (r .body)) P) (z .named))
 
+  -- question 31: "are all atoms?"
+  abbrev pub allAtoms : List ℤ → Bool
+  allAtoms U = all (λ x. isAtom P (variable x)) U
+
+  -- question 32: "is each external body named?"
+  abbrev pub allNamed : List ℤ → Bool
+  allNamed U = all (λ r. not (isExternal U r) || hasName z (r .body)) P
+
   -- `l`: "a set U of atoms .. Adds the first h with minus the name of each."
   abbrev pub loop : ℤ → List ℤ → Outcome
   loop h hs =
-      cond (all (λ x. isAtom P (variable x)) (h ∷ hs))
-      (cond (all (λ r. not (isExternal (h ∷ hs) r) || hasName z (r .body)) P)
+      cond (allAtoms (h ∷ hs))
+      (cond (allNamed (h ∷ hs))
       (next (add z (ascending (h ∷ map (λ n. negℤ (pos n)) (externalNames (h ∷ hs))) ∷ []))) (refused 32))
       (refused 31)
 

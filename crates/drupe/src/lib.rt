@@ -15,7 +15,7 @@ ghost use Rattle.text.specs.Line.{anyOutside, lineOf};
 ghost use Rattle.drupe.specs.Lines.{Reads, afterLetter, asked, isSpace, lineFrom, mostNumbers, ofNumbers, placeOf, readingOf, refused, signed, signsOf};
 
 // The most bytes of a text.
-const LONGEST: usize = 65535;
+pub const LONGEST: usize = 65535;
 
 // The most numbers of a line.
 pub const MOST_NUMBERS: usize = 65;

@@ -1,0 +1,118 @@
+-- How the code holds a state: known variables as marks, the names of bodies by rule, live nogoods in the store; and what the private
+-- functions leave. No reader of the public contract needs it.
+-- Assumes nothing.
+use mathlib.Core.Path.{_≡_}
+use mathlib.Core.Bool.{Bool, true, cond}
+use mathlib.Core.List.{List, [], _∷_, map}
+use Prim.Native.Nat.{ℕ, zero, suc, _≤_, _<_}
+use lib.Dec.{T, eqb}
+use lib.IntN.{ℤ, pos, negℤ}
+use lib.ListN.{length, take}
+use Rattle.words.specs.Limits.{largest}
+use Rattle.words.specs.Lists.{_∈_}
+use Rattle.words.specs.Literals.{variable, noneTwice, sameList}
+use Rattle.aspif.specs.Rules.{Rule, atoms}
+use Rattle.aspif.specs.Reading.{mostRules}
+use Rattle.answer_set.specs.SetTest.{marked, marksLent, rulesAt, soundRules}
+use Rattle.text.specs.declared.Letter.{Letter}
+use Rattle.drupe.specs.Lines.{mostNumbers, signsOf, signed, LineAt, end, line}
+use Rattle.drupe.specs.Lines as Lines
+use Rattle.derivation.specs.States.{Named, State, isAtom, isKnown}
+use Rattle.derivation.specs.Steps.{Outcome, refused, next, step}
+use Rattle.nogoods.specs.Store.{Literals, liveWords, Holds}
+use Rattle.nogoods.specs.declared.store.Added.{Added}
+use Rattle.nogoods.specs.declared.store.Added.the-variants as Added
+use Rattle.checker.specs.Check.{Course, stopped, through}
+use Rattle.checker.specs.declared.steps.Stepped.{Stepped}
+use Rattle.checker.specs.declared.steps.Stepped.the-variants.{Uses, Fails}
+use Rattle.checker.specs.declared.runs.Turn.{Turn}
+use Rattle.checker.specs.declared.runs.Turn.the-variants as Turn
+use Rattle.checker.specs.declared.runs.Run.{Run}
+use Rattle.checker.specs.declared.runs.Run.the-variants as Run
+
+-- Lines
+
+-- what a line's numbers are once questions 22 to 25 are passed
+pub record Line (x : Letter) (zs : List ℤ) : Type 0 where
+  pub literals : Literals zs
+  pub few : length zs ≤ mostNumbers
+  pub signs : signed (signsOf x) zs ≡ true
+
+-- the table holds so many sound rules, and the largest atom of these is N
+pub record Program (table : List ℤ) (rules N : ℕ) : Type 0 where
+  pub sound : soundRules rules table ≡ true
+  pub few : rules ≤ mostRules
+  pub top : N ≡ atoms (rulesAt rules table)
+  pub high : N ≤ largest
+
+-- States
+
+-- the name of a body, 0 where it has none
+abbrev pub nameOf : List Named → List ℤ → ℕ
+nameOf [] body = 0
+nameOf (x ∷ xs) body = cond (sameList (x .body) body) (x .name) (nameOf xs body)
+
+-- What holds of the names between steps: each is a variable, no atom, and was introduced; "Each body is named once"; no two names
+-- are the same.
+pub record Proper (P : List Rule) (introduced : List ℕ) (named : List Named) : Type 0 where
+  pub low : (x : Named) → x ∈ named → 1 ≤ x .name
+  pub high : (x : Named) → x ∈ named → x .name ≤ largest
+  pub new : (x : Named) → x ∈ named → ¬ T (isAtom P (x .name))
+  pub old : (x : Named) → x ∈ named → x .name ∈ introduced
+  pub once : (x y : Named) → x ∈ named → y ∈ named → x .body ≡ y .body → x .name ≡ y .name
+  pub distinct : noneTwice (map (λ x. pos (x .name)) named) ≡ true
+
+-- the arrays hold the known variables, and by rule the name of its body
+pub record Tracks (P : List Rule) (known names introduced : List ℕ) (named : List Named) : Type 0 where
+  pub entries : length known ≡ marksLent
+  pub known : (v : ℕ) → v ≤ largest → marked known v ≡ isKnown P (record { live = []; introduced = introduced; named = named }) v
+  pub rules : length P ≤ length names
+  pub names : take (length P) names ≡ map (λ r. nameOf named (r .body)) P
+  pub proper : Proper P introduced named
+
+-- Steps
+
+-- question 34: a full store is refused
+abbrev pub kept : Added → Stepped
+kept (Added.Uses n) = Uses n
+kept Added.Full = Fails 34
+
+-- the store holds the nogoods, or they do not fit: "Do the live words after the step fit the store? 34."
+abbrev pub Kept : List (List ℤ) → List ℤ → Stepped → Type 0
+Kept live store (Uses n) = Holds store n live
+Kept live store (Fails k) = (k ≡ 34) × (length store < length (liveWords live))
+
+-- what a step leaves, by what it comes to: the number of the question, or arrays and store that hold the next state
+abbrev pub Left : List Rule → List ℕ → List ℕ → List ℤ → Outcome → Stepped → Type 0
+Left P known names store (refused k) r = r ≡ Fails k
+Left P known names store (next z) r = Kept (z .live) store r × Tracks P known names (z .introduced) (z .named)
+
+-- the nogood of an `l` step, ascending: of n numbers from v on, h itself and minus each one that passes
+abbrev pub gathered : (ℕ → Bool) → ℤ → ℕ → ℕ → List ℤ
+gathered f h zero v = []
+gathered f h (suc n) v =
+    cond (eqb v (variable h)) (h ∷ gathered f h n (suc v)) (cond (f v) (negℤ (pos v) ∷ gathered f h n (suc v)) (gathered f h n (suc v)))
+
+-- Lines as steps, and all of them
+
+-- the state that a good line leaves, with the position after it; or question 34
+abbrev pub Goes : ℕ → State → List ℤ → Turn → Type 0
+Goes at z store (Turn.Goes after n) = (after ≡ at) × Holds store n (z .live)
+Goes at z store (Turn.Fails k) = (k ≡ 34) × (length store < length (liveWords (z .live)))
+Goes at z store Turn.Ends = ⊥
+
+module _ (P : List Rule) (known names : List ℕ) (store : List ℤ) where
+  abbrev pub StepTurn : ℕ → Outcome → Turn → Type 0
+  StepTurn at (refused k) r = r ≡ Turn.Fails k
+  StepTurn at (next z) r = Goes at z store r × Tracks P known names (z .introduced) (z .named)
+
+  -- what one turn of the check leaves, by what stands at the position
+  abbrev pub LineTurn : State → LineAt → Turn → Type 0
+  LineTurn z end r = r ≡ Turn.Ends
+  LineTurn z (Lines.refused k) r = r ≡ Turn.Fails k
+  LineTurn z (line x zs at) r = StepTurn at (step P z (record { letter = x; numbers = zs })) r
+
+-- what the lines leave, by what they come to
+abbrev pub Ran : List ℤ → Course → Run → Type 0
+Ran store (stopped k n) r = r ≡ Run.Stopped (record { number = k; step = n })
+Ran store (through n z) r = (used : ℕ) × (r ≡ Run.Through n used) × Holds store used (z .live)

@@ -1,0 +1,123 @@
+// The proof's lines, one after another: questions 21 to 34.
+ghost use mathlib.Core.Path.{_≡_};
+ghost use mathlib.Core.List.{List};
+ghost use Prim.Native.Nat.{_≤_};
+ghost use lib.IntN.{ℤ, pos};
+ghost use lib.ListN.{length, replicate};
+ghost use Rattle.words.specs.Limits.{longest};
+ghost use Rattle.answer_set.specs.SetTest.{rulesAt};
+ghost use Rattle.drupe.specs.Lines.{lineAt};
+ghost use Rattle.derivation.specs.States.{State};
+ghost use Rattle.nogoods.specs.Store.{Holds};
+ghost use Rattle.checker.specs.Check.{course};
+ghost use Rattle.checker.specs.Held.{Program, Tracks, LineTurn, Ran};
+use crate::ProofRefusal;
+use crate::states::State;
+use crate::steps;
+use crate::steps::Stepped;
+use drupe::LineAnswer;
+use drupe::reader;
+
+// What stands at a position comes to: the end, the question that is answered no, or the next position and the words used then.
+pub enum Turn {
+    Ends,
+    Fails(u8),
+    Goes { next: usize, used: usize },
+}
+
+// What the lines come to: a refusal, or the steps that there were and the words used after the last.
+pub enum Run {
+    Stopped(ProofRefusal),
+    Through { steps: usize, used: usize },
+}
+
+// The line at the position, and its step.
+fn turn(
+    proof: &[u8],
+    at: usize,
+    table: &[i32],
+    rules: usize,
+    atoms: usize,
+    known: &mut [u8],
+    names: &mut [u16],
+    store: &mut [i32],
+    used: usize,
+) -> Turn
+    requires { ⌜ Program (now table) rules atoms × (rules ≤ length (now names)) ⌝ }
+    requires { ⌜ ((live : List (List ℤ)) × Holds (now store) used live) ⌝ }
+    ensures { λ r. ⌜ ((z : State) → Tracks (rulesAt rules (now (table .entry))) (now (known .entry)) (now (names .entry)) (z .introduced) (z .named)
+        → Holds (now (store .entry)) used (z .live)
+        → LineTurn (rulesAt rules (now (table .entry))) (now (known .exit)) (now (names .exit)) (now (store .exit)) z (lineAt (now (proof .entry)) at) r) ⌝ }
+{
+    let reading = reader::step_at(proof, at);
+    let answer = reading.answer;
+    let mut numbers = reading.numbers;
+    match answer {
+        LineAnswer::End => Turn::Ends,
+        LineAnswer::Refused(number) => Turn::Fails(number),
+        LineAnswer::Line {
+            letter,
+            count,
+            next,
+        } => {
+            let stepped = steps::step(
+                table,
+                rules,
+                atoms,
+                letter,
+                &mut numbers[..count],
+                known,
+                names,
+                store,
+                used,
+            );
+            match stepped {
+                Stepped::Uses(n) => Turn::Goes { next, used: n },
+                Stepped::Fails(number) => Turn::Fails(number),
+            }
+        }
+    }
+}
+
+// All lines of a proof text, from an empty store. The first refusal ends them.
+pub fn run(proof: &[u8], table: &[i32], rules: usize, atoms: usize, store: &mut [i32]) -> Run
+    requires { ⌜ Program (now table) rules atoms ⌝ }
+    requires { ⌜ (length (now proof) ≤ longest) × (now store ≡ replicate (length (now store)) (pos 0)) ⌝ }
+    ensures { λ r. ⌜ Ran (now (store .exit)) (course (rulesAt rules (now (table .entry))) (length (now (store .entry))) (now (proof .entry))) r ⌝ }
+{
+    let start = State::start(atoms);
+    let mut known = start.known;
+    let mut names = start.names;
+    let mut used = start.used;
+    let mut at = 0;
+    let mut steps = 0;
+    loop {
+        let turned = turn(
+            proof,
+            at,
+            table,
+            rules,
+            atoms,
+            &mut known,
+            &mut names,
+            store,
+            used,
+        );
+        match turned {
+            Turn::Ends => {
+                return Run::Through { steps, used };
+            }
+            Turn::Fails(number) => {
+                return Run::Stopped(ProofRefusal {
+                    number,
+                    step: steps + 1,
+                });
+            }
+            Turn::Goes { next, used: n } => {
+                at = next;
+                used = n;
+                steps += 1;
+            }
+        }
+    }
+}

@@ -1,0 +1,38 @@
+// What the code holds of the three things that the steps work on, beside the lent store.
+ghost use mathlib.Core.Path.{_≡_};
+ghost use Prim.Native.Nat.{_≤_};
+ghost use lib.ListN.{replicate};
+ghost use Rattle.words.specs.Limits.{largest};
+ghost use Rattle.aspif.specs.Reading.{mostRules};
+ghost use Rattle.names.specs.Queries.{Marks, upTo};
+use names::variables;
+
+// The known variables as marks; by rule, the name of its body, 0 for none; how many words of the store are used.
+pub struct State {
+    pub known: [u8; State::ENTRIES],
+    pub names: [u16; State::RULES],
+    pub used: usize,
+}
+
+impl State {
+    // An entry for each variable, from 1 to 4,095, and one for 0.
+    pub const ENTRIES: usize = variables::ENTRIES;
+
+    // The most numbers of a line.
+    pub const NUMBERS: usize = drupe::MOST_NUMBERS;
+
+    // The most rules of a program.
+    pub const RULES: usize = 1024;
+
+    // "At the start there are no nogoods and no names, and the atoms alone are known."
+    pub fn start(atoms: usize) -> State
+        requires { ⌜ atoms ≤ largest ⌝ }
+        ensures { λ r. ⌜ Marks (r .known) (upTo atoms) × (r .names ≡ replicate mostRules 0) × (r .used ≡ 0) ⌝ }
+    {
+        State {
+            known: variables::marks_to(atoms),
+            names: [0; State::RULES],
+            used: 0,
+        }
+    }
+}
