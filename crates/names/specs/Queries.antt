@@ -31,7 +31,7 @@ abbrev pub agree : Bool → Bool → Bool
 agree a b = cond a b (not b)
 
 -- the same numbers below n are marked
-abbrev pub sameMarks : ℕ → List ℕ → List ℕ → Bool
+unfoldable pub sameMarks : ℕ → List ℕ → List ℕ → Bool
 sameMarks zero a b = true
 sameMarks (suc n) a b = agree (marked a n) (marked b n) && sameMarks n a b
 

@@ -1,8 +1,8 @@
 // Which rules a step is about, and the names of their bodies. Names are kept by rule, 0 for none.
 ghost use mathlib.Core.Path.{_≡_};
-ghost use mathlib.Core.Bool.{Bool, true, _&&_};
+ghost use mathlib.Core.Bool.{true, cond, _&&_};
 ghost use Prim.Native.Nat.{_≤_};
-ghost use lib.ListN.{length};
+ghost use lib.ListN.{length, set};
 ghost use Rattle.words.specs.Lists.{any};
 ghost use Rattle.words.specs.Literals.{sameList};
 ghost use Rattle.aspif.specs.Rules.{isNormal};
@@ -57,16 +57,26 @@ fn is_external(words: &[i32], inside: &[u8]) -> bool
     false
 }
 
+// The rule at the front is normal.
+fn is_normal(words: &[i32]) -> bool
+    ensures { λ r. ⌜ r ≡ isNormal (ruleAt (now (words .entry)) .kind) ⌝ }
+{
+    let kind = tables::kind_of(words);
+    match kind {
+        Kind::Normal => true,
+        Kind::Choice => false,
+    }
+}
+
 // The rule at the front is normal, with just these heads.
 fn is_normal_with(words: &[i32], heads: &[i32]) -> bool
     requires { ⌜ shapeSound (now words) ≡ true ⌝ }
     ensures { λ r. ⌜ r ≡ (isNormal (ruleAt (now (words .entry)) .kind) && sameList (ruleAt (now (words .entry)) .heads) (now (heads .entry))) ⌝ }
 {
-    let kind = tables::kind_of(words);
-    match kind {
-        Kind::Normal => words::is_same_list(tables::heads_of(words), heads),
-        Kind::Choice => false,
+    if is_normal(words) {
+        return words::is_same_list(tables::heads_of(words), heads);
     }
+    false
 }
 
 // The rule at the front is one that the query asks for.
@@ -79,6 +89,24 @@ fn is_asked(words: &[i32], query: Query, literals: &[i32], inside: &[u8]) -> boo
         Query::Normal => is_normal_with(words, literals),
         Query::Head(h) => words::contains(tables::heads_of(words), h),
         Query::External => is_external(words, inside),
+    }
+}
+
+// The name is marked where the rule at the front is one that the query asks for.
+fn mark_asked(
+    words: &[i32],
+    query: Query,
+    literals: &[i32],
+    inside: &[u8],
+    name: u16,
+    found: &mut [u8],
+)
+    requires { ⌜ shapeSound (now words) ≡ true ⌝ }
+    ensures { λ _. ⌜ (let asked = asks query (now (literals .entry)) (now (inside .entry)) (ruleAt (now (words .entry))) in
+        now (found .exit) ≡ cond asked (set (now (found .entry)) name 1) (now (found .entry))) ⌝ }
+{
+    if is_asked(words, query, literals, inside) {
+        marks::mark(found, name as usize);
     }
 }
 
@@ -99,13 +127,22 @@ pub fn names_of(
     let mut i = 0;
     while k < rules {
         let rest = &table[i..];
-        if is_asked(rest, query, literals, inside) {
-            marks::mark(&mut found, names[k] as usize);
-        }
+        mark_asked(rest, query, literals, inside, names[k], &mut found);
         i += tables::rule_size(rest);
         k += 1;
     }
     found
+}
+
+// The name where the rule at the front has the body, else the other.
+fn name_for(words: &[i32], body: &[i32], name: u16, other: u16) -> u16
+    requires { ⌜ shapeSound (now words) ≡ true ⌝ }
+    ensures { λ r. ⌜ r ≡ cond (sameList (ruleAt (now (words .entry)) .body) (now (body .entry))) name other ⌝ }
+{
+    if words::is_same_list(tables::body_of(words), body) {
+        return name;
+    }
+    other
 }
 
 // Every rule with the body gets the name.
@@ -117,9 +154,7 @@ pub fn enter(table: &[i32], rules: usize, body: &[i32], name: u16, names: &mut [
     let mut i = 0;
     while k < rules {
         let rest = &table[i..];
-        if words::is_same_list(tables::body_of(rest), body) {
-            names[k] = name;
-        }
+        names[k] = name_for(rest, body, name, names[k]);
         i += tables::rule_size(rest);
         k += 1;
     }

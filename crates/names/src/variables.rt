@@ -2,12 +2,11 @@
 ghost use mathlib.Core.Path.{_≡_};
 ghost use mathlib.Core.List.{map};
 ghost use Prim.Native.Nat.{_≤_};
-ghost use lib.ListN.{length};
 ghost use Rattle.words.specs.Limits.{largest};
 ghost use Rattle.words.specs.Lists.{all};
 ghost use Rattle.words.specs.Literals.{variable};
 ghost use Rattle.answer_set.specs.SetTest.{marksLent, marked};
-ghost use Rattle.names.specs.Queries.{Marks, sameMarks, upTo};
+ghost use Rattle.names.specs.Queries.{Marks, agree, sameMarks, upTo};
 use answer_set::marks;
 
 // As many as there are variables, and one for 0.
@@ -55,6 +54,13 @@ pub fn all_marked(literals: &[i32], found: &[u8]) -> bool
     true
 }
 
+// The number is in both, or in neither.
+fn agrees_at(a: &[u8], b: &[u8], v: usize) -> bool
+    ensures { λ r. ⌜ r ≡ agree (marked (now (a .entry)) v) (marked (now (b .entry)) v) ⌝ }
+{
+    marks::is_marked(a, v) == marks::is_marked(b, v)
+}
+
 // Two lists of marks have the same numbers.
 pub fn is_same_set(a: &[u8; ENTRIES], b: &[u8; ENTRIES]) -> bool
     ensures { λ r. ⌜ r ≡ sameMarks marksLent (now (a .entry)) (now (b .entry)) ⌝ }
@@ -62,7 +68,7 @@ pub fn is_same_set(a: &[u8; ENTRIES], b: &[u8; ENTRIES]) -> bool
     let mut left = ENTRIES;
     while 0 < left {
         left -= 1;
-        if marks::is_marked(a, left) != marks::is_marked(b, left) {
+        if !agrees_at(a, b, left) {
             return false;
         }
     }
