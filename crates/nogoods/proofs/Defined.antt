@@ -20,13 +20,13 @@ use Rattle.derivation.specs.Steps.{definition}
 use Rattle.nogoods.specs.Store.{Literals, nogoodWords, liveWords}
 use Rattle.nogoods.proofs.Literals.{literals-ascending, literals-pair, literals-complement-first}
 
--- The name and its literals, in one list
+-- A name and its literals, in one list of numbers
 
 pub apart : (numbers : List ℤ) → 1 ≤ length numbers → Literals numbers → Literals (getD numbers 0 (pos 0) ∷ drop 1 numbers)
 apart [] h k = absurd (omega arith)
 apart (x ∷ l) h k = k
 
--- the name's complement is put in the name's place, among words of which s was made by sorting
+-- in a nogood's words w the name's complement y is put in the name's place, and the literals are sorted
 pub first-written : (numbers free w s : List ℤ) (y : ℤ) (k : ℕ) → 1 ≤ length numbers → k ≡ length numbers
     → w ≡ nogoodWords numbers ++ drop (suc (length numbers)) free → s ≡ ascending (take k (drop 1 (set w 1 y)))
     → putMid 1 k (set w 1 y) s ≡ nogoodWords (ascending (y ∷ drop 1 numbers)) ++ drop (length numbers + 1) free
@@ -51,7 +51,7 @@ module _ (n : ℤ) where
   abbrev pub pair : ℤ → List ℤ
   pair x = ascending (n ∷ complement x ∷ [])
 
-  pub pairs-size : (l : List ℤ) → length (liveWords (map pair l)) ≡ 3 * length l
+  pairs-size : (l : List ℤ) → length (liveWords (map pair l)) ≡ 3 * length l
   pairs-size [] = refl
   pairs-size (x ∷ l) =
       omega (arith, length-append (nogoodWords (pair x)) (liveWords (map pair l)), length-ascending (n ∷ complement x ∷ []), pairs-size l)

@@ -48,7 +48,7 @@ loop-again c =
       omega (arith, l .inv .1),
       same-len-mid (l .at) (length (l .free) - l .at) (l .free) (w .write-pair .last .0) (w .write-pair .kept .0) ∙ l .inv .2,
       pair-next (toZ w32 (ofZ w32 (s .args .name))) L (s .args .free .now) (l .free) (w .write-pair .last .0) (l .at) (l .i) i (l .inv .1) (l .inv .3)
-      (rw (back (getD L (l .i) (pos 0)) (w .before .write-pair-arg2 .given)) at (w .write-pair .ensures)),
+          (rw (back (getD L (l .i) (pos 0)) (w .before .write-pair-arg2 .given)) at (w .write-pair .ensures)),
     )
 
 returns : tie.Need-returns Inv-loop μ-loop

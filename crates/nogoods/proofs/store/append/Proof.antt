@@ -1,25 +1,24 @@
-use mathlib.Core.Path.{_≡_, sym, ap, _∙_}
-use mathlib.Core.List.{List, [], _∷_, _++_, append-nil, List·Memᴰ·eq-of-singleton}
+use mathlib.Core.Path.{_≡_, ap, _∙_}
+use mathlib.Core.List.{List, [], _∷_, append-nil, List·Memᴰ·eq-of-singleton}
 use Prim.Native.Nat.{_+_}
 use native.Mathlib.Omega.{arith}
 use native.Mathlib.Numerals.{add-one}
 use lib.IntN.{ℤ}
-use lib.ListN.{length, drop}
+use lib.ListN.{length}
 use Rattle.nogoods.specs.Store.{nogoodWords, liveWords}
 use Rattle.nogoods.proofs.Stored.{full, added}
 use borrow.Author.Needs.{needs}
 use Rattle.nogoods.proofs.store.append.Statement.{statement}
 use Rattle.nogoods.proofs.store.append.Tie as tie
 
-one : (g : List ℤ) → liveWords (g ∷ []) ≡ nogoodWords g
-one g = append-nil (nogoodWords g)
-
 size : (g : List ℤ) → length (liveWords (g ∷ [])) ≡ length g + 1
-size g = ap length (one g) ∙ omega arith
+size g = ap length (append-nil (nogoodWords g)) ∙ omega arith
 
 returns : tie.Need-returns
 returns c =
-    λ live H. full H (c .before .args .literals .now ∷ []) (size (c .before .args .literals .now)) (c .if1 .taken)
+    λ live H.
+    let L = c .before .args .literals .now in
+    full H (L ∷ []) (size L) (omega (arith, c .if1 .taken))
 
 returns-2 : tie.Need-returns-2
 returns-2 c =
