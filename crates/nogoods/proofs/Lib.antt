@@ -2,6 +2,8 @@
 pub mod Assignments
 pub mod Looks
 pub mod Stored
+pub mod Literals
+pub mod Defined
 pub mod Segments
 pub mod Closures
 pub mod Sweeps

@@ -1,4 +1,4 @@
--- Nogoods one after another in the store: what a loop from nogood to nogood knows, and the words without one of them.
+-- Nogoods one after another in the store: what a loop from nogood to nogood knows, the words with more nogoods, and without one.
 -- Assumes nothing.
 use mathlib.Core.Path.{_≡_, refl, sym, ap, ap₂, _∙_}
 use mathlib.Core.Logic.{_⊎_, inl, inr}
@@ -13,8 +13,10 @@ use borrow.Rule.Slice.PartMut.{putMid, same-len-mid}
 use Rattle.words.specs.Lists.{_∈_, dropFirst}
 use Rattle.words.specs.Literals.{variable, sameList}
 use Rattle.words.proofs.Literals.{sameList-decides}
+use Rattle.words.proofs.Parts.{put-next}
 use Rattle.words.proofs.Segments.{Segment, at-front, next, record-append}
-use Rattle.nogoods.specs.Store.{nogoodWords, liveWords, Holds}
+use Rattle.drupe.proofs.Lines.{drop-replicate}
+use Rattle.nogoods.specs.Store.{nogoodWords, liveWords, Literals, Holds}
 use Rattle.nogoods.specs.Finds.{foundAt}
 use Rattle.nogoods.specs.Propagate.{countAt}
 use Rattle.nogoods.specs.declared.store.Found.the-variants.{At, Nothing}
@@ -67,6 +69,41 @@ module _ {Q : List (List ℤ) → List (List ℤ) → Type 0} {store : List ℤ}
   -- it stands within the used words, of a store that holds some nogoods
   pub room : (live : List (List ℤ)) × Holds store used live → (i + 1 + n ≤ used) × (used ≤ length store)
   room some = (here (some .1) .room, some .1 .fits)
+
+-- Adding
+
+module _ {store : List ℤ} {used : ℕ} {live : List (List ℤ)} (H : Holds store used live) (gs : List (List ℤ)) {size : ℕ}
+    (n : length (liveWords gs) ≡ size) where
+  more-words : length (liveWords (live ++ gs)) ≡ used + size
+  more-words = omega (arith, n, H .extent, ap length (record-append nogoodWords live gs), length-append (liveWords live) (liveWords gs))
+
+  -- the free words are too few for these nogoods
+  pub full : length store - used < size → length store < length (liveWords (live ++ gs))
+  full h = omega (arith, more-words, H .fits)
+
+  abbrev unused : List ℤ
+  unused = replicate (length store - used - size) (pos 0)
+
+  -- their words are written at the front of the free tail
+  pub added : used + size ≤ length store → ((g : List ℤ) → g ∈ gs → Literals g) → (ys : List ℤ)
+      → ys ≡ liveWords gs ++ drop size (take (length store - used) (drop used store))
+      → Holds (putMid used (length store - used) store ys) (used + size) (live ++ gs)
+  added room each ys e =
+      let k : length store - length (liveWords live) ≡ length store - used = ap (λ (m : ℕ). length store - m) (sym (H .extent)) in
+      let w : putMid used (length store - used) store ys ≡ liveWords (live ++ gs) ++ unused =
+      put-next (liveWords live) (replicate (length store - used) (pos 0)) (liveWords gs) store ys used (sym (H .extent)) (rw k at (H .words)) (rw (← n) at e)
+      ∙ ap (λ (l : List ℤ). liveWords live ++ (liveWords gs ++ l)) (drop-replicate (length (liveWords gs)) (length store - used) (pos 0) ∙ rw n)
+      ∙ sym (append-assoc (liveWords live) (liveWords gs) unused) ∙ ap (λ (l : List ℤ). l ++ unused) (sym (record-append nogoodWords live gs)) in
+      let s : length (putMid used (length store - used) store ys) ≡ length store =
+      ap length w ∙ simp (length-append, length-replicate) (omega (arith, more-words, room)) in
+      let z : length store - used - size ≡ length (putMid used (length store - used) store ys) - length (liveWords (live ++ gs)) =
+      omega (arith, s, more-words) in
+      record {
+        words = w ∙ ap (λ (m : ℕ). liveWords (live ++ gs) ++ replicate m (pos 0)) z;
+        extent = sym more-words;
+        fits = omega (arith, s, room);
+        literals = λ g m. elim (List·Memᴰ·append-cases live m) [ inl i ↦ H .literals g i | inr i ↦ each g i ];
+      }
 
 -- Deleting
 

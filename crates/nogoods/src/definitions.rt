@@ -2,7 +2,7 @@
 // n with its complement."
 ghost use mathlib.Core.Path.{_≡_};
 ghost use mathlib.Core.List.{List, [], _∷_, _++_, map};
-ghost use Prim.Native.Nat.{_+_, _*_, _≤_};
+ghost use Prim.Native.Nat.{_+_, _*_, _≤_, _<_};
 ghost use lib.IntN.{ℤ, pos};
 ghost use lib.ListN.{length, drop, getD};
 ghost use Rattle.words.specs.Limits.{largest};
@@ -12,7 +12,6 @@ ghost use Rattle.derivation.specs.Steps.{definition};
 ghost use Rattle.nogoods.specs.Store.{Literals, Holds, Fits, nogoodWords, liveWords};
 use crate::store;
 use crate::store::Added;
-use drupe::MOST_NUMBERS;
 
 // The name with a literal's complement, ascending, at the front of the free tail.
 fn write_pair(free: &mut [i32], name: i32, literal: i32)
@@ -38,21 +37,28 @@ fn write_pairs(free: &mut [i32], name: i32, literals: &[i32])
     }
 }
 
-// The words of a definition at the front of the free tail. The numbers are the name and its literals; these ascend afterwards.
+// The name's complement with its literals, ascending, at the front of the free tail. The numbers are the name and its literals.
+fn write_first(free: &mut [i32], numbers: &[i32])
+    requires { ⌜ (variable (getD (now numbers) 0 (pos 0)) ≤ largest) × (1 ≤ length (now numbers)) × (length (now numbers) ≤ mostNumbers) × (length (now numbers) < length (now free)) ⌝ }
+    ensures { λ _. ⌜ now (free .exit) ≡ nogoodWords (ascending (complement (getD (now (numbers .entry)) 0 (pos 0)) ∷ drop 1 (now (numbers .entry)))) ++ drop (length (now (numbers .entry)) + 1) (now (free .entry)) ⌝ }
+{
+    let end = numbers.len() + 1;
+    store::write(free, numbers);
+    free[1] = words::complement_of(numbers[0]);
+    words::sort(&mut free[1..end]);
+}
+
+// The words of a definition at the front of the free tail. The literals ascend afterwards.
 fn write_definition(free: &mut [i32], numbers: &mut [i32])
     requires { ⌜ Literals (now numbers) × (1 ≤ length (now numbers)) × (length (now numbers) ≤ mostNumbers) × (4 * length (now numbers) ≤ length (now free) + 2) ⌝ }
     ensures { λ _. ⌜ (let words = liveWords (definition (getD (now (numbers .entry)) 0 (pos 0)) (drop 1 (now (numbers .entry)))) in
         now (free .exit) ≡ words ++ drop (length words) (now (free .entry))) ⌝ }
 {
-    let count = numbers.len();
+    let end = numbers.len() + 1;
     let name = numbers[0];
-    let mut row = [0i32; MOST_NUMBERS];
-    words::copy(&mut row, numbers);
-    row[0] = words::complement_of(name);
-    words::sort(&mut row[..count]);
-    store::write(free, &row[..count]);
+    write_first(free, numbers);
     words::sort(&mut numbers[1..]);
-    write_pairs(&mut free[count + 1..], name, &numbers[1..]);
+    write_pairs(&mut free[end..], name, &numbers[1..]);
 }
 
 // The definition of a name is live, after the others. The numbers are the name and its literals; these ascend afterwards.

@@ -44,7 +44,8 @@ set-each P (x ∷ l) (suc i) a d h k (suc j) = set-each (λ n. P (suc n)) l i a 
 mentions-decides : (v : ℕ) (l : List ℤ) → Decides (mentions v l) ((x : ℤ) × (x ∈ l) × (v ≡ variable x))
 mentions-decides v l = any-decides (λ x. eqb-decides v (variable x)) l
 
-once-decides : (x : ℤ) (l : List ℤ) → Decides (noneTwice (x ∷ l)) ((¬ ((y : ℤ) × (y ∈ l) × (variable x ≡ variable y))) × (noneTwice l ≡ true))
+-- no variable stands twice: the first one stands in no other literal, and the others are so
+pub once-decides : (x : ℤ) (l : List ℤ) → Decides (noneTwice (x ∷ l)) ((¬ ((y : ℤ) × (y ∈ l) × (variable x ≡ variable y))) × (noneTwice l ≡ true))
 once-decides x l = and-decides (not-decides (mentions-decides (variable x) l)) (passed (noneTwice l))
 
 first : (x : ℤ) (l : List ℤ) → noneTwice (x ∷ l) ≡ true → (j : ℕ) → j < length l → ¬ (variable x ≡ variable (getD l j (pos 0)))

@@ -1,0 +1,64 @@
+use Prim.Native.Nat.{_+_}
+use native.Mathlib.Omega.{arith}
+use lib.IntN.{pos}
+use lib.ListN.{length, drop, getD, length-drop}
+use Rattle.words.proofs.Parts.{tail-of}
+use Rattle.words.proofs.Places.{in-at}
+use Rattle.words.proofs.Sorting.{length-ascending}
+use Rattle.words.proofs.Words.{back}
+use Rattle.nogoods.proofs.Literals.{literals-ascending, literals-tail}
+use Rattle.nogoods.proofs.Defined.{apart, others-sorted, definition-written}
+use borrow.Author.Needs.{needs}
+use Rattle.nogoods.proofs.definitions.write_definition.Statement.{statement}
+use Rattle.nogoods.proofs.definitions.write_definition.Tie as tie
+
+write-first-requires : tie.Need-write-first-requires
+write-first-requires c κs =
+    let s = c .before .before .before in
+    let l = s .args .numbers .now in
+    (s .pre .0 .high (getD l 0 (pos 0)) (in-at (pos 0) l 0 (s .pre .1)), s .pre .1, s .pre .2, omega (arith, s .pre))
+
+write-pairs-requires : tie.Need-write-pairs-requires
+write-pairs-requires c κs =
+    let o = c .before .before .before .before in
+    let w = o .before .before .before .write-first in
+    let s = o .before .before .before .before .before .before .before in
+    let l = s .args .numbers .now in
+    let end = length l + 1 in
+    rw (others-sorted l (o .sort .last .0) (s .pre .1) (o .sort .ensures), tail-of end (w .last .0), length-drop, length-ascending, w .kept .0) (
+      literals-ascending (drop 1 l) (literals-tail (getD l 0 (pos 0)) (drop 1 l) (apart l (s .pre .1) (s .pre .0))),
+      omega (arith, length-drop 1 l, s .pre),
+    )
+
+returns : tie.Need-returns
+returns c =
+    let o = c .before .before .before .before .before .before in
+    let w = o .before .before .before .write-first in
+    let s = o .before .before .before .before .before .before .before in
+    let l = s .args .numbers .now in
+    definition-written (getD l 0 (pos 0)) (drop 1 l) (s .args .free .now) (w .last .0) (c .before .write-pairs .last .0) (length l + 1)
+    (omega (arith, length-drop 1 l, s .pre .1)) (w .ensures)
+    (rw (others-sorted l (o .sort .last .0) (s .pre .1) (o .sort .ensures), back (getD l 0 (pos 0)) (o .before .before .before .before .before .before .name .given)) at (c .before .write-pairs .ensures))
+
+pub write-definition-spec : {M : Type 1} → statement M
+write-definition-spec =
+    tie.close
+    (tie.spec
+    (λ c. search needs)
+    (λ c. search needs)
+    write-first-requires
+    (λ c. search needs)
+    (λ c. search needs)
+    (λ c. search needs)
+    (λ c κs. search needs)
+    (λ c. search needs)
+    (λ c. search needs)
+    (λ c. search needs)
+    (λ c. search needs)
+    (λ c. search needs)
+    (λ c. search needs)
+    (λ c. search needs)
+    write-pairs-requires
+    (λ c. search needs)
+    (λ c. search needs)
+    returns)

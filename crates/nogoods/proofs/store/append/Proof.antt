@@ -1,0 +1,45 @@
+use mathlib.Core.Path.{_≡_, ap, _∙_}
+use mathlib.Core.List.{List, [], _∷_, append-nil, List·Memᴰ·eq-of-singleton}
+use Prim.Native.Nat.{_+_}
+use native.Mathlib.Omega.{arith}
+use native.Mathlib.Numerals.{add-one}
+use lib.IntN.{ℤ}
+use lib.ListN.{length}
+use Rattle.nogoods.specs.Store.{nogoodWords, liveWords}
+use Rattle.nogoods.proofs.Stored.{full, added}
+use borrow.Author.Needs.{needs}
+use Rattle.nogoods.proofs.store.append.Statement.{statement}
+use Rattle.nogoods.proofs.store.append.Tie as tie
+
+size : (g : List ℤ) → length (liveWords (g ∷ [])) ≡ length g + 1
+size g = ap length (append-nil (nogoodWords g)) ∙ omega arith
+
+returns : tie.Need-returns
+returns c =
+    λ live H.
+    let L = c .before .args .literals .now in
+    full H (L ∷ []) (size L) (omega (arith, c .if1 .taken))
+
+returns-2 : tie.Need-returns-2
+returns-2 c =
+    λ live H.
+    let s = c .before .before .before .before in
+    let L = s .args .literals .now in
+    added H (L ∷ []) (size L) (omega (arith, c .before .before .before .if1 .left, H .fits)) (λ g m. rw (List·Memᴰ·eq-of-singleton m) (s .pre .1 .0)) (c .before .write .last .0)
+    (rw (append-nil L, add-one) (c .before .write .ensures))
+
+pub append-spec : {M : Type 1} → statement M
+append-spec =
+    tie.close
+    (tie.spec
+    (λ c. search needs)
+    (λ c. search needs)
+    returns
+    (λ c. search needs)
+    (λ c. search needs)
+    (λ c. search needs)
+    (λ c. search needs)
+    (λ c κs. search needs)
+    (λ c. search needs)
+    (λ c. search needs)
+    returns-2)
