@@ -1,3 +1,6 @@
 -- What holds of the whole check: its course line by line, demand 3, and the starred examples.
 pub mod Whole
 pub mod Examples
+pub mod Names
+pub mod Loops
+pub mod Tracking

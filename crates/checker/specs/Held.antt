@@ -65,9 +65,9 @@ pub record Proper (P : List Rule) (introduced : List ℕ) (named : List Named) :
 -- the arrays hold the known variables, and by rule the name of its body
 pub record Tracks (P : List Rule) (known names introduced : List ℕ) (named : List Named) : Type 0 where
   pub entries : length known ≡ marksLent
-  pub known : (v : ℕ) → v ≤ largest → marked known v ≡ isKnown P (record { live = []; introduced = introduced; named = named }) v
+  pub knows : (v : ℕ) → v ≤ largest → marked known v ≡ isKnown P (record { live = []; introduced = introduced; named = named }) v
   pub rules : length P ≤ length names
-  pub names : take (length P) names ≡ map (λ r. nameOf named (r .body)) P
+  pub calls : take (length P) names ≡ map (λ r. nameOf named (r .body)) P
   pub proper : Proper P introduced named
 
 -- Steps

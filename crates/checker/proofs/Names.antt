@@ -1,0 +1,209 @@
+-- What the names kept by rule tell of a state: the questions 28 to 32, answered by marks of the names of the rules that a step is
+-- about.
+-- Assumes nothing.
+use mathlib.Core.Path.{_≡_, refl, sym, _∙_, ap, fun-ext}
+use mathlib.Core.Logic.{_⊎_, inl, inr}
+use mathlib.Core.Bool.{Bool, true, false, cond, not, _&&_, _||_}
+use mathlib.Core.List.{List, [], _∷_, map, List·Memᴰ·head, List·Memᴰ·tail, Memᴰ·map, Memᴰ·of-map, Memᴰ·cast}
+use Prim.Native.Nat.{ℕ, zero, suc, _≤_, _<_}
+use native.Mathlib.Omega.{arith}
+use lib.Dec.{T, eqb, leb}
+use lib.IntN.{ℤ, pos, negsuc}
+use lib.ListN.{length, take, drop, getD}
+use Rattle.words.specs.Limits.{largest}
+use Rattle.words.specs.Lists.{_∈_, any, all, keep}
+use Rattle.words.specs.Literals.{variable, mentions, sameList, has, ascending}
+use Rattle.words.proofs.Lists.{Decides, itself, reworded, failed, and-decides, if-decides, not-decides, any-decides, all-decides, eqb-decides, keep→, keep←}
+use Rattle.words.proofs.Literals.{sameList-decides}
+use Rattle.words.proofs.Places.{equal?}
+use Rattle.aspif.specs.Rules.{Rule, isNormal}
+use Rattle.answer_set.specs.SetTest.{listed, marked, marksLent}
+use Rattle.derivation.specs.States.{Named, State, isAtom, isName, hasName}
+use Rattle.derivation.specs.Steps.{isUnnamedBody, isCompletion, isSupport, isExternal, allNamed}
+use Rattle.derivation.proofs.Questions.{name-decides, hasName-decides}
+use Rattle.names.specs.Queries.{Marks, picks, sameMarks}
+use Rattle.names.proofs.Picks.{picks-map}
+use Rattle.names.proofs.Sets.{same-marks}
+use Rattle.checker.specs.Held.{nameOf, Proper, Tracks}
+
+-- two tests of the same thing
+pub alike : {b c : Bool} {A B : Type 0} → Decides b A → Decides c B → (A → B) → (B → A) → b ≡ c
+alike {b = true} {c = true} i j f g = refl
+alike {b = true} {c = false} i j f g = absurd (j .from (f (i .to tt)))
+alike {b = false} {c = true} i j f g = absurd (i .from (g (j .to tt)))
+alike {b = false} {c = false} i j f g = refl
+
+-- a number that is no name of the list
+pub unlisted : (v : ℕ) (named : List Named) → ((x : Named) → x ∈ named → ¬ (x .name ≡ v)) → mentions v (map (λ x. pos (x .name)) named) ≡ false
+unlisted v named f = failed _ (not-decides (any-decides (λ x. eqb-decides v (variable x)) (map (λ x. pos (x .name)) named)) .from none)
+  where
+    none : ¬ ((y : ℤ) × (y ∈ map (λ x. pos (x .name)) named) × (v ≡ variable y))
+    none q = let r = Memᴰ·of-map (λ (x : Named). pos (x .name)) named (q .1) in f (r .0) (r .1) (ap variable (r .2) ∙ sym (q .2))
+
+-- The name of a body
+
+-- "Each body is named once"
+abbrev Once : List Named → Type 0
+Once named = (x y : Named) → x ∈ named → y ∈ named → x .body ≡ y .body → x .name ≡ y .name
+
+name-is : (named : List Named) → Once named → {x : Named} → x ∈ named → nameOf named (x .body) ≡ x .name
+name-is [] once m = elim m [ ]
+name-is (y ∷ ys) once {x} m =
+    by (λ n. name-is ys (λ a b k l. once a b (List·Memᴰ·tail k) (List·Memᴰ·tail l)) n) (sameList (y .body) (x .body)) (sameList-decides (y .body) (x .body)) m
+  where
+    by : (x ∈ ys → nameOf ys (x .body) ≡ x .name) → (t : Bool) → Decides t (y .body ≡ x .body) → x ∈ y ∷ ys → cond t (y .name) (nameOf ys (x .body)) ≡ x .name
+    by later true d m = once y x (List·Memᴰ·head refl) m (d .to tt)
+    by later false d (List·Memᴰ·head p) = absurd (d .from (ap (λ (a : Named). a .body) (sym p)))
+    by later false d (List·Memᴰ·tail n) = later n
+
+-- a body that has a name is that of a named one
+pub name-found : (named : List Named) (body : List ℤ) → ¬ (nameOf named body ≡ 0)
+    → (x : Named) × (x ∈ named) × ((x .name ≡ nameOf named body) × (x .body ≡ body))
+name-found [] body f = absurd (f refl)
+name-found (y ∷ ys) body f = by (λ g. name-found ys body g) (sameList (y .body) body) (sameList-decides (y .body) body) f
+  where
+    by : (¬ (nameOf ys body ≡ 0) → (x : Named) × (x ∈ ys) × ((x .name ≡ nameOf ys body) × (x .body ≡ body))) → (t : Bool) → Decides t (y .body ≡ body) → ¬ (cond t (y .name) (nameOf ys body) ≡ 0)
+        → (x : Named) × (x ∈ y ∷ ys) × ((x .name ≡ cond t (y .name) (nameOf ys body)) × (x .body ≡ body))
+    by later true d f = (y, List·Memᴰ·head refl, (refl, d .to tt))
+    by later false d f = let r = later f in (r .0, List·Memᴰ·tail (r .1), r .2)
+
+module _ {P : List Rule} {introduced : List ℕ} {named : List Named} (proper : Proper P introduced named) where
+  pub name-high : (body : List ℤ) → nameOf named body ≤ largest
+  name-high body = elim (equal? (nameOf named body) 0) [
+      inl e ↦ omega arith
+    | inr f ↦ let r = name-found named body f in omega (arith, proper .high (r .0) (r .1), r .2 .0) ]
+
+  pub name-of : {x : Named} → x ∈ named → nameOf named (x .body) ≡ x .name
+  name-of m = name-is named (proper .once) m
+
+module _ {P : List Rule} (z : State) (proper : Proper P (z .introduced) (z .named)) (body : List ℤ) where
+  abbrev name : ℕ
+  name = nameOf (z .named) body
+
+  pub name-test : (n : ℕ) → Decides (isName z n body) ((1 ≤ n) × (name ≡ n))
+  name-test n = reworded to from (name-decides z n body)
+    where
+      to : (x : Named) × (x ∈ z .named) × ((x .name ≡ n) × (x .body ≡ body)) → (1 ≤ n) × (name ≡ n)
+      to r = (omega (arith, proper .low (r .0) (r .1), r .2 .0), ap (nameOf (z .named)) (sym (r .2 .1)) ∙ name-of proper (r .1) ∙ r .2 .0)
+
+      from : (1 ≤ n) × (name ≡ n) → (x : Named) × (x ∈ z .named) × ((x .name ≡ n) × (x .body ≡ body))
+      from e = let h = e .0 in let q = e .1 in let r = name-found (z .named) body (λ k. omega arith) in (r .0, r .1, (r .2 .0 ∙ q, r .2 .1))
+
+  pub has-test : Decides (hasName z body) (¬ (name ≡ 0))
+  has-test = reworded to (λ f. let r = name-found (z .named) body f in (r .0, r .1, r .2 .1)) (hasName-decides z body)
+    where
+      to : (x : Named) × (x ∈ z .named) × (x .body ≡ body) → ¬ (name ≡ 0)
+      to r e = let p : name ≡ r .0 .name = ap (nameOf (z .named)) (sym (r .2)) ∙ name-of proper (r .1) in omega (arith, proper .low (r .0) (r .1))
+
+  pub unnamed-test : Decides (not (hasName z body)) (name ≡ 0)
+  unnamed-test = reworded (λ f. elim (equal? name 0) [ inl e ↦ e | inr g ↦ absurd (f g) ]) (λ e f. f e) (not-decides has-test)
+
+-- The names that a query finds
+
+-- some rule passes and has that number
+abbrev pub Some : (Rule → Bool) → (Rule → ℕ) → List Rule → ℕ → Type 0
+Some f g P v = (r : Rule) × (r ∈ P) × (T (f r) × (g r ≡ v))
+
+picked-decides : (f : Rule → Bool) (g : Rule → ℕ) (P : List Rule) (v : ℕ) → Decides (listed (map g (keep f P)) v) (Some f g P v)
+picked-decides f g P v = reworded to from (any-decides (eqb-decides v) (map g (keep f P)))
+  where
+    to : (n : ℕ) × (n ∈ map g (keep f P)) × (v ≡ n) → Some f g P v
+    to q =
+        let r = Memᴰ·of-map g (keep f P) (q .1) in
+        let k = keep→ f P (r .1) in
+        (r .0, k .0, (k .1, r .2 ∙ sym (q .2)))
+
+    from : Some f g P v → (n : ℕ) × (n ∈ map g (keep f P)) × (v ≡ n)
+    from r = (g (r .0), Memᴰ·map g (keep← f (r .1) (r .2 .0)), sym (r .2 .1))
+
+module _ {P : List Rule} {known names : List ℕ} (z : State) (tracks : Tracks P known names (z .introduced) (z .named)) where
+  abbrev nameIn : Rule → ℕ
+  nameIn r = nameOf (z .named) (r .body)
+
+  abbrev proper : Proper P (z .introduced) (z .named)
+  proper = tracks .proper
+
+  pub found-decides : (f : Rule → Bool) {m : List ℕ} → Marks m (picks f P names) → (v : ℕ) → v ≤ largest → Decides (marked m v) (Some f nameIn P v)
+  found-decides f marks v h = rw (marks .has v h, picks-map f nameIn P names (tracks .calls)) (picked-decides f nameIn P v)
+
+  -- question 28
+  pub unnamed-body : (L : List ℤ) {m : List ℕ} → Marks m (picks (λ r. sameList (r .body) (ascending L)) P names) → marked m 0 ≡ isUnnamedBody P z L
+  unnamed-body L {m} marks =
+      alike (found-decides _ marks 0 (omega arith))
+      (and-decides (any-decides (λ r. sameList-decides (r .body) (ascending L)) P) (unnamed-test z proper (ascending L)))
+      (λ r. let e = sameList-decides (r .0 .body) (ascending L) .to (r .2 .0) in ((r .0, r .1, e), ap (nameOf (z .named)) (sym e) ∙ r .2 .1))
+      (λ q. let r = q .0 in (r .0, r .1, (sameList-decides (r .0 .body) (ascending L) .from (r .2), ap (nameOf (z .named)) (r .2) ∙ q .1)))
+
+  -- question 29
+  pub completes : (n : ℤ) (hs : List ℤ) {m : List ℕ} → 1 ≤ variable n → variable n ≤ largest
+      → Marks m (picks (λ r. isNormal (r .kind) && sameList (r .heads) hs) P names) → marked m (variable n) ≡ isCompletion P z n hs
+  completes n hs low high marks =
+      alike (found-decides _ marks (variable n) high)
+      (any-decides (λ r. and-decides (itself (isNormal (r .kind))) (and-decides (itself (sameList (r .heads) hs)) (name-test z proper (r .body) (variable n)))) P)
+      (λ r. let t = both (r .0) .to (r .2 .0) in (r .0, r .1, (t .0, (t .1, (low, r .2 .1)))))
+      (λ r. (r .0, r .1, (both (r .0) .from (r .2 .0, r .2 .1 .0), r .2 .1 .1 .1)))
+    where
+      both : (r : Rule) → Decides (isNormal (r .kind) && sameList (r .heads) hs) (T (isNormal (r .kind)) × T (sameList (r .heads) hs))
+      both r = and-decides (itself (isNormal (r .kind))) (itself (sameList (r .heads) hs))
+
+  -- question 32
+  pub all-named : (U : List ℤ) {m : List ℕ} → Marks m (picks (isExternal P z U) P names) → not (marked m 0) ≡ allNamed P z U
+  all-named U marks =
+      alike (not-decides (found-decides _ marks 0 (omega arith)))
+      (all-decides (λ r. if-decides (itself (isExternal P z U r)) (has-test z proper (r .body))) P)
+      (λ f r m t e. f (r, m, (t, e)))
+      (λ f q. f (q .0) (q .1) (q .2 .0) (q .2 .1))
+
+  -- Question 30: h, the numbers after it, and their marks
+
+  module _ (h : ℤ) (ns : List ℤ) {l m : List ℕ} (sizes : (n : ℤ) → n ∈ ns → (1 ≤ variable n) × (variable n ≤ largest))
+      (given : Marks l (map variable ns)) (found : Marks m (picks (λ r. has h (r .heads)) P names)) where
+    -- a number of the line
+    abbrev Given : ℕ → Type 0
+    Given v = (n : ℤ) × (n ∈ ns) × ((1 ≤ variable n) × (v ≡ variable n))
+
+    given-decides : (v : ℕ) → v ≤ largest → Decides (marked l v) (Given v)
+    given-decides v k = rw (given .has v k) (reworded to (λ q. (variable (q .0), Memᴰ·map variable (q .1), q .2 .1)) (any-decides (eqb-decides v) (map variable ns)))
+      where
+        to : (x : ℕ) × (x ∈ map variable ns) × (v ≡ x) → Given v
+        to q = let r = Memᴰ·of-map variable ns (q .1) in (r .0, r .1, (sizes (r .0) (r .1) .0, q .2 ∙ sym (r .2)))
+
+    -- a name of a body with h in the head
+    abbrev Found : ℕ → Type 0
+    Found v = Some (λ r. has h (r .heads)) nameIn P v
+
+    headed-decides : (v : ℕ) → v ≤ largest → Decides (marked m v) (Found v)
+    headed-decides = found-decides (λ r. has h (r .heads)) found
+
+    covered : (r : Rule) → Decides (not (has h (r .heads)) || any (λ n. isName z (variable n) (r .body)) ns) (T (has h (r .heads)) → Given (nameIn r))
+    covered r = if-decides (itself (has h (r .heads))) (any-decides (λ n. name-test z proper (r .body) (variable n)) ns)
+
+    used : (n : ℤ) → Decides (any (λ r. has h (r .heads) && isName z (variable n) (r .body)) P)
+        ((r : Rule) × (r ∈ P) × (T (has h (r .heads)) × ((1 ≤ variable n) × (nameIn r ≡ variable n))))
+    used n = any-decides (λ r. and-decides (itself (has h (r .heads))) (name-test z proper (r .body) (variable n))) P
+
+    pub supports : (isAtom P (variable h) && sameMarks marksLent l m) ≡ isSupport P z h ns
+    supports =
+        alike (and-decides (itself (isAtom P (variable h))) (same-marks marksLent l m))
+        (and-decides (itself (isAtom P (variable h))) (and-decides (all-decides covered P) (all-decides used ns)))
+        (λ p. (p .0, (λ r i t. cover (p .1) r i t, λ n i. cite (p .1) n i)))
+        (λ p. (p .0, λ v k. alike (given-decides v (omega arith)) (headed-decides v (omega arith)) (to (p .1 .1)) (from (p .1 .0))))
+      where
+        cover : ((v : ℕ) → v < marksLent → marked l v ≡ marked m v) → (r : Rule) → r ∈ P → T (has h (r .heads)) → Given (nameIn r)
+        cover f r i t =
+            let k = name-high proper (r .body) in
+            given-decides (nameIn r) k .to (rw (f (nameIn r) (omega arith)) (headed-decides (nameIn r) k .from (r, i, (t, refl))))
+
+        cite : ((v : ℕ) → v < marksLent → marked l v ≡ marked m v) → (n : ℤ) → n ∈ ns
+            → (r : Rule) × (r ∈ P) × (T (has h (r .heads)) × ((1 ≤ variable n) × (nameIn r ≡ variable n)))
+        cite f n i =
+            let s = sizes n i in
+            let k = s .1 in
+            let q = headed-decides (variable n) k .to (rw (sym (f (variable n) (omega arith))) (given-decides (variable n) k .from (n, i, (s .0, refl)))) in
+            (q .0, q .1, (q .2 .0, (s .0, q .2 .1)))
+
+        to : {v : ℕ} → ((n : ℤ) → n ∈ ns → (r : Rule) × (r ∈ P) × (T (has h (r .heads)) × ((1 ≤ variable n) × (nameIn r ≡ variable n)))) → Given v → Found v
+        to f g = let q = f (g .0) (g .1) in (q .0, q .1, (q .2 .0, q .2 .1 .1 ∙ sym (g .2 .1)))
+
+        from : {v : ℕ} → ((r : Rule) → r ∈ P → T (has h (r .heads)) → Given (nameIn r)) → Found v → Given v
+        from f q = let g = f (q .0) (q .1) (q .2 .0) in (g .0, g .1, (g .2 .0, sym (q .2 .1) ∙ g .2 .1))

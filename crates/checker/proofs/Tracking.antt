@@ -1,0 +1,150 @@
+-- The arrays through the steps: at the start, what is known, and with a new name.
+-- Assumes nothing.
+use mathlib.Core.Path.{_≡_, refl, sym, _∙_, ap, ap₂, fun-ext}
+use mathlib.Core.Logic.{_⊎_, inl, inr}
+use mathlib.Core.Bool.{Bool, true, false, cond, not, _&&_, _||_, or-assoc, or-comm}
+use mathlib.Core.List.{List, [], _∷_, map, List·Memᴰ·head, List·Memᴰ·tail, Memᴰ·cast}
+use Prim.Native.Nat.{ℕ, zero, suc, _≤_, _<_}
+use native.Mathlib.Omega.{arith}
+use lib.Dec.{T, eqb, leb}
+use lib.IntN.{ℤ, pos}
+use lib.ListN.{length, take, set, replicate, length-set, length-replicate}
+use Rattle.words.specs.Limits.{largest}
+use Rattle.words.specs.Lists.{_∈_, any, all}
+use Rattle.words.specs.Literals.{variable, mentions, noneTwice, sameList, ascending}
+use Rattle.words.proofs.Lists.{Decides, itself, reworded, and-decides, or-decides, not-decides, any-decides, eqb-decides, leb-decides, failed}
+use Rattle.words.proofs.Literals.{sameList-decides}
+use Rattle.words.proofs.Places.{equal?}
+use Rattle.aspif.specs.Rules.{Rule, atoms}
+use Rattle.aspif.specs.Reading.{mostRules}
+use Rattle.answer_set.specs.SetTest.{listed, marked, marksLent}
+use Rattle.derivation.specs.States.{Named, State, isAtom, isKnown}
+use Rattle.derivation.specs.Steps.{allKnown}
+use Rattle.derivation.proofs.Questions.{known-decides}
+use Rattle.names.specs.Queries.{Marks, upTo, renamed}
+use Rattle.names.proofs.Picks.{renamed-map, length-renamed}
+use Rattle.names.proofs.Sets.{marked-set}
+use Rattle.checker.specs.Held.{nameOf, Proper, Tracks}
+use Rattle.checker.proofs.Names.{alike, unlisted, name-of}
+
+-- Question 26
+
+pub all-known : {P : List Rule} {known names : List ℕ} (z : State) → Tracks P known names (z .introduced) (z .named)
+    → (L : List ℤ) → ((x : ℤ) → x ∈ L → variable x ≤ largest) → all (λ x. marked known (variable x)) L ≡ allKnown P z L
+all-known z tracks [] high = refl
+all-known z tracks (x ∷ L) high = ap₂ (λ a b. a && b) (tracks .knows (variable x) (high x (List·Memᴰ·head refl))) (all-known z tracks L (λ y i. high y (List·Memᴰ·tail i)))
+
+-- The start
+
+listed-upTo : (n v : ℕ) → Decides (listed (upTo n) v) ((1 ≤ v) × (v ≤ n))
+listed-upTo zero v = record { to = λ t. absurd t; from = λ p. absurd (omega (arith, p .0, p .1)) }
+listed-upTo (suc n) v = reworded to from (or-decides (eqb-decides v (suc n)) (listed-upTo n v))
+  where
+    to : (v ≡ suc n) ⊎ ((1 ≤ v) × (v ≤ n)) → (1 ≤ v) × (v ≤ suc n)
+    to (inl e) = (omega arith, omega arith)
+    to (inr p) = (p .0, omega (arith, p .1))
+
+    from : (1 ≤ v) × (v ≤ suc n) → (v ≡ suc n) ⊎ ((1 ≤ v) × (v ≤ n))
+    from p = elim (equal? v (suc n)) [ inl e ↦ inl e | inr f ↦ inr (p .0, omega (arith, p .1)) ]
+
+no-names : (P : List Rule) (n : ℕ) → length P ≤ n → take {A = ℕ} (length P) (replicate n 0) ≡ map (λ r. 0) P
+no-names [] n h = refl
+no-names (r ∷ P) zero h = absurd (omega arith)
+no-names (r ∷ P) (suc n) h = ap (λ (l : List ℕ). 0 ∷ l) (no-names P n (omega arith))
+
+pub start-tracks : {P : List Rule} {known : List ℕ} → Marks known (upTo (atoms P)) → length P ≤ mostRules → Tracks P known (replicate mostRules 0) [] []
+start-tracks {P} {known} marks few =
+    record {
+      entries = marks .long;
+      knows = λ v h. marks .has v h ∙ alike (listed-upTo (atoms P) v) (or-decides (and-decides (leb-decides 1 v) (leb-decides v (atoms P))) (itself false))
+          (λ p. inl p) (λ s. elim s [ inl p ↦ p | inr t ↦ absurd t ]);
+      rules = omega (arith, length-replicate {A = ℕ} mostRules 0);
+      calls = no-names P mostRules few;
+      proper = record {
+        low = λ x i. elim i [ ];
+        high = λ x i. elim i [ ];
+        new = λ x i. elim i [ ];
+        old = λ x i. elim i [ ];
+        once = λ x y i. elim i [ ];
+        distinct = refl;
+      };
+    }
+
+-- A new name
+
+module _ {P : List Rule} {known names : List ℕ} (z : State) (tracks : Tracks P known names (z .introduced) (z .named)) (n : ℕ) (low : 1 ≤ n) (high : n ≤ largest)
+    (fresh : isKnown P z n ≡ false) where
+  abbrev proper : Proper P (z .introduced) (z .named)
+  proper = tracks .proper
+
+  unknown : ¬ T (isKnown P z n)
+  unknown t = rw fresh at t
+
+  swapped : (a b c : Bool) → (a || (b || c)) ≡ (b || (a || c))
+  swapped a b c = sym (or-assoc a b c) ∙ ap (λ (d : Bool). d || c) (or-comm a b) ∙ or-assoc b a c
+
+  knows-new : (v : ℕ) → v ≤ largest → marked (set known n 1) v ≡ (isAtom P v || (eqb v n || any (eqb v) (z .introduced)))
+  knows-new v h = marked-set known n v (omega (arith, tracks .entries)) ∙ rw (tracks .knows v h) (swapped (eqb v n) (isAtom P v) (any (eqb v) (z .introduced)))
+
+  -- `e`
+  pub extended : Tracks P (set known n 1) names (n ∷ z .introduced) (z .named)
+  extended =
+      record {
+        entries = length-set known n 1 ∙ tracks .entries;
+        knows = knows-new;
+        rules = tracks .rules;
+        calls = tracks .calls;
+        proper = record {
+          low = proper .low;
+          high = proper .high;
+          new = proper .new;
+          old = λ x i. List·Memᴰ·tail (proper .old x i);
+          once = proper .once;
+          distinct = proper .distinct;
+        };
+      }
+
+  module _ (body : List ℤ) (unnamed : nameOf (z .named) body ≡ 0) where
+    abbrev entry : Named
+    entry = record { name = n; body = body }
+
+    -- no older body is the same
+    other : (x : Named) → x ∈ z .named → ¬ (x .body ≡ body)
+    other x i e = let q : x .name ≡ 0 = sym (name-of proper i) ∙ ap (nameOf (z .named)) e ∙ unnamed in omega (arith, proper .low x i)
+
+    not-older : (x : Named) → x ∈ z .named → ¬ (x .name ≡ n)
+    not-older x i e = unknown (known-decides P z n .from (inr (Memᴰ·cast (sym e) (proper .old x i))))
+
+    new-proper : Proper P (n ∷ z .introduced) (entry ∷ z .named)
+    new-proper = record {
+      low = each low (proper .low);
+      high = each high (proper .high);
+      new = each (λ t. unknown (known-decides P z n .from (inl t))) (proper .new);
+      old = each (List·Memᴰ·head refl) (λ x i. List·Memᴰ·tail (proper .old x i));
+      once = once;
+      distinct = rw (unlisted n (z .named) not-older, proper .distinct);
+    }
+      where
+        each : {F : Named → Type 0} → F entry → ((x : Named) → x ∈ z .named → F x) → (x : Named) → x ∈ entry ∷ z .named → F x
+        each {F} f g x (List·Memᴰ·head p) = rw p f
+        each f g x (List·Memᴰ·tail i) = g x i
+
+        once : (x y : Named) → x ∈ entry ∷ z .named → y ∈ entry ∷ z .named → x .body ≡ y .body → x .name ≡ y .name
+        once x y (List·Memᴰ·head p) (List·Memᴰ·head q) e = rw (p, q)
+        once x y (List·Memᴰ·head p) (List·Memᴰ·tail j) e = absurd (other y j (sym e ∙ ap (λ (a : Named). a .body) p))
+        once x y (List·Memᴰ·tail i) (List·Memᴰ·head q) e = absurd (other x i (e ∙ ap (λ (a : Named). a .body) q))
+        once x y (List·Memᴰ·tail i) (List·Memᴰ·tail j) e = proper .once x y i j e
+
+    calls-new : map (λ r. cond (sameList (r .body) body) n (nameOf (z .named) (r .body))) P ≡ map (λ r. nameOf (entry ∷ z .named) (r .body)) P
+    calls-new = ap (λ (g : Rule → ℕ). map g P) (fun-ext (λ r. ap (λ (b : Bool). cond b n (nameOf (z .named) (r .body))) (alike (sameList-decides (r .body) body) (sameList-decides body (r .body)) sym sym)))
+
+    -- `b`
+    pub named : Tracks P (set known n 1) (renamed (λ r. sameList (r .body) body) n P names) (n ∷ z .introduced) (entry ∷ z .named)
+    named =
+        record {
+          entries = extended .entries;
+          knows = knows-new;
+          rules = rw (length-renamed (λ r. sameList (r .body) body) n P names (tracks .rules)) (tracks .rules);
+          calls = renamed-map (λ r. sameList (r .body) body) (λ r. nameOf (z .named) (r .body)) n P names (tracks .calls) ∙ calls-new;
+          proper = new-proper;
+        }
