@@ -116,14 +116,17 @@ module _ (f : ℕ → Bool) (h : ℤ) where
       by : (suc v ≤ g .0 → x ∈ gathered f h n (suc v)) → (a : Bool) → eqb v (variable h) ≡ a → (b : Bool) → f v ≡ b
           → x ∈ cond a (h ∷ gathered f h n (suc v)) (cond b (negℤ (pos v) ∷ gathered f h n (suc v)) (gathered f h n (suc v)))
       by on true e b q = elim (equal? v (g .0)) [
-          inl k ↦ elim (at k) [ inl p ↦ List·Memᴰ·head (p .1) | inr p ↦ absurd (p .0 (eqb-true v (variable h) e)) ]
-        | inr k ↦ List·Memᴰ·tail (on (past k)) ]
+        | inl k ↦ elim (at k) [ inl p ↦ List·Memᴰ·head (p .1) | inr p ↦ absurd (p .0 (eqb-true v (variable h) e)) ]
+        | inr k ↦ List·Memᴰ·tail (on (past k))
+      ]
       by on false e true q = elim (equal? v (g .0)) [
-          inl k ↦ elim (at k) [ inl p ↦ absurd (eqb-false v (variable h) e (p .0)) | inr p ↦ List·Memᴰ·head (p .1 .1) ]
-        | inr k ↦ List·Memᴰ·tail (on (past k)) ]
+        | inl k ↦ elim (at k) [ inl p ↦ absurd (eqb-false v (variable h) e (p .0)) | inr p ↦ List·Memᴰ·head (p .1 .1) ]
+        | inr k ↦ List·Memᴰ·tail (on (past k))
+      ]
       by on false e false q = elim (equal? v (g .0)) [
-          inl k ↦ elim (at k) [ inl p ↦ absurd (eqb-false v (variable h) e (p .0)) | inr p ↦ absurd (rw q at (p .1 .0)) ]
-        | inr k ↦ on (past k) ]
+        | inl k ↦ elim (at k) [ inl p ↦ absurd (eqb-false v (variable h) e (p .0)) | inr p ↦ absurd (rw q at (p .1 .0)) ]
+        | inr k ↦ on (past k)
+      ]
 
   gathered-rising : (n v : ℕ) → rising (gathered f h n v) ≡ true
   gathered-rising zero v = refl
@@ -189,8 +192,9 @@ module _ {P : List Rule} {known names : List ℕ} (z : State) (tracks : Tracks P
   -- a marked number is the name of an external body
   to : (x : ℤ) → Gathered (marked m) h largest 1 x → x ∈ nogood
   to x g = elim (g .3) [
-      inl p ↦ List·Memᴰ·head (p .1)
-    | inr p ↦ named p ]
+    | inl p ↦ List·Memᴰ·head (p .1)
+    | inr p ↦ named p
+  ]
     where
       named : (¬ (g .0 ≡ variable h)) × (T (marked m (g .0)) × (x ≡ negℤ (pos (g .0)))) → x ∈ nogood
       named p =

@@ -70,8 +70,9 @@ name-found (y ∷ ys) body f = by (λ g. name-found ys body g) (sameList (y .bod
 module _ {P : List Rule} {introduced : List ℕ} {named : List Named} (proper : Proper P introduced named) where
   pub name-high : (body : List ℤ) → nameOf named body ≤ largest
   name-high body = elim (equal? (nameOf named body) 0) [
-      inl e ↦ omega arith
-    | inr f ↦ let r = name-found named body f in omega (arith, proper .high (r .0) (r .1), r .2 .0) ]
+    | inl e ↦ omega arith
+    | inr f ↦ let r = name-found named body f in omega (arith, proper .high (r .0) (r .1), r .2 .0)
+  ]
 
   pub name-of : {x : Named} → x ∈ named → nameOf named (x .body) ≡ x .name
   name-of m = name-is named (proper .once) m
@@ -129,7 +130,7 @@ module _ {P : List Rule} {known names : List ℕ} (z : State) (tracks : Tracks P
   -- question 28
   pub unnamed-body : (L : List ℤ) {m : List ℕ} → Marks m (picks (λ r. sameList (r .body) (ascending L)) P names) → marked m 0 ≡ isUnnamedBody P z L
   unnamed-body L {m} marks =
-      alike (found-decides _ marks 0 (omega arith))
+      alike (found-decides (λ r. sameList (r .body) (ascending L)) marks 0 (omega arith))
       (and-decides (any-decides (λ r. sameList-decides (r .body) (ascending L)) P) (unnamed-test z proper (ascending L)))
       (λ r. let e = sameList-decides (r .0 .body) (ascending L) .to (r .2 .0) in ((r .0, r .1, e), ap (nameOf (z .named)) (sym e) ∙ r .2 .1))
       (λ q. let r = q .0 in (r .0, r .1, (sameList-decides (r .0 .body) (ascending L) .from (r .2), ap (nameOf (z .named)) (r .2) ∙ q .1)))
@@ -138,7 +139,7 @@ module _ {P : List Rule} {known names : List ℕ} (z : State) (tracks : Tracks P
   pub completes : (n : ℤ) (hs : List ℤ) {m : List ℕ} → 1 ≤ variable n → variable n ≤ largest
       → Marks m (picks (λ r. isNormal (r .kind) && sameList (r .heads) hs) P names) → marked m (variable n) ≡ isCompletion P z n hs
   completes n hs low high marks =
-      alike (found-decides _ marks (variable n) high)
+      alike (found-decides (λ r. isNormal (r .kind) && sameList (r .heads) hs) marks (variable n) high)
       (any-decides (λ r. and-decides (itself (isNormal (r .kind))) (and-decides (itself (sameList (r .heads) hs)) (name-test z proper (r .body) (variable n)))) P)
       (λ r. let t = both (r .0) .to (r .2 .0) in (r .0, r .1, (t .0, (t .1, (low, r .2 .1)))))
       (λ r. (r .0, r .1, (both (r .0) .from (r .2 .0, r .2 .1 .0), r .2 .1 .1 .1)))
@@ -149,7 +150,7 @@ module _ {P : List Rule} {known names : List ℕ} (z : State) (tracks : Tracks P
   -- question 32
   pub all-named : (U : List ℤ) {m : List ℕ} → Marks m (picks (isExternal P z U) P names) → not (marked m 0) ≡ allNamed P z U
   all-named U marks =
-      alike (not-decides (found-decides _ marks 0 (omega arith)))
+      alike (not-decides (found-decides (isExternal P z U) marks 0 (omega arith)))
       (all-decides (λ r. if-decides (itself (isExternal P z U r)) (has-test z proper (r .body))) P)
       (λ f r m t e. f (r, m, (t, e)))
       (λ f q. f (q .0) (q .1) (q .2 .0) (q .2 .1))

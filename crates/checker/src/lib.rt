@@ -90,7 +90,7 @@ fn check_proof(
             },
         );
     }
-    let run = runs::run(proof, table, rules, atoms, store);
+    let run = runs::run_lines(proof, table, rules, atoms, store);
     match run {
         Run::Stopped(refusal) => refuse(table, store, refusal),
         Run::Through { steps, used } => conclude(store, used, atoms, rules, steps),

@@ -12,7 +12,7 @@ ghost use Rattle.nogoods.specs.Store.{Holds};
 ghost use Rattle.checker.specs.Check.{course};
 ghost use Rattle.checker.specs.Held.{Program, Tracks, LineTurn, Ran};
 use crate::ProofRefusal;
-use crate::states::State;
+use crate::states::CheckingState;
 use crate::steps;
 use crate::steps::Stepped;
 use drupe::LineAnswer;
@@ -32,7 +32,7 @@ pub enum Run {
 }
 
 // The line at the position, and its step.
-fn turn(
+fn turn_at(
     proof: &[u8],
     at: usize,
     table: &[i32],
@@ -80,19 +80,19 @@ fn turn(
 }
 
 // All lines of a proof text, from an empty store. The first refusal ends them.
-pub fn run(proof: &[u8], table: &[i32], rules: usize, atoms: usize, store: &mut [i32]) -> Run
+pub fn run_lines(proof: &[u8], table: &[i32], rules: usize, atoms: usize, store: &mut [i32]) -> Run
     requires { ⌜ Program (now table) rules atoms ⌝ }
     requires { ⌜ (length (now proof) ≤ longest) × (now store ≡ replicate (length (now store)) (pos 0)) ⌝ }
     ensures { λ r. ⌜ Ran (now (store .exit)) (course (rulesAt rules (now (table .entry))) (length (now (store .entry))) (now (proof .entry))) r ⌝ }
 {
-    let start = State::start(atoms);
+    let start = CheckingState::start(atoms);
     let mut known = start.known;
     let mut names = start.names;
     let mut used = start.used;
     let mut at = 0;
     let mut steps = 0;
     loop {
-        let turned = turn(
+        let turned = turn_at(
             proof,
             at,
             table,

@@ -8,13 +8,13 @@ ghost use Rattle.names.specs.Queries.{Marks, upTo};
 use names::variables;
 
 // The known variables as marks; by rule, the name of its body, 0 for none; how many words of the store are used.
-pub struct State {
-    pub known: [u8; State::ENTRIES],
-    pub names: [u16; State::RULES],
+pub struct CheckingState {
+    pub known: [u8; CheckingState::ENTRIES],
+    pub names: [u16; CheckingState::RULES],
     pub used: usize,
 }
 
-impl State {
+impl CheckingState {
     // An entry for each variable, from 1 to 4,095, and one for 0.
     pub const ENTRIES: usize = variables::ENTRIES;
 
@@ -25,13 +25,13 @@ impl State {
     pub const RULES: usize = 1024;
 
     // "At the start there are no nogoods and no names, and the atoms alone are known."
-    pub fn start(atoms: usize) -> State
+    pub fn start(atoms: usize) -> CheckingState
         requires { ⌜ atoms ≤ largest ⌝ }
         ensures { λ r. ⌜ Marks (r .known) (upTo atoms) × (r .names ≡ replicate mostRules 0) × (r .used ≡ 0) ⌝ }
     {
-        State {
+        CheckingState {
             known: variables::marks_to(atoms),
-            names: [0; State::RULES],
+            names: [0; CheckingState::RULES],
             used: 0,
         }
     }

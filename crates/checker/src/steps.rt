@@ -17,7 +17,7 @@ ghost use Rattle.derivation.specs.Steps.{definition, isUnnamedBody, isSupport, 
 ghost use Rattle.nogoods.specs.Store.{Literals, Holds};
 ghost use Rattle.names.specs.Queries.{renamed};
 ghost use Rattle.checker.specs.Held.{Line, Program, Tracks, Kept, Left, kept, gathered};
-use crate::states::State;
+use crate::states::CheckingState;
 use answer_set::marks;
 use names::queries;
 use names::queries::Query;
@@ -145,7 +145,7 @@ fn body(
         return Stepped::Fails(27);
     }
     let count = numbers.len();
-    let mut row = [0i32; State::NUMBERS];
+    let mut row = [0i32; CheckingState::NUMBERS];
     words::copy(&mut row, numbers);
     if !name_body(table, rules, names, &mut row[1..count], name) {
         return Stepped::Fails(28);
@@ -238,7 +238,7 @@ fn gather_one(
     h: i32,
     found: &[u8],
     v: usize,
-    row: &mut [i32; State::ENTRIES],
+    row: &mut [i32; CheckingState::ENTRIES],
     count: usize,
 ) -> usize
     requires { ⌜ (1 ≤ v) × (v ≤ largest) × (count < v) × (length (now row) ≡ marksLent) ⌝ }
@@ -256,13 +256,13 @@ fn gather_one(
 }
 
 // The nogood of an `l` step, ascending by variable. How many literals it has.
-fn gather(h: i32, found: &[u8], row: &mut [i32; State::ENTRIES]) -> usize
+fn gather(h: i32, found: &[u8], row: &mut [i32; CheckingState::ENTRIES]) -> usize
     requires { ⌜ length (now row) ≡ marksLent ⌝ }
     ensures { λ n. ⌜ (n ≤ largest) × (take n (now (row .exit)) ≡ gathered (marked (now (found .entry))) h largest 1) ⌝ }
 {
     let mut count = 0;
     let mut v = 1;
-    while v < State::ENTRIES {
+    while v < CheckingState::ENTRIES {
         count = gather_one(h, found, v, row, count);
         v += 1;
     }
@@ -297,7 +297,7 @@ fn loops(
     if marks::is_marked(&found, 0) {
         return Stepped::Fails(32);
     }
-    let mut row = [0i32; State::ENTRIES];
+    let mut row = [0i32; CheckingState::ENTRIES];
     let count = gather(numbers[0], &found, &mut row);
     fitted(store::append(store, used, &row[..count]))
 }
