@@ -4,3 +4,5 @@ pub mod Examples
 pub mod Names
 pub mod Loops
 pub mod Tracking
+pub mod Kept
+pub mod Letters
