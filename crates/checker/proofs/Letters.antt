@@ -28,7 +28,7 @@ use Rattle.nogoods.proofs.Defined.{apart}
 use Rattle.names.specs.Queries.{Marks, picks, sameMarks, renamed}
 use Rattle.checker.specs.Held.{Line, Tracks}
 use Rattle.checker.proofs.Tracking.{all-known, extended, named}
-use Rattle.checker.proofs.Names.{unnamed-test, completes, supports}
+use Rattle.checker.proofs.Names.{unnamed-test, unnamed-body, completes, supports}
 
 -- The first number of a line
 
@@ -138,9 +138,13 @@ module _ {P : List Rule} {known names : List ℕ} (z : State) (tracks : Tracks P
           named z tracks (variable (first zs)) (first-low line some) (first-high line some) unknown (ascending (drop 1 zs))
           (if-true (unnamed-test z (tracks .proper) (ascending (drop 1 zs))) (and-right (any (λ r. sameList (r .body) (ascending (drop 1 zs))) P) _ e))
 
--- Questions 29 and 30, as the marks of the names found answer them: the numbers after the first are lent as a part of the line
+-- Questions 28 to 30, as the marks of the names found answer them
 
 module _ {P : List Rule} {known names : List ℕ} (z : State) (tracks : Tracks P known names (z .introduced) (z .named)) (zs : List ℤ) where
+  pub unnamed : (sorted : List ℤ) → sorted ≡ ascending zs → {m : List ℕ} → Marks m (picks (λ r. sameList (r .body) sorted) P names) → marked m 0 ≡ isUnnamedBody P z zs
+  unnamed sorted e found = unnamed-body z tracks zs (rw e at found)
+
+  -- the numbers after the first, as they are lent
   abbrev part : List ℤ
   part = take (length zs - 1) (drop 1 zs)
 
@@ -153,11 +157,11 @@ module _ {P : List Rule} {known names : List ℕ} (z : State) (tracks : Tracks P
   pub no-atom : atoms P < variable (first zs) → isSupport P z (first zs) (drop 1 zs) ≡ false
   no-atom k = rw (lt-leb (variable (first zs)) (atoms P) k, and-false (leb 1 (variable (first zs))))
 
-  pub supported : Line Support zs → variable (first zs) ≤ atoms P → {l m : List ℕ} → Marks l (map variable part) → Marks m (picks (λ r. has (first zs) (r .heads)) P names)
+  pub supported : Line Support zs → variable (first zs) ≤ atoms P → (h : ℤ) → h ≡ first zs → {l m : List ℕ} → Marks l (map variable part) → Marks m (picks (λ r. has h (r .heads)) P names)
       → sameMarks marksLent l m ≡ isSupport P z (first zs) (drop 1 zs)
-  supported line k {l} {m} given found =
+  supported line k h e {l} {m} given found =
       let n = some-number Support refl line in
       let o = others-literals line n in
       let a : isAtom P (variable (first zs)) ≡ true = rw (le-leb 1 (variable (first zs)) (first-low line n), le-leb (variable (first zs)) (atoms P) k) in
       ap (λ (b : Bool). b && sameMarks marksLent l m) (sym a)
-      ∙ supports z tracks (first zs) (drop 1 zs) (λ y i. (o .low y i, o .high y i)) (rw (tail-of 1 zs) at given) found
+      ∙ supports z tracks (first zs) (drop 1 zs) (λ y i. (o .low y i, o .high y i)) (rw (tail-of 1 zs) at given) (rw e at found)
