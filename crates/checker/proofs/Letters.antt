@@ -2,13 +2,14 @@
 -- Assumes nothing.
 use mathlib.Core.Path.{_≡_, refl, sym, _∙_, ap}
 use mathlib.Core.Bool.{Bool, true, false, cond, not, _&&_, and-false, true≢false}
-use mathlib.Core.List.{List, [], _∷_, map}
+use mathlib.Core.List.{List, [], _∷_, _++_, map}
 use Prim.Native.Nat.{ℕ, _-_, _≤_, _<_}
 use native.Mathlib.Omega.{arith}
 use borrow.Author.Tests.{le-leb, lt-leb}
 use lib.Dec.{leb}
 use lib.IntN.{ℤ, pos}
 use lib.ListN.{length, take, drop, getD, set}
+use lib.Seq.{take-at}
 use Rattle.words.specs.Limits.{largest}
 use Rattle.words.specs.Lists.{any, all}
 use Rattle.words.specs.Literals.{variable, sameList, has, ascending}
@@ -137,6 +138,11 @@ module _ {P : List Rule} {known names : List ℕ} (z : State) (tracks : Tracks P
       body-tracks e =
           named z tracks (variable (first zs)) (first-low line some) (first-high line some) unknown (ascending (drop 1 zs))
           (if-true (unnamed-test z (tracks .proper) (ascending (drop 1 zs))) (and-right (any (λ r. sameList (r .body) (ascending (drop 1 zs))) P) _ e))
+
+-- the numbers after the first, lent as a part of a copy of the line
+pub copied : (zs rest row : List ℤ) → 1 ≤ length zs → row ≡ zs ++ rest → take (length zs - 1) (drop 1 row) ≡ drop 1 zs
+copied [] rest row h e = absurd (omega arith)
+copied (n ∷ L) rest row h e = rw e (take-at L rest (length (n ∷ L) - 1) (omega arith))
 
 -- Questions 28 to 30, as the marks of the names found answer them
 
