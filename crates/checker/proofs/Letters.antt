@@ -14,12 +14,12 @@ use Rattle.words.specs.Limits.{largest}
 use Rattle.words.specs.Lists.{any, all}
 use Rattle.words.specs.Literals.{variable, sameList, has, ascending}
 use Rattle.words.proofs.Lists.{if-true, and-right}
+use Rattle.words.proofs.Parts.{tail-of}
+use Rattle.words.proofs.Places.{in-at}
 use Rattle.text.specs.declared.Letter.{Letter}
 use Rattle.text.specs.declared.Letter.the-variants.{Addition, Body, Completion, Deletion, Extension, Loop, Support}
 use Rattle.drupe.specs.Lines.{signsOf, signed}
 use Rattle.aspif.specs.Rules.{Rule, atoms, isNormal}
-use Rattle.words.proofs.Parts.{tail-of}
-use Rattle.words.proofs.Places.{in-at}
 use Rattle.answer_set.specs.SetTest.{marked, marksLent}
 use Rattle.derivation.specs.States.{State, isAtom, isKnown}
 use Rattle.derivation.specs.Steps.{Outcome, refused, addition, body, completion, deletion, extension, loop, support, citing, naming, byLetter, isUnnamedBody, isCompletion, isSupport}
@@ -31,28 +31,37 @@ use Rattle.checker.specs.Held.{Line, Tracks}
 use Rattle.checker.proofs.Tracking.{all-known, extended, named}
 use Rattle.checker.proofs.Names.{unnamed-test, unnamed-body, completes, supports}
 
--- The first number of a line
+-- The first number of a line, and the others
 
 abbrev pub first : List ℤ → ℤ
 first zs = getD zs 0 (pos 0)
 
--- a line of `b`, `c`, `e`, `l` or `s` has one
-pub some-number : (x : Letter) {zs : List ℤ} → signsOf x .needed ≡ true → Line x zs → 1 ≤ length zs
-some-number x {zs} needed line = by zs (line .signs)
-  where
-    by : (l : List ℤ) → signed (signsOf x) l ≡ true → 1 ≤ length l
-    by [] e = absurd (true≢false (sym e ∙ ap not needed))
-    by (y ∷ l) e = omega arith
+-- as they are lent, as a part of the line
+abbrev others : List ℤ → List ℤ
+others zs = take (length zs - 1) (drop 1 zs)
 
-module _ {x : Letter} {zs : List ℤ} (line : Line x zs) (some : 1 ≤ length zs) where
+-- or as a part of a copy
+pub copied : (zs rest row : List ℤ) → 1 ≤ length zs → row ≡ zs ++ rest → take (length zs - 1) (drop 1 row) ≡ drop 1 zs
+copied [] rest row h e = absurd (omega arith)
+copied (n ∷ L) rest row h e = rw e (take-at L rest (length (n ∷ L) - 1) (omega arith))
+
+-- a line of `b`, `c`, `e`, `l` or `s`
+module _ (x : Letter) {zs : List ℤ} (needed : signsOf x .needed ≡ true) (line : Line x zs) where
+  pub some-number : 1 ≤ length zs
+  some-number = by zs (line .signs)
+    where
+      by : (l : List ℤ) → signed (signsOf x) l ≡ true → 1 ≤ length l
+      by [] e = absurd (true≢false (sym e ∙ ap not needed))
+      by (y ∷ l) e = omega arith
+
   pub first-low : 1 ≤ variable (first zs)
-  first-low = line .literals .low (first zs) (in-at (pos 0) zs 0 some)
+  first-low = line .literals .low (first zs) (in-at (pos 0) zs 0 some-number)
 
   pub first-high : variable (first zs) ≤ largest
-  first-high = line .literals .high (first zs) (in-at (pos 0) zs 0 some)
+  first-high = line .literals .high (first zs) (in-at (pos 0) zs 0 some-number)
 
   pub others-literals : Literals (drop 1 zs)
-  others-literals = literals-tail (first zs) (drop 1 zs) (apart zs some (line .literals))
+  others-literals = literals-tail (first zs) (drop 1 zs) (apart zs some-number (line .literals))
 
 -- A line's questions by letter: 26, for `b` and `e` with 27, and then the letter's own
 
@@ -66,8 +75,7 @@ introduces Loop = false
 introduces Support = false
 
 module _ (P : List Rule) (z : State) where
-  -- the letter's own questions
-  abbrev pub own : Letter → List ℤ → Outcome
+  abbrev own : Letter → List ℤ → Outcome
   own Addition zs = addition P z zs
   own Body zs = body P z (first zs) (drop 1 zs)
   own Completion zs = completion P z (first zs) (drop 1 zs)
@@ -76,11 +84,8 @@ module _ (P : List Rule) (z : State) where
   own Loop zs = loop P z (first zs) (drop 1 zs)
   own Support zs = support P z (first zs) (drop 1 zs)
 
-  -- all the questions
-  abbrev asked : Letter → List ℤ → Outcome
-  asked x zs = cond (introduces x) (naming P z (first zs) (drop 1 zs) (own x zs)) (citing P z zs (own x zs))
-
-  by-letter : (x : Letter) (zs : List ℤ) → Line x zs → byLetter P z x zs ≡ asked x zs
+  by-letter : (x : Letter) (zs : List ℤ) → Line x zs
+      → byLetter P z x zs ≡ cond (introduces x) (naming P z (first zs) (drop 1 zs) (own x zs)) (citing P z zs (own x zs))
   by-letter Addition zs line = refl
   by-letter Body [] line = absurd (true≢false (sym (line .signs)))
   by-letter Body (n ∷ L) line = refl
@@ -94,55 +99,35 @@ module _ (P : List Rule) (z : State) where
   by-letter Support [] line = absurd (true≢false (sym (line .signs)))
   by-letter Support (h ∷ ns) line = refl
 
--- as the marks answer them
+-- What a line comes to, where the marks of the known variables answer b to question 26 and c to 27
 
 module _ {P : List Rule} {known names : List ℕ} (z : State) (tracks : Tracks P known names (z .introduced) (z .named)) (x : Letter) (zs : List ℤ) (line : Line x zs) where
   -- a line that introduces no name
-  module _ (cites : introduces x ≡ false) where
-    citing-is : {b : Bool} → all (λ y. marked known (variable y)) zs ≡ b → byLetter P z x zs ≡ cond b (own P z x zs) (refused 26)
-    citing-is e = by-letter P z x zs line ∙ rw (cites, ← all-known z tracks zs (line .literals .high), e)
-
-    pub not-cited : all (λ y. marked known (variable y)) zs ≡ false → byLetter P z x zs ≡ refused 26
-    not-cited e = citing-is e
-
-    pub cited : all (λ y. marked known (variable y)) zs ≡ true → byLetter P z x zs ≡ own P z x zs
-    cited e = citing-is e
+  pub cited : introduces x ≡ false → {b : Bool} → all (λ y. marked known (variable y)) zs ≡ b → byLetter P z x zs ≡ cond b (own P z x zs) (refused 26)
+  cited none e = by-letter P z x zs line ∙ rw (none, ← all-known z tracks zs (line .literals .high), e)
 
   -- a line that introduces one
-  module _ (names-one : introduces x ≡ true) (some : 1 ≤ length zs) where
-    naming-is : {b c : Bool} → all (λ y. marked known (variable y)) (drop 1 zs) ≡ b → marked known (variable (first zs)) ≡ c
+  module _ (needed : signsOf x .needed ≡ true) where
+    pub introduced : introduces x ≡ true → {b c : Bool} → all (λ y. marked known (variable y)) (others zs) ≡ b → marked known (variable (first zs)) ≡ c
         → byLetter P z x zs ≡ cond b (cond c (refused 27) (own P z x zs)) (refused 26)
-    naming-is e f =
+    introduced one e f =
         by-letter P z x zs line
-        ∙ rw (names-one, ← all-known z tracks (drop 1 zs) (others-literals line some .high), ← tracks .knows (variable (first zs)) (first-high line some), e, f)
+        ∙ rw (one, ← all-known z tracks (drop 1 zs) (others-literals x needed line .high), ← tail-of 1 zs, e, ← tracks .knows (variable (first zs)) (first-high x needed line), f)
 
-    pub others-unknown : all (λ y. marked known (variable y)) (drop 1 zs) ≡ false → byLetter P z x zs ≡ refused 26
-    others-unknown e = naming-is e refl
-
-    pub not-fresh : all (λ y. marked known (variable y)) (drop 1 zs) ≡ true → marked known (variable (first zs)) ≡ true → byLetter P z x zs ≡ refused 27
-    not-fresh e f = naming-is e f
-
-    pub fresh : all (λ y. marked known (variable y)) (drop 1 zs) ≡ true → marked known (variable (first zs)) ≡ false → byLetter P z x zs ≡ own P z x zs
-    fresh e f = naming-is e f
-
+    -- and which is accepted
     module _ (new : marked known (variable (first zs)) ≡ false) where
       unknown : isKnown P z (variable (first zs)) ≡ false
-      unknown = sym (tracks .knows (variable (first zs)) (first-high line some)) ∙ new
+      unknown = sym (tracks .knows (variable (first zs)) (first-high x needed line)) ∙ new
 
       pub extension-tracks : Tracks P (set known (variable (first zs)) 1) names (variable (first zs) ∷ z .introduced) (z .named)
-      extension-tracks = extended z tracks (variable (first zs)) (first-low line some) (first-high line some) unknown
+      extension-tracks = extended z tracks (variable (first zs)) (first-low x needed line) (first-high x needed line) unknown
 
       pub body-tracks : isUnnamedBody P z (drop 1 zs) ≡ true
           → Tracks P (set known (variable (first zs)) 1) (renamed (λ r. sameList (r .body) (ascending (drop 1 zs))) (variable (first zs)) P names)
           (variable (first zs) ∷ z .introduced) (record { name = variable (first zs); body = ascending (drop 1 zs) } ∷ z .named)
       body-tracks e =
-          named z tracks (variable (first zs)) (first-low line some) (first-high line some) unknown (ascending (drop 1 zs))
+          named z tracks (variable (first zs)) (first-low x needed line) (first-high x needed line) unknown (ascending (drop 1 zs))
           (if-true (unnamed-test z (tracks .proper) (ascending (drop 1 zs))) (and-right (any (λ r. sameList (r .body) (ascending (drop 1 zs))) P) _ e))
-
--- the numbers after the first, lent as a part of a copy of the line
-pub copied : (zs rest row : List ℤ) → 1 ≤ length zs → row ≡ zs ++ rest → take (length zs - 1) (drop 1 row) ≡ drop 1 zs
-copied [] rest row h e = absurd (omega arith)
-copied (n ∷ L) rest row h e = rw e (take-at L rest (length (n ∷ L) - 1) (omega arith))
 
 -- Questions 28 to 30, as the marks of the names found answer them
 
@@ -150,24 +135,18 @@ module _ {P : List Rule} {known names : List ℕ} (z : State) (tracks : Tracks P
   pub unnamed : (sorted : List ℤ) → sorted ≡ ascending zs → {m : List ℕ} → Marks m (picks (λ r. sameList (r .body) sorted) P names) → marked m 0 ≡ isUnnamedBody P z zs
   unnamed sorted e found = unnamed-body z tracks zs (rw e at found)
 
-  -- the numbers after the first, as they are lent
-  abbrev part : List ℤ
-  part = take (length zs - 1) (drop 1 zs)
-
-  pub completed : Line Completion zs → {m : List ℕ} → Marks m (picks (λ r. isNormal (r .kind) && sameList (r .heads) part) P names)
+  pub completed : Line Completion zs → {m : List ℕ} → Marks m (picks (λ r. isNormal (r .kind) && sameList (r .heads) (others zs)) P names)
       → marked m (variable (first zs)) ≡ isCompletion P z (first zs) (drop 1 zs)
   completed line found =
-      let n = some-number Completion refl line in
-      completes z tracks (first zs) (drop 1 zs) (first-low line n) (first-high line n) (rw (tail-of 1 zs) at found)
+      completes z tracks (first zs) (drop 1 zs) (first-low Completion refl line) (first-high Completion refl line) (rw (tail-of 1 zs) at found)
 
   pub no-atom : atoms P < variable (first zs) → isSupport P z (first zs) (drop 1 zs) ≡ false
   no-atom k = rw (lt-leb (variable (first zs)) (atoms P) k, and-false (leb 1 (variable (first zs))))
 
-  pub supported : Line Support zs → variable (first zs) ≤ atoms P → (h : ℤ) → h ≡ first zs → {l m : List ℕ} → Marks l (map variable part) → Marks m (picks (λ r. has h (r .heads)) P names)
-      → sameMarks marksLent l m ≡ isSupport P z (first zs) (drop 1 zs)
+  pub supported : Line Support zs → variable (first zs) ≤ atoms P → (h : ℤ) → h ≡ first zs → {l m : List ℕ} → Marks l (map variable (others zs))
+      → Marks m (picks (λ r. has h (r .heads)) P names) → sameMarks marksLent l m ≡ isSupport P z (first zs) (drop 1 zs)
   supported line k h e {l} {m} given found =
-      let n = some-number Support refl line in
-      let o = others-literals line n in
-      let a : isAtom P (variable (first zs)) ≡ true = rw (le-leb 1 (variable (first zs)) (first-low line n), le-leb (variable (first zs)) (atoms P) k) in
+      let o = others-literals Support refl line in
+      let a : isAtom P (variable (first zs)) ≡ true = rw (le-leb 1 (variable (first zs)) (first-low Support refl line), le-leb (variable (first zs)) (atoms P) k) in
       ap (λ (b : Bool). b && sameMarks marksLent l m) (sym a)
       ∙ supports z tracks (first zs) (drop 1 zs) (λ y i. (o .low y i, o .high y i)) (rw (tail-of 1 zs) at given) (rw e at found)

@@ -5,7 +5,7 @@ use Rattle.words.proofs.Sorting.{length-ascending}
 use Rattle.text.specs.declared.Letter.the-variants.{Addition}
 use Rattle.nogoods.proofs.Literals.{literals-ascending}
 use Rattle.checker.proofs.Kept.{kept-fits}
-use Rattle.checker.proofs.Letters.{not-cited, cited}
+use Rattle.checker.proofs.Letters.{cited}
 use borrow.Author.Needs.{needs}
 use Rattle.checker.proofs.steps.addition.Statement.{statement}
 use Rattle.checker.proofs.steps.addition.Tie as tie
@@ -14,7 +14,7 @@ returns : tie.Need-returns
 returns c =
     λ P names z T H.
     let s = c .before .before .before .before in
-    rw (not-cited z T Addition _ (s .pre .1) refl (sym (c .before .all-marked .ensures) ∙ not-true _ (c .if1 .taken))) refl
+    rw (cited z T Addition _ (s .pre .1) refl (sym (c .before .all-marked .ensures) ∙ not-true _ (c .if1 .taken))) refl
 
 returns-2 : tie.Need-returns-2
 returns-2 c =

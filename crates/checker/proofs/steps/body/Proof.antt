@@ -5,9 +5,7 @@ use Prim.Native.Nat.{_-_}
 use borrow.Author.Tests.{not-true, not-false}
 use lib.IntN.{ℤ}
 use lib.ListN.{length, take, drop}
-use Rattle.words.specs.Lists.{all}
 use Rattle.words.specs.Literals.{variable, sameList, ascending}
-use Rattle.words.proofs.Parts.{tail-of}
 use Rattle.words.proofs.Words.{back}
 use Rattle.text.specs.declared.Letter.the-variants.{Body}
 use Rattle.aspif.specs.Rules.{Rule}
@@ -16,7 +14,7 @@ use Rattle.derivation.specs.States.{State}
 use Rattle.derivation.specs.Steps.{isUnnamedBody}
 use Rattle.names.specs.Queries.{renamed}
 use Rattle.checker.specs.Held.{Tracks}
-use Rattle.checker.proofs.Letters.{first, some-number, first-high, others-unknown, not-fresh, fresh, body-tracks, copied}
+use Rattle.checker.proofs.Letters.{first, copied, some-number, first-high, introduced, body-tracks}
 use borrow.Author.Needs.{needs}
 use Rattle.checker.proofs.steps.body.Statement.{statement}
 use Rattle.checker.proofs.steps.body.Tie as tie
@@ -31,13 +29,7 @@ returns : tie.Need-returns
 returns c =
     λ z T H.
     let s = c .before .before .before .before .before .before .before in
-    let l = s .args .numbers .now in
-    rw (others-unknown z T Body l (s .pre .1 .1) refl (some-number Body refl (s .pre .1 .1))
-    (rw (tail-of 1 l) at (sym (c .before .all-marked .ensures) ∙ not-true _ (c .if1 .taken)))) refl
-
--- the numbers after the first are known
-others : (c : tie.Else1) → let a = c .before .before .before .before .before .before .before .args in all (λ y. marked (a .known .now) (variable y)) (drop 1 (a .numbers .now)) ≡ true
-others c = rw (tail-of 1 (c .before .before .before .before .before .before .before .args .numbers .now)) at (sym (c .before .all-marked .ensures) ∙ not-false _ (c .if1 .left))
+    rw (introduced z T Body _ (s .pre .1 .1) refl refl (sym (c .before .all-marked .ensures) ∙ not-true _ (c .if1 .taken)) refl) refl
 
 slice-copy-out-variable-of : tie.Need-slice-copy-out-variable-of
 slice-copy-out-variable-of c = search (needs, some-number Body refl (c .before .before .before .before .before .before .before .pre .1 .1))
@@ -53,8 +45,8 @@ returns-2 : tie.Need-returns-2
 returns-2 c =
     λ z T H.
     let k = c .before .before .before .before .before in
-    let l = k .before .before .before .before .before .before .before .pre .1 .1 in
-    rw (not-fresh z T Body _ l refl (some-number Body refl l) (others k) (sym (named (c .before)) ∙ c .if2 .taken)) refl
+    let s = k .before .before .before .before .before .before .before in
+    rw (introduced z T Body _ (s .pre .1 .1) refl refl (sym (k .before .all-marked .ensures) ∙ not-false _ (k .if1 .left)) (sym (named (c .before)) ∙ c .if2 .taken)) refl
 
 sub-name-body : tie.Need-sub-name-body
 sub-name-body c = some-number Body refl (c .before .before .before .before .before .before .before .before .before .before .before .before .before .before .before .before .before .pre .1 .1)
@@ -66,7 +58,7 @@ name-body-requires : tie.Need-name-body-requires
 name-body-requires c κs =
     let v = c .before .before .before .before .before .before .before .before .before in
     let s = v .before .before .before .before .before .before .before .before .before in
-    (s .pre .0, rw (name v) (first-high (s .pre .1 .1) (some-number Body refl (s .pre .1 .1))))
+    (s .pre .0, rw (name v) (first-high Body refl (s .pre .1 .1)))
 
 module _ (c : tie.After-name-body) where
   abbrev start : tie.Start
@@ -96,8 +88,8 @@ returns-3 c =
     let b = c .before .before .before .before in
     let m = b .before .before .before .before .before .before .before in
     let k = m .before .before .before .before .before in
-    let l = k .before .before .before .before .before .before .before .pre .1 .1 in
-    rw (fresh z T Body _ l refl (some-number Body refl l) (others k) (sym (named (m .before)) ∙ m .if2 .left), sym (answer b z T) ∙ not-true _ (c .if3 .taken)) refl
+    let s = k .before .before .before .before .before .before .before in
+    rw (introduced z T Body _ (s .pre .1 .1) refl refl (sym (k .before .all-marked .ensures) ∙ not-false _ (k .if1 .left)) (sym (named (m .before)) ∙ m .if2 .left), sym (answer b z T) ∙ not-true _ (c .if3 .taken)) refl
 
 define-requires : tie.Need-define-requires
 define-requires c κs =
@@ -113,12 +105,12 @@ returns-4 c =
     let b = e .before .before .before .before in
     let m = b .before .before .before .before .before .before .before in
     let k = m .before .before .before .before .before in
-    let l = k .before .before .before .before .before .before .before .pre .1 .1 in
-    let n = some-number Body refl l in
+    let s = k .before .before .before .before .before .before .before in
     let f = sym (named (m .before)) ∙ m .if2 .left in
     let u = not-false _ (e .if3 .left) in
     let q = sym (answer b z T) ∙ u in
-    rw (fresh z T Body _ l refl n (others k) f, q) (d .define .ensures .1 (z .live) H, rw (d .define .ensures .0, entered b u) (body-tracks z T Body _ l refl n f q))
+    rw (introduced z T Body _ (s .pre .1 .1) refl refl (sym (k .before .all-marked .ensures) ∙ not-false _ (k .if1 .left)) f, q)
+    (d .define .ensures .1 (z .live) H, rw (d .define .ensures .0, entered b u) (body-tracks z T Body _ (s .pre .1 .1) refl f q))
 
 pub body-spec : {M : Type 1} → statement M
 body-spec =

@@ -7,7 +7,7 @@ use Rattle.answer_set.specs.SetTest.{rulesAt}
 use Rattle.derivation.specs.States.{State}
 use Rattle.derivation.specs.Steps.{isCompletion}
 use Rattle.checker.specs.Held.{Tracks}
-use Rattle.checker.proofs.Letters.{first, some-number, not-cited, cited, completed}
+use Rattle.checker.proofs.Letters.{first, some-number, cited, completed}
 use borrow.Author.Needs.{needs}
 use Rattle.checker.proofs.steps.completion.Statement.{statement}
 use Rattle.checker.proofs.steps.completion.Tie as tie
@@ -16,7 +16,7 @@ returns : tie.Need-returns
 returns c =
     λ z T H.
     let s = c .before .before .before .before .before in
-    rw (not-cited z T Completion _ (s .pre .1 .1) refl (sym (c .before .all-marked .ensures) ∙ not-true _ (c .if1 .taken))) refl
+    rw (cited z T Completion _ (s .pre .1 .1) refl (sym (c .before .all-marked .ensures) ∙ not-true _ (c .if1 .taken))) refl
 
 sub-names-of : tie.Need-sub-names-of
 sub-names-of c = some-number Completion refl (c .before .before .before .before .before .pre .1 .1)

@@ -1,7 +1,7 @@
 use mathlib.Core.Path.{refl, sym, _∙_}
 use borrow.Author.Tests.{not-true, not-false}
 use Rattle.text.specs.declared.Letter.the-variants.{Deletion}
-use Rattle.checker.proofs.Letters.{not-cited, cited}
+use Rattle.checker.proofs.Letters.{cited}
 use borrow.Author.Needs.{needs}
 use Rattle.checker.proofs.steps.deletion.Statement.{statement}
 use Rattle.checker.proofs.steps.deletion.Tie as tie
@@ -10,7 +10,7 @@ returns : tie.Need-returns
 returns c =
     λ P names z T H.
     let s = c .before .before .before .before in
-    rw (not-cited z T Deletion _ (s .pre .1) refl (sym (c .before .all-marked .ensures) ∙ not-true _ (c .if1 .taken))) refl
+    rw (cited z T Deletion _ (s .pre .1) refl (sym (c .before .all-marked .ensures) ∙ not-true _ (c .if1 .taken))) refl
 
 returns-2 : tie.Need-returns-2
 returns-2 c =

@@ -1,14 +1,10 @@
 use mathlib.Core.Path.{_≡_, refl, sym, _∙_}
-use mathlib.Core.Bool.{true}
 use borrow.Author.Tests.{not-true, not-false}
-use lib.ListN.{drop}
-use Rattle.words.specs.Lists.{all}
 use Rattle.words.specs.Literals.{variable}
-use Rattle.words.proofs.Parts.{tail-of}
 use Rattle.words.proofs.Words.{back}
 use Rattle.text.specs.declared.Letter.the-variants.{Extension}
 use Rattle.answer_set.specs.SetTest.{marked}
-use Rattle.checker.proofs.Letters.{first, some-number, others-unknown, not-fresh, fresh, extension-tracks}
+use Rattle.checker.proofs.Letters.{first, some-number, introduced, extension-tracks}
 use borrow.Author.Needs.{needs}
 use Rattle.checker.proofs.steps.extension.Statement.{statement}
 use Rattle.checker.proofs.steps.extension.Tie as tie
@@ -23,17 +19,10 @@ returns : tie.Need-returns
 returns c =
     λ P names z T H.
     let s = c .before .before .before .before .before .before in
-    let l = s .args .numbers .now in
-    rw (others-unknown z T Extension l (s .pre .1) refl (some-number Extension refl (s .pre .1))
-    (rw (tail-of 1 l) at (sym (c .before .all-marked .ensures) ∙ not-true _ (c .if1 .taken)))) refl
+    rw (introduced z T Extension _ (s .pre .1) refl refl (sym (c .before .all-marked .ensures) ∙ not-true _ (c .if1 .taken)) refl) refl
 
 slice-copy-out-variable-of : tie.Need-slice-copy-out-variable-of
 slice-copy-out-variable-of c = search (needs, some-number Extension refl (c .before .before .before .before .before .before .before .pre .1))
-
--- the numbers after the first are known
-others : (c : tie.Else1) → let a = c .before .before .before .before .before .before .args in all (λ y. marked (a .known .now) (variable y)) (drop 1 (a .numbers .now)) ≡ true
-others c =
-    rw (tail-of 1 (c .before .before .before .before .before .before .args .numbers .now)) at (sym (c .before .all-marked .ensures) ∙ not-false _ (c .if1 .left))
 
 -- question 27
 named : (c : tie.After-is-marked) → let a = c .before .before .before .before .before .before .before .before .before .before .args in
@@ -45,8 +34,7 @@ returns-2 c =
     λ P names z T H.
     let k = c .before .before .before .before .before in
     let s = k .before .before .before .before .before .before in
-    let l = s .pre .1 in
-    rw (not-fresh z T Extension _ l refl (some-number Extension refl l) (others k) (sym (named (c .before)) ∙ c .if2 .taken)) refl
+    rw (introduced z T Extension _ (s .pre .1) refl refl (sym (k .before .all-marked .ensures) ∙ not-false _ (k .if1 .left)) (sym (named (c .before)) ∙ c .if2 .taken)) refl
 
 define-requires : tie.Need-define-requires
 define-requires c κs =
@@ -61,10 +49,9 @@ returns-3 c =
     let m = d .before .before .before .before in
     let k = m .before .before .before .before .before in
     let s = k .before .before .before .before .before .before in
-    let l = s .pre .1 in
-    let n = some-number Extension refl l in
     let f = sym (named (m .before)) ∙ m .if2 .left in
-    rw (fresh z T Extension _ l refl n (others k) f) (d .define .ensures .1 (z .live) H, rw (d .define .ensures .0) (extension-tracks z T Extension _ l refl n f))
+    rw (introduced z T Extension _ (s .pre .1) refl refl (sym (k .before .all-marked .ensures) ∙ not-false _ (k .if1 .left)) f)
+    (d .define .ensures .1 (z .live) H, rw (d .define .ensures .0) (extension-tracks z T Extension _ (s .pre .1) refl f))
 
 pub extension-spec : {M : Type 1} → statement M
 extension-spec =

@@ -1,7 +1,7 @@
 use mathlib.Core.Path.{refl, sym, _∙_}
 use borrow.Author.Tests.{not-true, not-false}
 use Rattle.text.specs.declared.Letter.the-variants.{Support}
-use Rattle.checker.proofs.Letters.{some-number, not-cited, cited}
+use Rattle.checker.proofs.Letters.{some-number, cited}
 use borrow.Author.Needs.{needs}
 use Rattle.checker.proofs.steps.support.Statement.{statement}
 use Rattle.checker.proofs.steps.support.Tie as tie
@@ -10,14 +10,14 @@ returns : tie.Need-returns
 returns c =
     λ z T H.
     let s = c .before .before .before .before .before in
-    rw (not-cited z T Support _ (s .pre .1 .1) refl (sym (c .before .all-marked .ensures) ∙ not-true _ (c .if1 .taken))) refl
+    rw (cited z T Support _ (s .pre .1 .1) refl (sym (c .before .all-marked .ensures) ∙ not-true _ (c .if1 .taken))) refl
 
 returns-2 : tie.Need-returns-2
 returns-2 c =
     λ z T H.
     let k = c .before .before .before in
     let s = k .before .before .before .before .before in
-    rw (cited z T Support _ (s .pre .1 .1) refl (sym (k .before .all-marked .ensures) ∙ not-false _ (k .if1 .left)), sym (c .before .is-supported .ensures _ z T) ∙ not-true _ (c .if2 .taken)) refl
+    rw (cited z T Support _ (s .pre .1 .1) refl (sym (k .before .all-marked .ensures) ∙ not-false _ (k .if1 .left)), sym (c .before .is-supported .ensures (s .args .known .now) z T) ∙ not-true _ (c .if2 .taken)) refl
 
 join-requires : tie.Need-join-requires
 join-requires c κs =
@@ -31,7 +31,7 @@ returns-3 c =
     let m = c .before .before .before .before .before in
     let k = m .before .before .before in
     let s = k .before .before .before .before .before in
-    rw (cited z T Support _ (s .pre .1 .1) refl (sym (k .before .all-marked .ensures) ∙ not-false _ (k .if1 .left)), sym (m .before .is-supported .ensures _ z T) ∙ not-false _ (m .if2 .left))
+    rw (cited z T Support _ (s .pre .1 .1) refl (sym (k .before .all-marked .ensures) ∙ not-false _ (k .if1 .left)), sym (m .before .is-supported .ensures (s .args .known .now) z T) ∙ not-false _ (m .if2 .left))
     (c .before .before .join .ensures (z .live) H, T)
 
 pub support-spec : {M : Type 1} → statement M
