@@ -4,3 +4,4 @@ pub mod Examples
 pub mod Names
 pub mod Loops
 pub mod Tracking
+pub mod Kept

@@ -1,0 +1,45 @@
+-- What the steps add to the store: question 34, and the first number of a line with the complements of the others.
+-- Assumes nothing.
+use mathlib.Core.Path.{_≡_, refl, ap, ap₂, _∙_}
+use mathlib.Core.List.{List, [], _∷_, _++_, map}
+use Prim.Native.Nat.{ℕ, suc, _-_, _≤_}
+use native.Mathlib.Omega.{arith}
+use lib.IntN.{ℤ, pos}
+use lib.ListN.{length, drop, take, getD, length-drop, length-map}
+use borrow.Rule.Slice.PartMut.{putMid}
+use Rattle.words.specs.Literals.{complement, ascending}
+use Rattle.words.proofs.Parts.{tail-of, put-tail}
+use Rattle.words.proofs.Sorting.{length-ascending}
+use Rattle.nogoods.specs.Store.{Literals, Fits}
+use Rattle.nogoods.specs.declared.store.Added.{Added}
+use Rattle.nogoods.specs.declared.store.Added.the-variants as Added
+use Rattle.nogoods.proofs.Literals.{literals-ascending, literals-complement-others}
+use Rattle.nogoods.proofs.Defined.{apart}
+use Rattle.checker.specs.Held.{kept, Kept}
+
+-- what is added fits, or the step is refused
+pub kept-fits : (live : List (List ℤ)) (store : List ℤ) (a : Added) → Fits live store a → Kept live store (kept a)
+kept-fits live store (Added.Uses n) h = h
+kept-fits live store Added.Full h = (refl, h)
+
+-- `join`: t are the complements put in place of the numbers after the first, and s is all of them sorted
+module _ (numbers t s : List ℤ) (some : 1 ≤ length numbers) (put : t ≡ map complement (take (length numbers - 1) (drop 1 numbers)))
+    (sorted : s ≡ ascending (putMid 1 (length numbers - 1) numbers t)) where
+  -- the first number with the complements of the others
+  abbrev turned : List ℤ
+  turned = getD numbers 0 (pos 0) ∷ map complement (drop 1 numbers)
+
+  first : (l : List ℤ) → 1 ≤ length l → (u : List ℤ) → take 1 l ++ u ≡ getD l 0 (pos 0) ∷ u
+  first [] h u = absurd (omega arith)
+  first (x ∷ l) h u = refl
+
+  pub joined : s ≡ ascending turned
+  joined =
+      sorted
+      ∙ ap ascending (put-tail 1 numbers t some ∙ first numbers some t ∙ ap (λ (u : List ℤ). getD numbers 0 (pos 0) ∷ u) (put ∙ ap (map complement) (tail-of 1 numbers)))
+
+  pub joined-literals : Literals numbers → Literals s
+  joined-literals h = rw joined (literals-ascending turned (literals-complement-others (getD numbers 0 (pos 0)) (drop 1 numbers) (apart numbers some h)))
+
+  pub joined-length : length s ≡ length numbers
+  joined-length = ap length joined ∙ length-ascending turned ∙ omega (arith, length-map (drop 1 numbers) complement, length-drop 1 numbers)
