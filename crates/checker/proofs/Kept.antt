@@ -1,8 +1,8 @@
 -- What the steps add to the store: question 34, and the first number of a line with the complements of the others.
 -- Assumes nothing.
-use mathlib.Core.Path.{_≡_, refl, ap, ap₂, _∙_}
+use mathlib.Core.Path.{_≡_, refl, ap, _∙_}
 use mathlib.Core.List.{List, [], _∷_, _++_, map}
-use Prim.Native.Nat.{ℕ, suc, _-_, _≤_}
+use Prim.Native.Nat.{_-_, _≤_}
 use native.Mathlib.Omega.{arith}
 use lib.IntN.{ℤ, pos}
 use lib.ListN.{length, drop, take, getD, length-drop, length-map}
@@ -16,11 +16,17 @@ use Rattle.nogoods.specs.declared.store.Added.the-variants as Added
 use Rattle.nogoods.proofs.Literals.{literals-ascending, literals-complement-others}
 use Rattle.nogoods.proofs.Defined.{apart}
 use Rattle.checker.specs.Held.{kept, Kept}
+use Rattle.checker.specs.declared.steps.Stepped.{Stepped}
 
 -- what is added fits, or the step is refused
 pub kept-fits : (live : List (List ℤ)) (store : List ℤ) (a : Added) → Fits live store a → Kept live store (kept a)
 kept-fits live store (Added.Uses n) h = h
 kept-fits live store Added.Full h = (refl, h)
+
+-- one nogood more, which is g
+pub kept-added : (live : List (List ℤ)) (store : List ℤ) {l g : List ℤ} (a : Added) {r : Stepped} → r ≡ kept a → l ≡ g → Fits (live ++ (l ∷ [])) store a
+    → Kept (live ++ (g ∷ [])) store r
+kept-added live store {l} a e p h = rw (e, ← p) (kept-fits (live ++ (l ∷ [])) store a h)
 
 -- `join`: t are the complements put in place of the numbers after the first, and s is all of them sorted
 module _ (numbers t s : List ℤ) (some : 1 ≤ length numbers) (put : t ≡ map complement (take (length numbers - 1) (drop 1 numbers)))

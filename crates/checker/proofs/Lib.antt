@@ -5,3 +5,5 @@ pub mod Names
 pub mod Loops
 pub mod Tracking
 pub mod Kept
+pub mod Gathering
+pub mod LoopSteps

@@ -128,17 +128,17 @@ module _ (f : ℕ → Bool) (h : ℤ) where
         | inr k ↦ on (past k)
       ]
 
+  pub gathered-above : (n v : ℕ) (y : ℤ) → y ∈ gathered f h n v → v ≤ variable y
+  gathered-above n v y i = let g = gathered→ n v i in omega (arith, g .1, gives-variable (g .3))
+
   gathered-rising : (n v : ℕ) → rising (gathered f h n v) ≡ true
   gathered-rising zero v = refl
   gathered-rising (suc n) v = by (gathered-rising n (suc v)) (eqb v (variable h)) refl (f v)
     where
-      above : (y : ℤ) → y ∈ gathered f h n (suc v) → v < variable y
-      above y i = let g = gathered→ n (suc v) i in omega (arith, g .1, gives-variable (g .3))
-
       by : rising (gathered f h n (suc v)) ≡ true → (a : Bool) → eqb v (variable h) ≡ a → (b : Bool)
           → rising (cond a (h ∷ gathered f h n (suc v)) (cond b (negℤ (pos v) ∷ gathered f h n (suc v)) (gathered f h n (suc v)))) ≡ true
-      by r true e b = rising-before h _ r (λ y i. omega (arith, above y i, eqb-true v (variable h) e))
-      by r false e true = rising-before (negℤ (pos v)) _ r (λ y i. omega (arith, above y i, variable-complement (pos v)))
+      by r true e b = rising-before h _ r (λ y i. omega (arith, gathered-above n (suc v) y i, eqb-true v (variable h) e))
+      by r false e true = rising-before (negℤ (pos v)) _ r (λ y i. omega (arith, gathered-above n (suc v) y i, variable-complement (pos v)))
       by r false e false = r
 
 -- distinct names, each with a minus, of those that pass

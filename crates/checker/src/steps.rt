@@ -243,7 +243,7 @@ fn gather_one(h: i32, found: &[u8], v: usize, row: &mut [i32], count: usize) -> 
         return count + 1;
     }
     if marks::is_marked(found, v) {
-        row[count] = 0 - (v as i32);
+        row[count] = words::complement_of(v as i32);
         return count + 1;
     }
     count

@@ -4,7 +4,7 @@ use lib.ListN.{drop, getD}
 use Rattle.words.proofs.Parts.{tail-of}
 use Rattle.nogoods.proofs.Literals.{literals-tail}
 use Rattle.nogoods.proofs.Defined.{apart}
-use Rattle.checker.proofs.Kept.{kept-fits, joined, joined-literals, joined-length}
+use Rattle.checker.proofs.Kept.{kept-added, joined, joined-literals, joined-length}
 use borrow.Author.Needs.{needs}
 use Rattle.checker.proofs.steps.join.Statement.{statement}
 use Rattle.checker.proofs.steps.join.Tie as tie
@@ -36,8 +36,8 @@ returns c =
     let k = o .before .before .before in
     let s = k .before .before in
     let l = s .args .numbers .now in
-    let e = joined l (k .complement-all .last .0) (o .sort .last .0) (s .pre .1 .1) (k .complement-all .ensures) (o .sort .ensures) in
-    rw (c .fitted .ensures, ← e) (kept-fits _ _ (a .append .result) (a .append .ensures live H))
+    kept-added live _ (a .append .result) (c .fitted .ensures)
+    (joined l (k .complement-all .last .0) (o .sort .last .0) (s .pre .1 .1) (k .complement-all .ensures) (o .sort .ensures)) (a .append .ensures live H)
 
 pub join-spec : {M : Type 1} → statement M
 join-spec =
