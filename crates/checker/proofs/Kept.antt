@@ -28,24 +28,27 @@ pub kept-added : (live : List (List ℤ)) (store : List ℤ) {l g : List ℤ} (a
     → Kept (live ++ (g ∷ [])) store r
 kept-added live store {l} a e p h = rw (e, ← p) (kept-fits (live ++ (l ∷ [])) store a h)
 
--- `join`: t are the complements put in place of the numbers after the first, and s is all of them sorted
-module _ (numbers t s : List ℤ) (some : 1 ≤ length numbers) (put : t ≡ map complement (take (length numbers - 1) (drop 1 numbers)))
-    (sorted : s ≡ ascending (putMid 1 (length numbers - 1) numbers t)) where
-  -- the first number with the complements of the others
-  abbrev turned : List ℤ
-  turned = getD numbers 0 (pos 0) ∷ map complement (drop 1 numbers)
+-- `join`: s is the first number with the complements of the others, sorted
+pub record Joined (numbers s : List ℤ) : Type 0 where
+  pub is : s ≡ ascending (getD numbers 0 (pos 0) ∷ map complement (drop 1 numbers))
+  pub literals : Literals s
+  pub size : length s ≡ length numbers
 
-  first : (l : List ℤ) → 1 ≤ length l → (u : List ℤ) → take 1 l ++ u ≡ getD l 0 (pos 0) ∷ u
-  first [] h u = absurd (omega arith)
-  first (x ∷ l) h u = refl
+first-kept : (l u : List ℤ) → 1 ≤ length l → take 1 l ++ u ≡ getD l 0 (pos 0) ∷ u
+first-kept [] u h = absurd (omega arith)
+first-kept (x ∷ l) u h = refl
 
-  pub joined : s ≡ ascending turned
-  joined =
-      sorted
-      ∙ ap ascending (put-tail 1 numbers t some ∙ first numbers some t ∙ ap (λ (u : List ℤ). getD numbers 0 (pos 0) ∷ u) (put ∙ ap (map complement) (tail-of 1 numbers)))
-
-  pub joined-literals : Literals numbers → Literals s
-  joined-literals h = rw joined (literals-ascending turned (literals-complement-others (getD numbers 0 (pos 0)) (drop 1 numbers) (apart numbers some h)))
-
-  pub joined-length : length s ≡ length numbers
-  joined-length = ap length joined ∙ length-ascending turned ∙ omega (arith, length-map (drop 1 numbers) complement, length-drop 1 numbers)
+-- t are the complements, put in place of the numbers after the first
+pub joined : (numbers t s : List ℤ) → Literals numbers → 1 ≤ length numbers → t ≡ map complement (take (length numbers - 1) (drop 1 numbers))
+    → s ≡ ascending (putMid 1 (length numbers - 1) numbers t) → Joined numbers s
+joined numbers t s h some put sorted =
+    let x = getD numbers 0 (pos 0) in
+    let turned = x ∷ map complement (drop 1 numbers) in
+    let e : s ≡ ascending turned =
+    sorted
+    ∙ ap ascending (put-tail 1 numbers t some ∙ first-kept numbers t some ∙ ap (λ (u : List ℤ). x ∷ u) (put ∙ ap (map complement) (tail-of 1 numbers))) in
+    record {
+      is = e;
+      literals = rw e (literals-ascending turned (literals-complement-others x (drop 1 numbers) (apart numbers some h)));
+      size = ap length e ∙ length-ascending turned ∙ omega (arith, length-map (drop 1 numbers) complement, length-drop 1 numbers);
+    }

@@ -10,7 +10,7 @@ use lib.IntN.{ℤ, pos}
 use lib.ListN.{length, getD}
 use Rattle.words.specs.Limits.{largest}
 use Rattle.words.specs.Lists.{_∈_, all}
-use Rattle.words.specs.Literals.{variable, top, ascending}
+use Rattle.words.specs.Literals.{variable, top}
 use Rattle.words.proofs.Lists.{itself, all-decides, not-decides, if-true, is-true, passed, failed, and-left}
 use Rattle.aspif.specs.Rules.{Rule, atoms}
 use Rattle.answer_set.specs.SetTest.{marked}

@@ -7,10 +7,10 @@ use borrow.Author.Tests.{not-true, not-false}
 use lib.IntN.{ℤ, pos}
 use lib.ListN.{length, take, getD}
 use lib.Seq.{length-take-le}
-use Rattle.words.proofs.Words.{back}
 use Rattle.words.specs.Limits.{largest}
 use Rattle.words.specs.Lists.{all}
 use Rattle.words.specs.Literals.{variable, top}
+use Rattle.words.proofs.Words.{back}
 use Rattle.aspif.specs.Rules.{atoms}
 use Rattle.answer_set.specs.SetTest.{marked, rulesAt}
 use Rattle.text.specs.declared.Letter.the-variants.{Loop}
@@ -86,21 +86,20 @@ append-requires : tie.Need-append-requires
 append-requires c κs =
     let d = c .before .before .before in
     let g = d .gather in
-    (s (tests d) .pre .1 .0, (subst Literals (sym (gives d)) (gathered-literals (marked (names d .names-of .result)) (getD (U (tests d)) 0 (pos 0)) largest 1 (omega arith) (omega arith)), omega (arith, size d, g .ensures .0)))
+    let e = tests d in
+    (s e .pre .1 .0, (subst Literals (sym (gives d)) (gathered-literals (marked (names d .names-of .result)) (getD (U e) 0 (pos 0)) largest 1 (omega arith) (omega arith)), omega (arith, size d, g .ensures .0)))
 
 returns-4 : tie.Need-returns-4
 returns-4 c =
     let a = c .before .before in
     let g = a .before .before .before .before in
     let d = g .before .before .before .before in
-    let n = d .before .before .before in
-    let m = n .before .before in
-    let e = m .before in
+    let n = names g in
+    let e = tests g in
+    let p = s e .pre .0 .0 in
     λ z tracks H.
-    loop-added z tracks _ (n .names-of .ensures) (U e) (line e) (known e) (low e) (m .marks-of .ensures) (sym (d .before .is-marked .ensures) ∙ d .if3 .left)
-    (omega (arith, s e .pre .0 .0 .top, s e .pre .0 .0 .high)) (c .fitted .result)
-    (kept-added (z .live) _ (a .append .result) (c .fitted .ensures)
-    (gives g) (a .append .ensures (z .live) H))
+    loop-added z tracks _ (n .names-of .ensures) (U e) (line e) (known e) (low e) (n .before .before .marks-of .ensures) (sym (d .before .is-marked .ensures) ∙ d .if3 .left)
+    (omega (arith, p .top, p .high)) (c .fitted .result) (kept-added (z .live) _ (a .append .result) (c .fitted .ensures) (gives g) (a .append .ensures (z .live) H))
 
 pub loops-spec : {M : Type 1} → statement M
 loops-spec =
