@@ -1,8 +1,8 @@
 -- What the steps add to the store: question 34, and the first number of a line with the complements of the others.
 -- Assumes nothing.
-use mathlib.Core.Path.{_≡_, refl, ap, ap₂, _∙_}
+use mathlib.Core.Path.{_≡_, refl, ap, _∙_}
 use mathlib.Core.List.{List, [], _∷_, _++_, map}
-use Prim.Native.Nat.{ℕ, suc, _-_, _≤_}
+use Prim.Native.Nat.{_-_, _≤_}
 use native.Mathlib.Omega.{arith}
 use lib.IntN.{ℤ, pos}
 use lib.ListN.{length, drop, take, getD, length-drop, length-map}
@@ -16,30 +16,39 @@ use Rattle.nogoods.specs.declared.store.Added.the-variants as Added
 use Rattle.nogoods.proofs.Literals.{literals-ascending, literals-complement-others}
 use Rattle.nogoods.proofs.Defined.{apart}
 use Rattle.checker.specs.Held.{kept, Kept}
+use Rattle.checker.specs.declared.steps.Stepped.{Stepped}
 
 -- what is added fits, or the step is refused
 pub kept-fits : (live : List (List ℤ)) (store : List ℤ) (a : Added) → Fits live store a → Kept live store (kept a)
 kept-fits live store (Added.Uses n) h = h
 kept-fits live store Added.Full h = (refl, h)
 
--- `join`: t are the complements put in place of the numbers after the first, and s is all of them sorted
-module _ (numbers t s : List ℤ) (some : 1 ≤ length numbers) (put : t ≡ map complement (take (length numbers - 1) (drop 1 numbers)))
-    (sorted : s ≡ ascending (putMid 1 (length numbers - 1) numbers t)) where
-  -- the first number with the complements of the others
-  abbrev turned : List ℤ
-  turned = getD numbers 0 (pos 0) ∷ map complement (drop 1 numbers)
+-- one nogood more, which is g
+pub kept-added : (live : List (List ℤ)) (store : List ℤ) {l g : List ℤ} (a : Added) {r : Stepped} → r ≡ kept a → l ≡ g → Fits (live ++ (l ∷ [])) store a
+    → Kept (live ++ (g ∷ [])) store r
+kept-added live store {l} a e p h = rw (e, ← p) (kept-fits (live ++ (l ∷ [])) store a h)
 
-  first : (l : List ℤ) → 1 ≤ length l → (u : List ℤ) → take 1 l ++ u ≡ getD l 0 (pos 0) ∷ u
-  first [] h u = absurd (omega arith)
-  first (x ∷ l) h u = refl
+-- `join`: s is the first number with the complements of the others, sorted
+pub record Joined (numbers s : List ℤ) : Type 0 where
+  pub is : s ≡ ascending (getD numbers 0 (pos 0) ∷ map complement (drop 1 numbers))
+  pub literals : Literals s
+  pub size : length s ≡ length numbers
 
-  pub joined : s ≡ ascending turned
-  joined =
-      sorted
-      ∙ ap ascending (put-tail 1 numbers t some ∙ first numbers some t ∙ ap (λ (u : List ℤ). getD numbers 0 (pos 0) ∷ u) (put ∙ ap (map complement) (tail-of 1 numbers)))
+first-kept : (l u : List ℤ) → 1 ≤ length l → take 1 l ++ u ≡ getD l 0 (pos 0) ∷ u
+first-kept [] u h = absurd (omega arith)
+first-kept (x ∷ l) u h = refl
 
-  pub joined-literals : Literals numbers → Literals s
-  joined-literals h = rw joined (literals-ascending turned (literals-complement-others (getD numbers 0 (pos 0)) (drop 1 numbers) (apart numbers some h)))
-
-  pub joined-length : length s ≡ length numbers
-  joined-length = ap length joined ∙ length-ascending turned ∙ omega (arith, length-map (drop 1 numbers) complement, length-drop 1 numbers)
+-- t are the complements, put in place of the numbers after the first
+pub joined : (numbers t s : List ℤ) → Literals numbers → 1 ≤ length numbers → t ≡ map complement (take (length numbers - 1) (drop 1 numbers))
+    → s ≡ ascending (putMid 1 (length numbers - 1) numbers t) → Joined numbers s
+joined numbers t s h some put sorted =
+    let x = getD numbers 0 (pos 0) in
+    let turned = x ∷ map complement (drop 1 numbers) in
+    let e : s ≡ ascending turned =
+    sorted
+    ∙ ap ascending (put-tail 1 numbers t some ∙ first-kept numbers t some ∙ ap (λ (u : List ℤ). x ∷ u) (put ∙ ap (map complement) (tail-of 1 numbers))) in
+    record {
+      is = e;
+      literals = rw e (literals-ascending turned (literals-complement-others x (drop 1 numbers) (apart numbers some h)));
+      size = ap length e ∙ length-ascending turned ∙ omega (arith, length-map (drop 1 numbers) complement, length-drop 1 numbers);
+    }

@@ -6,3 +6,5 @@ pub mod Loops
 pub mod Tracking
 pub mod Kept
 pub mod Letters
+pub mod Gathering
+pub mod LoopSteps

@@ -1,32 +1,31 @@
 -- The `l` step: questions 31 and 32 by marks, and its nogood, which is gathered in ascending order.
 -- Assumes nothing.
-use mathlib.Core.Path.{_≡_, refl, sym, _∙_, ap, subst, fun-ext}
+use mathlib.Core.Path.{_≡_, refl, sym, _∙_, ap, fun-ext}
 use mathlib.Core.Logic.{_⊎_, inl, inr}
 use mathlib.Core.Bool.{Bool, true, false, cond, not, _&&_, _||_, true≢false}
 use mathlib.Core.List.{List, [], _∷_, map, List·Memᴰ·head, List·Memᴰ·tail, Memᴰ·map, Memᴰ·of-map, Memᴰ·cast}
-use Prim.Native.Nat.{ℕ, zero, suc, _+_, _≤_, _<_, max}
+use Prim.Native.Nat.{ℕ, zero, suc, _+_, _≤_, _<_}
 use native.Mathlib.Omega.{arith}
-use borrow.Author.Tests.{eqb-true, eqb-false, lt-ltb, ltb-true, ltb-false, ne-eqb}
+use borrow.Author.Tests.{eqb-true, eqb-false, lt-ltb, ltb-true, ltb-false}
 use lib.Dec.{T, eqb, ltb, leb}
-use lib.IntN.{ℤ, pos, negsuc, negℤ}
-use lib.Signed.{ltZ}
-use lib.ListN.{length, getD, List·getD-eq-default}
+use lib.IntN.{ℤ, pos, negℤ}
+use lib.ListN.{length, List·getD-eq-default}
 use Rattle.words.specs.Limits.{largest}
 use Rattle.words.specs.Lists.{_∈_, any, all, keep}
 use Rattle.words.specs.Literals.{variable, mentions, noneTwice, rising, sameList, has, top, ascending}
-use Rattle.words.proofs.Lists.{Decides, itself, reworded, and-decides, any-decides, all-decides, not-decides, eqb-decides, leb-decides, keep→, keep←, passed, failed, and-left, and-right}
+use Rattle.words.proofs.Lists.{Decides, itself, reworded, and-decides, any-decides, all-decides, eqb-decides, leb-decides, keep→, keep←, passed, failed, and-left, and-right}
 use Rattle.words.proofs.Literals.{sameList-decides, has-decides, variable-complement, ascending→, ascending←}
 use Rattle.words.proofs.Places.{equal?}
 use Rattle.words.proofs.Sorting.{rising-ascending, same-members}
 use Rattle.aspif.specs.Rules.{Rule, atoms}
-use Rattle.answer_set.specs.SetTest.{listed, marked, marksLent}
+use Rattle.answer_set.specs.SetTest.{marked}
 use Rattle.drupe.specs.Lines.{isPositive}
 use Rattle.derivation.specs.States.{Named, State, isAtom}
 use Rattle.derivation.specs.Steps.{isExternal, externalNames, allAtoms}
 use Rattle.derivation.proofs.Questions.{positive-is}
 use Rattle.names.specs.Queries.{Marks, picks, isInside, isExternalBy}
 use Rattle.checker.specs.Held.{nameOf, Proper, Tracks, gathered}
-use Rattle.checker.proofs.Names.{alike, unlisted, name-found, name-of, found-decides, Some}
+use Rattle.checker.proofs.Names.{alike, unlisted, name-found, name-of, found-decides}
 
 -- Question 31
 
@@ -128,17 +127,17 @@ module _ (f : ℕ → Bool) (h : ℤ) where
         | inr k ↦ on (past k)
       ]
 
+  pub gathered-above : (n v : ℕ) (y : ℤ) → y ∈ gathered f h n v → v ≤ variable y
+  gathered-above n v y i = let g = gathered→ n v i in omega (arith, g .1, gives-variable (g .3))
+
   gathered-rising : (n v : ℕ) → rising (gathered f h n v) ≡ true
   gathered-rising zero v = refl
   gathered-rising (suc n) v = by (gathered-rising n (suc v)) (eqb v (variable h)) refl (f v)
     where
-      above : (y : ℤ) → y ∈ gathered f h n (suc v) → v < variable y
-      above y i = let g = gathered→ n (suc v) i in omega (arith, g .1, gives-variable (g .3))
-
       by : rising (gathered f h n (suc v)) ≡ true → (a : Bool) → eqb v (variable h) ≡ a → (b : Bool)
           → rising (cond a (h ∷ gathered f h n (suc v)) (cond b (negℤ (pos v) ∷ gathered f h n (suc v)) (gathered f h n (suc v)))) ≡ true
-      by r true e b = rising-before h _ r (λ y i. omega (arith, above y i, eqb-true v (variable h) e))
-      by r false e true = rising-before (negℤ (pos v)) _ r (λ y i. omega (arith, above y i, variable-complement (pos v)))
+      by r true e b = rising-before h _ r (λ y i. omega (arith, gathered-above n (suc v) y i, eqb-true v (variable h) e))
+      by r false e true = rising-before (negℤ (pos v)) _ r (λ y i. omega (arith, gathered-above n (suc v) y i, variable-complement (pos v)))
       by r false e false = r
 
 -- distinct names, each with a minus, of those that pass

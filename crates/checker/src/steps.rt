@@ -234,13 +234,7 @@ fn support(
 }
 
 // One number of the nogood of an `l` step: h itself, or minus a name that is marked. How many literals there are then.
-fn gather_one(
-    h: i32,
-    found: &[u8],
-    v: usize,
-    row: &mut [i32; CheckingState::ENTRIES],
-    count: usize,
-) -> usize
+fn gather_one(h: i32, found: &[u8], v: usize, row: &mut [i32], count: usize) -> usize
     requires { ⌜ (1 ≤ v) × (v ≤ largest) × (count < v) × (length (now row) ≡ marksLent) ⌝ }
     ensures { λ n. ⌜ (n ≤ v) × (take n (now (row .exit)) ≡ take count (now (row .entry)) ++ gathered (marked (now (found .entry))) h 1 v) ⌝ }
 {
@@ -249,14 +243,14 @@ fn gather_one(
         return count + 1;
     }
     if marks::is_marked(found, v) {
-        row[count] = 0 - (v as i32);
+        row[count] = words::complement_of(v as i32);
         return count + 1;
     }
     count
 }
 
 // The nogood of an `l` step, ascending by variable. How many literals it has.
-fn gather(h: i32, found: &[u8], row: &mut [i32; CheckingState::ENTRIES]) -> usize
+fn gather(h: i32, found: &[u8], row: &mut [i32]) -> usize
     requires { ⌜ length (now row) ≡ marksLent ⌝ }
     ensures { λ n. ⌜ (n ≤ largest) × (take n (now (row .exit)) ≡ gathered (marked (now (found .entry))) h largest 1) ⌝ }
 {

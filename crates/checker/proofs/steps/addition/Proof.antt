@@ -4,7 +4,7 @@ use borrow.Author.Tests.{not-true, not-false}
 use Rattle.words.proofs.Sorting.{length-ascending}
 use Rattle.text.specs.declared.Letter.the-variants.{Addition}
 use Rattle.nogoods.proofs.Literals.{literals-ascending}
-use Rattle.checker.proofs.Kept.{kept-fits}
+use Rattle.checker.proofs.Kept.{kept-added}
 use Rattle.checker.proofs.Letters.{cited}
 use borrow.Author.Needs.{needs}
 use Rattle.checker.proofs.steps.addition.Statement.{statement}
@@ -38,7 +38,7 @@ returns-3 c =
     let k = m .before .before .before .before in
     let s = k .before .before .before .before in
     rw (cited z T Addition _ (s .pre .1) refl (sym (k .before .all-marked .ensures) ∙ not-false _ (k .if1 .left)), sym (m .before .refutes .ensures (z .live) H) ∙ not-false _ (m .if2 .left))
-    (rw (c .fitted .ensures) (kept-fits _ _ (c .before .before .append .result) (rw (o .sort .ensures) at (c .before .before .append .ensures (z .live) H))), T)
+    (kept-added (z .live) _ (c .before .before .append .result) (c .fitted .ensures) (o .sort .ensures) (c .before .before .append .ensures (z .live) H), T)
 
 pub addition-spec : {M : Type 1} → statement M
 addition-spec =

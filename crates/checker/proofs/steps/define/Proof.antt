@@ -1,4 +1,3 @@
-use mathlib.Core.Path.{sym}
 use lib.IntN.{pos}
 use lib.ListN.{getD}
 use Rattle.words.proofs.Words.{back}

@@ -4,7 +4,7 @@ use lib.ListN.{drop, getD}
 use Rattle.words.proofs.Parts.{tail-of}
 use Rattle.nogoods.proofs.Literals.{literals-tail}
 use Rattle.nogoods.proofs.Defined.{apart}
-use Rattle.checker.proofs.Kept.{kept-fits, joined, joined-literals, joined-length}
+use Rattle.checker.proofs.Kept.{kept-added, Joined, joined}
 use borrow.Author.Needs.{needs}
 use Rattle.checker.proofs.steps.join.Statement.{statement}
 use Rattle.checker.proofs.steps.join.Tie as tie
@@ -15,29 +15,27 @@ complement-all-requires c κs =
     let l = s .args .numbers .now in
     rw (tail-of 1 l) (literals-tail (getD l 0 (pos 0)) (drop 1 l) (apart l (s .pre .1 .1) (s .pre .1 .0)) .high)
 
+-- the numbers as they are added
+module _ (c : tie.After-sort) where
+  abbrev s : tie.Start
+  s = c .before .before .before .before .before
+
+  added : Joined (s .args .numbers .now) (c .sort .last .0)
+  added =
+      let k = c .before .before .before .complement-all in
+      let p = s .pre .1 in
+      joined (s .args .numbers .now) (k .last .0) (c .sort .last .0) (p .0) (p .1) (k .ensures) (c .sort .ensures)
+
 append-requires : tie.Need-append-requires
 append-requires c κs =
     let o = c .before .before .before in
-    let k = o .before .before .before in
-    let s = k .before .before in
-    let l = s .args .numbers .now in (
-      s .pre .0,
-      (
-        joined-literals l (k .complement-all .last .0) (o .sort .last .0) (s .pre .1 .1) (k .complement-all .ensures) (o .sort .ensures) (s .pre .1 .0),
-        omega (arith, joined-length l (k .complement-all .last .0) (o .sort .last .0) (s .pre .1 .1) (k .complement-all .ensures) (o .sort .ensures), s .pre .1 .2),
-      ),
-    )
+    (s o .pre .0, (added o .literals, omega (arith, added o .size, s o .pre .1 .2)))
 
 returns : tie.Need-returns
 returns c =
-    λ live H.
     let a = c .before .before in
     let o = a .before .before .before .before in
-    let k = o .before .before .before in
-    let s = k .before .before in
-    let l = s .args .numbers .now in
-    let e = joined l (k .complement-all .last .0) (o .sort .last .0) (s .pre .1 .1) (k .complement-all .ensures) (o .sort .ensures) in
-    rw (c .fitted .ensures, ← e) (kept-fits _ _ (a .append .result) (a .append .ensures live H))
+    λ live H. kept-added live _ (a .append .result) (c .fitted .ensures) (added o .is) (a .append .ensures live H)
 
 pub join-spec : {M : Type 1} → statement M
 join-spec =

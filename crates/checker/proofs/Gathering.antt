@@ -1,0 +1,76 @@
+-- The nogood of an `l` step as `gather` writes it: number by number, and what its literals are.
+-- Assumes nothing.
+use mathlib.Core.Path.{_≡_, refl, sym, ap, _∙_}
+use mathlib.Core.Bool.{Bool, true, false, cond}
+use mathlib.Core.List.{List, [], _∷_, _++_}
+use Prim.Native.Nat.{ℕ, zero, suc, _+_, _-_, _≤_, _<_}
+use native.Mathlib.Omega.{arith}
+use native.Mathlib.Numerals.{add-one}
+use borrow.Author.Tests.{eq-eqb, ne-eqb, eqb-true}
+use lib.Dec.{eqb}
+use lib.IntN.{ℤ, pos, negℤ}
+use lib.ListN.{length, take, set}
+use lib.Seq.{take-suc-set}
+use Rattle.words.specs.Limits.{largest}
+use Rattle.words.specs.Literals.{variable}
+use Rattle.words.proofs.Literals.{variable-complement}
+use Rattle.nogoods.specs.Store.{Literals}
+use Rattle.nogoods.proofs.Literals.{literals-nil, literals-cons}
+use Rattle.checker.specs.Held.{gathered}
+use Rattle.checker.proofs.Loops.{gathered-above}
+
+module _ (f : ℕ → Bool) (h : ℤ) where
+  -- one number more
+  pub gathered-more : (n v : ℕ) → gathered f h (suc n) v ≡ gathered f h n v ++ gathered f h 1 (v + n)
+  gathered-more zero v = let e : v + 0 ≡ v = omega arith in rw e
+  gathered-more (suc n) v = by (eqb v (variable h)) (f v) (rw m at (gathered-more n (suc v)))
+    where
+      m : suc v + n ≡ v + suc n
+      m = omega arith
+
+      by : (a b : Bool) → gathered f h (suc n) (suc v) ≡ gathered f h n (suc v) ++ gathered f h 1 (v + suc n)
+          → cond a (h ∷ gathered f h (suc n) (suc v)) (cond b (negℤ (pos v) ∷ gathered f h (suc n) (suc v)) (gathered f h (suc n) (suc v)))
+          ≡ cond a (h ∷ gathered f h n (suc v)) (cond b (negℤ (pos v) ∷ gathered f h n (suc v)) (gathered f h n (suc v))) ++ gathered f h 1 (v + suc n)
+      by true b e = ap (λ l. h ∷ l) e
+      by false true e = ap (λ l. negℤ (pos v) ∷ l) e
+      by false false e = e
+
+  pub gathered-on : {l m : List ℤ} (v : ℕ) → 1 ≤ v → l ≡ gathered f h (v - 1) 1 → m ≡ l ++ gathered f h 1 v → m ≡ gathered f h (v + 1 - 1) 1
+  gathered-on zero k p q = absurd (omega arith)
+  gathered-on (suc n) k p q =
+      let a : suc n + 1 - 1 ≡ suc n = omega arith in
+      let b : suc n - 1 ≡ n = omega arith in
+      let e : 1 + n ≡ suc n = omega arith in
+      rw a (q ∙ ap (λ t. t ++ gathered f h 1 (suc n)) (rw b at p) ∙ sym (rw e at (gathered-more n 1)))
+
+  -- all numbers, where x is h and there is none after v
+  pub gathered-all : {x : ℤ} {l : List ℤ} (v n : ℕ) → x ≡ h → v - 1 ≡ n → l ≡ gathered f x (v - 1) 1 → l ≡ gathered f h n 1
+  gathered-all v n p q e = rw (p, q) at e
+
+  pub gathered-literals : (n v : ℕ) → 1 ≤ v → v + n ≤ suc largest → Literals (gathered f h n v)
+  gathered-literals zero v low high = literals-nil
+  gathered-literals (suc n) v low high = by (gathered-literals n (suc v) (omega arith) (omega arith)) (eqb v (variable h)) refl (f v)
+    where
+      -- a word of the variable v before the others
+      more : (x : ℤ) → variable x ≡ v → Literals (gathered f h n (suc v)) → Literals (x ∷ gathered f h n (suc v))
+      more x e l = literals-cons x _ (omega arith) (omega arith) (λ y i p. omega (arith, gathered-above f h n (suc v) y i)) l
+
+      by : Literals (gathered f h n (suc v)) → (a : Bool) → eqb v (variable h) ≡ a → (b : Bool)
+          → Literals (cond a (h ∷ gathered f h n (suc v)) (cond b (negℤ (pos v) ∷ gathered f h n (suc v)) (gathered f h n (suc v))))
+      by l true e b = more h (sym (eqb-true v (variable h) e)) l
+      by l false e true = more (negℤ (pos v)) (variable-complement (pos v)) l
+      by l false e false = l
+
+  module _ (v : ℕ) where
+    pub gather-first : v ≡ variable h → gathered f h 1 v ≡ h ∷ []
+    gather-first e = rw (eq-eqb v (variable h) e)
+
+    pub gather-name : ¬ (v ≡ variable h) → f v ≡ true → gathered f h 1 v ≡ negℤ (pos v) ∷ []
+    gather-name e q = rw (ne-eqb v (variable h) e, q)
+
+    pub gather-none : ¬ (v ≡ variable h) → f v ≡ false → gathered f h 1 v ≡ []
+    gather-none e q = rw (ne-eqb v (variable h) e, q)
+
+-- a word after the first words of a row
+pub put-word : (row l : List ℤ) (count : ℕ) {x y : ℤ} → count < length row → x ≡ y → l ≡ y ∷ [] → take (count + 1) (set row count x) ≡ take count row ++ l
+put-word row l count {x} room e p = rw (add-one, p, ← e) (take-suc-set row count x room)

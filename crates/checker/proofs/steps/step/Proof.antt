@@ -1,0 +1,146 @@
+use mathlib.Core.Path.{_≡_, subst}
+use Rattle.answer_set.specs.SetTest.{rulesAt}
+use Rattle.text.specs.declared.Letter.{Letter}
+use Rattle.checker.specs.Held.{Line}
+use borrow.Author.Needs.{needs}
+use Rattle.checker.proofs.steps.step.Statement.{statement}
+use Rattle.checker.proofs.steps.step.Tie as tie
+
+-- the numbers are those of the letter that was told
+line : (s : tie.Start) {x : Letter} → s .args .letter ≡ x → Line x (s .args .numbers .now)
+line s e = subst (λ x. Line x (s .args .numbers .now)) e (s .pre .1 .1)
+
+addition-requires : tie.Need-addition-requires
+addition-requires c κs =
+    let t = c .before .before .before in
+    let s = t .before .before .before .before in
+    (s .pre .1 .0, line s (t .enum-told .given .1))
+
+body-requires : tie.Need-body-requires
+body-requires c κs =
+    let t = c .before .before .before .before in
+    let s = t .before .before .before .before in
+    ((s .pre .0 .0 .sound, s .pre .0 .1), (s .pre .1 .0, line s (t .enum-told2 .given .1)))
+
+completion-requires : tie.Need-completion-requires
+completion-requires c κs =
+    let t = c .before .before .before .before in
+    let s = t .before .before .before .before in
+    ((s .pre .0 .0 .sound, s .pre .0 .1), (s .pre .1 .0, line s (t .enum-told3 .given .1)))
+
+deletion-requires : tie.Need-deletion-requires
+deletion-requires c κs =
+    let t = c .before .before .before in
+    let s = t .before .before .before .before in
+    (s .pre .1 .0, line s (t .enum-told4 .given .1))
+
+extension-requires : tie.Need-extension-requires
+extension-requires c κs =
+    let t = c .before .before .before in
+    let s = t .before .before .before .before in
+    (s .pre .1 .0, line s (t .enum-told5 .given .1))
+
+loops-requires : tie.Need-loops-requires
+loops-requires c κs =
+    let t = c .before .before .before .before in
+    let s = t .before .before .before .before in
+    (s .pre .0, (s .pre .1 .0, line s (t .enum-told6 .given .1)))
+
+support-requires : tie.Need-support-requires
+support-requires c κs =
+    let t = c .before .before .before .before in
+    let s = t .before .before .before .before in
+    (s .pre .0, (s .pre .1 .0, line s (t .enum-told7 .given .1)))
+
+returns : tie.Need-returns
+returns c =
+    let t = c .before .before .before .before .before .before in
+    let s = t .before .before .before .before in
+    λ z tracks H. rw (t .enum-told .given .1) (c .before .before .addition .ensures (rulesAt (s .args .rules) (s .args .table .now)) (s .args .names .now) z tracks H)
+
+returns-2 : tie.Need-returns-2
+returns-2 c =
+    let t = c .before .before .before .before .before .before .before .before .before .before .before in
+    let s = t .before .before .before .before in
+    λ z tracks H. rw (t .enum-told2 .given .1) (c .before .before .before .before .before .before .body .ensures z tracks H)
+
+returns-3 : tie.Need-returns-3
+returns-3 c =
+    let t = c .before .before .before .before .before .before .before in
+    let s = t .before .before .before .before in
+    λ z tracks H. rw (t .enum-told3 .given .1) (c .before .before .completion .ensures z tracks H)
+
+returns-4 : tie.Need-returns-4
+returns-4 c =
+    let t = c .before .before .before .before .before .before in
+    let s = t .before .before .before .before in
+    λ z tracks H. rw (t .enum-told4 .given .1) (c .before .before .deletion .ensures (rulesAt (s .args .rules) (s .args .table .now)) (s .args .names .now) z tracks H)
+
+returns-5 : tie.Need-returns-5
+returns-5 c =
+    let t = c .before .before .before .before .before .before .before .before in
+    let s = t .before .before .before .before in
+    λ z tracks H. rw (t .enum-told5 .given .1) (c .before .before .before .before .extension .ensures (rulesAt (s .args .rules) (s .args .table .now)) (s .args .names .now) z tracks H)
+
+returns-6 : tie.Need-returns-6
+returns-6 c =
+    let t = c .before .before .before .before .before .before in
+    let s = t .before .before .before .before in
+    λ z tracks H. rw (t .enum-told6 .given .1) (c .before .loops .ensures z tracks H)
+
+returns-7 : tie.Need-returns-7
+returns-7 c =
+    let t = c .before .before .before .before .before .before .before in
+    let s = t .before .before .before .before in
+    λ z tracks H. rw (t .enum-told7 .given .1) (c .before .before .support .ensures z tracks H)
+
+pub step-spec : {M : Type 1} → statement M
+step-spec =
+    tie.close
+    (tie.spec
+    (λ c. search needs)
+    addition-requires
+    (λ c. search needs)
+    body-requires
+    (λ c. search needs)
+    completion-requires
+    (λ c. search needs)
+    deletion-requires
+    (λ c. search needs)
+    extension-requires
+    (λ c. search needs)
+    loops-requires
+    (λ c. search needs)
+    support-requires
+    (λ c. search needs)
+    (λ c. search needs)
+    (λ c. search needs)
+    returns
+    (λ c. search needs)
+    (λ c. search needs)
+    (λ c. search needs)
+    (λ c. search needs)
+    returns-2
+    (λ c. search needs)
+    (λ c. search needs)
+    (λ c. search needs)
+    (λ c. search needs)
+    returns-3
+    (λ c. search needs)
+    (λ c. search needs)
+    (λ c. search needs)
+    returns-4
+    (λ c. search needs)
+    (λ c. search needs)
+    (λ c. search needs)
+    returns-5
+    (λ c. search needs)
+    (λ c. search needs)
+    (λ c. search needs)
+    (λ c. search needs)
+    returns-6
+    (λ c. search needs)
+    (λ c. search needs)
+    (λ c. search needs)
+    (λ c. search needs)
+    returns-7)
