@@ -4,3 +4,6 @@ pub mod Examples
 pub mod Names
 pub mod Loops
 pub mod Tracking
+pub mod Turns
+pub mod Courses
+pub mod Verdicts
