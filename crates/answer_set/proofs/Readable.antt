@@ -35,7 +35,7 @@ use Rattle.answer_set.proofs.Answered.{positive, rules-of}
 
 -- Lists of words
 
-inside : (l : List ℤ) → anyOutside l ≡ false → (z : ℤ) → z ∈ l → variable z ≤ largest
+pub inside : (l : List ℤ) → anyOutside l ≡ false → (z : ℤ) → z ∈ l → variable z ≤ largest
 inside l e z i = ltb-false largest (variable z) (failed _ (inside-decides l .to (rw e tt) z i))
 
 ascends-inside : (l : List ℤ) → ascends 0 largest (map variable l) ≡ true → anyOutside l ≡ false
@@ -224,7 +224,7 @@ zero-words : (ws : List ℤ) → all (same (pos 0)) ws ≡ true → ws ≡ repli
 zero-words [] e = refl
 zero-words (w ∷ ws) e = ap₂ (λ a l. a ∷ l) (sym (if-true (same-decides (pos 0) w) (and-left _ _ e))) (zero-words ws (and-right (same (pos 0) w) _ e))
 
-rules-count : (n : ℕ) (ws : List ℤ) → length (rulesAt n ws) ≡ n
+pub rules-count : (n : ℕ) (ws : List ℤ) → length (rulesAt n ws) ≡ n
 rules-count zero ws = refl
 rules-count (suc n) ws = ap suc (rules-count n (drop (sizeAt ws) ws))
 

@@ -8,3 +8,6 @@ pub mod Kept
 pub mod Letters
 pub mod Gathering
 pub mod LoopSteps
+pub mod Turns
+pub mod Courses
+pub mod Verdicts

@@ -101,16 +101,22 @@ Goes at z store (Turn.Goes after n) = (after ≡ at) × Holds store n (z .live)
 Goes at z store (Turn.Fails k) = (k ≡ 34) × (length store < length (liveWords (z .live)))
 Goes at z store Turn.Ends = ⊥
 
+-- what a step comes to, with the position after its line
+abbrev pub turnOf : ℕ → Stepped → Turn
+turnOf at (Uses n) = Turn.Goes at n
+turnOf at (Fails k) = Turn.Fails k
+
 module _ (P : List Rule) (known names : List ℕ) (store : List ℤ) where
+  -- what the step of a line leaves, by what it comes to
   abbrev pub StepTurn : ℕ → Outcome → Turn → Type 0
   StepTurn at (refused k) r = r ≡ Turn.Fails k
   StepTurn at (next z) r = Goes at z store r × Tracks P known names (z .introduced) (z .named)
 
-  -- what one turn of the check leaves, by what stands at the position
-  abbrev pub LineTurn : State → LineAt → Turn → Type 0
-  LineTurn z end r = r ≡ Turn.Ends
-  LineTurn z (Lines.refused k) r = r ≡ Turn.Fails k
-  LineTurn z (line x zs at) r = StepTurn at (step P z (record { letter = x; numbers = zs })) r
+  -- what one turn of the check leaves, by what stands at the position; so many words were used
+  abbrev pub LineTurn : ℕ → State → LineAt → Turn → Type 0
+  LineTurn used z end r = (r ≡ Turn.Ends) × Holds store used (z .live)
+  LineTurn used z (Lines.refused k) r = r ≡ Turn.Fails k
+  LineTurn used z (line x zs at) r = StepTurn at (step P z (record { letter = x; numbers = zs })) r
 
 -- what the lines leave, by what they come to
 abbrev pub Ran : List ℤ → Course → Run → Type 0

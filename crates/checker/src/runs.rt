@@ -10,7 +10,7 @@ ghost use Rattle.drupe.specs.Lines.{lineAt};
 ghost use Rattle.derivation.specs.States.{State};
 ghost use Rattle.nogoods.specs.Store.{Holds};
 ghost use Rattle.checker.specs.Check.{course};
-ghost use Rattle.checker.specs.Held.{Program, Tracks, LineTurn, Ran};
+ghost use Rattle.checker.specs.Held.{Program, Tracks, turnOf, LineTurn, Ran};
 use crate::ProofRefusal;
 use crate::states::CheckingState;
 use crate::steps;
@@ -31,6 +31,16 @@ pub enum Run {
     Through { steps: usize, used: usize },
 }
 
+// What a step comes to, with the position after its line.
+fn turn_of(next: usize, stepped: Stepped) -> Turn
+    ensures { λ r. ⌜ r ≡ turnOf next stepped ⌝ }
+{
+    match stepped {
+        Stepped::Uses(used) => Turn::Goes { next, used },
+        Stepped::Fails(number) => Turn::Fails(number),
+    }
+}
+
 // The line at the position, and its step.
 fn turn_at(
     proof: &[u8],
@@ -47,7 +57,7 @@ fn turn_at(
     requires { ⌜ ((live : List (List ℤ)) × Holds (now store) used live) ⌝ }
     ensures { λ r. ⌜ ((z : State) → Tracks (rulesAt rules (now (table .entry))) (now (known .entry)) (now (names .entry)) (z .introduced) (z .named)
         → Holds (now (store .entry)) used (z .live)
-        → LineTurn (rulesAt rules (now (table .entry))) (now (known .exit)) (now (names .exit)) (now (store .exit)) z (lineAt (now (proof .entry)) at) r) ⌝ }
+        → LineTurn (rulesAt rules (now (table .entry))) (now (known .exit)) (now (names .exit)) (now (store .exit)) used z (lineAt (now (proof .entry)) at) r) ⌝ }
 {
     let reading = reader::step_at(proof, at);
     let answer = reading.answer;
@@ -71,10 +81,7 @@ fn turn_at(
                 store,
                 used,
             );
-            match stepped {
-                Stepped::Uses(n) => Turn::Goes { next, used: n },
-                Stepped::Fails(number) => Turn::Fails(number),
-            }
+            turn_of(next, stepped)
         }
     }
 }

@@ -13,8 +13,8 @@ use lib.Seq.{sets-eq, take-append-le}
 use borrow.Author.Tests.{le-ltb, lt-ltb, ltb-false, eq-eqb, ne-eqb}
 use Rattle.words.specs.Limits.{longest}
 use Rattle.words.specs.Lists.{all}
-use Rattle.words.specs.Literals.{noneTwice, same}
-use Rattle.words.proofs.Lists.{if-true, and-right}
+use Rattle.words.specs.Literals.{noneTwice, same, has}
+use Rattle.words.proofs.Lists.{if-true, failed, not-decides, and-left, and-right}
 use Rattle.words.proofs.Literals.{same-decides}
 use Rattle.text.specs.Bytes.{classOf}
 use Rattle.text.specs.Line.{Line, broken, numbers, lineOf, outside, anyOutside, isClosed}
@@ -66,6 +66,16 @@ outside-before (z ∷ []) e = rw (if-true (same-decides z (pos 0)) e)
 outside-before (z ∷ y ∷ zs) e =
     let h : suc (suc (length zs)) - 1 ≡ suc (suc (length zs) - 1) = omega arith in
     rw h (ap (λ (t : Bool). outside z || t) (outside-before (y ∷ zs) (and-right (not (same z (pos 0))) (isClosed (y ∷ zs)) e)))
+
+-- none of them is 0
+zero-before : (zs : List ℤ) → isClosed zs ≡ true → has (pos 0) (take (length zs - 1) zs) ≡ false
+zero-before [] e = refl
+zero-before (z ∷ []) e = refl
+zero-before (z ∷ y ∷ zs) e =
+    let h : suc (suc (length zs)) - 1 ≡ suc (suc (length zs) - 1) = omega arith in
+    let f = if-true (not-decides (same-decides z (pos 0))) (and-left (not (same z (pos 0))) (isClosed (y ∷ zs)) e) in
+    let g : same (pos 0) z ≡ false = failed _ (not-decides (same-decides (pos 0) z) .from (λ p. f (sym p))) in
+    rw (h, g) (zero-before (y ∷ zs) (and-right (not (same z (pos 0))) (isClosed (y ∷ zs)) e))
 
 -- a row of m zeros that holds the whole line keeps the numbers themselves
 pub row-before : (m : ℕ) {s : List ℕ} {after : List ℤ} {count next : ℕ} {out closed : Bool} (f : Numbered s (replicate m (pos 0)) after count next out closed)
@@ -119,22 +129,22 @@ module _ (s : List ℕ) (at : ℕ) where
 
 -- An answered line
 
--- it ends past the position, within a text of n bytes, and its numbers pass questions 23 to 25
+-- it ends past the position, within a text of n bytes, and its numbers pass questions 22 to 25
 abbrev pub Passed : ℕ → ℕ → LineAt → Type 0
 Passed at n end = Unit {0}
 Passed at n (refused k) = Unit {0}
-Passed at n (line x zs next) = (at < next) × (next ≤ n) × (lineRefusal x zs ≡ none)
+Passed at n (line x zs next) = (at < next) × (next ≤ n) × (lineRefusal x zs ≡ none) × (has (pos 0) zs ≡ false)
 
 module _ (at n : ℕ) where
-  asked-passed : (x : Letter) (zs : List ℤ) (next : ℕ) → at < next → next ≤ n → Passed at n (asked x zs next)
-  asked-passed x zs next h l = by (lineRefusal x zs) refl
+  asked-passed : (x : Letter) (zs : List ℤ) (next : ℕ) → at < next → next ≤ n → has (pos 0) zs ≡ false → Passed at n (asked x zs next)
+  asked-passed x zs next h l f = by (lineRefusal x zs) refl
     where
       by : (o : Option ℕ) → lineRefusal x zs ≡ o → Passed at n (refusedOr o (line x zs next))
-      by none e = (h, l, e)
+      by none e = (h, l, e, f)
       by (some k) e = tt
 
-  cond-passed : (t : Bool) (l : LineAt) → Passed at n l → Passed at n (cond t l (refused 22))
-  cond-passed true l p = p
+  cond-passed : (t : Bool) (l : LineAt) → (t ≡ true → Passed at n l) → Passed at n (cond t l (refused 22))
+  cond-passed true l p = p refl
   cond-passed false l p = tt
 
   numbers-passed : (x : Letter) (from : ℕ) (s : List ℕ) → at < from → from + length s ≤ n → Passed at n (ofNumbers x from (lineOf s))
@@ -144,11 +154,11 @@ module _ (at n : ℕ) where
       by broken e = tt
       by (numbers zs k) e =
           let b = bounds-of s zs k e in
-          cond-passed (isClosed zs) _ (asked-passed x (take (length zs - 1) zs) (from + k) (omega arith) (omega arith))
+          cond-passed (isClosed zs) _ (λ q. asked-passed x (take (length zs - 1) zs) (from + k) (omega arith) (omega arith) (zero-before zs q))
 
   letter-passed : (x : Letter) (from : ℕ) (s : List ℕ) → at < from → from + length s ≤ n → Passed at n (afterLetter x from s)
   letter-passed x from [] h l = tt
-  letter-passed x from (b ∷ s) h l = cond-passed (isSpace (classOf b)) _ (numbers-passed x (from + 1) s (omega arith) (omega arith))
+  letter-passed x from (b ∷ s) h l = cond-passed (isSpace (classOf b)) _ (λ q. numbers-passed x (from + 1) s (omega arith) (omega arith))
 
   first-passed : (k : Class) (from : ℕ) (s : List ℕ) → at < from → from + length s ≤ n → Passed at n (afterFirst k from s)
   first-passed (Step x) from s h l = letter-passed x from s h l
@@ -171,7 +181,8 @@ passed s at = by (ltb longest (length s)) (eqb at (length s))
     by false true = tt
     by false false = line-passed at (length s) (drop at s) (length-drop at s)
 
-pub passed-line : (s : List ℕ) (at : ℕ) {x : Letter} {zs : List ℤ} {next : ℕ} → lineAt s at ≡ line x zs next → (at < next) × (next ≤ length s) × (lineRefusal x zs ≡ none)
+pub passed-line : (s : List ℕ) (at : ℕ) {x : Letter} {zs : List ℤ} {next : ℕ} → lineAt s at ≡ line x zs next
+    → (at < next) × (next ≤ length s) × (lineRefusal x zs ≡ none) × (has (pos 0) zs ≡ false)
 passed-line s at e = subst (Passed at (length s)) e (passed s at)
 
 -- no more numbers than the array has

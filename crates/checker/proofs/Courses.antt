@@ -1,0 +1,119 @@
+-- The loop over the proof's lines: where it stands, and how it ends or goes on.
+-- Assumes nothing.
+use mathlib.Core.Path.{_≡_, refl, sym, _∙_, ap, subst}
+use mathlib.Core.List.{List, []}
+use Prim.Native.Nat.{ℕ, zero, suc, _+_, _-_, _≤_, _<_}
+use native.Mathlib.Omega.{arith}
+use lib.IntN.{ℤ, pos}
+use lib.ListN.{length, replicate}
+use Rattle.words.specs.Limits.{longest}
+use Rattle.aspif.specs.Rules.{Rule}
+use Rattle.aspif.specs.Reading.{mostRules}
+use Rattle.drupe.specs.Lines.{LineAt, end, line, lineAt}
+use Rattle.drupe.specs.Lines as Lines
+use Rattle.drupe.proofs.Lines.{passed-line}
+use Rattle.derivation.specs.States.{State, start}
+use Rattle.derivation.specs.Steps.{Outcome, refused, next, step}
+use Rattle.nogoods.specs.Store.{Holds}
+use Rattle.checker.specs.Check.{Course, stopped, through, course}
+use Rattle.checker.specs.Claims.{Runs, ends, unread, unaccepted, full, good}
+use Rattle.checker.specs.Held.{Tracks, StepTurn, LineTurn, Ran}
+use Rattle.checker.specs.declared.runs.Turn.{Turn}
+use Rattle.checker.specs.declared.runs.Turn.the-variants as Turn
+use Rattle.checker.specs.declared.runs.Run.the-variants as Run
+use Rattle.checker.proofs.Whole.{step-by-step}
+
+apart : _≡_ {A = ℕ} 0 1 → ⊥
+apart e = omega arith
+
+-- an empty store
+pub holds-none : (store : List ℤ) → store ≡ replicate (length store) (pos 0) → Holds store 0 []
+holds-none store e =
+    let n : length store - 0 ≡ length store = omega arith in
+    record { words = rw n e; extent = refl; fits = omega arith; literals = λ g i. elim i [ ] }
+
+module _ (P : List Rule) (size : ℕ) (text : List ℕ) where
+  -- After so many steps the loop stands at a position, and the arrays and the store hold a state from which the lines come to what
+  -- they come to from the start.
+  pub record Going (store : List ℤ) (known names : List ℕ) (used at steps : ℕ) : Type 0 where
+    pub z : State
+    pub tracks : Tracks P known names (z .introduced) (z .named)
+    pub holds : Holds store used (z .live)
+    pub onward : (c : Course) → Runs P size text at steps z c → Runs P size text 0 0 start c
+    pub within : at ≤ length text
+    pub count : steps ≤ at
+    pub long : length store ≡ size
+    pub places : length names ≡ mostRules
+
+  pub going-start : {store : List ℤ} {known names : List ℕ} → Tracks P known names [] [] → store ≡ replicate (length store) (pos 0) → length store ≡ size
+      → length names ≡ mostRules → Going store known names 0 0 0
+  going-start {store} T e l p =
+      record { z = start; tracks = T; holds = holds-none store e; onward = λ c r. r; within = omega arith; count = omega arith; long = l; places = p }
+
+  module _ (short : length text ≤ longest) {store : List ℤ} {known names : List ℕ} {used at steps : ℕ} (G : Going store known names used at steps) where
+    comes : (c : Course) → Runs P size text at steps (G .z) c → course P size text ≡ c
+    comes c r = step-by-step P size text c short .1 (G .onward c r)
+
+    module _ (after : List ℤ) (known′ names′ : List ℕ) (same : length after ≡ length store) (same′ : length names′ ≡ length names) where
+      -- what the turn at the position leaves
+      abbrev Turned : LineAt → Turn → Type 0
+      Turned = LineTurn P known′ names′ after used (G .z)
+
+      pub going-ends : {r : Turn} → r ≡ Turn.Ends → Turned (lineAt text at) r → Ran after (course P size text) (Run.Through steps used)
+      going-ends e t = by (lineAt text at) refl (subst (Turned (lineAt text at)) e t)
+        where
+          outcome : (n : ℕ) (o : Outcome) → StepTurn P known′ names′ after n o Turn.Ends → ⊥
+          outcome n (refused k) e = apart (cc)
+          outcome n (next z) l = l .0
+
+          by : (l : LineAt) → lineAt text at ≡ l → Turned l Turn.Ends → Ran after (course P size text) (Run.Through steps used)
+          by end q t = rw (comes _ (ends q)) (used, refl, t .1)
+          by (Lines.refused k) q t = absurd (apart (cc))
+          by (line x zs n) q t = absurd (outcome n (step P (G .z) (record { letter = x; numbers = zs })) t)
+
+      pub going-fails : {r : Turn} (k : ℕ) → r ≡ Turn.Fails k → Turned (lineAt text at) r → Ran after (course P size text) (Run.Stopped (record { number = k; step = steps + 1 }))
+      going-fails k e t = by (lineAt text at) refl (subst (Turned (lineAt text at)) e t)
+        where
+          stops : (j : ℕ) → Turn.Fails k ≡ Turn.Fails j → course P size text ≡ stopped j (steps + 1)
+              → Ran after (course P size text) (Run.Stopped (record { number = k; step = steps + 1 }))
+          stops j e q = let p : k ≡ j = cc in rw (q, p)
+
+          by : (l : LineAt) → lineAt text at ≡ l → Turned l (Turn.Fails k) → Ran after (course P size text) (Run.Stopped (record { number = k; step = steps + 1 }))
+          by end q t = absurd (apart (cc))
+          by (Lines.refused j) q t = stops j t (comes _ (unread q))
+          by (line x zs n) q t = outcome (step P (G .z) (record { letter = x; numbers = zs })) refl t
+            where
+              outcome : (o : Outcome) → step P (G .z) (record { letter = x; numbers = zs }) ≡ o → StepTurn P known′ names′ after n o (Turn.Fails k)
+                  → Ran after (course P size text) (Run.Stopped (record { number = k; step = steps + 1 }))
+              outcome (refused j) s t = stops j t (comes _ (unaccepted q s))
+              outcome (next z) s t = rw (t .0 .0, comes _ (full q s (omega (arith, t .0 .1, same, G .long))))
+
+      pub going-on : {r : Turn} (n m : ℕ) → r ≡ Turn.Goes n m → Turned (lineAt text at) r → Going after known′ names′ m n (steps + 1) × (at < n)
+      going-on n m e t = by (lineAt text at) refl (subst (Turned (lineAt text at)) e t)
+        where
+          by : (l : LineAt) → lineAt text at ≡ l → Turned l (Turn.Goes n m) → Going after known′ names′ m n (steps + 1) × (at < n)
+          by end q t = absurd (apart (cc))
+          by (Lines.refused j) q t = absurd (apart (cc))
+          by (line x zs k) q t = outcome (step P (G .z) (record { letter = x; numbers = zs })) refl t
+            where
+              outcome : (o : Outcome) → step P (G .z) (record { letter = x; numbers = zs }) ≡ o → StepTurn P known′ names′ after k o (Turn.Goes n m)
+                  → Going after known′ names′ m n (steps + 1) × (at < n)
+              outcome (refused j) s t = absurd (apart (cc))
+              outcome (next z) s t =
+                  let u = passed-line text at q in
+                  let e = t .0 .0 in
+                  let H = t .0 .1 in
+                  let l : length after ≡ size = same ∙ G .long in
+                  let f : n ≡ k = e in (
+                    record {
+                      z = z;
+                      tracks = t .1;
+                      holds = H;
+                      onward = λ c r. G .onward c (good q s (omega (arith, H .extent, H .fits, l)) (rw e at r));
+                      within = omega (arith, u .1, e);
+                      count = omega (arith, u .0, e, G .count);
+                      long = l;
+                      places = same′ ∙ G .places;
+                    },
+                    omega (arith, u .0, e),
+                  )

@@ -1,0 +1,125 @@
+-- What the whole check leaves, from what its parts leave.
+-- Assumes nothing.
+use mathlib.Core.Path.{_≡_, refl, sym, _∙_, ap, ap₂}
+use mathlib.Core.Bool.{Bool, true, false, cond}
+use mathlib.Core.List.{List}
+use Prim.Native.Nat.{ℕ, _≤_, _<_}
+use native.Mathlib.Omega.{arith}
+use borrow.Author.Tests.{lt-ltb}
+use lib.Dec.{leb}
+use lib.IntN.{ℤ, pos}
+use lib.ListN.{length, replicate, length-replicate}
+use Rattle.words.specs.Limits.{longest}
+use Rattle.words.specs.Lists.{any}
+use Rattle.aspif.specs.Rules.{Rule, isEmpty, atoms, tableWords}
+use Rattle.aspif.specs.Reading.{Reading, program, readText, readLines, answerOf, tableOf}
+use Rattle.aspif.specs.Reading as Reading
+use Rattle.aspif.specs.declared.ProgramReading.{ProgramReading}
+use Rattle.aspif.specs.declared.ProgramReading.the-variants.{Read, Refused}
+use Rattle.aspif.specs.declared.ProgramRefusal.{ProgramRefusal}
+use Rattle.answer_set.specs.SetTest.{rulesAt}
+use Rattle.answer_set.proofs.Fronts.{few-rules, sound-rules}
+use Rattle.answer_set.proofs.Tested.{atoms-small}
+use Rattle.answer_set.proofs.Answered.{rules-of}
+use Rattle.answer_set.proofs.Readable.{table-read}
+use Rattle.derivation.specs.States.{State}
+use Rattle.nogoods.specs.Store.{storeWords, Holds}
+use Rattle.checker.specs.Check.{Course, stopped, through, course, Checked, saying, judged, judgedReading, check}
+use Rattle.checker.specs.Held.{Program, Ran}
+use Rattle.checker.specs.declared.ProofRefusal.{ProofRefusal}
+use Rattle.checker.specs.declared.Verdict.{Verdict}
+use Rattle.checker.specs.declared.Verdict.the-variants.{RefusedProgram, RefusedProof}
+use Rattle.checker.specs.declared.runs.Run.{Run}
+use Rattle.checker.specs.declared.runs.Run.the-variants.{Stopped, Through}
+
+apart : _≡_ {A = ℕ} 0 1 → ⊥
+apart e = omega arith
+
+-- The proof's lines
+
+pub too-long : (P : List Rule) (size : ℕ) (text : List ℕ) → longest < length text → course P size text ≡ stopped 21 0
+too-long P size text h = rw (lt-ltb longest (length text) h)
+
+module _ (store : List ℤ) where
+  pub ran-stopped : (o : Course) {r : Run} (x : ProofRefusal) → Ran store o r → r ≡ Stopped x → o ≡ stopped (x .number) (x .step)
+  ran-stopped (stopped k n) x l e = let p : x ≡ record { number = k; step = n } = cc in rw p
+  ran-stopped (through n z) x l e = let q = l .1 in absurd (apart (cc))
+
+  pub ran-through : (o : Course) {r : Run} (n used : ℕ) → Ran store o r → r ≡ Through n used → (z : State) × (o ≡ through n z) × Holds store used (z .live)
+  ran-through (stopped k m) n used l e = absurd (apart (cc))
+  ran-through (through m z) n used l e =
+      let q = l .1 in
+      let a : m ≡ n = cc in
+      let b : l .0 ≡ used = cc in
+      (z, ap (λ i. through i z) a, rw b at (l .2))
+
+-- The verdict on a proof
+
+module _ (t s : ℕ) (P : List Rule) (o : Course) {v : Verdict} {table store : List ℤ} where
+  pub judged-stopped : (x : ProofRefusal) → o ≡ stopped (x .number) (x .step) → v ≡ RefusedProof x → table ≡ replicate t (pos 0) → store ≡ replicate s (pos 0)
+      → record { verdict = v; table = table; store = store } ≡ judged t s P o
+  judged-stopped x p q a b = rw (p, q, a, b)
+
+  pub judged-through : (n used N R : ℕ) (z : State) → o ≡ through n z
+      → v ≡ saying (any isEmpty (z .live)) (record { atoms = N; rules = R; steps = n; nogoods = length (z .live) })
+      → N ≡ atoms P → R ≡ length P → table ≡ tableWords t P → Holds store used (z .live) → length store ≡ s
+      → record { verdict = v; table = table; store = store } ≡ judged t s P o
+  judged-through n used N R z p q a b c H l = let w : store ≡ storeWords s (z .live) = rw l at (H .words) in rw (p, q, a, b, c, w)
+
+-- with the lengths that the caller knows
+pub judged-lengths : (P : List Rule) (proof : List ℕ) {t t′ s s′ : ℕ} → t ≡ t′ → s ≡ s′ → judged t s P (course P s proof) ≡ judged t′ s′ P (course P s′ proof)
+judged-lengths P proof a b = ap₂ (λ t s. judged t s P (course P s proof)) a b
+
+-- words that are all 0
+pub zeros : (store : List ℤ) (n : ℕ) → store ≡ replicate n (pos 0) → store ≡ replicate (length store) (pos 0)
+zeros store n e = e ∙ ap (λ (k : ℕ). replicate k (pos 0)) (sym (ap length e ∙ length-replicate n (pos 0)))
+
+-- The program
+
+lines-read : (t : ℕ) (text : List ℕ) (P : List Rule) → readText t text ≡ program P → readLines t text ≡ program P
+unfolding readText
+lines-read t text P e = by (leb (length text) longest) e
+  where
+    by : (b : Bool) → cond b (readLines t text) (Reading.refused 1 0) ≡ program P → readLines t text ≡ program P
+    by true e = e
+    by false e = absurd (apart (cc))
+
+module _ (t s : ℕ) (text proof : List ℕ) {r : ProgramReading} (answer : r ≡ answerOf (readText t text)) {table : List ℤ} (words : table ≡ tableOf t (readText t text)) where
+  pub program-refused : (x : ProgramRefusal) {store : List ℤ} → r ≡ Refused x → store ≡ replicate s (pos 0)
+      → record { verdict = RefusedProgram x; table = table; store = store } ≡ check text proof t s
+  unfolding check
+  program-refused x {store} e z = by (readText t text) (sym answer ∙ e) words
+    where
+      by : (d : Reading) → answerOf d ≡ Refused x → table ≡ tableOf t d
+          → record { verdict = RefusedProgram x; table = table; store = store } ≡ judgedReading t s proof d
+      by (Reading.refused k n) e w = let p : x ≡ record { number = k; line = n } = cc in rw (p, w, z)
+      by (program P) e w = absurd (apart (cc))
+
+  -- a program that was read, and what the table then holds
+  pub record ReadProgram (N R : ℕ) : Type 0 where
+    pub P : List Rule
+    pub read : readText t text ≡ program P
+    pub top : N ≡ atoms P
+    pub count : length P ≡ R
+    pub rules : table ≡ tableWords t P
+
+  pub program-read : (N R : ℕ) → r ≡ Read N R → ReadProgram N R
+  program-read N R e = by (readText t text) refl (sym answer ∙ e) words
+    where
+      by : (d : Reading) → readText t text ≡ d → answerOf d ≡ Read N R → table ≡ tableOf t d → ReadProgram N R
+      by (Reading.refused k n) q e w = absurd (apart (cc))
+      by (program P) q e w = record { P = P; read = q; top = cc; count = cc; rules = w }
+
+  pub check-read : {N R : ℕ} (p : ReadProgram N R) → check text proof t s ≡ judged t s (p .P) (course (p .P) s proof)
+  unfolding check
+  check-read p = rw (p .read)
+
+  -- the rules can be found in the table again
+  pub held : {N R : ℕ} (p : ReadProgram N R) → length table ≡ t → Program table R N × (rulesAt R table ≡ p .P) × (table ≡ tableWords (length table) (p .P))
+  held {N} {R} p long =
+      let w : table ≡ tableWords (length table) (p .P) = rw long (p .rules) in
+      let a = table-read table R (p .P) .1 (record { text = text; read = rw long (lines-read t text (p .P) (p .read)); count = p .count; words = w }) in
+      let u = rules-of table R (p .P) a in
+      let n = sound-rules table R (u .0) in
+      let m : N ≡ atoms (rulesAt R table) = p .top ∙ ap atoms (sym (u .1)) in
+      (record { sound = n; few = few-rules table R (u .0); top = m; high = omega (arith, atoms-small R table n, m) }, u .1, w)

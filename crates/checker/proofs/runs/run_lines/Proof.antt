@@ -1,0 +1,117 @@
+use mathlib.Core.Path.{refl}
+use mathlib.Core.List.{List}
+use Prim.Native.Nat.{ℕ, _+_, _-_, _<_}
+use native.Mathlib.Omega.{arith}
+use lib.IntN.{ℤ}
+use lib.ListN.{length, length-replicate}
+use Rattle.aspif.specs.Rules.{Rule}
+use Rattle.aspif.specs.Reading.{mostRules}
+use Rattle.answer_set.specs.SetTest.{rulesAt}
+use Rattle.answer_set.proofs.Readable.{rules-count}
+use Rattle.drupe.specs.Lines.{lineAt}
+use Rattle.checker.specs.Held.{LineTurn}
+use Rattle.checker.proofs.Tracking.{start-tracks}
+use Rattle.checker.proofs.Courses.{Going, going-start, going-ends, going-fails, going-on}
+use borrow.Author.Needs.{needs}
+use Rattle.checker.proofs.runs.run_lines.Statement.{statement}
+use Rattle.checker.proofs.runs.run_lines.Tie as tie
+
+abbrev Inv-loop : tie.InvT-loop
+Inv-loop proof table rules atoms store₀ known₀ names₀ used₀ at₀ steps₀ store known names used at steps =
+    Going (rulesAt rules table) (length store₀) proof store known names used at steps
+
+abbrev μ-loop : tie.MeasureT-loop
+μ-loop proof table rules atoms store₀ known₀ names₀ used₀ at₀ steps₀ store known names used at steps = length proof - at
+
+-- where the loop stands, and what the turn there left
+module _ (c : tie.After-turn-at Inv-loop μ-loop) where
+  abbrev start : tie.Start Inv-loop μ-loop
+  start = c .before .before .before .before .before .before .before .before .before
+
+  abbrev P : List Rule
+  P = rulesAt (start .args .rules) (start .args .table .now)
+
+  abbrev store′ : List ℤ
+  store′ = c .turn-at .last .1 .1 .1 .1 .1 .1 .1 .0
+
+  abbrev known′ : List ℕ
+  known′ = c .turn-at .last .1 .1 .1 .1 .1 .0
+
+  abbrev names′ : List ℕ
+  names′ = c .turn-at .last .1 .1 .1 .1 .1 .1 .0
+
+  G : Going P (length (start .args .store .now)) (start .args .proof .now) (c .before .before .before .before .loop .store) (c .before .before .before .before .loop .known) (c .before .before .before .before .loop .names) (c .before .before .before .before .loop .used) (c .before .before .before .before .loop .at) (c .before .before .before .before .loop .steps)
+  G = c .before .before .before .before .loop .inv
+
+  turned : LineTurn P known′ names′ store′ (c .before .before .before .before .loop .used) (G .z) (lineAt (start .args .proof .now) (c .before .before .before .before .loop .at)) (c .turn-at .result)
+  turned = c .turn-at .ensures (G .z) (G .tracks) (G .holds)
+
+start-requires : tie.Need-start-requires Inv-loop μ-loop
+start-requires c κs = c .before .pre .0 .high
+
+loop-holds : tie.Need-loop-holds Inv-loop μ-loop
+loop-holds c =
+    let s = c .before .before .start .ensures in
+    let p = c .before .before .before .before .pre in
+    let a = c .before .before .before .before .args in
+    let n = rules-count (a .rules) (a .table .now) in
+    rw (s .1, s .2) (going-start _ _ _ (start-tracks (rw (← p .0 .top) (s .0)) (omega (arith, p .0 .few, n))) (p .1 .1) refl (length-replicate {A = ℕ} mostRules 0))
+
+slice-aggregate-turn-at-2 : tie.Need-slice-aggregate-turn-at-2 Inv-loop μ-loop
+slice-aggregate-turn-at-2 c = let p = c .before .before .loop .inv .places in search needs
+
+turn-at-requires : tie.Need-turn-at-requires Inv-loop μ-loop
+turn-at-requires c κs =
+    let l = c .before .before .before .loop in
+    let p = c .before .before .before .before .before .before .before .before .pre .0 in
+    ((p, omega (arith, p .few, l .inv .places)), (l .inv .z .live, l .inv .holds))
+
+enum-told : tie.Need-enum-told Inv-loop μ-loop
+enum-told c = search needs
+
+returns : tie.Need-returns Inv-loop μ-loop
+returns c =
+    let t = c .before .before .before .before .before in
+    going-ends _ _ _ (start t .pre .1 .0) (G t) (store′ t) (known′ t) (names′ t) (search needs) (search needs) (c .enum-told .given .1) (turned t)
+
+returns-2 : tie.Need-returns-2 Inv-loop μ-loop
+returns-2 c =
+    let t = c .before .before .before .before .before .before in
+    going-fails _ _ _ (start t .pre .1 .0) (G t) (store′ t) (known′ t) (names′ t) (search needs) (search needs) _ (c .before .turned .given .1) (turned t)
+
+onward : (c : tie.After-known-told2 Inv-loop μ-loop)
+    → (let t = c .before .before .before .before .before .before in let g = c .before .turned2 .given .0 in
+    Going (P t) (length (start t .args .store .now)) (start t .args .proof .now) (store′ t) (known′ t) (names′ t) (g .1 .0) (g .0) (t .before .before .before .before .loop .steps + 1)
+    × (t .before .before .before .before .loop .at < g .0))
+onward c =
+    let t = c .before .before .before .before .before .before in
+    going-on _ _ _ (start t .pre .1 .0) (G t) (store′ t) (known′ t) (names′ t) (search needs) (search needs) _ _ (c .before .turned2 .given .1) (turned t)
+
+loop-less : tie.Need-loop-less Inv-loop μ-loop
+loop-less c = let o = onward c in omega (arith, o .0 .within, o .1)
+
+loop-again : tie.Need-loop-again Inv-loop μ-loop
+loop-again c = onward c .0
+
+pub run-lines-spec : {M : Type 1} → statement M
+run-lines-spec =
+    tie.close
+    (tie.spec
+    Inv-loop
+    μ-loop
+    start-requires
+    loop-holds
+    (λ c. search needs)
+    slice-aggregate-turn-at-2
+    turn-at-requires
+    enum-told
+    (λ c. search needs)
+    returns
+    (λ c. search needs)
+    (λ c. search needs)
+    (λ c. search needs)
+    returns-2
+    (λ c. search needs)
+    (λ c. search needs)
+    loop-less
+    loop-again)

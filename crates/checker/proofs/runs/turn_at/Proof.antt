@@ -1,0 +1,76 @@
+use mathlib.Core.Path.{_≡_, refl, sym}
+use mathlib.Core.Bool.{false}
+use mathlib.Core.Option.{none}
+use lib.IntN.{pos}
+use lib.ListN.{take}
+use lib.Seq.{length-take-le}
+use Rattle.words.specs.Literals.{has}
+use Rattle.answer_set.specs.SetTest.{rulesAt}
+use Rattle.derivation.specs.Steps.{byLetter}
+use Rattle.drupe.specs.Lines.{lineRefusal, line, lineAt}
+use Rattle.drupe.proofs.Lines.{passed-line}
+use Rattle.checker.proofs.Turns.{good-line, step-is, read-end, read-refused, read-line, read-count, left-turn}
+use borrow.Author.Needs.{needs}
+use Rattle.checker.proofs.runs.turn_at.Statement.{statement}
+use Rattle.checker.proofs.runs.turn_at.Tie as tie
+
+-- the reading, and the line that was read
+module _ (c : tie.After-answer2) where
+  abbrev b : tie.After-step-at
+  b = c .before .before .before
+
+  there : (let g = c .answer2 .given .0 in let a = b .before .before .before .before .args in
+      lineAt (a .proof .now) (a .at) ≡ line (g .0) (take (g .1 .0) (b .step-at .result .numbers)) (g .1 .1 .0))
+  there = read-line (b .step-at .ensures) _ _ _ (c .answer2 .given .1)
+
+  good : (let g = c .answer2 .given .0 in let zs = take (g .1 .0) (b .step-at .result .numbers) in (lineRefusal (g .0) zs ≡ none) × (has (pos 0) zs ≡ false))
+  good = let a = b .before .before .before .before .args in let u = passed-line (a .proof .now) (a .at) there in (u .2, u .3)
+
+array-borrow-prefix-numbers : tie.Need-array-borrow-prefix-numbers
+array-borrow-prefix-numbers c = let d = c .before in read-count (b d .step-at .ensures) _ _ _ (d .answer2 .given .1)
+
+slice-aggregate-step : tie.Need-slice-aggregate-step
+slice-aggregate-step c = let d = c .before .before in sym (length-take-le _ _ (read-count (b d .step-at .ensures) _ _ _ (d .answer2 .given .1)))
+
+step-requires : tie.Need-step-requires
+step-requires c κs =
+    let d = c .before .before .before .before .before in
+    let s = d .before .before .before .before .before .before .before in
+    (s .pre .0, (s .pre .1, good-line _ _ (good d .0) (good d .1)))
+
+returns : tie.Need-returns
+returns c = λ z T H. rw (read-end (c .before .before .before .step-at .ensures) (c .enum-told .given .1)) (refl, H)
+
+returns-2 : tie.Need-returns-2
+returns-2 c = λ z T H. rw (read-refused (c .before .before .before .before .step-at .ensures) _ (c .before .answer .given .1)) refl
+
+returns-3 : tie.Need-returns-3
+returns-3 c = λ z T H.
+    let t = c .before .before .before .before .before .before .before .step in
+    let d = c .before .before .before .before .before .before .before .before .before .before .before .before .before in
+    let a = d .before .before .before .before .before .before .before .args in
+    let P = rulesAt (a .rules) (a .table .now) in
+    let g = d .answer2 .given .0 in
+    let zs = take (g .1 .0) (b d .step-at .result .numbers) in
+    let k = t .last .1 .1 .1 .1 .1 in
+    rw (there d, step-is (g .0) zs (good d .0) (good d .1) P z, c .turn-of .ensures)
+    (left-turn P (k .0) (k .1 .0) (k .1 .1 .0) (g .1 .1 .0) (byLetter P z (g .0) zs) (t .result) (t .ensures z T H))
+
+pub turn-at-spec : {M : Type 1} → statement M
+turn-at-spec =
+    tie.close
+    (tie.spec
+    (λ c κs. search needs)
+    (λ c. search needs)
+    (λ c. search needs)
+    (λ c. search needs)
+    array-borrow-prefix-numbers
+    slice-aggregate-step
+    step-requires
+    (λ c κs. search needs)
+    returns
+    returns-2
+    (λ c. search needs)
+    (λ c. search needs)
+    (λ c. search needs)
+    returns-3)
