@@ -1,4 +1,6 @@
 // The whole check over two texts: document 01, from 'The proof's seven letters' on. What it means is specs/Check.antt.
+pub mod report;
+
 use aspif::ProgramRefusal;
 
 // The question that a proof fails, and the step, counted from 1; 0 where the whole text is at fault.
