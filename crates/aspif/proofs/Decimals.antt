@@ -14,18 +14,14 @@ use lib.IntN.{ℤ, pos, negsuc}
 use lib.ListN.{length, length-append, length-map}
 use Rattle.words.specs.Lists.{_∈_}
 use Rattle.text.specs.Bytes.{classOf}
+use Rattle.text.specs.Decimals.{decimals, digitsOf, digitByte, decimal}
 use Rattle.text.specs.Line.{digits, natural, nonNegative, negative, number, numbersOf, Words, unended, words, joined, cut, span, numbers, ofWords, lineOf}
 use Rattle.text.specs.declared.Class.{Class}
 use Rattle.text.specs.declared.Class.the-variants.{Newline, Space, Minus, Digit, Step, Other}
 
 -- Digits
 
--- the decimal digits of m before those given, with room for as many turns
-decimals : ℕ → ℕ → List ℕ → List ℕ
-decimals zero m ds = m ∷ ds
-decimals (suc turns) m ds = cond (ltb m 10) (m ∷ ds) (decimals turns (m / 10) (m % 10 ∷ ds))
-
-tenth : (m : ℕ) → 10 ≤ m → (0 < m / 10) × (m / 10 < m)
+pub tenth : (m : ℕ) → 10 ≤ m → (0 < m / 10) × (m / 10 < m)
 tenth m h = let e = div-add-mod' m 10 in let l = mod-lt m {m = 10} (omega arith) in (omega arith, omega arith)
 
 natural-digits : (turns m : ℕ) (ds : List ℕ) → 0 < m → m ≤ turns → natural (map Digit (decimals turns m ds)) ≡ digits m (map Digit ds)
@@ -63,40 +59,36 @@ small-digits (suc turns) m ds h s =
     by true e f = one-more (ltb-true m 10 e) s
     by false e f = f (let t = tenth m (ltb-false m 10 e) in omega arith)
 
--- the digits of a number
-digitsOf : ℕ → List ℕ
-digitsOf zero = 0 ∷ []
-digitsOf (suc m) = decimals (suc m) (suc m) []
-
 digits-read : (m : ℕ) → natural (map Digit (digitsOf m)) ≡ some m
-unfolding digitsOf
+unfolding decimals
 digits-read zero = refl
 digits-read (suc m) = natural-digits (suc m) (suc m) [] (omega arith) (omega arith)
 
 digits-small : (m : ℕ) → Small (digitsOf m)
-unfolding digitsOf
+unfolding decimals
 digits-small zero = one-more (omega arith) (λ d i. elim i [ ])
 digits-small (suc m) = small-digits (suc m) (suc m) [] (omega arith) (λ d i. elim i [ ])
 
 -- Bytes
 
--- the byte of a digit
-abbrev byteOf : ℕ → ℕ
-byteOf d = 48 + d
-
-class-digit : (d : ℕ) → d < 10 → classOf (byteOf d) ≡ Digit d
+class-digit : (d : ℕ) → d < 10 → classOf (digitByte d) ≡ Digit d
 class-digit d h =
     let e : 48 + d - 48 ≡ d = omega arith in
     rw (ne-eqb (48 + d) 10 (λ k. omega arith), ne-eqb (48 + d) 32 (λ k. omega arith), ne-eqb (48 + d) 45 (λ k. omega arith), le-leb 48 (48 + d) (omega arith), le-leb (48 + d) 57 (omega arith), e)
 
-class-digits : (ds : List ℕ) → Small ds → map classOf (map byteOf ds) ≡ map Digit ds
+class-digits : (ds : List ℕ) → Small ds → map classOf (map digitByte ds) ≡ map Digit ds
 class-digits [] s = refl
 class-digits (d ∷ ds) s = ap₂ (λ c w. c ∷ w) (class-digit d (s d (List·Memᴰ·head refl))) (class-digits ds (λ x i. s x (List·Memᴰ·tail i)))
 
--- a number as bytes; 45 is the minus
+-- what is written is a number "without leading zeros", and its value is m
+pub decimal-read : (m : ℕ) → natural (map classOf (decimal m)) ≡ some m
+unfolding decimal
+decimal-read m = rw (class-digits (digitsOf m) (digits-small m)) (digits-read m)
+
+-- a signed number as bytes; 45 is the minus
 pub numberBytes : ℤ → List ℕ
-numberBytes (pos m) = map byteOf (digitsOf m)
-numberBytes (negsuc m) = 45 ∷ map byteOf (digitsOf (suc m))
+numberBytes (pos m) = decimal m
+numberBytes (negsuc m) = 45 ∷ decimal (suc m)
 
 -- and as classes
 abbrev wordOf : ℤ → List Class
@@ -107,7 +99,7 @@ positive-read [] m e = absurd (Option·none-ne-some m e)
 positive-read (d ∷ ds) m e = ap nonNegative e
 
 number-read : (z : ℤ) → number (wordOf z) ≡ some z
-unfolding numberBytes
+unfolding numberBytes decimal
 number-read (pos m) = rw (class-digits (digitsOf m) (digits-small m)) (positive-read (digitsOf m) m (digits-read m))
 number-read (negsuc m) = rw (class-digits (digitsOf (suc m)) (digits-small (suc m))) (ap negative (digits-read (suc m)))
 
@@ -128,7 +120,7 @@ inner-digits [] = tt
 inner-digits (d ∷ ds) = inner-digits ds
 
 inner-number : (z : ℤ) → Inner (wordOf z)
-unfolding numberBytes
+unfolding numberBytes decimal
 inner-number (pos m) = rw (class-digits (digitsOf m) (digits-small m)) (inner-digits (digitsOf m))
 inner-number (negsuc m) = rw (class-digits (digitsOf (suc m)) (digits-small (suc m))) (inner-digits (digitsOf (suc m)))
 

@@ -1,4 +1,5 @@
--- What holds of the whole check: its course line by line, demand 3, and the starred examples.
+-- What holds of the whole check: its course line by line, demand 3, and the starred examples; and the laws of the line that says
+-- its verdict.
 pub mod Whole
 pub mod Examples
 pub mod Names
@@ -11,3 +12,4 @@ pub mod LoopSteps
 pub mod Turns
 pub mod Courses
 pub mod Verdicts
+pub mod Puts

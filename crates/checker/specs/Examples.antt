@@ -5,29 +5,18 @@ use mathlib.Core.Path.{_≡_}
 use mathlib.Core.Logic.{_⊎_}
 use mathlib.Core.List.{List, [], _∷_, _++_}
 use Prim.Native.Nat.{ℕ}
-use Prim.Native.Char.{code}
 use Prim.Native.String.{String}
-use Prim.Native.String as Text
 use lib.IntN.{ℤ, pos, negℤ}
 use lib.ListN.{replicate}
 use Rattle.aspif.specs.Rules.{Rule}
 use Rattle.aspif.specs.Reading.{program, readText}
 use Rattle.answer_set.specs.AnswerSets.{AnswerSet}
 use Rattle.checker.specs.Check.{check}
+use Rattle.checker.specs.Texts.{lines}
 use Rattle.checker.specs.declared.Verdict.{Verdict}
 use Rattle.checker.specs.declared.Verdict.the-variants.{Inconsistent, Open, RefusedProgram, RefusedProof}
 
 -- Texts
-
--- a text of ASCII characters as its bytes
-abbrev pub bytes : String → List ℕ
-bytes Text.[] = []
-bytes (Text._∷_ c s) = code c ∷ bytes s
-
--- "Lines end in a newline byte."
-abbrev pub lines : List String → List ℕ
-lines [] = []
-lines (l ∷ ls) = bytes l ++ (10 ∷ lines ls)
 
 -- the program text of some rule lines: "The first line is `asp 1 0 0`, the last is `0`."
 abbrev pub rules : List String → List ℕ

@@ -1,5 +1,6 @@
 // The whole check over two texts: document 01, from 'The proof's seven letters' on. The public service is `check_texts`; what it
-// means is specs/Check.antt.
+// means is specs/Check.antt. The line that says a verdict is written by `report`.
+pub mod report;
 mod runs;
 mod states;
 mod steps;

@@ -1,4 +1,5 @@
 -- What a byte, a number and a line are: one definition for the program reader and the proof-line reader.
 pub mod Bytes
+pub mod Decimals
 pub mod Line
 pub mod Scan

@@ -1,0 +1,34 @@
+-- The line that `verdict` prints: document 01, 'What `verdict` prints'.
+-- Assumes nothing.
+use mathlib.Core.Path.{_≡_}
+use mathlib.Core.List.{List, [], _∷_, _++_}
+use Prim.Native.Nat.{ℕ, _+_}
+use lib.ListN.{length}
+use lib.Seq.{sets}
+use Rattle.text.specs.Decimals.{decimal}
+use Rattle.checker.specs.Texts.{bytes}
+use Rattle.checker.specs.declared.Counts.{Counts}
+use Rattle.checker.specs.declared.Verdict.{Verdict}
+use Rattle.checker.specs.declared.Verdict.the-variants.{Inconsistent, Open, RefusedProgram, RefusedProof}
+
+-- each number after a space, 32, and a newline, 10
+abbrev pub numbered : List ℕ → List ℕ
+numbered [] = 10 ∷ []
+numbered (n ∷ ns) = 32 ∷ (decimal n ++ numbered ns)
+
+-- "N R S K (R rules, S steps, K live nogoods)"
+abbrev pub countsText : Counts → List ℕ
+countsText c = numbered (c .atoms ∷ c .rules ∷ c .steps ∷ c .nogoods ∷ [])
+
+-- "Its one line is `inconsistent N R S K` or `open N R S K` (R rules, S steps, K live nogoods), `refused program NUMBER LINE` or
+-- `refused proof NUMBER STEP`."
+abbrev pub lineOf : Verdict → List ℕ
+lineOf (Inconsistent c) = bytes "inconsistent" ++ countsText c
+lineOf (Open c) = bytes "open" ++ countsText c
+lineOf (RefusedProgram r) = bytes "refused program" ++ numbered (r .number ∷ r .line ∷ [])
+lineOf (RefusedProof r) = bytes "refused proof" ++ numbered (r .number ∷ r .step ∷ [])
+
+-- The bytes vs stand in a buffer from `at` on, as many as fit, and no other byte has changed; `next` is the position after them.
+pub record Put (vs before after : List ℕ) (at next : ℕ) : Type 0 where
+  pub stands : after ≡ sets before at vs
+  pub ends : next ≡ at + length vs
