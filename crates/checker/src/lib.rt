@@ -13,7 +13,7 @@ ghost use Rattle.words.specs.Lists.{any};
 ghost use Rattle.aspif.specs.Rules.{Rule, isEmpty, tableWords};
 ghost use Rattle.answer_set.specs.SetTest.{rulesAt};
 ghost use Rattle.nogoods.specs.Store.{Holds};
-ghost use Rattle.checker.specs.Check.{saying, judged, course, check};
+ghost use Rattle.checker.specs.Check.{saying, judged, course, CheckedTexts};
 ghost use Rattle.checker.specs.Held.{Program};
 ghost use Rattle.checker.specs.declared.Verdict.the-variants.{RefusedProof};
 use aspif::ProgramReading;
@@ -101,7 +101,7 @@ fn check_proof(
 // Checks a proof text against a program text. The table then holds the program's rules and the store the live nogoods, with 0 after
 // them; both are 0 throughout where anything is refused.
 pub fn check_texts(program: &[u8], proof: &[u8], table: &mut [i32], store: &mut [i32]) -> Verdict
-    ensures { λ r. ⌜ record { verdict = r; table = now (table .exit); store = now (store .exit) } ≡ check (now (program .entry)) (now (proof .entry)) (length (now (table .entry))) (length (now (store .entry))) ⌝ }
+    ensures { λ r. ⌜ CheckedTexts (now (program .entry)) (now (proof .entry)) (now (table .entry)) (now (store .entry)) (now (table .exit)) (now (store .exit)) r ⌝ }
 {
     words::zero_all(store);
     let read = aspif::read_program(program, table);

@@ -1,4 +1,4 @@
-use mathlib.Core.Path.{_≡_, sym, ap, subst, _∙_}
+use mathlib.Core.Path.{_≡_, refl, sym, ap, subst, _∙_}
 use mathlib.Core.Bool.{true}
 use mathlib.Core.List.{List}
 use Prim.Native.Nat.{_≤_}
@@ -16,9 +16,10 @@ use Rattle.answer_set.specs.SetTest.{marked, rulesAt}
 use Rattle.text.specs.declared.Letter.the-variants.{Loop}
 use Rattle.nogoods.specs.Store.{Literals}
 use Rattle.checker.specs.Held.{Line, gathered}
+use Rattle.checker.proofs.Letters.{some-number, cited}
 use Rattle.checker.proofs.Kept.{kept-added}
 use Rattle.checker.proofs.Gathering.{gathered-literals}
-use Rattle.checker.proofs.LoopSteps.{loop-some, loop-known, loop-atoms, loop-named, loop-added}
+use Rattle.checker.proofs.LoopSteps.{loop-atoms, loop-named, loop-added}
 use borrow.Author.Needs.{needs}
 use Rattle.checker.proofs.steps.loops.Statement.{statement}
 use Rattle.checker.proofs.steps.loops.Tie as tie
@@ -43,7 +44,7 @@ module _ (c : tie.Else2) where
 returns : tie.Need-returns
 returns c =
     let s = c .before .before .before .before in
-    λ z tracks H. loop-known z tracks _ (s .args .numbers .now) (s .pre .1 .1) (sym (c .before .all-marked .ensures) ∙ not-true _ (c .if1 .taken))
+    λ z tracks H. rw (cited z tracks Loop (s .args .numbers .now) (s .pre .1 .1) refl (sym (c .before .all-marked .ensures) ∙ not-true _ (c .if1 .taken))) refl
 
 returns-2 : tie.Need-returns-2
 returns-2 c =
@@ -63,7 +64,7 @@ returns-3 c =
 shared-slice-copy-out-gather : tie.Need-shared-slice-copy-out-gather
 shared-slice-copy-out-gather c =
     let s = c .before .before .before .before .before .before .before .before .before .before .before .before in
-    loop-some (s .args .numbers .now) (s .pre .1 .1)
+    some-number Loop refl (s .pre .1 .1)
 
 abbrev names : tie.After-gather → tie.After-names-of
 names c = c .before .before .before .before .before .before .before
