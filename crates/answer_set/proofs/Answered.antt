@@ -15,7 +15,7 @@ use lib.ListN.{length, drop, replicate, length-replicate}
 use Rattle.words.specs.Limits.{largest}
 use Rattle.words.specs.Lists.{_∈_, all}
 use Rattle.words.specs.Literals.{variable, top}
-use Rattle.words.proofs.Lists.{Decides, itself, passed, failed, reworded, and-decides, not-decides, eqb-decides, any-decides, all-decides}
+use Rattle.words.proofs.Lists.{Decides, itself, passed, failed, reworded, and-decides, not-decides, eqb-decides, any-decides, all-decides, same-test}
 use Rattle.aspif.specs.Rules.{Rule, isNormal, isEmpty, ruleTop, atoms}
 use Rattle.aspif.specs.declared.Kind.{Kind}
 use Rattle.aspif.specs.declared.Kind.the-variants.{Normal, Choice}
@@ -149,12 +149,6 @@ same-both : (b : Bool) → justOne b b ≡ false
 same-both true = refl
 same-both false = refl
 
-same-test : {b c : Bool} {A B : Type 0} → Decides b A → Decides c B → A ↔ B → b ≡ c
-same-test {b = true} {c = true} i j e = refl
-same-test {b = true} {c = false} i j e = absurd (j .from (e .0 (i .to tt)))
-same-test {b = false} {c = true} i j e = absurd (i .from (e .1 (j .to tt)))
-same-test {b = false} {c = false} i j e = refl
-
 module _ (M : ℕ → Bool) where
   no-broken : (k : ℕ) (rs : List Rule) → brokenFrom M k rs ≡ yes → {r : Rule} → r ∈ rs → isBroken M r ≡ false
   no-broken k [] e i = elim i [ ]
@@ -169,7 +163,7 @@ module _ (M : ℕ → Bool) where
   none-broken k [] g = refl
   none-broken k (s ∷ rs) g = rw (g s (List·Memᴰ·head refl)) (none-broken (k + 1) rs (λ r i. g r (List·Memᴰ·tail i)))
 
-normal-decides : (k : Kind) → Decides (isNormal k) (k ≡ Normal)
+pub normal-decides : (k : Kind) → Decides (isNormal k) (k ≡ Normal)
 normal-decides Normal = record { to = λ t. refl; from = λ p. tt }
 normal-decides Choice = record { to = λ t. absurd t; from = λ p. absurd (let z : _≡_ {A = ℕ} 0 1 = cc in omega arith) }
 
@@ -211,7 +205,7 @@ module _ (table : List ℤ) (rules : ℕ) (l : List ℕ) (rs : List Rule) (ready
       }
 
   agree : AnswerSet (Listed l) rs → (v : ℕ) → f v ≡ false
-  agree s v = rw (same-test (listed-decides l v) (model table rules l rs ready v) (s .least v)) (same-both (marked (least (listed l) rs) v))
+  agree s v = rw (same-test (listed-decides l v) (model table rules l rs ready v) (s .least v .0) (s .least v .1)) (same-both (marked (least (listed l) rs) v))
 
   answered-yes : AnswerSet (Listed l) rs → verdictOf (listed l) rs ≡ yes
   unfolding verdictOf

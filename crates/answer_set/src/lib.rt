@@ -32,10 +32,10 @@ pub fn test_set(table: &[i32], rules: usize, set: &[u16], marks: &mut [u8]) -> S
     if !sets::ascends_within(set, atoms) {
         return SetAnswer::Refused(42);
     }
-    if marks.len() != 4096 {
+    if marks.len() != words::ENTRIES {
         return SetAnswer::Refused(43);
     }
-    let mut inside = [0u8; 4096];
+    let mut inside = [0u8; words::ENTRIES];
     sets::mark_all(set, &mut inside);
     models::close(table, rules, atoms, &inside, marks);
     answers::judge(table, rules, atoms, &inside, marks)

@@ -25,7 +25,7 @@ fn is_count(words: &[i32], i: usize) -> bool
 {
     let word = words::word_at(words, i);
     if 0 <= word {
-        words::variable_of(word) <= 64
+        words::variable_of(word) <= aspif::MOST_LITERALS
     } else {
         false
     }
@@ -109,7 +109,7 @@ fn ascends_by_variable(words: &[i32]) -> bool
         if v <= low {
             return false;
         }
-        if 4095 < v {
+        if words::LARGEST < v {
             return false;
         }
         low = v;
@@ -151,7 +151,7 @@ fn is_sound(words: &[i32]) -> bool
 pub fn is_readable(table: &[i32], rules: usize) -> bool
     ensures { λ r. ⌜ r ≡ soundTable (now (table .entry)) rules ⌝ }
 {
-    if 1024 < rules {
+    if aspif::MOST_RULES < rules {
         return false;
     }
     let mut left = rules;

@@ -10,6 +10,11 @@ ghost use Rattle.aspif.specs.Reading.{ProgramRead};
 ghost use Rattle.aspif.specs.declared.ProgramReading.the-variants.{Refused};
 use lines::Lines;
 
+// The most rules of a program, and the most heads and body literals of a rule.
+pub const MOST_RULES: usize = 1024;
+
+pub const MOST_LITERALS: usize = 64;
+
 // "head kind (0 normal, 1 choice)".
 pub enum Kind {
     Normal,
@@ -40,7 +45,7 @@ fn refuse(table: &mut [i32], refusal: ProgramRefusal) -> ProgramReading
 pub fn read_program(text: &[u8], table: &mut [i32]) -> ProgramReading
     ensures { λ r. ⌜ ProgramRead (now (text .entry)) (now (table .entry)) (now (table .exit)) r ⌝ }
 {
-    if 65535 < text.len() {
+    if words::LONGEST < text.len() {
         return refuse(table, ProgramRefusal { number: 1, line: 0 });
     }
     if !lines::starts_with(text, b"asp 1 0 0\n") {

@@ -9,6 +9,8 @@ ghost use Rattle.aspif.specs.Rules.{kindWord};
 ghost use Rattle.aspif.specs.Reading.{isAt, isCount, suited, bodyShape, headShape, shapeOf, headsGood, bodyGood, reads, ruleOf, room};
 ghost use Rattle.aspif.specs.Turns.{rowSize, rowRule, rowWords, Sorted, TurnTaken};
 use crate::Kind;
+use crate::MOST_LITERALS;
+use crate::MOST_RULES;
 use crate::lines::LineTurn;
 
 // The first of questions 5 to 7 that a line fails, or a rule line's head kind, head count and body count.
@@ -41,7 +43,7 @@ fn is_count(row: &[i32], count: usize, i: usize) -> bool
     }
     let word = words::word_at(row, i);
     if 0 <= word {
-        words::variable_of(word) <= 64
+        words::variable_of(word) <= MOST_LITERALS
     } else {
         false
     }
@@ -191,7 +193,7 @@ fn add_rule(
     requires { ⌜ (heads ≤ 64) × (body ≤ 64) × (5 + heads + body ≤ length (now row)) ⌝ }
     ensures { λ r. ⌜ TurnTaken (room rules (length (now (free .entry))) (reads (rowRule (now (row .entry)) kind heads body)) next) (now (free .entry)) (now (free .exit)) r ⌝ }
 {
-    if 1024 <= rules {
+    if MOST_RULES <= rules {
         return LineTurn::Refuses(9);
     }
     let size = 3 + heads + body;

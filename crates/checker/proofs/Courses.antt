@@ -6,6 +6,7 @@ use Prim.Native.Nat.{ℕ, zero, suc, _+_, _-_, _≤_, _<_}
 use native.Mathlib.Omega.{arith}
 use lib.IntN.{ℤ, pos}
 use lib.ListN.{length, replicate}
+use Rattle.words.proofs.Lists.{zero-one}
 use Rattle.words.specs.Limits.{longest}
 use Rattle.aspif.specs.Rules.{Rule}
 use Rattle.aspif.specs.Reading.{mostRules}
@@ -17,14 +18,13 @@ use Rattle.derivation.specs.Steps.{Outcome, refused, next, step}
 use Rattle.nogoods.specs.Store.{Holds}
 use Rattle.checker.specs.Check.{Course, stopped, through, course}
 use Rattle.checker.specs.Claims.{Runs, ends, unread, unaccepted, full, good}
-use Rattle.checker.specs.Held.{Tracks, StepTurn, LineTurn, Ran}
+use Rattle.checker.specs.Held.{Tracks, Left, turnOf, LineTurn, Ran}
+use Rattle.checker.specs.declared.steps.Stepped.{Stepped}
+use Rattle.checker.specs.declared.steps.Stepped.the-variants.{Uses, Fails}
 use Rattle.checker.specs.declared.runs.Turn.{Turn}
 use Rattle.checker.specs.declared.runs.Turn.the-variants as Turn
 use Rattle.checker.specs.declared.runs.Run.the-variants as Run
 use Rattle.checker.proofs.Whole.{step-by-step}
-
-apart : _≡_ {A = ℕ} 0 1 → ⊥
-apart e = omega arith
 
 -- an empty store
 pub holds-none : (store : List ℤ) → store ≡ replicate (length store) (pos 0) → Holds store 0 []
@@ -62,58 +62,63 @@ module _ (P : List Rule) (size : ℕ) (text : List ℕ) where
       pub going-ends : {r : Turn} → r ≡ Turn.Ends → Turned (lineAt text at) r → Ran after (course P size text) (Run.Through steps used)
       going-ends e t = by (lineAt text at) refl (subst (Turned (lineAt text at)) e t)
         where
-          outcome : (n : ℕ) (o : Outcome) → StepTurn P known′ names′ after n o Turn.Ends → ⊥
-          outcome n (refused k) e = apart (cc)
-          outcome n (next z) l = l .0
+          never : (n : ℕ) (s : Stepped) → Turn.Ends ≡ turnOf n s → ⊥
+          never n (Uses m) e = zero-one (cc)
+          never n (Fails k) e = zero-one (cc)
 
           by : (l : LineAt) → lineAt text at ≡ l → Turned l Turn.Ends → Ran after (course P size text) (Run.Through steps used)
           by end q t = rw (comes _ (ends q)) (used, refl, t .1)
-          by (Lines.refused k) q t = absurd (apart (cc))
-          by (line x zs n) q t = absurd (outcome n (step P (G .z) (record { letter = x; numbers = zs })) t)
+          by (Lines.refused k) q t = absurd (zero-one (cc))
+          by (line x zs n) q t = absurd (never n (t .0) (t .1))
 
       pub going-fails : {r : Turn} (k : ℕ) → r ≡ Turn.Fails k → Turned (lineAt text at) r → Ran after (course P size text) (Run.Stopped (record { number = k; step = steps + 1 }))
       going-fails k e t = by (lineAt text at) refl (subst (Turned (lineAt text at)) e t)
         where
-          stops : (j : ℕ) → Turn.Fails k ≡ Turn.Fails j → course P size text ≡ stopped j (steps + 1)
-              → Ran after (course P size text) (Run.Stopped (record { number = k; step = steps + 1 }))
-          stops j e q = let p : k ≡ j = cc in rw (q, p)
+          Stops : Type 0
+          Stops = Ran after (course P size text) (Run.Stopped (record { number = k; step = steps + 1 }))
 
-          by : (l : LineAt) → lineAt text at ≡ l → Turned l (Turn.Fails k) → Ran after (course P size text) (Run.Stopped (record { number = k; step = steps + 1 }))
-          by end q t = absurd (apart (cc))
-          by (Lines.refused j) q t = stops j t (comes _ (unread q))
-          by (line x zs n) q t = outcome (step P (G .z) (record { letter = x; numbers = zs })) refl t
+          stops : (j : ℕ) → k ≡ j → course P size text ≡ stopped j (steps + 1) → Stops
+          stops j p q = rw (q, p)
+
+          by : (l : LineAt) → lineAt text at ≡ l → Turned l (Turn.Fails k) → Stops
+          by end q t = absurd (zero-one (cc))
+          by (Lines.refused j) q t = stops j (cc) (comes _ (unread q))
+          by (line x zs n) q t = outcome (step P (G .z) (record { letter = x; numbers = zs })) refl (t .0) (t .1) (t .2)
             where
-              outcome : (o : Outcome) → step P (G .z) (record { letter = x; numbers = zs }) ≡ o → StepTurn P known′ names′ after n o (Turn.Fails k)
-                  → Ran after (course P size text) (Run.Stopped (record { number = k; step = steps + 1 }))
-              outcome (refused j) s t = stops j t (comes _ (unaccepted q s))
-              outcome (next z) s t = rw (t .0 .0, comes _ (full q s (omega (arith, t .0 .1, same, G .long))))
+              outcome : (o : Outcome) → step P (G .z) (record { letter = x; numbers = zs }) ≡ o → (s : Stepped) → Turn.Fails k ≡ turnOf n s → Left P known′ names′ after o s → Stops
+              outcome o p (Uses m) e l = absurd (zero-one (cc))
+              outcome (refused j) p (Fails i) e l = stops j (cc) (comes _ (unaccepted q p))
+              outcome (next z) p (Fails i) e l = let a = l .0 .0 in stops 34 (cc) (comes _ (full q p (omega (arith, l .0 .1, same, G .long))))
 
       pub going-on : {r : Turn} (n m : ℕ) → r ≡ Turn.Goes n m → Turned (lineAt text at) r → Going after known′ names′ m n (steps + 1) × (at < n)
       going-on n m e t = by (lineAt text at) refl (subst (Turned (lineAt text at)) e t)
         where
-          by : (l : LineAt) → lineAt text at ≡ l → Turned l (Turn.Goes n m) → Going after known′ names′ m n (steps + 1) × (at < n)
-          by end q t = absurd (apart (cc))
-          by (Lines.refused j) q t = absurd (apart (cc))
-          by (line x zs k) q t = outcome (step P (G .z) (record { letter = x; numbers = zs })) refl t
+          Goes : Type 0
+          Goes = Going after known′ names′ m n (steps + 1) × (at < n)
+
+          by : (l : LineAt) → lineAt text at ≡ l → Turned l (Turn.Goes n m) → Goes
+          by end q t = absurd (zero-one (cc))
+          by (Lines.refused j) q t = absurd (zero-one (cc))
+          by (line x zs k) q t = outcome (step P (G .z) (record { letter = x; numbers = zs })) refl (t .0) (t .1) (t .2)
             where
-              outcome : (o : Outcome) → step P (G .z) (record { letter = x; numbers = zs }) ≡ o → StepTurn P known′ names′ after k o (Turn.Goes n m)
-                  → Going after known′ names′ m n (steps + 1) × (at < n)
-              outcome (refused j) s t = absurd (apart (cc))
-              outcome (next z) s t =
+              outcome : (o : Outcome) → step P (G .z) (record { letter = x; numbers = zs }) ≡ o → (s : Stepped) → Turn.Goes n m ≡ turnOf k s → Left P known′ names′ after o s → Goes
+              outcome o p (Fails i) e l = absurd (zero-one (cc))
+              outcome (refused j) p (Uses i) e l = absurd (zero-one (cc))
+              outcome (next z) p (Uses i) e l =
                   let u = passed-line text at q in
-                  let e = t .0 .0 in
-                  let H = t .0 .1 in
-                  let l : length after ≡ size = same ∙ G .long in
-                  let f : n ≡ k = e in (
+                  let f : n ≡ k = cc in
+                  let g : m ≡ i = cc in
+                  let H = l .0 in
+                  let w : length after ≡ size = same ∙ G .long in (
                     record {
                       z = z;
-                      tracks = t .1;
-                      holds = H;
-                      onward = λ c r. G .onward c (good q s (omega (arith, H .extent, H .fits, l)) (rw e at r));
-                      within = omega (arith, u .1, e);
-                      count = omega (arith, u .0, e, G .count);
-                      long = l;
+                      tracks = l .1;
+                      holds = rw g H;
+                      onward = λ c r. G .onward c (good q p (omega (arith, H .extent, H .fits, w)) (rw f at r));
+                      within = omega (arith, u .1, f);
+                      count = omega (arith, u .0, f, G .count);
+                      long = w;
                       places = same′ ∙ G .places;
                     },
-                    omega (arith, u .0, e),
+                    omega (arith, u .0, f),
                   )

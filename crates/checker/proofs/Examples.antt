@@ -13,6 +13,8 @@ use Rattle.aspif.specs.Rules.{Rule, isEmpty}
 use Rattle.aspif.specs.Reading.{shapeOf, readLines, readText, linesFrom}
 use Rattle.aspif.specs.declared.Kind.the-variants.{Normal, Choice}
 use Rattle.answer_set.specs.AnswerSets.{Gives, LeastModel, derive, AnswerSet}
+use Rattle.text.specs.Decimals.{decimals, decimal}
+use Rattle.checker.specs.Report.{printed}
 use Rattle.checker.specs.Check.{check}
 use Rattle.checker.specs.Examples.{Nothing, One, OneTwo, Starred, Source000}
 
@@ -68,13 +70,16 @@ eight-one : {a : ℕ} → a ≡ 1 → LeastModel One rules8 a
 eight-one p = gives One rules8 _ (List·Memᴰ·tail (List·Memᴰ·head refl)) refl (List·Memᴰ·head (rw p), tt)
 
 pub starred : Starred
-unfolding check readText readLines linesFrom shapeOf lineOf insert insertAll
+unfolding check readText readLines linesFrom shapeOf lineOf insert insertAll printed decimal decimals
 starred = record {
+  onePrints = refl;
   one = refl;
   oneFits = refl;
   oneShort = refl;
   two = refl;
+  twoPrints = refl;
   three = refl;
+  threePrints = refl;
   four = refl;
   fourEmpty = ([], refl, four-empty);
   fourAdds = refl;
@@ -87,6 +92,7 @@ starred = record {
   seven = refl;
   eightOne = (rules8, refl, answers One rules8 refl (λ a. (eight-one, eight-only)));
   minusZero = refl;
+  minusZeroPrints = refl;
   largestAtom = refl;
   tooLarge = refl;
   leftOut = refl;

@@ -49,9 +49,9 @@ module _ {P : List Rule} {known names : List ℕ} (z : State) (tracks : Tracks P
 
   -- the names of the external bodies, as they are found by marks of the set
   module _ {inside m : List ℕ} (found : Marks m (picks (isExternalBy inside) P names)) where
-    external : (U : List ℤ) → Line Loop U → Marks inside (map variable U) → Marks m (picks (isExternal P z U) P names)
+    external : (U : List ℤ) → Line Loop U → Marks inside (map variable U) → Marks m (picks (isExternal U) P names)
     external U line set =
-        subst (λ (f : Rule → Bool). Marks m (picks f P names)) (external-by U set (λ x i. (positive U line x i, line .literals .high x i)) P z) found
+        subst (λ (f : Rule → Bool). Marks m (picks f P names)) (external-by U set (λ x i. (positive U line x i, line .literals .high x i))) found
 
     named-is : (U : List ℤ) → Line Loop U → Marks inside (map variable U) → not (marked m 0) ≡ allNamed P z U
     named-is U line set = all-named z tracks U (external U line set)

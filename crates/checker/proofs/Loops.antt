@@ -13,10 +13,11 @@ use lib.ListN.{length, List·getD-eq-default}
 use Rattle.words.specs.Limits.{largest}
 use Rattle.words.specs.Lists.{_∈_, any, all, keep}
 use Rattle.words.specs.Literals.{variable, mentions, noneTwice, rising, sameList, has, top, ascending}
-use Rattle.words.proofs.Lists.{Decides, itself, reworded, and-decides, any-decides, all-decides, eqb-decides, leb-decides, keep→, keep←, passed, failed, and-left, and-right}
+use Rattle.words.proofs.Lists.{Decides, itself, reworded, and-decides, any-decides, all-decides, eqb-decides, leb-decides, keep→, keep←, passed, failed, and-left, and-right, same-test}
 use Rattle.words.proofs.Literals.{sameList-decides, has-decides, variable-complement, ascending→, ascending←}
 use Rattle.words.proofs.Places.{equal?}
-use Rattle.words.proofs.Sorting.{rising-ascending, same-members}
+use Rattle.words.proofs.Sorting.{rising-ascending, rising-before, same-members}
+use Rattle.words.proofs.Tops.{top-decides}
 use Rattle.aspif.specs.Rules.{Rule, atoms}
 use Rattle.answer_set.specs.SetTest.{marked}
 use Rattle.drupe.specs.Lines.{isPositive}
@@ -25,13 +26,9 @@ use Rattle.derivation.specs.Steps.{isExternal, externalNames, allAtoms}
 use Rattle.derivation.proofs.Questions.{positive-is}
 use Rattle.names.specs.Queries.{Marks, picks, isInside, isExternalBy}
 use Rattle.checker.specs.Held.{nameOf, Proper, Tracks, gathered}
-use Rattle.checker.proofs.Names.{alike, unlisted, name-found, name-of, found-decides}
+use Rattle.checker.proofs.Names.{unlisted, name-found, name-of, found-decides}
 
 -- Question 31
-
-top-decides : (n : ℕ) (l : List ℤ) → Decides (all (λ x. leb (variable x) n) l) (top l ≤ n)
-top-decides n [] = record { to = λ t. omega arith; from = λ h. tt }
-top-decides n (x ∷ l) = reworded (λ p. let a = p .0 in let b = p .1 in omega arith) (λ h. (omega arith, omega arith)) (and-decides (leb-decides (variable x) n) (top-decides n l))
 
 module _ (P : List Rule) (z : State) where
   -- the numbers of an `l` line are not 0
@@ -51,7 +48,7 @@ module _ (U : List ℤ) {m : List ℕ} (marks : Marks m (map variable U)) (good 
       by false e = absurd (rw (List·getD-eq-default m 0 (ltb-false v (length m) e)) at t)
 
   inside : (x : ℤ) → isInside m x ≡ has x U
-  inside x = alike (and-decides (itself (isPositive x)) (itself (marked m (variable x)))) (has-decides x U) to from
+  inside x = same-test (and-decides (itself (isPositive x)) (itself (marked m (variable x)))) (has-decides x U) to from
     where
       to : T (isPositive x) × T (marked m (variable x)) → x ∈ U
       to p =
@@ -65,15 +62,10 @@ module _ (U : List ℤ) {m : List ℕ} (marks : Marks m (map variable U)) (good 
           let g = good x i in
           (g .0, rw (marks .has (variable x) (g .1)) (any-decides (eqb-decides (variable x)) (map variable U) .from (variable x, Memᴰ·map variable i, refl)))
 
-  pub external-by : (P : List Rule) (z : State) → isExternalBy m ≡ isExternal P z U
-  external-by P z = fun-ext (λ r. rw (fun-ext inside))
+  pub external-by : isExternalBy m ≡ isExternal U
+  external-by = fun-ext (λ r. rw (fun-ext inside))
 
 -- The nogood
-
--- a word before others of larger variables
-rising-before : (x : ℤ) (l : List ℤ) → rising l ≡ true → ((y : ℤ) → y ∈ l → variable x < variable y) → rising (x ∷ l) ≡ true
-rising-before x [] e f = refl
-rising-before x (y ∷ l) e f = rw (lt-ltb (variable x) (variable y) (f y (List·Memᴰ·head refl))) e
 
 module _ (f : ℕ → Bool) (h : ℤ) where
   -- what the number w gives
@@ -167,16 +159,16 @@ module _ (f : Named → Bool) where
       by false q = q
 
 module _ {P : List Rule} {known names : List ℕ} (z : State) (tracks : Tracks P known names (z .introduced) (z .named))
-    (h : ℤ) (U : List ℤ) (atom : T (isAtom P (variable h))) (high : atoms P ≤ largest) {m : List ℕ} (found : Marks m (picks (isExternal P z U) P names)) where
+    (h : ℤ) (U : List ℤ) (atom : T (isAtom P (variable h))) (high : atoms P ≤ largest) {m : List ℕ} (found : Marks m (picks (isExternal U) P names)) where
   abbrev proper : Proper P (z .introduced) (z .named)
   proper = tracks .proper
 
   -- the body of the name is external
   abbrev test : Named → Bool
-  test x = any (λ r. isExternal P z U r && sameList (x .body) (r .body)) P
+  test x = any (λ r. isExternal U r && sameList (x .body) (r .body)) P
 
-  test-decides : (x : Named) → Decides (test x) ((r : Rule) × (r ∈ P) × (T (isExternal P z U r) × (x .body ≡ r .body)))
-  test-decides x = any-decides (λ r. and-decides (itself (isExternal P z U r)) (sameList-decides (x .body) (r .body))) P
+  test-decides : (x : Named) → Decides (test x) ((r : Rule) × (r ∈ P) × (T (isExternal U r) × (x .body ≡ r .body)))
+  test-decides x = any-decides (λ r. and-decides (itself (isExternal U r)) (sameList-decides (x .body) (r .body))) P
 
   abbrev nogood : List ℤ
   nogood = h ∷ map (λ n. negℤ (pos n)) (externalNames P z U)
@@ -198,7 +190,7 @@ module _ {P : List Rule} {known names : List ℕ} (z : State) (tracks : Tracks P
       named : (¬ (g .0 ≡ variable h)) × (T (marked m (g .0)) × (x ≡ negℤ (pos (g .0)))) → x ∈ nogood
       named p =
           let low = g .1 in
-          let r = found-decides z tracks (isExternal P z U) found (g .0) (omega (arith, g .2)) .to (p .1 .0) in
+          let r = found-decides z tracks (isExternal U) found (g .0) (omega (arith, g .2)) .to (p .1 .0) in
           let y = name-found (z .named) (r .0 .body) (λ e. omega (arith, r .2 .1)) in
           let k : T (test (y .0)) = test-decides (y .0) .from (r .0, r .1, (r .2 .0, y .2 .1)) in
           let i : y .0 .name ∈ externalNames P z U = Memᴰ·map (λ (x : Named). x .name) (keep← test (y .1) k) in
@@ -214,7 +206,7 @@ module _ {P : List Rule} {known names : List ℕ} (z : State) (tracks : Tracks P
       let b = test-decides y .to (k .1) in
       let e : nameOf (z .named) (b .0 .body) ≡ y .name = ap (nameOf (z .named)) (sym (b .2 .1)) ∙ name-of proper (k .0) in
       let w = proper .high y (k .0) in
-      let t : T (marked m (y .name)) = found-decides z tracks (isExternal P z U) found (y .name) w .from (b .0, b .1, (b .2 .0, e)) in
+      let t : T (marked m (y .name)) = found-decides z tracks (isExternal U) found (y .name) w .from (b .0, b .1, (b .2 .0, e)) in
       (y .name, proper .low y (k .0), omega arith, inr (other y (k .0), (t, sym (q .2) ∙ ap (λ n. negℤ (pos n)) (sym (r .2)))))
 
   pub loop-nogood : gathered (marked m) h largest 1 ≡ ascending nogood

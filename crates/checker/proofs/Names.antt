@@ -13,7 +13,7 @@ use lib.ListN.{length, take, drop, getD}
 use Rattle.words.specs.Limits.{largest}
 use Rattle.words.specs.Lists.{_∈_, any, all, keep}
 use Rattle.words.specs.Literals.{variable, mentions, sameList, has, ascending}
-use Rattle.words.proofs.Lists.{Decides, itself, reworded, failed, and-decides, if-decides, not-decides, any-decides, all-decides, eqb-decides, keep→, keep←}
+use Rattle.words.proofs.Lists.{Decides, itself, reworded, failed, and-decides, if-decides, not-decides, any-decides, all-decides, eqb-decides, keep→, keep←, same-test}
 use Rattle.words.proofs.Literals.{sameList-decides}
 use Rattle.words.proofs.Places.{equal?}
 use Rattle.aspif.specs.Rules.{Rule, isNormal}
@@ -25,13 +25,6 @@ use Rattle.names.specs.Queries.{Marks, picks, sameMarks}
 use Rattle.names.proofs.Picks.{picks-map}
 use Rattle.names.proofs.Sets.{same-marks}
 use Rattle.checker.specs.Held.{nameOf, Proper, Tracks}
-
--- two tests of the same thing
-pub alike : {b c : Bool} {A B : Type 0} → Decides b A → Decides c B → (A → B) → (B → A) → b ≡ c
-alike {b = true} {c = true} i j f g = refl
-alike {b = true} {c = false} i j f g = absurd (j .from (f (i .to tt)))
-alike {b = false} {c = true} i j f g = absurd (i .from (g (j .to tt)))
-alike {b = false} {c = false} i j f g = refl
 
 -- a number that is no name of the list
 pub unlisted : (v : ℕ) (named : List Named) → ((x : Named) → x ∈ named → ¬ (x .name ≡ v)) → mentions v (map (λ x. pos (x .name)) named) ≡ false
@@ -130,7 +123,7 @@ module _ {P : List Rule} {known names : List ℕ} (z : State) (tracks : Tracks P
   -- question 28
   pub unnamed-body : (L : List ℤ) {m : List ℕ} → Marks m (picks (λ r. sameList (r .body) (ascending L)) P names) → marked m 0 ≡ isUnnamedBody P z L
   unnamed-body L {m} marks =
-      alike (found-decides (λ r. sameList (r .body) (ascending L)) marks 0 (omega arith))
+      same-test (found-decides (λ r. sameList (r .body) (ascending L)) marks 0 (omega arith))
       (and-decides (any-decides (λ r. sameList-decides (r .body) (ascending L)) P) (unnamed-test z proper (ascending L)))
       (λ r. let e = sameList-decides (r .0 .body) (ascending L) .to (r .2 .0) in ((r .0, r .1, e), ap (nameOf (z .named)) (sym e) ∙ r .2 .1))
       (λ q. let r = q .0 in (r .0, r .1, (sameList-decides (r .0 .body) (ascending L) .from (r .2), ap (nameOf (z .named)) (r .2) ∙ q .1)))
@@ -139,7 +132,7 @@ module _ {P : List Rule} {known names : List ℕ} (z : State) (tracks : Tracks P
   pub completes : (n : ℤ) (hs : List ℤ) {m : List ℕ} → 1 ≤ variable n → variable n ≤ largest
       → Marks m (picks (λ r. isNormal (r .kind) && sameList (r .heads) hs) P names) → marked m (variable n) ≡ isCompletion P z n hs
   completes n hs low high marks =
-      alike (found-decides (λ r. isNormal (r .kind) && sameList (r .heads) hs) marks (variable n) high)
+      same-test (found-decides (λ r. isNormal (r .kind) && sameList (r .heads) hs) marks (variable n) high)
       (any-decides (λ r. and-decides (itself (isNormal (r .kind))) (and-decides (itself (sameList (r .heads) hs)) (name-test z proper (r .body) (variable n)))) P)
       (λ r. let t = both (r .0) .to (r .2 .0) in (r .0, r .1, (t .0, (t .1, (low, r .2 .1)))))
       (λ r. (r .0, r .1, (both (r .0) .from (r .2 .0, r .2 .1 .0), r .2 .1 .1 .1)))
@@ -148,10 +141,10 @@ module _ {P : List Rule} {known names : List ℕ} (z : State) (tracks : Tracks P
       both r = and-decides (itself (isNormal (r .kind))) (itself (sameList (r .heads) hs))
 
   -- question 32
-  pub all-named : (U : List ℤ) {m : List ℕ} → Marks m (picks (isExternal P z U) P names) → not (marked m 0) ≡ allNamed P z U
+  pub all-named : (U : List ℤ) {m : List ℕ} → Marks m (picks (isExternal U) P names) → not (marked m 0) ≡ allNamed P z U
   all-named U marks =
-      alike (not-decides (found-decides (isExternal P z U) marks 0 (omega arith)))
-      (all-decides (λ r. if-decides (itself (isExternal P z U r)) (has-test z proper (r .body))) P)
+      same-test (not-decides (found-decides (isExternal U) marks 0 (omega arith)))
+      (all-decides (λ r. if-decides (itself (isExternal U r)) (has-test z proper (r .body))) P)
       (λ f r m t e. f (r, m, (t, e)))
       (λ f q. f (q .0) (q .1) (q .2 .0) (q .2 .1))
 
@@ -185,10 +178,10 @@ module _ {P : List Rule} {known names : List ℕ} (z : State) (tracks : Tracks P
 
     pub supports : (isAtom P (variable h) && sameMarks marksLent l m) ≡ isSupport P z h ns
     supports =
-        alike (and-decides (itself (isAtom P (variable h))) (same-marks marksLent l m))
+        same-test (and-decides (itself (isAtom P (variable h))) (same-marks marksLent l m))
         (and-decides (itself (isAtom P (variable h))) (and-decides (all-decides covered P) (all-decides used ns)))
         (λ p. (p .0, (λ r i t. cover (p .1) r i t, λ n i. cite (p .1) n i)))
-        (λ p. (p .0, λ v k. alike (given-decides v (omega arith)) (headed-decides v (omega arith)) (to (p .1 .1)) (from (p .1 .0))))
+        (λ p. (p .0, λ v k. same-test (given-decides v (omega arith)) (headed-decides v (omega arith)) (to (p .1 .1)) (from (p .1 .0))))
       where
         cover : ((v : ℕ) → v < marksLent → marked l v ≡ marked m v) → (r : Rule) → r ∈ P → T (has h (r .heads)) → Given (nameIn r)
         cover f r i t =

@@ -1,7 +1,7 @@
 -- What the proofs of `checker::report` cite: bytes put one after another, a number's digits from the first on, and how many there
--- are. At the end some verdicts with their lines.
+-- are; two verdicts with their lines; and the line of two texts.
 -- Assumes nothing.
-use mathlib.Core.Path.{_≡_, refl, sym, _∙_, ap}
+use mathlib.Core.Path.{_≡_, refl, sym, _∙_, ap, ap₂}
 use mathlib.Core.Bool.{Bool, true, false, cond}
 use mathlib.Core.List.{List, [], _∷_, _++_, map, append-assoc, map-append}
 use Prim.Native.Nat.{ℕ, zero, suc, _+_, _/_, _%_, _^_, _<_, _≤_}
@@ -10,13 +10,15 @@ use native.Mathlib.Numerals.{add-one}
 use native.Mathlib.Omega.{arith}
 use borrow.Author.Tests.{ltb-true, ltb-false, lt-ltb, le-ltb}
 use lib.Dec.{ltb}
+use lib.IntN.{ℤ}
 use lib.ListN.{length, set, take, getD, length-append}
 use lib.Seq.{sets, take-suc, length-take-le}
 use Rattle.aspif.proofs.Decimals.{tenth}
 use Rattle.text.specs.Decimals.{decimals, digitsOf, digitByte, decimal}
 use Rattle.checker.specs.Texts.{lines}
-use Rattle.checker.specs.Report.{lineOf, Put}
-use Rattle.checker.specs.Examples.{inconsistent, undecided, refusedProgram, refusedProof}
+use Rattle.checker.specs.Check.{Checked, check, CheckedTexts}
+use Rattle.checker.specs.Report.{lineOf, lent, printed, Put}
+use Rattle.checker.specs.Examples.{undecided, refusedProgram}
 use Rattle.checker.specs.declared.Verdict.{Verdict}
 
 sets-append : (xs ys l : List ℕ) (i : ℕ) → sets l i (xs ++ ys) ≡ sets (sets l i xs) (i + length xs) ys
@@ -93,11 +95,7 @@ short (suc k) n h = by (ltb n 10) refl (short k (n / 10))
 pub decimal-short : (n : ℕ) → n < 2 ^ 64 → length (decimal n) ≤ 20
 decimal-short n h = short 19 n (omega arith)
 
--- Some verdicts with their lines
-
-pub starred-line : lineOf (inconsistent 1 1 5 6) ≡ lines ("inconsistent 1 1 5 6" ∷ [])
-unfolding decimal decimals
-starred-line = refl
+-- Two verdicts with numbers of several digits, and their lines
 
 pub open-line : lineOf (undecided 4095 1 0 0) ≡ lines ("open 4095 1 0 0" ∷ [])
 unfolding decimal decimals
@@ -107,6 +105,10 @@ pub program-line : lineOf (refusedProgram 10 1025) ≡ lines ("refused program 1
 unfolding decimal decimals
 program-line = refl
 
-pub proof-line : lineOf (refusedProof 27 2) ≡ lines ("refused proof 27 2" ∷ [])
-unfolding decimal decimals
-proof-line = refl
+-- The line of two texts
+
+-- the verdict's line, where the table and the store are as long as `verdict` lends them
+pub line-printed : (text proof : List ℕ) (table store : List ℤ) {table′ store′ : List ℤ} {v : Verdict} → length table ≡ lent → length store ≡ lent
+    → CheckedTexts text proof table store table′ store′ v → lineOf v ≡ printed text proof
+unfolding printed
+line-printed text proof table store a b e = ap lineOf (ap (λ (x : Checked). x .verdict) e ∙ ap₂ (λ t s. check text proof t s .verdict) a b)

@@ -12,7 +12,7 @@ use lib.ListN.{length, take, set, replicate, length-set, length-replicate}
 use Rattle.words.specs.Limits.{largest}
 use Rattle.words.specs.Lists.{_∈_, any, all}
 use Rattle.words.specs.Literals.{variable, mentions, noneTwice, sameList, ascending}
-use Rattle.words.proofs.Lists.{Decides, itself, reworded, and-decides, or-decides, not-decides, any-decides, eqb-decides, leb-decides, failed}
+use Rattle.words.proofs.Lists.{Decides, itself, reworded, and-decides, or-decides, not-decides, any-decides, eqb-decides, leb-decides, failed, same-test}
 use Rattle.words.proofs.Literals.{sameList-decides}
 use Rattle.words.proofs.Places.{equal?}
 use Rattle.aspif.specs.Rules.{Rule, atoms}
@@ -25,7 +25,7 @@ use Rattle.names.specs.Queries.{Marks, upTo, renamed}
 use Rattle.names.proofs.Picks.{renamed-map, length-renamed}
 use Rattle.names.proofs.Sets.{marked-set}
 use Rattle.checker.specs.Held.{nameOf, Proper, Tracks}
-use Rattle.checker.proofs.Names.{alike, unlisted, name-of}
+use Rattle.checker.proofs.Names.{unlisted, name-of}
 
 -- Question 26
 
@@ -56,7 +56,7 @@ pub start-tracks : {P : List Rule} {known : List ℕ} → Marks known (upTo (ato
 start-tracks {P} {known} marks few =
     record {
       entries = marks .long;
-      knows = λ v h. marks .has v h ∙ alike (listed-upTo (atoms P) v) (or-decides (and-decides (leb-decides 1 v) (leb-decides v (atoms P))) (itself false))
+      knows = λ v h. marks .has v h ∙ same-test (listed-upTo (atoms P) v) (or-decides (and-decides (leb-decides 1 v) (leb-decides v (atoms P))) (itself false))
           (λ p. inl p) (λ s. elim s [ inl p ↦ p | inr t ↦ absurd t ]);
       rules = omega (arith, length-replicate {A = ℕ} mostRules 0);
       calls = no-names P mostRules few;
@@ -136,7 +136,7 @@ module _ {P : List Rule} {known names : List ℕ} (z : State) (tracks : Tracks P
         once x y (List·Memᴰ·tail i) (List·Memᴰ·tail j) e = proper .once x y i j e
 
     calls-new : map (λ r. cond (sameList (r .body) body) n (nameOf (z .named) (r .body))) P ≡ map (λ r. nameOf (entry ∷ z .named) (r .body)) P
-    calls-new = ap (λ (g : Rule → ℕ). map g P) (fun-ext (λ r. ap (λ (b : Bool). cond b n (nameOf (z .named) (r .body))) (alike (sameList-decides (r .body) body) (sameList-decides body (r .body)) sym sym)))
+    calls-new = ap (λ (g : Rule → ℕ). map g P) (fun-ext (λ r. ap (λ (b : Bool). cond b n (nameOf (z .named) (r .body))) (same-test (sameList-decides (r .body) body) (sameList-decides body (r .body)) sym sym)))
 
     -- `b`
     pub named : Tracks P (set known n 1) (renamed (λ r. sameList (r .body) body) n P names) (n ∷ z .introduced) (entry ∷ z .named)

@@ -1,4 +1,4 @@
--- One turn of the check: what the line at a position is, and what its step comes to.
+-- One turn of the check: what the line at a position is.
 -- Assumes nothing.
 use mathlib.Core.Path.{_≡_, refl, sym, _∙_, ap, subst}
 use mathlib.Core.Bool.{Bool, true, false, cond, _||_, or-comm}
@@ -10,6 +10,7 @@ use lib.Dec.{T, ltb}
 use lib.IntN.{ℤ, pos}
 use lib.ListN.{length, take, replicate, length-append}
 use lib.Seq.{take-append-seam}
+use Rattle.words.proofs.Lists.{zero-one}
 use Rattle.words.specs.Lists.{_∈_}
 use Rattle.words.specs.Literals.{has, noneTwice}
 use Rattle.words.proofs.Literals.{has-decides, variable-positive}
@@ -25,14 +26,8 @@ use Rattle.drupe.specs.declared.LineAnswer.the-variants.{Line as Answered, End,
 use Rattle.drupe.specs.declared.LineReading.{LineReading}
 use Rattle.drupe.proofs.Lines.{passed-line, few}
 use Rattle.derivation.specs.States.{State}
-use Rattle.derivation.specs.Steps.{Outcome, refused, next, step, byLetter}
-use Rattle.nogoods.specs.Store.{Literals, Holds}
-use Rattle.checker.specs.Held.{Line, Tracks, Left, turnOf, StepTurn, LineTurn}
-use Rattle.checker.specs.declared.steps.Stepped.{Stepped}
-use Rattle.checker.specs.declared.steps.Stepped.the-variants.{Uses, Fails}
-
-apart : _≡_ {A = ℕ} 0 1 → ⊥
-apart e = omega arith
+use Rattle.derivation.specs.Steps.{step, byLetter}
+use Rattle.checker.specs.Held.{Line}
 
 -- A line that passed questions 22 to 25
 
@@ -42,9 +37,9 @@ module _ (x : Letter) (zs : List ℤ) (asked : lineRefusal x zs ≡ none) (zero-
     where
       by : (a : Bool) → (anyOutside zs || ltb mostNumbers (length zs)) ≡ a → (b c : Bool) → cond {A = Option ℕ} a (some 23) (cond b (cond c none (some 25)) (some 24)) ≡ none
           → (anyOutside zs ≡ false) × (b ≡ true) × (c ≡ true)
-      by true q b c e = absurd (apart (cc))
-      by false q false c e = absurd (apart (cc))
-      by false q true false e = absurd (apart (cc))
+      by true q b c e = absurd (zero-one (cc))
+      by false q false c e = absurd (zero-one (cc))
+      by false q true false e = absurd (zero-one (cc))
       by false q true true e = (or-false-right (ltb mostNumbers (length zs)) (anyOutside zs) (or-comm (ltb mostNumbers (length zs)) (anyOutside zs) ∙ q), refl, refl)
 
   pub good-line : Line x zs
@@ -69,23 +64,23 @@ module _ {s : List ℕ} {at : ℕ} {r : LineReading} (R : Reads s at r) where
     where
       by : (l : LineAt) → lineAt s at ≡ l → answerOf l ≡ End → lineAt s at ≡ end
       by end q e = q
-      by (Lines.refused k) q e = absurd (apart (cc))
-      by (line x zs n) q e = absurd (apart (cc))
+      by (Lines.refused k) q e = absurd (zero-one (cc))
+      by (line x zs n) q e = absurd (zero-one (cc))
 
   pub read-refused : (k : ℕ) → r .answer ≡ Refused k → lineAt s at ≡ Lines.refused k
   read-refused k e = by (lineAt s at) refl (sym (R .answer) ∙ e)
     where
       by : (l : LineAt) → lineAt s at ≡ l → answerOf l ≡ Refused k → lineAt s at ≡ Lines.refused k
-      by end q e = absurd (apart (cc))
+      by end q e = absurd (zero-one (cc))
       by (Lines.refused j) q e = q ∙ ap Lines.refused (cc)
-      by (line x zs n) q e = absurd (apart (cc))
+      by (line x zs n) q e = absurd (zero-one (cc))
 
   pub read-line : (x : Letter) (count after : ℕ) → r .answer ≡ Answered x count after → lineAt s at ≡ line x (take count (r .numbers)) after
   read-line x count after e = by (lineAt s at) refl (sym (R .answer) ∙ e) (R .numbers)
     where
       by : (l : LineAt) → lineAt s at ≡ l → answerOf l ≡ Answered x count after → r .numbers ≡ numbersOf l → lineAt s at ≡ line x (take count (r .numbers)) after
-      by end q e n = absurd (apart (cc))
-      by (Lines.refused j) q e n = absurd (apart (cc))
+      by end q e n = absurd (zero-one (cc))
+      by (Lines.refused j) q e n = absurd (zero-one (cc))
       by (line y zs k) q e n =
           let c : length zs ≡ count = cc in
           let t : take count (r .numbers) ≡ zs = rw (n, ← c) (take-append-seam zs _) in
@@ -96,14 +91,6 @@ module _ {s : List ℕ} {at : ℕ} {r : LineReading} (R : Reads s at r) where
   read-count x count after e = by (lineAt s at) (sym (R .answer) ∙ e) (R .numbers)
     where
       by : (l : LineAt) → answerOf l ≡ Answered x count after → r .numbers ≡ numbersOf l → count ≤ length (r .numbers)
-      by end e n = absurd (apart (cc))
-      by (Lines.refused j) e n = absurd (apart (cc))
+      by end e n = absurd (zero-one (cc))
+      by (Lines.refused j) e n = absurd (zero-one (cc))
       by (line y zs k) e n = let c : length zs ≡ count = cc in rw n (omega (arith, length-append zs (replicate (mostNumbers - length zs) (pos 0))))
-
--- What the step leaves
-
-module _ (P : List Rule) (known names : List ℕ) (store : List ℤ) (at : ℕ) where
-  pub left-turn : (o : Outcome) (s : Stepped) → Left P known names store o s → StepTurn P known names store at o (turnOf at s)
-  left-turn (refused k) s e = ap (turnOf at) e
-  left-turn (next z) (Uses n) l = ((refl, l .0), l .1)
-  left-turn (next z) (Fails k) l = l

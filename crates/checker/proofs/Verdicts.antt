@@ -9,6 +9,7 @@ use borrow.Author.Tests.{lt-ltb}
 use lib.Dec.{leb}
 use lib.IntN.{ℤ, pos}
 use lib.ListN.{length, replicate, length-replicate}
+use Rattle.words.proofs.Lists.{zero-one}
 use Rattle.words.specs.Limits.{longest}
 use Rattle.words.specs.Lists.{any}
 use Rattle.aspif.specs.Rules.{Rule, isEmpty, atoms, tableWords}
@@ -32,9 +33,6 @@ use Rattle.checker.specs.declared.Verdict.the-variants.{RefusedProgram, 
 use Rattle.checker.specs.declared.runs.Run.{Run}
 use Rattle.checker.specs.declared.runs.Run.the-variants.{Stopped, Through}
 
-apart : _≡_ {A = ℕ} 0 1 → ⊥
-apart e = omega arith
-
 -- The proof's lines
 
 pub too-long : (P : List Rule) (size : ℕ) (text : List ℕ) → longest < length text → course P size text ≡ stopped 21 0
@@ -43,10 +41,10 @@ too-long P size text h = rw (lt-ltb longest (length text) h)
 module _ (store : List ℤ) where
   pub ran-stopped : (o : Course) {r : Run} (x : ProofRefusal) → Ran store o r → r ≡ Stopped x → o ≡ stopped (x .number) (x .step)
   ran-stopped (stopped k n) x l e = let p : x ≡ record { number = k; step = n } = cc in rw p
-  ran-stopped (through n z) x l e = let q = l .1 in absurd (apart (cc))
+  ran-stopped (through n z) x l e = let q = l .1 in absurd (zero-one (cc))
 
   pub ran-through : (o : Course) {r : Run} (n used : ℕ) → Ran store o r → r ≡ Through n used → (z : State) × (o ≡ through n z) × Holds store used (z .live)
-  ran-through (stopped k m) n used l e = absurd (apart (cc))
+  ran-through (stopped k m) n used l e = absurd (zero-one (cc))
   ran-through (through m z) n used l e =
       let q = l .1 in
       let a : m ≡ n = cc in
@@ -82,7 +80,7 @@ lines-read t text P e = by (leb (length text) longest) e
   where
     by : (b : Bool) → cond b (readLines t text) (Reading.refused 1 0) ≡ program P → readLines t text ≡ program P
     by true e = e
-    by false e = absurd (apart (cc))
+    by false e = absurd (zero-one (cc))
 
 module _ (t s : ℕ) (text proof : List ℕ) {r : ProgramReading} (answer : r ≡ answerOf (readText t text)) {table : List ℤ} (words : table ≡ tableOf t (readText t text)) where
   pub program-refused : (x : ProgramRefusal) {store : List ℤ} → r ≡ Refused x → store ≡ replicate s (pos 0)
@@ -93,7 +91,7 @@ module _ (t s : ℕ) (text proof : List ℕ) {r : ProgramReading} (answer : r �
       by : (d : Reading) → answerOf d ≡ Refused x → table ≡ tableOf t d
           → record { verdict = RefusedProgram x; table = table; store = store } ≡ judgedReading t s proof d
       by (Reading.refused k n) e w = let p : x ≡ record { number = k; line = n } = cc in rw (p, w, z)
-      by (program P) e w = absurd (apart (cc))
+      by (program P) e w = absurd (zero-one (cc))
 
   -- a program that was read, and what the table then holds
   pub record ReadProgram (N R : ℕ) : Type 0 where
@@ -107,7 +105,7 @@ module _ (t s : ℕ) (text proof : List ℕ) {r : ProgramReading} (answer : r �
   program-read N R e = by (readText t text) refl (sym answer ∙ e) words
     where
       by : (d : Reading) → readText t text ≡ d → answerOf d ≡ Read N R → table ≡ tableOf t d → ReadProgram N R
-      by (Reading.refused k n) q e w = absurd (apart (cc))
+      by (Reading.refused k n) q e w = absurd (zero-one (cc))
       by (program P) q e w = record { P = P; read = q; top = cc; count = cc; rules = w }
 
   pub check-read : {N R : ℕ} (p : ReadProgram N R) → check text proof t s ≡ judged t s (p .P) (course (p .P) s proof)

@@ -9,6 +9,7 @@ use native.Mathlib.Omega.{arith}
 use lib.Dec.{leb, ltb}
 use lib.ListN.{length}
 use borrow.Author.Tests.{le-leb, lt-leb, leb-true, leb-false, le-ltb, ltb-false}
+use Rattle.words.proofs.Lists.{zero-one}
 use Rattle.words.specs.Limits.{longest}
 use Rattle.aspif.specs.Rules.{Rule}
 use Rattle.aspif.specs.Reading.{Reading, refused, program, readText}
@@ -22,13 +23,10 @@ use Rattle.derivation.specs.Claims.{NoAnswerSet}
 use Rattle.derivation.proofs.Sound.{demand3}
 use Rattle.nogoods.specs.Store.{liveWords}
 use Rattle.checker.specs.Check.{Course, stopped, through, fitting, lineStep, stepsFrom, course, countsOf, saying, judged, judgedReading, check, Checked}
-use Rattle.checker.specs.Claims.{Runs, ends, unread, unaccepted, full, good, StepByStep, Ended, Demand2, Demand3Whole, Demand3Service}
+use Rattle.checker.specs.Claims.{Runs, ends, unread, unaccepted, full, good, StepByStep, Ended, Demand2, Demand3Whole, Demand2Service, Demand3Service}
 use Rattle.checker.specs.declared.Counts.{Counts}
 use Rattle.checker.specs.declared.ProofRefusal.{ProofRefusal}
 use Rattle.checker.specs.declared.Verdict.the-variants.{Inconsistent, Open, RefusedProof}
-
-apart : _≡_ {A = ℕ} 0 1 → ⊥
-apart e = omega arith
 
 module _ (P : List Rule) (size : ℕ) (text : List ℕ) where
   -- one turn more than there are bytes left is enough
@@ -88,32 +86,25 @@ module _ (P : List Rule) (size : ℕ) (text : List ℕ) where
   leads (ends e) = ([], refl)
   leads (good {x = x} {zs = zs} e s f r) = let q = leads r in (record { letter = x; numbers = zs } ∷ q .0, rw (s, steps) (q .1))
 
-  course-leads : (m : ℕ) (w : State) → course P size text ≡ through m w → Leads P start w
-  course-leads m w e = by (ltb longest (length text)) refl e
-    where
-      by : (b : Bool) → ltb longest (length text) ≡ b → cond b (stopped 21 0) (stepsFrom P size text (suc (length text)) 0 0 start) ≡ through m w → Leads P start w
-      by true q e′ = absurd (apart (cc))
-      by false q e′ = leads (step-by-step P size text (through m w) (ltb-false longest (length text) q) .0 e)
-
 -- a course that went through passed 21
 short : (P : List Rule) (size : ℕ) (text : List ℕ) (n : ℕ) (z : State) → course P size text ≡ through n z → length text ≤ longest
 short P size text n z e = by (ltb longest (length text)) refl e
   where
     by : (b : Bool) → ltb longest (length text) ≡ b → cond b (stopped 21 0) (stepsFrom P size text (suc (length text)) 0 0 start) ≡ through n z → length text ≤ longest
-    by true q e′ = absurd (apart (cc))
+    by true q e′ = absurd (zero-one (cc))
     by false q e′ = ltb-false longest (length text) q
 
 -- the two verdicts of a course that went through tell whether the empty nogood is live, and the counts
 same-saying : (a b : Bool) (c d : Counts) → saying a c ≡ saying b d → (a ≡ b) × (d ≡ c)
 same-saying true true c d e = (refl, cc)
-same-saying true false c d e = absurd (apart (cc))
-same-saying false true c d e = absurd (apart (cc))
+same-saying true false c d e = absurd (zero-one (cc))
+same-saying false true c d e = absurd (zero-one (cc))
 same-saying false false c d e = (refl, cc)
 
 -- no refusal says so
 refusal-apart : (b : Bool) (c : Counts) (x : ProofRefusal) → RefusedProof x ≡ saying b c → ⊥
-refusal-apart true c x e = apart (cc)
-refusal-apart false c x e = apart (cc)
+refusal-apart true c x e = zero-one (cc)
+refusal-apart false c x e = zero-one (cc)
 
 module _ (proof : List ℕ) (t s : ℕ) (P : List Rule) (b : Bool) (c : Counts) where
   ended→ : (o : Course) → course P s proof ≡ o → judged t s P o .verdict ≡ saying b c → Ended P s proof b c
@@ -133,22 +124,22 @@ pub demand2 : Demand2
 unfolding check
 demand2 text proof t s P q c = rw q ((ended→ proof t s P true c _ refl, ended← proof t s P true c), (ended→ proof t s P false c _ refl, ended← proof t s P false c))
 
+-- no program that is refused is said to be inconsistent
+read-of : (t s : ℕ) (proof : List ℕ) (r : Reading) (c : Counts) → judgedReading t s proof r .verdict ≡ Inconsistent c → (P : List Rule) × (r ≡ program P)
+read-of t s proof (refused k n) c e = absurd (zero-one (cc))
+read-of t s proof (program P) c e = (P, refl)
+
 pub demand3-whole : Demand3Whole
 unfolding check
-demand3-whole text proof t s c = reading (readText t text) refl
-  where
-    said : (b : Bool) (a : Counts) → cond b (Inconsistent a) (Open a) ≡ Inconsistent c → b ≡ true
-    said true a e = refl
-    said false a e = absurd (apart (cc))
+demand3-whole text proof t s c e =
+    let r = read-of t s proof (readText t text) c e in
+    let E = demand2 text proof t s (r .0) (r .1) c .0 .0 e .1 in
+    let l = leads (r .0) s proof (E .2) in
+    (r .0, r .1, demand3 (r .0) (l .0) (E .1) (l .1) (E .3))
 
-    judging : (P : List Rule) (o : Course) → course P s proof ≡ o → judged t s P o .verdict ≡ Inconsistent c → NoAnswerSet P
-    judging P (stopped k n) p e = absurd (apart (cc))
-    judging P (through n z) p e = let r = course-leads P s proof n z p in demand3 P (r .0) z (r .1) (said (emptyLive z) _ e)
-
-    reading : (r : Reading) → readText t text ≡ r → judgedReading t s proof r .verdict ≡ Inconsistent c
-        → (P : List Rule) × (readText t text ≡ program P) × NoAnswerSet P
-    reading (refused k n) q e = absurd (apart (cc))
-    reading (program P) q e = (P, q, judging P (course P s proof) refl e)
+pub demand2-service : Demand2Service
+demand2-service text proof table store table′ store′ r e P q c =
+    rw (ap (λ (x : Checked). x .verdict) e) (demand2 text proof (length table) (length store) P q c)
 
 pub demand3-service : Demand3Service
 demand3-service text proof table store table′ store′ c e =

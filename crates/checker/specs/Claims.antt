@@ -21,6 +21,7 @@ use Rattle.derivation.specs.Claims.{NoAnswerSet}
 use Rattle.nogoods.specs.Store.{liveWords}
 use Rattle.checker.specs.Check.{Course, stopped, through, course, countsOf, check, CheckedTexts}
 use Rattle.checker.specs.declared.Counts.{Counts}
+use Rattle.checker.specs.declared.Verdict.{Verdict}
 use Rattle.checker.specs.declared.Verdict.the-variants.{Inconsistent, Open}
 
 -- What the proof's lines come to from a position on, after n steps that left the state z, with no bound on the turns.
@@ -67,8 +68,16 @@ Demand3Whole =
     → check text proof t s .verdict ≡ Inconsistent c
     → (P : List Rule) × (readText t text ≡ program P) × NoAnswerSet P
 
--- The same of the function: whatever the two texts, the table and the store that `check_texts` is lent, where it answers
--- "inconsistent" no set is an answer set of the program that it read, nor of that program with any further constraints.
+-- Both of the function `check_texts`, by its contract, whatever the two texts, the table and the store that it is lent.
+-- Demand 2: once the program is read, it answers "inconsistent" and "open" exactly when.
+abbrev pub Demand2Service : Type 0
+Demand2Service =
+    (text proof : List ℕ) (table store table′ store′ : List ℤ) (r : Verdict) → CheckedTexts text proof table store table′ store′ r
+    → (P : List Rule) → readText (length table) text ≡ program P → (c : Counts)
+    → ((r ≡ Inconsistent c) ↔ Ended P (length store) proof true c) × ((r ≡ Open c) ↔ Ended P (length store) proof false c)
+
+-- Demand 3: where it answers "inconsistent", no set is an answer set of the program that it read, nor of that program with any
+-- further constraints.
 abbrev pub Demand3Service : Type 1
 Demand3Service =
     (text proof : List ℕ) (table store table′ store′ : List ℤ) (c : Counts)

@@ -12,6 +12,7 @@ use Rattle.aspif.specs.Rules.{Rule}
 use Rattle.aspif.specs.Reading.{program, readText}
 use Rattle.answer_set.specs.AnswerSets.{AnswerSet}
 use Rattle.checker.specs.Check.{check}
+use Rattle.checker.specs.Report.{lent, printed}
 use Rattle.checker.specs.Texts.{lines}
 use Rattle.checker.specs.declared.Verdict.{Verdict}
 use Rattle.checker.specs.declared.Verdict.the-variants.{Inconsistent, Open, RefusedProgram, RefusedProof}
@@ -50,10 +51,6 @@ program8 = rules ("1 0 1 1 0 1 -1" ∷ "1 0 1 1 0 0" ∷ [])
 
 -- What is said of them
 
--- "with a table and a store of 16,384 words"
-abbrev pub lent : ℕ
-lent = 16384
-
 abbrev pub verdict : List ℕ → List ℕ → Verdict
 verdict text proof = check text proof lent lent .verdict
 
@@ -90,7 +87,7 @@ store1 =
     ∷ pos 1 ∷ pos 1
     ∷ pos 0 ∷ []
 
--- the set M passes the set test of the program that a text holds, or does not
+-- the set M is an answer set of the program that a text holds, or is not; by `ServiceYes` of crates/answer_set the set test says so
 abbrev pub Passes : List ℕ → (ℕ → Type 0) → Type 0
 Passes text M = (P : List Rule) × (readText lent text ≡ program P) × AnswerSet M P
 
@@ -109,6 +106,7 @@ OneTwo v = (v ≡ 1) ⊎ (v ≡ 2)
 
 pub record Starred : Type 0 where
   -- 1: "Prints `inconsistent 1 1 5 6`", with its store; "These are 15 words; a store of 14 gives 34 at step 5."
+  pub onePrints : printed program1 proof1 ≡ lines ("inconsistent 1 1 5 6" ∷ [])
   pub one : check program1 proof1 lent lent
       ≡ record { verdict = inconsistent 1 1 5 6; table = table1 ++ replicate 16379 (pos 0); store = store1 ++ replicate 16369 (pos 0) }
   pub oneFits : check program1 proof1 5 15 ≡ record { verdict = inconsistent 1 1 5 6; table = table1; store = store1 }
@@ -116,8 +114,10 @@ pub record Starred : Type 0 where
       ≡ record { verdict = refusedProof 34 5; table = replicate 5 (pos 0); store = replicate 14 (pos 0) }
   -- 2: "example 1 with `d 0` added: `open 1 1 6 5`"
   pub two : verdict program1 (proof1 ++ lines ("d 0" ∷ [])) ≡ undecided 1 1 6 5
+  pub twoPrints : printed program1 (proof1 ++ lines ("d 0" ∷ [])) ≡ lines ("open 1 1 6 5" ∷ [])
   -- 3: "27, step 2"
   pub three : verdict program1 proof3 ≡ refusedProof 27 2
+  pub threePrints : printed program1 proof3 ≡ lines ("refused proof 27 2" ∷ [])
   -- 4: "no rules, empty proof: `open 0 0 0 0`; the empty set passes. Proof `a 0`: 33, step 1."
   pub four : verdict (rules []) [] ≡ undecided 0 0 0 0
   pub fourEmpty : Passes (rules []) Nothing
@@ -136,6 +136,7 @@ pub record Starred : Type 0 where
   pub eightOne : Passes program8 One
   -- "literal `-0`: 3"
   pub minusZero : verdict (rules ("1 0 1 1 0 1 -0" ∷ [])) [] ≡ refusedProgram 3 2
+  pub minusZeroPrints : printed (rules ("1 0 1 1 0 1 -0" ∷ [])) [] ≡ lines ("refused program 3 2" ∷ [])
   -- "atom 4,095 good, 4,096: 4"
   pub largestAtom : verdict (rules ("1 0 1 4095 0 0" ∷ [])) [] ≡ undecided 4095 1 0 0
   pub tooLarge : verdict (rules ("1 0 1 4096 0 0" ∷ [])) [] ≡ refusedProgram 4 2

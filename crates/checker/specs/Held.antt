@@ -95,22 +95,15 @@ gathered f h (suc n) v =
 
 -- Lines as steps, and all of them
 
--- the state that a good line leaves, with the position after it; or question 34
-abbrev pub Goes : ℕ → State → List ℤ → Turn → Type 0
-Goes at z store (Turn.Goes after n) = (after ≡ at) × Holds store n (z .live)
-Goes at z store (Turn.Fails k) = (k ≡ 34) × (length store < length (liveWords (z .live)))
-Goes at z store Turn.Ends = ⊥
-
 -- what a step comes to, with the position after its line
 abbrev pub turnOf : ℕ → Stepped → Turn
 turnOf at (Uses n) = Turn.Goes at n
 turnOf at (Fails k) = Turn.Fails k
 
 module _ (P : List Rule) (known names : List ℕ) (store : List ℤ) where
-  -- what the step of a line leaves, by what it comes to
+  -- what the step of a line leaves, with the position after the line
   abbrev pub StepTurn : ℕ → Outcome → Turn → Type 0
-  StepTurn at (refused k) r = r ≡ Turn.Fails k
-  StepTurn at (next z) r = Goes at z store r × Tracks P known names (z .introduced) (z .named)
+  StepTurn at o r = (s : Stepped) × (r ≡ turnOf at s) × Left P known names store o s
 
   -- what one turn of the check leaves, by what stands at the position; so many words were used
   abbrev pub LineTurn : ℕ → State → LineAt → Turn → Type 0

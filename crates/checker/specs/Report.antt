@@ -7,6 +7,7 @@ use lib.ListN.{length}
 use lib.Seq.{sets}
 use Rattle.text.specs.Decimals.{decimal}
 use Rattle.checker.specs.Texts.{bytes}
+use Rattle.checker.specs.Check.{check}
 use Rattle.checker.specs.declared.Counts.{Counts}
 use Rattle.checker.specs.declared.Verdict.{Verdict}
 use Rattle.checker.specs.declared.Verdict.the-variants.{Inconsistent, Open, RefusedProgram, RefusedProof}
@@ -27,6 +28,14 @@ lineOf (Inconsistent c) = bytes "inconsistent" ++ countsText c
 lineOf (Open c) = bytes "open" ++ countsText c
 lineOf (RefusedProgram r) = bytes "refused program" ++ numbered (r .number ∷ r .line ∷ [])
 lineOf (RefusedProof r) = bytes "refused proof" ++ numbered (r .number ∷ r .step ∷ [])
+
+-- "with a table and a store of 16,384 words"
+abbrev pub lent : ℕ
+lent = 16384
+
+-- what `verdict` prints of a program text and a proof text
+unfoldable pub printed : List ℕ → List ℕ → List ℕ
+printed text proof = lineOf (check text proof lent lent .verdict)
 
 -- The bytes vs stand in a buffer from `at` on, as many as fit, and no other byte has changed; `next` is the position after them.
 pub record Put (vs before after : List ℕ) (at next : ℕ) : Type 0 where

@@ -55,7 +55,7 @@ pub fn check_proof(
     ensures { λ r. ⌜ ((P : List Rule) → length P ≡ rules → now (table .entry) ≡ tableWords (length (now (table .entry))) P → rulesAt rules (now (table .entry)) ≡ P
         → record { verdict = r; table = now (table .exit); store = now (store .exit) } ≡ judged (length (now (table .entry))) (length (now (store .entry))) P (course P (length (now (store .entry))) (now (proof .entry)))) ⌝ }
 {
-    if drupe::LONGEST < proof.len() {
+    if words::LONGEST < proof.len() {
         return refuse(
             table,
             store,

@@ -63,6 +63,7 @@ fn name_body(table: &[i32], rules: usize, names: &mut [u16], body: &mut [i32], n
     ensures { λ r. ⌜ (r ≡ true → now (names .exit) ≡ renamed (λ x. sameList (x .body) (ascending (now (body .entry)))) name (rulesAt rules (now (table .entry))) (now (names .entry))) ⌝ }
 {
     words::sort(body);
+    // the query reads no set
     let none = [0u8; 1];
     let found = queries::names_of(table, rules, names, Query::Body, body, &none);
     if !marks::is_marked(&found, 0) {

@@ -6,11 +6,15 @@ ghost use Prim.Native.Nat.{_+_, _<_, _≤_};
 ghost use lib.ListN.{length, set};
 ghost use lib.Seq.{sets};
 ghost use Rattle.text.specs.Decimals.{digitByte, decimal};
-ghost use Rattle.checker.specs.Report.{numbered, countsText, lineOf, Put};
+ghost use Rattle.checker.specs.Report.{numbered, countsText, lineOf, printed, Put};
 use crate::Counts;
 use crate::Verdict;
+use crate::check_texts;
 
-// A store past the end changes nothing.
+// "with a table and a store of 16,384 words".
+const LENT: usize = 16384;
+
+// A byte past the end is not written.
 fn put(buffer: &mut [u8], at: usize, byte: u8)
     ensures { λ _. ⌜ now (buffer .exit) ≡ set (now (buffer .entry)) at byte ⌝ }
 {
@@ -81,10 +85,10 @@ fn put_counts(buffer: &mut [u8], at: usize, counts: Counts) -> usize
     ensures { λ r. ⌜ Put (countsText counts) (now (buffer .entry)) (now (buffer .exit)) at r ⌝ }
     ensures { λ r. ⌜ r ≤ at + 85 ⌝ }
 {
-    let rules = put_number(buffer, at, counts.atoms);
-    let steps = put_number(buffer, rules, counts.rules);
-    let nogoods = put_number(buffer, steps, counts.steps);
-    let end = put_number(buffer, nogoods, counts.nogoods);
+    let after_atoms = put_number(buffer, at, counts.atoms);
+    let after_rules = put_number(buffer, after_atoms, counts.rules);
+    let after_steps = put_number(buffer, after_rules, counts.steps);
+    let end = put_number(buffer, after_steps, counts.nogoods);
     put_bytes(buffer, end, b"\n")
 }
 
@@ -113,4 +117,17 @@ pub fn write_line(verdict: Verdict, buffer: &mut [u8]) -> usize
             put_two(buffer, at, refusal.number as usize, refusal.step)
         }
     }
+}
+
+// The line that `verdict` prints of two texts, its newline included, at the front of the buffer, as many bytes as fit; the answer
+// is the line's length.
+pub fn check_line(program: &[u8], proof: &[u8], buffer: &mut [u8]) -> usize
+    ensures { λ r. ⌜ r ≡ length (printed (now (program .entry)) (now (proof .entry))) ⌝ }
+    ensures { λ r. ⌜ now (buffer .exit) ≡ sets (now (buffer .entry)) 0 (printed (now (program .entry)) (now (proof .entry))) ⌝ }
+    ensures { λ r. ⌜ r ≤ 97 ⌝ }
+{
+    let mut table = [0i32; LENT];
+    let mut store = [0i32; LENT];
+    let verdict = check_texts(program, proof, &mut table, &mut store);
+    write_line(verdict, buffer)
 }

@@ -1,4 +1,4 @@
-// The proof's lines, one after another: questions 21 to 34.
+// The proof's lines, one after another: questions 22 to 34.
 ghost use mathlib.Core.Path.{_≡_};
 ghost use mathlib.Core.List.{List};
 ghost use Prim.Native.Nat.{_≤_};

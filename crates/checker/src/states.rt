@@ -15,14 +15,17 @@ pub struct CheckingState {
 }
 
 impl CheckingState {
-    // An entry for each variable, from 1 to 4,095, and one for 0.
-    pub const ENTRIES: usize = variables::ENTRIES;
+    // The largest variable.
+    pub const LARGEST: usize = words::LARGEST;
+
+    // An entry for each variable, and one for 0.
+    pub const ENTRIES: usize = CheckingState::LARGEST + 1;
 
     // The most numbers of a line.
     pub const NUMBERS: usize = drupe::MOST_NUMBERS;
 
     // The most rules of a program.
-    pub const RULES: usize = 1024;
+    pub const RULES: usize = aspif::MOST_RULES;
 
     // "At the start there are no nogoods and no names, and the atoms alone are known."
     pub fn start(atoms: usize) -> CheckingState

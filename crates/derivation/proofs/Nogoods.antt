@@ -103,21 +103,21 @@ module _ (P : List Rule) (M : ℕ → Type 0) (S : AnswerSet M P) (z : State) (k
 
   -- Loops
 
-  module _ (U : List ℤ) (positive : Positives U) (s : (r : Rule) → r ∈ P → T (isExternal P z U r) → T (hasName z (r .body))) where
+  module _ (U : List ℤ) (positive : Positives U) (s : (r : Rule) → r ∈ P → T (isExternal U r) → T (hasName z (r .body))) where
     -- "minus the name of each" external body
     abbrev externals : List ℤ
     externals = map (λ n. negℤ (pos n)) (externalNames P z U)
 
     abbrev isExternalName : Named → Bool
-    isExternalName x = any (λ r. isExternal P z U r && sameList (x .body) (r .body)) P
+    isExternalName x = any (λ r. isExternal U r && sameList (x .body) (r .body)) P
 
     -- where the names of the external bodies are false, so are the bodies
-    external-false : All (k .W) externals → (r : Rule) → r ∈ P → T (isExternal P z U r) → AllAtoms P (r .body) × (¬ All (k .W) (r .body))
+    external-false : All (k .W) externals → (r : Rule) → r ∈ P → T (isExternal U r) → AllAtoms P (r .body) × (¬ All (k .W) (r .body))
     external-false f r m e = let y = hasName-decides z (r .body) .to (s r m e) in go (y .0) (y .1) (y .2)
       where
         go : (x : Named) → x ∈ z .named → x .body ≡ r .body → AllAtoms P (r .body) × (¬ All (k .W) (r .body))
         go x n p =
-            let i : T (isExternalName x) = any-decides (λ r. and-decides (itself (isExternal P z U r)) (sameList-decides (x .body) (r .body))) P .from (r, m, (e, p)) in
+            let i : T (isExternalName x) = any-decides (λ r. and-decides (itself (isExternal U r)) (sameList-decides (x .body) (r .body))) P .from (r, m, (e, p)) in
             let v : True (k .W) (negℤ (pos (x .name))) = f (negℤ (pos (x .name))) (Memᴰ·map (λ n. negℤ (pos n)) (Memᴰ·map (λ x. x .name) (keep← isExternalName n i))) in
             let q = k .named x n in
             (subst (λ (l : List ℤ). AllAtoms P l) p (q .atoms), λ h. q .means .1 v (subst (λ (l : List ℤ). All (k .W) l) (sym p) h))
@@ -133,7 +133,7 @@ module _ (P : List Rule) (M : ℕ → Type 0) (S : AnswerSet M P) (z : State) (k
             outside : (x : ℤ) → x ∈ r .body → ¬ (x ∈ U)
             outside x v w = let p = sym (positive-is x (positive x w)) in below (variable x) (Memᴰ·cast p v) (Memᴰ·cast p w)
 
-            external : T (isExternal P z U r)
+            external : T (isExternal U r)
             external =
                 and-decides (any-decides (λ x. has-decides x U) (r .heads)) (not-decides (any-decides (λ x. has-decides x U) (r .body)))
                 .from ((pos a, g .0, u), λ y. outside (y .0) (y .1) (y .2))

@@ -10,6 +10,8 @@ use Rattle.words.specs.Lists.{_∈_}
 use Rattle.words.specs.Literals.{variable}
 use Rattle.words.proofs.Lists.{Decides, itself, reworded, and-decides, or-decides, any-decides, eqb-decides, leb-decides}
 use Rattle.words.proofs.Literals.{sameList-decides, variable-positive}
+use Rattle.words.proofs.Tops.{top-le}
+use Rattle.answer_set.proofs.Answered.{positive}
 use Rattle.words.specs.Literals.{top}
 use Rattle.aspif.specs.Rules.{Rule, isNormal, atoms}
 use Rattle.aspif.specs.declared.Kind.{Kind}
@@ -23,21 +25,9 @@ pub positive-nonzero : (x : ℤ) → T (isPositive x) → x ≢ pos 0
 positive-nonzero x t p = let u : T (isPositive (pos 0)) = rw p at t in u
 
 pub positive-is : (x : ℤ) → T (isPositive x) → x ≡ pos (variable x)
-positive-is (pos n) t = refl
-positive-is (negsuc n) t = absurd t
+positive-is x t = positive x t .0
 
 -- Atoms
-
-pub normal-decides : (k : Kind) → Decides (isNormal k) (k ≡ Normal)
-normal-decides k = record { to = go k; from = λ p. rw p tt }
-  where
-    go : (k : Kind) → T (isNormal k) → k ≡ Normal
-    go Normal t = refl
-    go Choice t = absurd t
-
-top-le : {x : ℤ} {zs : List ℤ} → x ∈ zs → variable x ≤ top zs
-top-le (List·Memᴰ·head {x = y} {xs = zs} p) = rw p (omega arith)
-top-le (List·Memᴰ·tail {x = y} {xs = zs} m) = omega (arith, top-le m)
 
 atoms-le : (v : ℕ) {r : Rule} {P : List Rule} → r ∈ P → v ≤ max (top (r .heads)) (top (r .body)) → v ≤ atoms P
 atoms-le v (List·Memᴰ·head {x = q} {xs = P} p) h = let k : v ≤ max (top (q .heads)) (top (q .body)) = rw p at h in omega arith

@@ -24,7 +24,8 @@ use Rattle.derivation.specs.Steps.{Step, Outcome, refused, next, allKnow
 use Rattle.derivation.specs.Claims.{Demand3}
 use Rattle.derivation.proofs.Closure.{empty-decides, refuted-decides}
 use Rattle.derivation.proofs.Valuations.{conflict-false}
-use Rattle.derivation.proofs.Questions.{normal-decides, body-atom}
+use Rattle.derivation.proofs.Questions.{body-atom}
+use Rattle.answer_set.proofs.Answered.{normal-decides}
 use Rattle.derivation.proofs.Invariant.{AllKnown, AllAtoms, Kept, start-kept, add-kept, define-kept}
 use Rattle.derivation.proofs.Nogoods.{Positives, completion-fails, support-fails, loop-fails}
 
@@ -138,7 +139,7 @@ module _ (P : List Rule) (M : ℕ → Type 0) (S : AnswerSet M P) where
 
     loop-fine : (h : ℤ) (hs : List ℤ) → Positives (h ∷ hs) → Fine (citing P z (h ∷ hs) (loop P z h hs))
     loop-fine h hs q =
-        let question = all-decides (λ r. if-decides (itself (isExternal P z (h ∷ hs) r)) (itself (hasName z (r .body)))) P in
+        let question = all-decides (λ r. if-decides (itself (isExternal (h ∷ hs) r)) (itself (hasName z (r .body)))) P in
         citing-fine (h ∷ hs) (loop P z h hs)
         (λ known. if-yes (all-decides (λ x. itself (isAtom P (variable x))) (h ∷ hs)) _ 31
         (λ a. if-yes question _ 32

@@ -36,6 +36,10 @@ definition n L = ascending (complement n ∷ L) ∷ map (λ x. ascending (n ∷ 
 abbrev pub define : State → ℤ → List ℤ → List Named → State
 define z n L named = record { live = z .live ++ definition n L; introduced = variable n ∷ z .introduced; named = named }
 
+-- "External bodies are the different bodies of rules with a head in U and no positive atom in U." U's numbers are positive.
+abbrev pub isExternal : List ℤ → Rule → Bool
+isExternal U r = any (λ h. has h U) (r .heads) && not (any (λ x. has x U) (r .body))
+
 module _ (P : List Rule) (z : State) where
   -- question 26 of a list of numbers: "Are all known, save the name introduced?"
   abbrev pub allKnown : List ℤ → Bool
@@ -74,10 +78,6 @@ module _ (P : List Rule) (z : State) where
   -- `s`: "Adds h with every -n."
   abbrev pub support : ℤ → List ℤ → Outcome
   support h ns = cond (isSupport h ns) (next (add z (ascending (h ∷ map complement ns) ∷ []))) (refused 30)
-
-  -- "External bodies are the different bodies of rules with a head in U and no positive atom in U." U's numbers are positive.
-  abbrev pub isExternal : List ℤ → Rule → Bool
-  isExternal U r = any (λ h. has h U) (r .heads) && not (any (λ x. has x U) (r .body))
 
   -- the names of the external bodies
   abbrev pub externalNames : List ℤ → List ℕ

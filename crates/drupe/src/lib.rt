@@ -14,9 +14,6 @@ ghost use Rattle.text.specs.Bytes.{classOf};
 ghost use Rattle.text.specs.Line.{anyOutside, lineOf};
 ghost use Rattle.drupe.specs.Lines.{Reads, afterLetter, asked, isSpace, lineFrom, mostNumbers, ofNumbers, placeOf, readingOf, refused, signed, signsOf};
 
-// The most bytes of a text.
-pub const LONGEST: usize = 65535;
-
 // The most numbers of a line.
 pub const MOST_NUMBERS: usize = 65;
 
@@ -218,7 +215,7 @@ fn read_letter(text: &[u8], from: usize) -> LineReading
 pub fn read_line(text: &[u8], position: usize) -> LineReading
     ensures { λ r. ⌜ Reads (now (text .entry)) position r ⌝ }
 {
-    if LONGEST < text.len() {
+    if words::LONGEST < text.len() {
         return refuse(21);
     }
     if position == text.len() {

@@ -8,13 +8,13 @@ ghost use Rattle.words.specs.Literals.{sameList};
 ghost use Rattle.aspif.specs.Rules.{isNormal};
 ghost use Rattle.answer_set.specs.SetTest.{ruleAt, shapeSound, rulesAt, soundRules};
 ghost use Rattle.names.specs.Queries.{Marks, isInside, isExternalBy, asks, picks, renamed};
-use crate::variables::ENTRIES;
 use answer_set::marks;
 use answer_set::tables;
 use aspif::Kind;
+use words::ENTRIES;
 
 // The rules that a step is about: those with a body; the normal ones with just some heads; those with a head; those with a head in
-// a set of atoms and no positive atom in it.
+// a set of atoms and no positive atom in it. Only Body and Normal read the literals that go with a query, and only External the set.
 pub enum Query {
     Body,
     Normal,

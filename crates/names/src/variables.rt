@@ -8,9 +8,7 @@ ghost use Rattle.words.specs.Literals.{variable};
 ghost use Rattle.answer_set.specs.SetTest.{marksLent, marked};
 ghost use Rattle.names.specs.Queries.{Marks, agree, sameMarks, upTo};
 use answer_set::marks;
-
-// As many as there are variables, and one for 0.
-pub const ENTRIES: usize = 4096;
+use words::ENTRIES;
 
 // The variables of the literals.
 pub fn marks_of(literals: &[i32]) -> [u8; ENTRIES]
@@ -25,7 +23,7 @@ pub fn marks_of(literals: &[i32]) -> [u8; ENTRIES]
     found
 }
 
-// The numbers from 1 up.
+// The numbers from 1 to the last.
 pub fn marks_to(last: usize) -> [u8; ENTRIES]
     requires { ⌜ last ≤ largest ⌝ }
     ensures { λ m. ⌜ Marks m (upTo last) ⌝ }

@@ -48,7 +48,7 @@ fn write_first(free: &mut [i32], numbers: &[i32])
     words::sort(&mut free[1..end]);
 }
 
-// The words of a definition at the front of the free tail. The literals ascend afterwards.
+// The words of a definition at the front of the free tail. The numbers may be left in another order.
 fn write_definition(free: &mut [i32], numbers: &mut [i32])
     requires { ⌜ Literals (now numbers) × (1 ≤ length (now numbers)) × (length (now numbers) ≤ mostNumbers) × (4 * length (now numbers) ≤ length (now free) + 2) ⌝ }
     ensures { λ _. ⌜ (let words = liveWords (definition (getD (now (numbers .entry)) 0 (pos 0)) (drop 1 (now (numbers .entry)))) in
@@ -61,7 +61,7 @@ fn write_definition(free: &mut [i32], numbers: &mut [i32])
     write_pairs(&mut free[end..], name, &numbers[1..]);
 }
 
-// The definition of a name is live, after the others. The numbers are the name and its literals; these ascend afterwards.
+// The definition of a name is live, after the others. The numbers are the name and its literals; they may be left in another order.
 pub fn append(store: &mut [i32], used: usize, numbers: &mut [i32]) -> Added
     requires { ⌜ ((live : List (List ℤ)) × Holds (now store) used live) ⌝ }
     requires { ⌜ Literals (now numbers) × (1 ≤ length (now numbers)) × (length (now numbers) ≤ mostNumbers) ⌝ }

@@ -16,10 +16,10 @@ ghost use Rattle.nogoods.specs.Propagate.{entries, countAt, Encodes, Rea
 ghost use Rattle.nogoods.specs.PropagateChains.{places, reach, Links, Below, Queue, Walks};
 use crate::units;
 use crate::units::Derived;
-use crate::units::ENTRIES;
+use words::ENTRIES;
 
 // There is a place for each literal: that of v is v, and that of -v comes an assignment's length later.
-const PLACES: usize = 8192;
+const PLACES: usize = 2 * ENTRIES;
 
 // As many words of nogoods the chains can hold.
 const REACH: usize = 16384;

@@ -12,7 +12,7 @@ ghost use Rattle.nogoods.specs.Propagate.{entries, Assigns, Encodes, Swe
 use crate::occurrences;
 use crate::units;
 use crate::units::Derived;
-use crate::units::ENTRIES;
+use words::ENTRIES;
 
 // What one pass over the nogoods gave: a conflict; variables that are assigned now; nothing.
 enum Swept {

@@ -6,9 +6,7 @@ ghost use Rattle.words.specs.Limits.{largest};
 ghost use Rattle.words.specs.Literals.{variable};
 ghost use Rattle.nogoods.specs.Store.{Literals};
 ghost use Rattle.nogoods.specs.Propagate.{entries, entry, Valued, Looked, Derives, countAt, nogoodAt, Readable};
-
-// An assignment has an entry for each variable, and one for 0.
-pub const ENTRIES: usize = 4096;
+use words::ENTRIES;
 
 // A literal under an assignment.
 enum Value {

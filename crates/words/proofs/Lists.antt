@@ -10,6 +10,10 @@ use lib.Dec.{T, T-not, not-T, eqb, leb, eqb→eq, eqb-refl, leb→le, le→leb}
 use lib.ListN.{length}
 use Rattle.words.specs.Lists.{_∈_, any, all, keep, dropFirst, joinAll}
 
+-- what an equation of two different constructors comes to
+pub zero-one : _≡_ {A = ℕ} 0 1 → ⊥
+zero-one e = omega arith
+
 -- Tests
 
 -- the test b answers whether A holds
@@ -42,6 +46,13 @@ and-left a b e = and-eq-true-iff a b .0 e .0
 
 pub and-right : (a b : Bool) → (a && b) ≡ true → b ≡ true
 and-right a b e = and-eq-true-iff a b .0 e .1
+
+-- two tests of the same thing
+pub same-test : {b c : Bool} {A B : Type 0} → Decides b A → Decides c B → (A → B) → (B → A) → b ≡ c
+same-test {b = true} {c = true} i j f g = refl
+same-test {b = true} {c = false} i j f g = absurd (j .from (f (i .to tt)))
+same-test {b = false} {c = true} i j f g = absurd (i .from (g (j .to tt)))
+same-test {b = false} {c = false} i j f g = refl
 
 -- either the test is passed or its negation is
 pub answered : (b : Bool) → T b ⊎ T (not b)

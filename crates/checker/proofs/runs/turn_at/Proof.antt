@@ -6,10 +6,9 @@ use lib.ListN.{take}
 use lib.Seq.{length-take-le}
 use Rattle.words.specs.Literals.{has}
 use Rattle.answer_set.specs.SetTest.{rulesAt}
-use Rattle.derivation.specs.Steps.{byLetter}
 use Rattle.drupe.specs.Lines.{lineRefusal, line, lineAt}
 use Rattle.drupe.proofs.Lines.{passed-line}
-use Rattle.checker.proofs.Turns.{good-line, step-is, read-end, read-refused, read-line, read-count, left-turn}
+use Rattle.checker.proofs.Turns.{good-line, step-is, read-end, read-refused, read-line, read-count}
 use borrow.Author.Needs.{needs}
 use Rattle.checker.proofs.runs.turn_at.Statement.{statement}
 use Rattle.checker.proofs.runs.turn_at.Tie as tie
@@ -52,9 +51,7 @@ returns-3 c = λ z T H.
     let P = rulesAt (a .rules) (a .table .now) in
     let g = d .answer2 .given .0 in
     let zs = take (g .1 .0) (b d .step-at .result .numbers) in
-    let k = t .last .1 .1 .1 .1 .1 in
-    rw (there d, step-is (g .0) zs (good d .0) (good d .1) P z, c .turn-of .ensures)
-    (left-turn P (k .0) (k .1 .0) (k .1 .1 .0) (g .1 .1 .0) (byLetter P z (g .0) zs) (t .result) (t .ensures z T H))
+    rw (there d, step-is (g .0) zs (good d .0) (good d .1) P z) (t .result, c .turn-of .ensures, t .ensures z T H)
 
 pub turn-at-spec : {M : Type 1} → statement M
 turn-at-spec =
