@@ -1,4 +1,4 @@
--- The `l` step by what its tests answered: questions 26, 31 and 32, and the nogood that it adds.
+-- The `l` step by what its tests answered: questions 31 and 32, and the nogood that it adds.
 -- Assumes nothing.
 use mathlib.Core.Path.{_≡_, refl, sym, _∙_, ap, subst}
 use mathlib.Core.Bool.{Bool, true, false, not, true≢false}
@@ -17,20 +17,16 @@ use Rattle.answer_set.specs.SetTest.{marked}
 use Rattle.text.specs.declared.Letter.the-variants.{Loop}
 use Rattle.drupe.specs.Lines.{isPositive}
 use Rattle.derivation.specs.States.{State, isAtom}
-use Rattle.derivation.specs.Steps.{isExternal, allKnown, allAtoms, allNamed, byLetter}
+use Rattle.derivation.specs.Steps.{isExternal, allAtoms, allNamed, byLetter}
 use Rattle.names.specs.Queries.{Marks, picks, isExternalBy}
 use Rattle.checker.specs.Held.{Line, Tracks, Kept, Left, gathered}
 use Rattle.checker.specs.declared.steps.Stepped.{Stepped}
 use Rattle.checker.specs.declared.steps.Stepped.the-variants.{Fails}
 use Rattle.checker.proofs.Names.{all-named}
-use Rattle.checker.proofs.Tracking.{all-known}
+use Rattle.checker.proofs.Letters.{cited}
 use Rattle.checker.proofs.Loops.{all-atoms, external-by, loop-nogood}
 
--- an `l` line has a first number, and all are positive
-pub loop-some : (U : List ℤ) → Line Loop U → 1 ≤ length U
-loop-some [] line = absurd (true≢false (sym (line .signs)))
-loop-some (h ∷ hs) line = omega arith
-
+-- the numbers of an `l` line are positive
 positive : (U : List ℤ) → Line Loop U → (x : ℤ) → x ∈ U → T (isPositive x)
 positive [] line x i = elim i [ ]
 positive (h ∷ hs) line x i = if-true (all-decides (λ x. itself (isPositive x)) (h ∷ hs)) (line .signs) x i
@@ -41,22 +37,15 @@ module _ {P : List Rule} {known names : List ℕ} (z : State) (tracks : Tracks P
   Leaves U r = Left P known names store (byLetter P z Loop U) r
 
   module _ (U : List ℤ) (line : Line Loop U) where
-    known-is : all (λ x. marked known (variable x)) U ≡ allKnown P z U
-    known-is = all-known z tracks U (line .literals .high)
-
     atoms-not : atoms P < top U → allAtoms P z U ≡ false
     atoms-not h = failed _ (not-decides (all-atoms P z U (line .literals .low)) .from (λ k. omega arith))
 
     atoms-are : top U ≤ atoms P → allAtoms P z U ≡ true
     atoms-are = is-true (all-atoms P z U (line .literals .low))
 
-  pub loop-known : (U : List ℤ) → Line Loop U → all (λ x. marked known (variable x)) U ≡ false → Leaves U (Fails 26)
-  loop-known [] line k = absurd (true≢false (sym (line .signs)))
-  loop-known (h ∷ hs) line k = rw (sym (known-is (h ∷ hs) line) ∙ k) refl
-
   pub loop-atoms : (U : List ℤ) → Line Loop U → all (λ x. marked known (variable x)) U ≡ true → atoms P < top U → Leaves U (Fails 31)
   loop-atoms [] line k a = absurd (true≢false (sym (line .signs)))
-  loop-atoms (h ∷ hs) line k a = rw (sym (known-is (h ∷ hs) line) ∙ k, atoms-not (h ∷ hs) line a) refl
+  loop-atoms (h ∷ hs) line k a = rw (cited z tracks Loop (h ∷ hs) line refl k, atoms-not (h ∷ hs) line a) refl
 
   -- the names of the external bodies, as they are found by marks of the set
   module _ {inside m : List ℕ} (found : Marks m (picks (isExternalBy inside) P names)) where
@@ -71,7 +60,7 @@ module _ {P : List Rule} {known names : List ℕ} (z : State) (tracks : Tracks P
         → marked m 0 ≡ true → Leaves U (Fails 32)
     loop-named [] line k a set n = absurd (true≢false (sym (line .signs)))
     loop-named (h ∷ hs) line k a set n =
-        rw (sym (known-is (h ∷ hs) line) ∙ k, atoms-are (h ∷ hs) line a, sym (named-is (h ∷ hs) line set) ∙ ap not n) refl
+        rw (cited z tracks Loop (h ∷ hs) line refl k, atoms-are (h ∷ hs) line a, sym (named-is (h ∷ hs) line set) ∙ ap not n) refl
 
     pub loop-added : (U : List ℤ) → Line Loop U → all (λ x. marked known (variable x)) U ≡ true → top U ≤ atoms P → Marks inside (map variable U)
         → marked m 0 ≡ false → atoms P ≤ largest → (r : Stepped) → Kept (z .live ++ (gathered (marked m) (getD U 0 (pos 0)) largest 1 ∷ [])) store r → Leaves U r
@@ -80,5 +69,5 @@ module _ {P : List Rule} {known names : List ℕ} (z : State) (tracks : Tracks P
         let U = h ∷ hs in
         let all-atoms = atoms-are U line a in
         let atom : T (isAtom P (variable h)) = passed (isAtom P (variable h)) .from (and-left _ _ all-atoms) in
-        rw (sym (known-is U line) ∙ k, all-atoms, sym (named-is U line set) ∙ ap not n)
+        rw (cited z tracks Loop U line refl k, all-atoms, sym (named-is U line set) ∙ ap not n)
         (subst (λ (g : List ℤ). Kept (z .live ++ (g ∷ [])) store r) (loop-nogood z tracks h U atom high (external U line set)) q, tracks)

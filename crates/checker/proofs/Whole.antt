@@ -21,8 +21,8 @@ use Rattle.derivation.specs.Steps as Steps
 use Rattle.derivation.specs.Claims.{NoAnswerSet}
 use Rattle.derivation.proofs.Sound.{demand3}
 use Rattle.nogoods.specs.Store.{liveWords}
-use Rattle.checker.specs.Check.{Course, stopped, through, fitting, lineStep, stepsFrom, course, countsOf, saying, judged, judgedReading, check}
-use Rattle.checker.specs.Claims.{Runs, ends, unread, unaccepted, full, good, StepByStep, Ended, Demand2, Demand3Whole}
+use Rattle.checker.specs.Check.{Course, stopped, through, fitting, lineStep, stepsFrom, course, countsOf, saying, judged, judgedReading, check, Checked}
+use Rattle.checker.specs.Claims.{Runs, ends, unread, unaccepted, full, good, StepByStep, Ended, Demand2, Demand3Whole, Demand3Service}
 use Rattle.checker.specs.declared.Counts.{Counts}
 use Rattle.checker.specs.declared.ProofRefusal.{ProofRefusal}
 use Rattle.checker.specs.declared.Verdict.the-variants.{Inconsistent, Open, RefusedProof}
@@ -149,3 +149,7 @@ demand3-whole text proof t s c = reading (readText t text) refl
         → (P : List Rule) × (readText t text ≡ program P) × NoAnswerSet P
     reading (refused k n) q e = absurd (apart (cc))
     reading (program P) q e = (P, q, judging P (course P s proof) refl e)
+
+pub demand3-service : Demand3Service
+demand3-service text proof table store table′ store′ c e =
+    demand3-whole text proof (length table) (length store) c (sym (ap (λ (x : Checked). x .verdict) e))

@@ -1,5 +1,6 @@
 -- The whole check: document 01, 'The proof's seven letters', 'Questions put to the input' and 'What `verdict` prints'.
 -- Assumes nothing.
+use mathlib.Core.Path.{_≡_}
 use mathlib.Core.Bool.{Bool, cond}
 use mathlib.Core.List.{List}
 use Prim.Native.Nat.{ℕ, zero, suc, _+_}
@@ -75,3 +76,9 @@ judgedReading t s proof (program P) = judged t s P (course P s proof)
 -- the whole check of a program text and a proof text with a table of t words and a store of s words; "program before proof"
 unfoldable pub check : List ℕ → List ℕ → ℕ → ℕ → Checked
 check text proof t s = judgedReading t s proof (readText t text)
+
+-- the public contract of `check_texts`: the verdict with N, R, S and K, every word of the table and every word of the store, whatever
+-- the two texts and whatever the table and the store that are lent
+abbrev pub CheckedTexts : List ℕ → List ℕ → List ℤ → List ℤ → List ℤ → List ℤ → Verdict → Type 0
+CheckedTexts text proof table store table′ store′ r =
+    record { verdict = r; table = table′; store = store′ } ≡ check text proof (length table) (length store)

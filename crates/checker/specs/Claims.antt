@@ -1,5 +1,5 @@
 -- What the whole check says, as statements; proofs/Whole.antt proves them: the steps line by line, demand 2 of the notice, and
--- demand 3, part two.
+-- demand 3, part two, also of the function `check_texts` by its contract.
 -- Assumes nothing.
 use mathlib.Core.Path.{_≡_}
 use mathlib.Core.Logic.{_↔_}
@@ -19,7 +19,7 @@ use Rattle.derivation.specs.Steps.{next, step, emptyLive}
 use Rattle.derivation.specs.Steps as Steps
 use Rattle.derivation.specs.Claims.{NoAnswerSet}
 use Rattle.nogoods.specs.Store.{liveWords}
-use Rattle.checker.specs.Check.{Course, stopped, through, course, countsOf, check}
+use Rattle.checker.specs.Check.{Course, stopped, through, course, countsOf, check, CheckedTexts}
 use Rattle.checker.specs.declared.Counts.{Counts}
 use Rattle.checker.specs.declared.Verdict.the-variants.{Inconsistent, Open}
 
@@ -66,3 +66,11 @@ Demand3Whole =
     (text proof : List ℕ) (t s : ℕ) (c : Counts)
     → check text proof t s .verdict ≡ Inconsistent c
     → (P : List Rule) × (readText t text ≡ program P) × NoAnswerSet P
+
+-- The same of the function: whatever the two texts, the table and the store that `check_texts` is lent, where it answers
+-- "inconsistent" no set is an answer set of the program that it read, nor of that program with any further constraints.
+abbrev pub Demand3Service : Type 1
+Demand3Service =
+    (text proof : List ℕ) (table store table′ store′ : List ℤ) (c : Counts)
+    → CheckedTexts text proof table store table′ store′ (Inconsistent c)
+    → (P : List Rule) × (readText (length table) text ≡ program P) × NoAnswerSet P

@@ -1,0 +1,36 @@
+use mathlib.Core.Path.{refl, sym, _∙_}
+use borrow.Author.Tests.{not-true, not-false}
+use Rattle.text.specs.declared.Letter.the-variants.{Deletion}
+use Rattle.checker.proofs.Letters.{cited}
+use borrow.Author.Needs.{needs}
+use Rattle.checker.proofs.additions.deletion.Statement.{statement}
+use Rattle.checker.proofs.additions.deletion.Tie as tie
+
+returns : tie.Need-returns
+returns c =
+    λ P names z T H.
+    let s = c .before .before .before .before in
+    rw (cited z T Deletion _ (s .pre .1) refl (sym (c .before .all-marked .ensures) ∙ not-true _ (c .if1 .taken))) refl
+
+returns-2 : tie.Need-returns-2
+returns-2 c =
+    λ P names z T H.
+    let d = c .before in
+    let o = d .before .before .before .before in
+    let k = o .before .before in
+    let s = k .before .before .before .before in
+    rw (cited z T Deletion _ (s .pre .1) refl (sym (k .before .all-marked .ensures) ∙ not-false _ (k .if1 .left)))
+    (rw (o .sort .ensures) at (d .delete .ensures (z .live) H), T)
+
+pub deletion-spec : {M : Type 1} → statement M
+deletion-spec =
+    tie.close
+    (tie.spec
+    (λ c κs. search needs)
+    (λ c. search needs)
+    returns
+    (λ c κs. search needs)
+    (λ c κs. search needs)
+    (λ c. search needs)
+    (λ c. search needs)
+    returns-2)

@@ -1,0 +1,77 @@
+use mathlib.Core.Path.{_≡_, sym, _∙_, ap}
+use mathlib.Core.List.{List}
+use Prim.Native.Nat.{ℕ}
+use lib.IntN.{ℤ, pos}
+use lib.ListN.{length, replicate}
+use Rattle.aspif.specs.Rules.{Rule, atoms}
+use Rattle.answer_set.specs.SetTest.{rulesAt}
+use Rattle.checker.specs.Check.{Course, course}
+use Rattle.checker.specs.Held.{Ran}
+use Rattle.checker.proofs.Verdicts.{too-long, ran-stopped, ran-through, judged-stopped, judged-through}
+use borrow.Author.Needs.{needs}
+use Rattle.checker.proofs.judging.check_proof.Statement.{statement}
+use Rattle.checker.proofs.judging.check_proof.Tie as tie
+
+-- what the lines came to
+module _ (c : tie.After-run-lines) where
+  abbrev start : tie.Start
+  start = c .before .before .before .before .before
+
+  abbrev store′ : List ℤ
+  store′ = c .run-lines .last .1 .1 .1 .1 .0
+
+  abbrev courseOf : List Rule → Course
+  courseOf P = course P (length (start .args .store .now)) (start .args .proof .now)
+
+  abbrev came : Course
+  came = courseOf (rulesAt (start .args .rules) (start .args .table .now))
+
+  ran : Ran store′ came (c .run-lines .result)
+  ran = c .run-lines .ensures
+
+returns : tie.Need-returns
+returns c = λ P n w e.
+    let a = c .before .before .before .before .before .before .before .args in
+    let r = c .before .before .refuse .ensures in
+    judged-stopped _ _ P _ _ (too-long P _ (a .proof .now) (search needs)) (r .0) (r .1) (r .2)
+
+conclude-requires : tie.Need-conclude-requires
+conclude-requires c κs =
+    let q = c .before .before .before .before .before in
+    let r = ran-through (store′ q) (came q) _ _ (ran q) (c .before .before .run2 .given .1) in
+    (r .0 .live, r .2)
+
+returns-2 : tie.Need-returns-2
+returns-2 c = λ P n w e.
+    let q = c .before .before .before .before .before .before .before .before .before in
+    let r = c .before .before .refuse2 .ensures in
+    let same : length (store′ q) ≡ length (start q .args .store .now) = search needs in
+    let o = ran-stopped (store′ q) (came q) _ (ran q) (c .before .before .before .before .before .before .run .given .1) in
+    judged-stopped _ _ P _ _ (ap (courseOf q) (sym e) ∙ o) (r .0) (r .1) (r .2 ∙ ap (λ (k : ℕ). replicate k (pos 0)) same)
+
+returns-3 : tie.Need-returns-3
+returns-3 c = λ P n w e.
+    let q = c .before .before .before .before .before .before in
+    let same : length (store′ q) ≡ length (start q .args .store .now) = search needs in
+    let t = ran-through (store′ q) (came q) _ _ (ran q) (c .before .before .before .run2 .given .1) in
+    judged-through _ _ P _ _ _ _ _ (t .0) (ap (courseOf q) (sym e) ∙ t .1) (c .conclude .ensures (t .0 .live) (t .2)) (start q .pre .0 .top ∙ ap atoms e) (sym n) w (t .2) same
+
+pub check-proof-spec : {M : Type 1} → statement M
+check-proof-spec =
+    tie.close
+    (tie.spec
+    (λ c κs. search needs)
+    (λ c. search needs)
+    (λ c. search needs)
+    returns
+    (λ c κs. search needs)
+    (λ c. search needs)
+    (λ c κs. search needs)
+    (λ c. search needs)
+    conclude-requires
+    (λ c. search needs)
+    (λ c. search needs)
+    returns-2
+    (λ c. search needs)
+    (λ c. search needs)
+    returns-3)

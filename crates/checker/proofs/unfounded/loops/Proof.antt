@@ -1,0 +1,128 @@
+use mathlib.Core.Path.{_≡_, refl, sym, ap, subst, _∙_}
+use mathlib.Core.Bool.{true}
+use mathlib.Core.List.{List}
+use Prim.Native.Nat.{_≤_}
+use native.Mathlib.Omega.{arith}
+use borrow.Author.Tests.{not-true, not-false}
+use lib.IntN.{ℤ, pos}
+use lib.ListN.{length, take, getD}
+use lib.Seq.{length-take-le}
+use Rattle.words.specs.Limits.{largest}
+use Rattle.words.specs.Lists.{all}
+use Rattle.words.specs.Literals.{variable, top}
+use Rattle.words.proofs.Words.{back}
+use Rattle.aspif.specs.Rules.{atoms}
+use Rattle.answer_set.specs.SetTest.{marked, rulesAt}
+use Rattle.text.specs.declared.Letter.the-variants.{Loop}
+use Rattle.nogoods.specs.Store.{Literals}
+use Rattle.checker.specs.Held.{Line, gathered}
+use Rattle.checker.proofs.Letters.{some-number, cited}
+use Rattle.checker.proofs.Kept.{kept-added}
+use Rattle.checker.proofs.Gathering.{gathered-literals}
+use Rattle.checker.proofs.LoopSteps.{loop-atoms, loop-named, loop-added}
+use borrow.Author.Needs.{needs}
+use Rattle.checker.proofs.unfounded.loops.Statement.{statement}
+use Rattle.checker.proofs.unfounded.loops.Tie as tie
+
+-- what the first two tests leave
+module _ (c : tie.Else2) where
+  abbrev s : tie.Start
+  s = c .before .before .before .before .before .before
+
+  abbrev U : List ℤ
+  U = s .args .numbers .now
+
+  line : Line Loop U
+  line = s .pre .1 .1
+
+  known : all (λ x. marked (s .args .known .now) (variable x)) U ≡ true
+  known = let d = c .before .before in sym (d .before .all-marked .ensures) ∙ not-false _ (d .if1 .left)
+
+  low : top U ≤ atoms (rulesAt (s .args .rules) (s .args .table .now))
+  low = omega (arith, c .if2 .left, c .before .largest-variable .ensures, s .pre .0 .0 .top)
+
+returns : tie.Need-returns
+returns c =
+    let s = c .before .before .before .before in
+    λ z tracks H. rw (cited z tracks Loop (s .args .numbers .now) (s .pre .1 .1) refl (sym (c .before .all-marked .ensures) ∙ not-true _ (c .if1 .taken))) refl
+
+returns-2 : tie.Need-returns-2
+returns-2 c =
+    let d = c .before .before in
+    let s = d .before .before .before .before in
+    λ z tracks H.
+    loop-atoms z tracks _ (s .args .numbers .now) (s .pre .1 .1) (sym (d .before .all-marked .ensures) ∙ not-false _ (d .if1 .left))
+    (omega (arith, c .if2 .taken, c .before .largest-variable .ensures, s .pre .0 .0 .top))
+
+returns-3 : tie.Need-returns-3
+returns-3 c =
+    let n = c .before .before .before in
+    let m = n .before .before in
+    let e = m .before in
+    λ z tracks H. loop-named z tracks _ (n .names-of .ensures) (U e) (line e) (known e) (low e) (m .marks-of .ensures) (sym (c .before .is-marked .ensures) ∙ c .if3 .taken)
+
+shared-slice-copy-out-gather : tie.Need-shared-slice-copy-out-gather
+shared-slice-copy-out-gather c =
+    let s = c .before .before .before .before .before .before .before .before .before .before .before .before in
+    some-number Loop refl (s .pre .1 .1)
+
+abbrev names : tie.After-gather → tie.After-names-of
+names c = c .before .before .before .before .before .before .before
+
+abbrev tests : tie.After-gather → tie.Else2
+tests c = names c .before .before .before
+
+-- how many words were gathered, and what they are
+size : (c : tie.After-gather) → length (take (c .gather .result) (c .gather .last .1 .1 .0)) ≡ c .gather .result
+size c = let g = c .gather in length-take-le (g .result) (g .last .1 .1 .0) (omega (arith, g .kept .1 .1 .0, g .ensures .0))
+
+gives : (c : tie.After-gather)
+    → take (c .gather .result) (c .gather .last .1 .1 .0) ≡ gathered (marked (names c .names-of .result)) (getD (U (tests c)) 0 (pos 0)) largest 1
+gives c = c .gather .ensures .1 ∙ ap (λ x. gathered (marked (names c .names-of .result)) x largest 1) (back (getD (U (tests c)) 0 (pos 0)) (c .before .before .before .gather-arg .given))
+
+slice-aggregate-append : tie.Need-slice-aggregate-append
+slice-aggregate-append c = sym (size (c .before .before .before))
+
+append-requires : tie.Need-append-requires
+append-requires c κs =
+    let d = c .before .before .before in
+    let g = d .gather in
+    let e = tests d in
+    (s e .pre .1 .0, (subst Literals (sym (gives d)) (gathered-literals (marked (names d .names-of .result)) (getD (U e) 0 (pos 0)) largest 1 (omega arith) (omega arith)), omega (arith, size d, g .ensures .0)))
+
+returns-4 : tie.Need-returns-4
+returns-4 c =
+    let a = c .before .before in
+    let g = a .before .before .before .before in
+    let d = g .before .before .before .before in
+    let n = names g in
+    let e = tests g in
+    let p = s e .pre .0 .0 in
+    λ z tracks H.
+    loop-added z tracks _ (n .names-of .ensures) (U e) (line e) (known e) (low e) (n .before .before .marks-of .ensures) (sym (d .before .is-marked .ensures) ∙ d .if3 .left)
+    (omega (arith, p .top, p .high)) (c .fitted .result) (kept-added (z .live) _ (a .append .result) (c .fitted .ensures) (gives g) (a .append .ensures (z .live) H))
+
+pub loops-spec : {M : Type 1} → statement M
+loops-spec =
+    tie.close
+    (tie.spec
+    (λ c κs. search needs)
+    returns
+    (λ c κs. search needs)
+    returns-2
+    (λ c κs. search needs)
+    (λ c. search needs)
+    (λ c κs. search needs)
+    (λ c. search needs)
+    (λ c κs. search needs)
+    returns-3
+    shared-slice-copy-out-gather
+    (λ c. search needs)
+    (λ c. search needs)
+    (λ c κs. search needs)
+    (λ c. search needs)
+    slice-aggregate-append
+    append-requires
+    (λ c κs. search needs)
+    (λ c. search needs)
+    returns-4)

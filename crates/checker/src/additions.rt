@@ -1,0 +1,46 @@
+// `a` and `d`: nogoods as a line gives them. Document 01, questions 26, 33 and 34.
+ghost use mathlib.Core.List.{List};
+ghost use Prim.Native.Nat.{ℕ};
+ghost use lib.IntN.{ℤ};
+ghost use Rattle.aspif.specs.Rules.{Rule};
+ghost use Rattle.text.specs.declared.Letter.the-variants.{Addition, Deletion};
+ghost use Rattle.derivation.specs.States.{State};
+ghost use Rattle.derivation.specs.Steps.{byLetter};
+ghost use Rattle.nogoods.specs.Store.{Holds};
+ghost use Rattle.checker.specs.Held.{Line, Tracks, Left};
+use crate::steps;
+use crate::steps::Stepped;
+use names::variables;
+use nogoods::propagation;
+use nogoods::store;
+
+// `a`
+pub fn addition(known: &[u8], store: &mut [i32], used: usize, numbers: &mut [i32]) -> Stepped
+    requires { ⌜ ((live : List (List ℤ)) × Holds (now store) used live) ⌝ }
+    requires { ⌜ Line Addition (now numbers) ⌝ }
+    ensures { λ r. ⌜ ((P : List Rule) (names : List ℕ) (z : State) → Tracks P (now (known .entry)) names (z .introduced) (z .named) → Holds (now (store .entry)) used (z .live)
+        → Left P (now (known .entry)) names (now (store .exit)) (byLetter P z Addition (now (numbers .entry))) r) ⌝ }
+{
+    if !variables::all_marked(numbers, known) {
+        return Stepped::Fails(26);
+    }
+    if !propagation::refutes(store, used, numbers) {
+        return Stepped::Fails(33);
+    }
+    words::sort(numbers);
+    steps::fitted(store::append(store, used, numbers))
+}
+
+// `d`
+pub fn deletion(known: &[u8], store: &mut [i32], used: usize, numbers: &mut [i32]) -> Stepped
+    requires { ⌜ ((live : List (List ℤ)) × Holds (now store) used live) ⌝ }
+    requires { ⌜ Line Deletion (now numbers) ⌝ }
+    ensures { λ r. ⌜ ((P : List Rule) (names : List ℕ) (z : State) → Tracks P (now (known .entry)) names (z .introduced) (z .named) → Holds (now (store .entry)) used (z .live)
+        → Left P (now (known .entry)) names (now (store .exit)) (byLetter P z Deletion (now (numbers .entry))) r) ⌝ }
+{
+    if !variables::all_marked(numbers, known) {
+        return Stepped::Fails(26);
+    }
+    words::sort(numbers);
+    Stepped::Uses(store::delete(store, used, numbers))
+}

@@ -1,0 +1,73 @@
+// The verdict on a proof, once its program is read.
+ghost use mathlib.Core.Path.{_≡_};
+ghost use mathlib.Core.List.{List};
+ghost use lib.IntN.{ℤ, pos};
+ghost use lib.ListN.{length, replicate};
+ghost use Rattle.words.specs.Lists.{any};
+ghost use Rattle.aspif.specs.Rules.{Rule, isEmpty, tableWords};
+ghost use Rattle.answer_set.specs.SetTest.{rulesAt};
+ghost use Rattle.nogoods.specs.Store.{Holds};
+ghost use Rattle.checker.specs.Check.{saying, judged, course};
+ghost use Rattle.checker.specs.Held.{Program};
+ghost use Rattle.checker.specs.declared.Verdict.the-variants.{RefusedProof};
+use crate::Counts;
+use crate::ProofRefusal;
+use crate::Verdict;
+use crate::runs;
+use crate::runs::Run;
+
+// Nothing of a proof that is refused stays, nor of its program.
+fn refuse(table: &mut [i32], store: &mut [i32], refusal: ProofRefusal) -> Verdict
+    ensures { λ r. ⌜ (r ≡ RefusedProof refusal) × (now (table .exit) ≡ replicate (length (now (table .entry))) (pos 0)) × (now (store .exit) ≡ replicate (length (now (store .entry))) (pos 0)) ⌝ }
+{
+    words::zero_all(table);
+    words::zero_all(store);
+    Verdict::RefusedProof(refusal)
+}
+
+// The verdict once every step is good.
+fn conclude(store: &[i32], used: usize, atoms: usize, rules: usize, steps: usize) -> Verdict
+    requires { ⌜ ((live : List (List ℤ)) × Holds (now store) used live) ⌝ }
+    ensures { λ r. ⌜ ((live : List (List ℤ)) → Holds (now (store .entry)) used live
+        → r ≡ saying (any isEmpty live) (record { atoms = atoms; rules = rules; steps = steps; nogoods = length live })) ⌝ }
+{
+    let counts = Counts {
+        atoms,
+        rules,
+        steps,
+        nogoods: nogoods::store::count(store, used),
+    };
+    if nogoods::store::has_empty(store, used) {
+        return Verdict::Inconsistent(counts);
+    }
+    Verdict::Open(counts)
+}
+
+// The proof against a program that was read into the table. The store is 0 throughout.
+pub fn check_proof(
+    proof: &[u8],
+    table: &mut [i32],
+    atoms: usize,
+    rules: usize,
+    store: &mut [i32],
+) -> Verdict
+    requires { ⌜ Program (now table) rules atoms × (now store ≡ replicate (length (now store)) (pos 0)) ⌝ }
+    ensures { λ r. ⌜ ((P : List Rule) → length P ≡ rules → now (table .entry) ≡ tableWords (length (now (table .entry))) P → rulesAt rules (now (table .entry)) ≡ P
+        → record { verdict = r; table = now (table .exit); store = now (store .exit) } ≡ judged (length (now (table .entry))) (length (now (store .entry))) P (course P (length (now (store .entry))) (now (proof .entry)))) ⌝ }
+{
+    if drupe::LONGEST < proof.len() {
+        return refuse(
+            table,
+            store,
+            ProofRefusal {
+                number: 21,
+                step: 0,
+            },
+        );
+    }
+    let run = runs::run_lines(proof, table, rules, atoms, store);
+    match run {
+        Run::Stopped(refusal) => refuse(table, store, refusal),
+        Run::Through { steps, used } => conclude(store, used, atoms, rules, steps),
+    }
+}

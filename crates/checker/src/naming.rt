@@ -1,0 +1,105 @@
+// `b` and `e`: the steps that introduce a name. Document 01, questions 26 to 28 and 34.
+ghost use mathlib.Core.Path.{_≡_};
+ghost use mathlib.Core.Bool.{true};
+ghost use mathlib.Core.List.{List, _++_};
+ghost use Prim.Native.Nat.{ℕ, _≤_};
+ghost use lib.IntN.{ℤ, pos};
+ghost use lib.ListN.{length, drop, getD, set};
+ghost use Rattle.words.specs.Limits.{largest};
+ghost use Rattle.words.specs.Literals.{variable, sameList, ascending};
+ghost use Rattle.drupe.specs.Lines.{mostNumbers};
+ghost use Rattle.aspif.specs.Rules.{Rule};
+ghost use Rattle.answer_set.specs.SetTest.{rulesAt, soundRules};
+ghost use Rattle.text.specs.declared.Letter.the-variants.{Body, Extension};
+ghost use Rattle.derivation.specs.States.{State};
+ghost use Rattle.derivation.specs.Steps.{definition, isUnnamedBody, byLetter};
+ghost use Rattle.nogoods.specs.Store.{Literals, Holds};
+ghost use Rattle.names.specs.Queries.{renamed};
+ghost use Rattle.checker.specs.Held.{Line, Tracks, Kept, Left};
+use crate::states::CheckingState;
+use crate::steps;
+use crate::steps::Stepped;
+use answer_set::marks;
+use names::queries;
+use names::queries::Query;
+use names::variables;
+use nogoods::definitions;
+use nogoods::store;
+
+// The name is known from now on, and its definition live.
+fn define(known: &mut [u8], store: &mut [i32], used: usize, numbers: &mut [i32]) -> Stepped
+    requires { ⌜ ((live : List (List ℤ)) × Holds (now store) used live) ⌝ }
+    requires { ⌜ Literals (now numbers) × (1 ≤ length (now numbers)) × (length (now numbers) ≤ mostNumbers) ⌝ }
+    ensures { λ r. ⌜ (now (known .exit) ≡ set (now (known .entry)) (variable (getD (now (numbers .entry)) 0 (pos 0))) 1)
+        × ((live : List (List ℤ)) → Holds (now (store .entry)) used live
+        → Kept (live ++ definition (getD (now (numbers .entry)) 0 (pos 0)) (drop 1 (now (numbers .entry)))) (now (store .exit)) r) ⌝ }
+{
+    marks::mark(known, words::variable_of(numbers[0]));
+    steps::fitted(definitions::append(store, used, numbers))
+}
+
+// `e`
+pub fn extension(known: &mut [u8], store: &mut [i32], used: usize, numbers: &mut [i32]) -> Stepped
+    requires { ⌜ ((live : List (List ℤ)) × Holds (now store) used live) ⌝ }
+    requires { ⌜ Line Extension (now numbers) ⌝ }
+    ensures { λ r. ⌜ ((P : List Rule) (names : List ℕ) (z : State) → Tracks P (now (known .entry)) names (z .introduced) (z .named) → Holds (now (store .entry)) used (z .live)
+        → Left P (now (known .exit)) names (now (store .exit)) (byLetter P z Extension (now (numbers .entry))) r) ⌝ }
+{
+    if !variables::all_marked(&numbers[1..], known) {
+        return Stepped::Fails(26);
+    }
+    if marks::is_marked(known, words::variable_of(numbers[0])) {
+        return Stepped::Fails(27);
+    }
+    define(known, store, used, numbers)
+}
+
+// Question 28 of a body, which ascends afterwards; its rules get the name.
+fn name_body(table: &[i32], rules: usize, names: &mut [u16], body: &mut [i32], name: usize) -> bool
+    requires { ⌜ (soundRules rules (now table) ≡ true) × (rules ≤ length (now names)) ⌝ }
+    requires { ⌜ name ≤ largest ⌝ }
+    ensures { λ r. ⌜ ((known : List ℕ) (z : State) → Tracks (rulesAt rules (now (table .entry))) known (now (names .entry)) (z .introduced) (z .named)
+        → r ≡ isUnnamedBody (rulesAt rules (now (table .entry))) z (now (body .entry))) ⌝ }
+    ensures { λ r. ⌜ (r ≡ true → now (names .exit) ≡ renamed (λ x. sameList (x .body) (ascending (now (body .entry)))) name (rulesAt rules (now (table .entry))) (now (names .entry))) ⌝ }
+{
+    words::sort(body);
+    let none = [0u8; 1];
+    let found = queries::names_of(table, rules, names, Query::Body, body, &none);
+    if !marks::is_marked(&found, 0) {
+        return false;
+    }
+    queries::enter(table, rules, body, name as u16, names);
+    true
+}
+
+// `b`
+pub fn body(
+    table: &[i32],
+    rules: usize,
+    known: &mut [u8],
+    names: &mut [u16],
+    store: &mut [i32],
+    used: usize,
+    numbers: &mut [i32],
+) -> Stepped
+    requires { ⌜ (soundRules rules (now table) ≡ true) × (rules ≤ length (now names)) ⌝ }
+    requires { ⌜ ((live : List (List ℤ)) × Holds (now store) used live) ⌝ }
+    requires { ⌜ Line Body (now numbers) ⌝ }
+    ensures { λ r. ⌜ ((z : State) → Tracks (rulesAt rules (now (table .entry))) (now (known .entry)) (now (names .entry)) (z .introduced) (z .named) → Holds (now (store .entry)) used (z .live)
+        → Left (rulesAt rules (now (table .entry))) (now (known .exit)) (now (names .exit)) (now (store .exit)) (byLetter (rulesAt rules (now (table .entry))) z Body (now (numbers .entry))) r) ⌝ }
+{
+    if !variables::all_marked(&numbers[1..], known) {
+        return Stepped::Fails(26);
+    }
+    let name = words::variable_of(numbers[0]);
+    if marks::is_marked(known, name) {
+        return Stepped::Fails(27);
+    }
+    let count = numbers.len();
+    let mut row = [0i32; CheckingState::NUMBERS];
+    words::copy(&mut row, numbers);
+    if !name_body(table, rules, names, &mut row[1..count], name) {
+        return Stepped::Fails(28);
+    }
+    define(known, store, used, numbers)
+}

@@ -1,0 +1,102 @@
+// `c` and `s`: what the rules give and what supports an atom. Document 01, questions 26, 29, 30 and 34.
+ghost use mathlib.Core.Path.{_≡_};
+ghost use mathlib.Core.Bool.{true};
+ghost use mathlib.Core.List.{List, [], _∷_, _++_, map};
+ghost use Prim.Native.Nat.{ℕ, _≤_, _<_};
+ghost use lib.IntN.{ℤ, pos};
+ghost use lib.ListN.{length, drop, getD};
+ghost use Rattle.words.specs.Literals.{complement, ascending};
+ghost use Rattle.drupe.specs.Lines.{mostNumbers};
+ghost use Rattle.answer_set.specs.SetTest.{rulesAt, soundRules};
+ghost use Rattle.text.specs.declared.Letter.the-variants.{Completion, Support};
+ghost use Rattle.derivation.specs.States.{State};
+ghost use Rattle.derivation.specs.Steps.{isSupport, byLetter};
+ghost use Rattle.nogoods.specs.Store.{Literals, Holds};
+ghost use Rattle.checker.specs.Held.{Line, Program, Tracks, Kept, Left};
+use crate::steps;
+use crate::steps::Stepped;
+use answer_set::marks;
+use names::queries;
+use names::queries::Query;
+use names::variables;
+use nogoods::store;
+
+// The first number with the complements of the others is live, after the other nogoods.
+fn join(store: &mut [i32], used: usize, numbers: &mut [i32]) -> Stepped
+    requires { ⌜ ((live : List (List ℤ)) × Holds (now store) used live) ⌝ }
+    requires { ⌜ Literals (now numbers) × (1 ≤ length (now numbers)) × (length (now numbers) ≤ mostNumbers) ⌝ }
+    ensures { λ r. ⌜ ((live : List (List ℤ)) → Holds (now (store .entry)) used live
+        → Kept (live ++ (ascending (getD (now (numbers .entry)) 0 (pos 0) ∷ map complement (drop 1 (now (numbers .entry)))) ∷ [])) (now (store .exit)) r) ⌝ }
+{
+    words::complement_all(&mut numbers[1..]);
+    words::sort(numbers);
+    steps::fitted(store::append(store, used, numbers))
+}
+
+// `c`
+pub fn completion(
+    table: &[i32],
+    rules: usize,
+    known: &[u8],
+    names: &[u16],
+    store: &mut [i32],
+    used: usize,
+    numbers: &mut [i32],
+) -> Stepped
+    requires { ⌜ (soundRules rules (now table) ≡ true) × (rules ≤ length (now names)) ⌝ }
+    requires { ⌜ ((live : List (List ℤ)) × Holds (now store) used live) ⌝ }
+    requires { ⌜ Line Completion (now numbers) ⌝ }
+    ensures { λ r. ⌜ ((z : State) → Tracks (rulesAt rules (now (table .entry))) (now (known .entry)) (now (names .entry)) (z .introduced) (z .named) → Holds (now (store .entry)) used (z .live)
+        → Left (rulesAt rules (now (table .entry))) (now (known .entry)) (now (names .entry)) (now (store .exit)) (byLetter (rulesAt rules (now (table .entry))) z Completion (now (numbers .entry))) r) ⌝ }
+{
+    if !variables::all_marked(numbers, known) {
+        return Stepped::Fails(26);
+    }
+    let found = queries::names_of(table, rules, names, Query::Normal, &numbers[1..], known);
+    if !marks::is_marked(&found, words::variable_of(numbers[0])) {
+        return Stepped::Fails(29);
+    }
+    join(store, used, numbers)
+}
+
+// Question 30.
+fn is_supported(table: &[i32], rules: usize, atoms: usize, names: &[u16], numbers: &[i32]) -> bool
+    requires { ⌜ Program (now table) rules atoms × (rules ≤ length (now names)) ⌝ }
+    requires { ⌜ Line Support (now numbers) ⌝ }
+    ensures { λ r. ⌜ ((known : List ℕ) (z : State) → Tracks (rulesAt rules (now (table .entry))) known (now (names .entry)) (z .introduced) (z .named)
+        → r ≡ isSupport (rulesAt rules (now (table .entry))) z (getD (now (numbers .entry)) 0 (pos 0)) (drop 1 (now (numbers .entry)))) ⌝ }
+{
+    let h = numbers[0];
+    if atoms < words::variable_of(h) {
+        return false;
+    }
+    let listed = variables::marks_of(&numbers[1..]);
+    let found = queries::names_of(table, rules, names, Query::Head(h), numbers, &listed);
+    variables::is_same_set(&listed, &found)
+}
+
+// `s`
+pub fn support(
+    table: &[i32],
+    rules: usize,
+    atoms: usize,
+    known: &[u8],
+    names: &[u16],
+    store: &mut [i32],
+    used: usize,
+    numbers: &mut [i32],
+) -> Stepped
+    requires { ⌜ Program (now table) rules atoms × (rules ≤ length (now names)) ⌝ }
+    requires { ⌜ ((live : List (List ℤ)) × Holds (now store) used live) ⌝ }
+    requires { ⌜ Line Support (now numbers) ⌝ }
+    ensures { λ r. ⌜ ((z : State) → Tracks (rulesAt rules (now (table .entry))) (now (known .entry)) (now (names .entry)) (z .introduced) (z .named) → Holds (now (store .entry)) used (z .live)
+        → Left (rulesAt rules (now (table .entry))) (now (known .entry)) (now (names .entry)) (now (store .exit)) (byLetter (rulesAt rules (now (table .entry))) z Support (now (numbers .entry))) r) ⌝ }
+{
+    if !variables::all_marked(numbers, known) {
+        return Stepped::Fails(26);
+    }
+    if !is_supported(table, rules, atoms, names, numbers) {
+        return Stepped::Fails(30);
+    }
+    join(store, used, numbers)
+}

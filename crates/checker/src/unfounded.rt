@@ -1,0 +1,85 @@
+// `l`: the nogood of an unfounded set. Document 01, questions 26, 31, 32 and 34.
+ghost use mathlib.Core.Path.{_≡_};
+ghost use mathlib.Core.List.{List, _++_};
+ghost use Prim.Native.Nat.{_≤_, _<_};
+ghost use lib.IntN.{ℤ};
+ghost use lib.ListN.{length, take};
+ghost use Rattle.words.specs.Limits.{largest};
+ghost use Rattle.words.specs.Literals.{variable, ascending};
+ghost use Rattle.answer_set.specs.SetTest.{marked, marksLent, rulesAt};
+ghost use Rattle.text.specs.declared.Letter.the-variants.{Loop};
+ghost use Rattle.derivation.specs.States.{State};
+ghost use Rattle.derivation.specs.Steps.{byLetter};
+ghost use Rattle.nogoods.specs.Store.{Holds};
+ghost use Rattle.checker.specs.Held.{Line, Program, Tracks, Left, gathered};
+use crate::states::CheckingState;
+use crate::steps;
+use crate::steps::Stepped;
+use answer_set::marks;
+use names::queries;
+use names::queries::Query;
+use names::variables;
+use nogoods::store;
+
+// One number of the nogood of an `l` step: h itself, or minus a name that is marked. How many literals there are then.
+fn gather_one(h: i32, found: &[u8], v: usize, row: &mut [i32], count: usize) -> usize
+    requires { ⌜ (1 ≤ v) × (v ≤ largest) × (count < v) × (length (now row) ≡ marksLent) ⌝ }
+    ensures { λ n. ⌜ (n ≤ v) × (take n (now (row .exit)) ≡ take count (now (row .entry)) ++ gathered (marked (now (found .entry))) h 1 v) ⌝ }
+{
+    if v == words::variable_of(h) {
+        row[count] = h;
+        return count + 1;
+    }
+    if marks::is_marked(found, v) {
+        row[count] = words::complement_of(v as i32);
+        return count + 1;
+    }
+    count
+}
+
+// The nogood of an `l` step, ascending by variable. How many literals it has.
+fn gather(h: i32, found: &[u8], row: &mut [i32]) -> usize
+    requires { ⌜ length (now row) ≡ marksLent ⌝ }
+    ensures { λ n. ⌜ (n ≤ largest) × (take n (now (row .exit)) ≡ gathered (marked (now (found .entry))) h largest 1) ⌝ }
+{
+    let mut count = 0;
+    let mut v = 1;
+    while v < CheckingState::ENTRIES {
+        count = gather_one(h, found, v, row, count);
+        v += 1;
+    }
+    count
+}
+
+// `l`
+pub fn loops(
+    table: &[i32],
+    rules: usize,
+    atoms: usize,
+    known: &[u8],
+    names: &[u16],
+    store: &mut [i32],
+    used: usize,
+    numbers: &[i32],
+) -> Stepped
+    requires { ⌜ Program (now table) rules atoms × (rules ≤ length (now names)) ⌝ }
+    requires { ⌜ ((live : List (List ℤ)) × Holds (now store) used live) ⌝ }
+    requires { ⌜ Line Loop (now numbers) ⌝ }
+    ensures { λ r. ⌜ ((z : State) → Tracks (rulesAt rules (now (table .entry))) (now (known .entry)) (now (names .entry)) (z .introduced) (z .named) → Holds (now (store .entry)) used (z .live)
+        → Left (rulesAt rules (now (table .entry))) (now (known .entry)) (now (names .entry)) (now (store .exit)) (byLetter (rulesAt rules (now (table .entry))) z Loop (now (numbers .entry))) r) ⌝ }
+{
+    if !variables::all_marked(numbers, known) {
+        return Stepped::Fails(26);
+    }
+    if atoms < words::largest_variable(numbers) {
+        return Stepped::Fails(31);
+    }
+    let inside = variables::marks_of(numbers);
+    let found = queries::names_of(table, rules, names, Query::External, numbers, &inside);
+    if marks::is_marked(&found, 0) {
+        return Stepped::Fails(32);
+    }
+    let mut row = [0i32; CheckingState::ENTRIES];
+    let count = gather(numbers[0], &found, &mut row);
+    steps::fitted(store::append(store, used, &row[..count]))
+}
