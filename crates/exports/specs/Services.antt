@@ -1,18 +1,17 @@
 -- What the four functions for C return and leave: some answer for which the service's own contract holds, told by its code and
--- numbers. In each the lent slices come before and after, the answer's buffer last, and then the result.
+-- numbers. A primed name is what a lent slice holds afterwards; `answer` is the buffer for the numbers.
 -- Assumes nothing.
 use mathlib.Core.Path.{_≡_}
 use mathlib.Core.List.{List}
 use Prim.Native.Nat.{ℕ}
 use lib.IntN.{ℤ}
-use lib.ListN.{length}
 use lib.Seq.{sets}
 use Rattle.aspif.specs.Reading.{ProgramRead}
 use Rattle.aspif.specs.declared.ProgramReading.{ProgramReading}
 use Rattle.answer_set.specs.SetTest.{SetTested}
 use Rattle.answer_set.specs.declared.SetAnswer.{SetAnswer}
 use Rattle.drupe.specs.Lines.{lineAt, answerOf, numbersOf}
-use Rattle.checker.specs.Check.{check}
+use Rattle.checker.specs.Check.{CheckedTexts}
 use Rattle.checker.specs.declared.Verdict.{Verdict}
 use Rattle.exports.specs.Codes.{Told, programCode, programNumbers, setCode, setNumbers, lineCode, lineNumbers, verdictCode, verdictNumbers}
 
@@ -35,7 +34,7 @@ pub record LineService (text : List ℕ) (position : ℕ) (numbers numbers′ : 
   pub told : Told (lineCode (answerOf (lineAt text position))) (lineNumbers (answerOf (lineAt text position))) answer answer′ result
 
 -- the verdict, every word of the table and every word of the store
-pub record CheckService (program proof : List ℕ) (table table′ store store′ : List ℤ) (answer answer′ : List ℕ) (result : ℕ) : Type 0 where
+pub record CheckService (program proof : List ℕ) (table store table′ store′ : List ℤ) (answer answer′ : List ℕ) (result : ℕ) : Type 0 where
   pub verdict : Verdict
-  pub checked : record { verdict = verdict; table = table′; store = store′ } ≡ check program proof (length table) (length store)
+  pub checked : CheckedTexts program proof table store table′ store′ verdict
   pub told : Told (verdictCode verdict) (verdictNumbers verdict) answer answer′ result

@@ -55,7 +55,7 @@ pub extern "C" fn examiner_check_texts(
     store: &mut [i32],
     answer: &mut [u64],
 ) -> u32
-    ensures { λ r. ⌜ CheckService (now (program .entry)) (now (proof .entry)) (now (table .entry)) (now (table .exit)) (now (store .entry)) (now (store .exit)) (now (answer .entry)) (now (answer .exit)) r ⌝ }
+    ensures { λ r. ⌜ CheckService (now (program .entry)) (now (proof .entry)) (now (table .entry)) (now (store .entry)) (now (table .exit)) (now (store .exit)) (now (answer .entry)) (now (answer .exit)) r ⌝ }
 {
     let verdict = checker::check_texts(program, proof, table, store);
     answers::tell_verdict(verdict, answer)
