@@ -1,0 +1,18 @@
+// Links the static library that `rt staticlib exports` writes.
+use std::path::Path;
+
+fn main() {
+    let root = std::env::var("CARGO_MANIFEST_DIR").expect("cargo sets CARGO_MANIFEST_DIR");
+    let folder = Path::new(&root).join("../../target/staticlib");
+    let library = folder.join("libexports.a");
+    println!("cargo:rerun-if-changed={}", library.display());
+    if !library.is_file() {
+        eprintln!(
+            "{} is missing: run `rt staticlib exports` in the repository's root first.",
+            library.display()
+        );
+        std::process::exit(1);
+    }
+    println!("cargo:rustc-link-search=native={}", folder.display());
+    println!("cargo:rustc-link-lib=static=exports");
+}

@@ -1,0 +1,78 @@
+-- A service's answer as a code and numbers, for callers in other languages: document 01's number and values for each case.
+-- Assumes nothing.
+use mathlib.Core.Path.{_≡_}
+use mathlib.Core.List.{List, [], _∷_}
+use Prim.Native.Nat.{ℕ}
+use lib.Seq.{sets}
+use Rattle.text.specs.Bytes.{byteOf}
+use Rattle.aspif.specs.declared.ProgramReading.{ProgramReading}
+use Rattle.aspif.specs.declared.ProgramReading.the-variants as Program
+use Rattle.answer_set.specs.declared.SetAnswer.{SetAnswer}
+use Rattle.answer_set.specs.declared.SetAnswer.the-variants as Set
+use Rattle.drupe.specs.declared.LineAnswer.{LineAnswer}
+use Rattle.drupe.specs.declared.LineAnswer.the-variants as Line
+use Rattle.checker.specs.declared.Counts.{Counts}
+use Rattle.checker.specs.declared.Verdict.{Verdict}
+use Rattle.checker.specs.declared.Verdict.the-variants.{Inconsistent, Open, RefusedProgram, RefusedProof}
+
+-- the code is returned, and the numbers stand at the front of the lent buffer, as many as fit; no other number of it has changed
+pub record Told (code : ℕ) (numbers before after : List ℕ) (result : ℕ) : Type 0 where
+  pub returned : result ≡ code
+  pub written : after ≡ sets before 0 numbers
+
+-- The program reader: 0, or "the number and the line"; numbers 1 to 11
+
+abbrev pub programCode : ProgramReading → ℕ
+programCode (Program.Read n rules) = 0
+programCode (Program.Refused r) = r .number
+
+-- "The reader returns N and the rule count."
+abbrev pub programNumbers : ProgramReading → List ℕ
+programNumbers (Program.Read n rules) = n ∷ rules ∷ []
+programNumbers (Program.Refused r) = r .line ∷ 0 ∷ []
+
+-- The set test: "yes; or no with an atom ..; or .. the lowest rule number"; numbers 41 to 43
+
+abbrev pub setCode : SetAnswer → ℕ
+setCode Set.Yes = 0
+setCode (Set.Differs v) = 1
+setCode (Set.Broken k) = 2
+setCode (Set.Refused n) = n
+
+abbrev pub setNumbers : SetAnswer → List ℕ
+setNumbers Set.Yes = []
+setNumbers (Set.Differs v) = v ∷ []
+setNumbers (Set.Broken k) = k ∷ []
+setNumbers (Set.Refused n) = []
+
+-- The proof-line reader: 0 for "end", the letter's byte for a line; numbers 21 to 25
+
+abbrev pub lineCode : LineAnswer → ℕ
+lineCode (Line.Line x count next) = byteOf x
+lineCode Line.End = 0
+lineCode (Line.Refused n) = n
+
+-- "their count and the position after the newline. Its refusal returns the number alone."
+abbrev pub lineNumbers : LineAnswer → List ℕ
+lineNumbers (Line.Line x count next) = count ∷ next ∷ []
+lineNumbers Line.End = []
+lineNumbers (Line.Refused n) = []
+
+-- The whole check
+
+abbrev pub verdictCode : Verdict → ℕ
+verdictCode (Inconsistent c) = 0
+verdictCode (Open c) = 1
+verdictCode (RefusedProgram r) = 2
+verdictCode (RefusedProof r) = 3
+
+-- N, R, S and K
+abbrev pub countNumbers : Counts → List ℕ
+countNumbers c = c .atoms ∷ c .rules ∷ c .steps ∷ c .nogoods ∷ []
+
+-- N, R, S and K; or the number and the line; or the number and the step
+abbrev pub verdictNumbers : Verdict → List ℕ
+verdictNumbers (Inconsistent c) = countNumbers c
+verdictNumbers (Open c) = countNumbers c
+verdictNumbers (RefusedProgram r) = r .number ∷ r .line ∷ []
+verdictNumbers (RefusedProof r) = r .number ∷ r .step ∷ []

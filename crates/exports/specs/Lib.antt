@@ -1,0 +1,3 @@
+-- An answer as a code and numbers, and what the four functions for C return and leave.
+pub mod Codes
+pub mod Services

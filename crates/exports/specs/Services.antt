@@ -1,0 +1,40 @@
+-- What the four functions for C return and leave: some answer for which the service's own contract holds, told by its code and
+-- numbers. A primed name is what a lent slice holds afterwards; `answer` is the buffer for the numbers.
+-- Assumes nothing.
+use mathlib.Core.Path.{_≡_}
+use mathlib.Core.List.{List}
+use Prim.Native.Nat.{ℕ}
+use lib.IntN.{ℤ}
+use lib.Seq.{sets}
+use Rattle.aspif.specs.Reading.{ProgramRead}
+use Rattle.aspif.specs.declared.ProgramReading.{ProgramReading}
+use Rattle.answer_set.specs.SetTest.{SetTested}
+use Rattle.answer_set.specs.declared.SetAnswer.{SetAnswer}
+use Rattle.drupe.specs.Lines.{lineAt, answerOf, numbersOf}
+use Rattle.checker.specs.Check.{CheckedTexts}
+use Rattle.checker.specs.declared.Verdict.{Verdict}
+use Rattle.exports.specs.Codes.{Told, programCode, programNumbers, setCode, setNumbers, lineCode, lineNumbers, verdictCode, verdictNumbers}
+
+-- the program reader's answer and every word of the table
+pub record ProgramService (text : List ℕ) (table table′ : List ℤ) (answer answer′ : List ℕ) (result : ℕ) : Type 0 where
+  pub reading : ProgramReading
+  pub read : ProgramRead text table table′ reading
+  pub told : Told (programCode reading) (programNumbers reading) answer answer′ result
+
+-- the set test's answer and every mark
+pub record SetService (table : List ℤ) (rules : ℕ) (set marks marks′ answer answer′ : List ℕ) (result : ℕ) : Type 0 where
+  pub said : SetAnswer
+  pub tested : SetTested table rules set marks marks′ said
+  pub told : Told (setCode said) (setNumbers said) answer answer′ result
+
+-- What stands at the position, and the array of 65 numbers at the front of the lent ones, as many as fit. No answer is free, so
+-- all is said outright.
+pub record LineService (text : List ℕ) (position : ℕ) (numbers numbers′ : List ℤ) (answer answer′ : List ℕ) (result : ℕ) : Type 0 where
+  pub copied : numbers′ ≡ sets numbers 0 (numbersOf (lineAt text position))
+  pub told : Told (lineCode (answerOf (lineAt text position))) (lineNumbers (answerOf (lineAt text position))) answer answer′ result
+
+-- the verdict, every word of the table and every word of the store
+pub record CheckService (program proof : List ℕ) (table store table′ store′ : List ℤ) (answer answer′ : List ℕ) (result : ℕ) : Type 0 where
+  pub verdict : Verdict
+  pub checked : CheckedTexts program proof table store table′ store′ verdict
+  pub told : Told (verdictCode verdict) (verdictNumbers verdict) answer answer′ result

@@ -1,0 +1,167 @@
+// A service's answer as a code and numbers: specs/Codes.antt. Each function puts the numbers into the lent buffer and returns the
+// code.
+use answer_set::SetAnswer;
+use aspif::ProgramReading;
+use checker::Counts;
+use checker::Verdict;
+use drupe::LineAnswer;
+use text::Letter;
+ghost use mathlib.Core.Path.{_≡_};
+ghost use mathlib.Core.List.{[], _∷_};
+ghost use lib.ListN.{set};
+ghost use lib.Seq.{sets};
+ghost use Rattle.text.specs.Bytes.{byteOf};
+ghost use Rattle.exports.specs.Codes.{Told, programCode, programNumbers, setCode, setNumbers, lineCode, lineNumbers, verdictCode, verdictNumbers, countNumbers};
+
+// The codes of the cases to which document 01 gives no number.
+const READ: u32 = 0;
+
+const YES: u32 = 0;
+
+const DIFFERS: u32 = 1;
+
+const BROKEN: u32 = 2;
+
+const END: u32 = 0;
+
+const INCONSISTENT: u32 = 0;
+
+const OPEN: u32 = 1;
+
+const REFUSED_PROGRAM: u32 = 2;
+
+const REFUSED_PROOF: u32 = 3;
+
+// A store past the end changes nothing.
+fn put(answer: &mut [u64], at: usize, n: usize)
+    ensures { λ _. ⌜ now (answer .exit) ≡ set (now (answer .entry)) at n ⌝ }
+{
+    if at < answer.len() {
+        answer[at] = n as u64;
+    }
+}
+
+fn put_two(answer: &mut [u64], a: usize, b: usize)
+    ensures { λ _. ⌜ now (answer .exit) ≡ sets (now (answer .entry)) 0 (a ∷ b ∷ []) ⌝ }
+{
+    put(answer, 0, a);
+    put(answer, 1, b);
+}
+
+fn put_counts(answer: &mut [u64], counts: Counts)
+    ensures { λ _. ⌜ now (answer .exit) ≡ sets (now (answer .entry)) 0 (countNumbers counts) ⌝ }
+{
+    put(answer, 0, counts.atoms);
+    put(answer, 1, counts.rules);
+    put(answer, 2, counts.steps);
+    put(answer, 3, counts.nogoods);
+}
+
+fn put_word(words: &mut [i32], at: usize, word: i32)
+    ensures { λ _. ⌜ now (words .exit) ≡ set (now (words .entry)) at word ⌝ }
+{
+    if at < words.len() {
+        words[at] = word;
+    }
+}
+
+// As many words as fit.
+pub fn put_words(destination: &mut [i32], source: &[i32])
+    ensures { λ _. ⌜ now (destination .exit) ≡ sets (now (destination .entry)) 0 (now (source .entry)) ⌝ }
+{
+    let mut i = 0;
+    while i < source.len() {
+        put_word(destination, i, source[i]);
+        i += 1;
+    }
+}
+
+// The program reader's answer.
+pub fn tell_program(reading: ProgramReading, answer: &mut [u64]) -> u32
+    ensures { λ r. ⌜ Told (programCode reading) (programNumbers reading) (now (answer .entry)) (now (answer .exit)) r ⌝ }
+{
+    match reading {
+        ProgramReading::Read { atoms, rules } => {
+            put_two(answer, atoms, rules);
+            READ
+        }
+        ProgramReading::Refused(refusal) => {
+            put_two(answer, refusal.line, 0);
+            refusal.number as u32
+        }
+    }
+}
+
+// The set test's answer.
+pub fn tell_set(tested: SetAnswer, answer: &mut [u64]) -> u32
+    ensures { λ r. ⌜ Told (setCode tested) (setNumbers tested) (now (answer .entry)) (now (answer .exit)) r ⌝ }
+{
+    match tested {
+        SetAnswer::Yes => YES,
+        SetAnswer::Differs(atom) => {
+            put(answer, 0, atom as usize);
+            DIFFERS
+        }
+        SetAnswer::Broken(rule) => {
+            put(answer, 0, rule);
+            BROKEN
+        }
+        SetAnswer::Refused(number) => number as u32,
+    }
+}
+
+fn byte_of(letter: Letter) -> u8
+    ensures { λ r. ⌜ r ≡ byteOf letter ⌝ }
+{
+    match letter {
+        Letter::Addition => b'a',
+        Letter::Body => b'b',
+        Letter::Completion => b'c',
+        Letter::Deletion => b'd',
+        Letter::Extension => b'e',
+        Letter::Loop => b'l',
+        Letter::Support => b's',
+    }
+}
+
+// The proof-line reader's answer.
+pub fn tell_line(line: LineAnswer, answer: &mut [u64]) -> u32
+    ensures { λ r. ⌜ Told (lineCode line) (lineNumbers line) (now (answer .entry)) (now (answer .exit)) r ⌝ }
+{
+    match line {
+        LineAnswer::Line {
+            letter,
+            count,
+            next,
+        } => {
+            put_two(answer, count, next);
+            byte_of(letter) as u32
+        }
+        LineAnswer::End => END,
+        LineAnswer::Refused(number) => number as u32,
+    }
+}
+
+// The whole check's answer.
+pub fn tell_verdict(verdict: Verdict, answer: &mut [u64]) -> u32
+    ensures { λ r. ⌜ Told (verdictCode verdict) (verdictNumbers verdict) (now (answer .entry)) (now (answer .exit)) r ⌝ }
+{
+    match verdict {
+        Verdict::Inconsistent(counts) => {
+            put_counts(answer, counts);
+            INCONSISTENT
+        }
+        Verdict::Open(counts) => {
+            put_counts(answer, counts);
+            OPEN
+        }
+        Verdict::RefusedProgram(refusal) => {
+            put_two(answer, refusal.number as usize, refusal.line);
+            REFUSED_PROGRAM
+        }
+        Verdict::RefusedProof(refusal) => {
+            put_two(answer, refusal.number as usize, refusal.step);
+            REFUSED_PROOF
+        }
+    }
+}

@@ -1,0 +1,62 @@
+// The four services for programs in C and Rust, on numbers and slices. An answer's case is the code that is returned, and its
+// numbers are put at the front of the lent `answer`, as many as fit; what the codes and numbers are is specs/Codes.antt, and what
+// each function returns and leaves is specs/Services.antt. bindings/c/examiner.h declares the functions for C.
+mod answers;
+
+ghost use Rattle.exports.specs.Services.{ProgramService, SetService, LineService, CheckService};
+
+// Reads a program text into the table.
+#[no_mangle]
+pub extern "C" fn examiner_read_program(text: &[u8], table: &mut [i32], answer: &mut [u64]) -> u32
+    ensures { λ r. ⌜ ProgramService (now (text .entry)) (now (table .entry)) (now (table .exit)) (now (answer .entry)) (now (answer .exit)) r ⌝ }
+{
+    let reading = aspif::read_program(text, table);
+    answers::tell_program(reading, answer)
+}
+
+// Tests a set against the program that the table holds.
+#[no_mangle]
+pub extern "C" fn examiner_test_set(
+    table: &[i32],
+    rules: u64,
+    set: &[u16],
+    marks: &mut [u8],
+    answer: &mut [u64],
+) -> u32
+    ensures { λ r. ⌜ SetService (now (table .entry)) rules (now (set .entry)) (now (marks .entry)) (now (marks .exit)) (now (answer .entry)) (now (answer .exit)) r ⌝ }
+{
+    let tested = answer_set::test_set(table, rules as usize, set, marks);
+    answers::tell_set(tested, answer)
+}
+
+// Reads the proof line that begins at the position.
+#[no_mangle]
+pub extern "C" fn examiner_read_line(
+    text: &[u8],
+    position: u64,
+    numbers: &mut [i32],
+    answer: &mut [u64],
+) -> u32
+    ensures { λ r. ⌜ LineService (now (text .entry)) position (now (numbers .entry)) (now (numbers .exit)) (now (answer .entry)) (now (answer .exit)) r ⌝ }
+{
+    let reading = drupe::read_line(text, position as usize);
+    let row = reading.numbers;
+    answers::put_words(numbers, &row);
+    let line = reading.answer;
+    answers::tell_line(line, answer)
+}
+
+// Checks a proof text against a program text.
+#[no_mangle]
+pub extern "C" fn examiner_check_texts(
+    program: &[u8],
+    proof: &[u8],
+    table: &mut [i32],
+    store: &mut [i32],
+    answer: &mut [u64],
+) -> u32
+    ensures { λ r. ⌜ CheckService (now (program .entry)) (now (proof .entry)) (now (table .entry)) (now (store .entry)) (now (table .exit)) (now (store .exit)) (now (answer .entry)) (now (answer .exit)) r ⌝ }
+{
+    let verdict = checker::check_texts(program, proof, table, store);
+    answers::tell_verdict(verdict, answer)
+}
