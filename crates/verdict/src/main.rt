@@ -1,6 +1,7 @@
 // Reads `case.aspif` and `case.drupe` in the working directory and prints the verdict's one line: document 01, 'What `verdict`
 // prints'. Which line that is, is decided in `checker`.
 use libc::STDOUT_FILENO;
+ghost use Prim.Native.Nat.{_≤_};
 ghost use Rattle.io.specs.Counts.{Counts};
 
 // How many bytes of a file count, where so many were read and one more read gave `more`. "A file that cannot be read counts as
