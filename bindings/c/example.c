@@ -8,7 +8,7 @@
 #include <inttypes.h>
 #include <stdio.h>
 
-#include "examiner.h"
+#include "aspdrupe.h"
 
 /* One byte more than a text may have, so that a longer file is refused. */
 #define TEXT 65536
@@ -35,23 +35,23 @@ static int read_file(const char *path, uint8_t *text, size_t *size) {
 
 int main(int argc, char **argv) {
     size_t program_size, proof_size;
-    uint64_t answer[EXAMINER_ANSWER] = {0};
+    uint64_t answer[ASPDRUPE_ANSWER] = {0};
     if (argc != 3) {
         fprintf(stderr, "usage: %s PROGRAM PROOF\n", argv[0]);
         return 2;
     }
     if (!read_file(argv[1], program, &program_size) || !read_file(argv[2], proof, &proof_size)) return 2;
-    switch (examiner_check_texts(program, program_size, proof, proof_size, table, WORDS, store, WORDS, answer, EXAMINER_ANSWER)) {
-    case EXAMINER_INCONSISTENT:
+    switch (aspdrupe_check_texts(program, program_size, proof, proof_size, table, WORDS, store, WORDS, answer, ASPDRUPE_ANSWER)) {
+    case ASPDRUPE_INCONSISTENT:
         printf("inconsistent %" PRIu64 " %" PRIu64 " %" PRIu64 " %" PRIu64 "\n", answer[0], answer[1], answer[2], answer[3]);
         break;
-    case EXAMINER_OPEN:
+    case ASPDRUPE_OPEN:
         printf("open %" PRIu64 " %" PRIu64 " %" PRIu64 " %" PRIu64 "\n", answer[0], answer[1], answer[2], answer[3]);
         break;
-    case EXAMINER_REFUSED_PROGRAM:
+    case ASPDRUPE_REFUSED_PROGRAM:
         printf("refused program %" PRIu64 " %" PRIu64 "\n", answer[0], answer[1]);
         break;
-    case EXAMINER_REFUSED_PROOF:
+    case ASPDRUPE_REFUSED_PROOF:
         printf("refused proof %" PRIu64 " %" PRIu64 "\n", answer[0], answer[1]);
         break;
     }

@@ -1,4 +1,4 @@
-//! The four services of the examiner for Rust: the program reader, the set test, the proof-line reader and the whole check over
+//! The four services of the proof checker for Rust: the program reader, the set test, the proof-line reader and the whole check over
 //! two texts. The work is done by functions that are proved to meet their contracts on every input (`crates/exports`); here they
 //! are declared and wrapped, and their codes become enums. No input panics.
 
@@ -71,9 +71,9 @@ pub const MOST_NUMBERS: usize = 65;
 /// The marks that the set test asks for.
 pub const MARKS: usize = 4096;
 
-// `bindings/c/examiner.h` says what each function returns and leaves.
+// `bindings/c/aspdrupe.h` says what each function returns and leaves.
 extern "C" {
-    fn examiner_read_program(
+    fn aspdrupe_read_program(
         text: *const u8,
         text_len: usize,
         table: *mut i32,
@@ -81,7 +81,7 @@ extern "C" {
         answer: *mut u64,
         answer_len: usize,
     ) -> u32;
-    fn examiner_test_set(
+    fn aspdrupe_test_set(
         table: *const i32,
         table_len: usize,
         rules: u64,
@@ -92,7 +92,7 @@ extern "C" {
         answer: *mut u64,
         answer_len: usize,
     ) -> u32;
-    fn examiner_read_line(
+    fn aspdrupe_read_line(
         text: *const u8,
         text_len: usize,
         position: u64,
@@ -101,7 +101,7 @@ extern "C" {
         answer: *mut u64,
         answer_len: usize,
     ) -> u32;
-    fn examiner_check_texts(
+    fn aspdrupe_check_texts(
         program: *const u8,
         program_len: usize,
         proof: *const u8,
@@ -123,7 +123,7 @@ pub fn read_program(text: &[u8], table: &mut [i32]) -> ProgramReading {
     let mut answer = [0u64; 2];
     // SAFETY: as said above.
     let code = unsafe {
-        examiner_read_program(
+        aspdrupe_read_program(
             text.as_ptr(),
             text.len(),
             table.as_mut_ptr(),
@@ -150,7 +150,7 @@ pub fn test_set(table: &[i32], rules: usize, set: &[u16], marks: &mut [u8]) -> S
     let mut answer = [0u64; 1];
     // SAFETY: as said above.
     let code = unsafe {
-        examiner_test_set(
+        aspdrupe_test_set(
             table.as_ptr(),
             table.len(),
             rules as u64,
@@ -176,7 +176,7 @@ pub fn read_line(text: &[u8], position: usize) -> (LineAnswer, [i32; MOST_NUMBER
     let mut answer = [0u64; 2];
     // SAFETY: as said above.
     let code = unsafe {
-        examiner_read_line(
+        aspdrupe_read_line(
             text.as_ptr(),
             text.len(),
             position as u64,
@@ -204,7 +204,7 @@ pub fn check_texts(program: &[u8], proof: &[u8], table: &mut [i32], store: &mut 
     let mut answer = [0u64; 4];
     // SAFETY: as said above.
     let code = unsafe {
-        examiner_check_texts(
+        aspdrupe_check_texts(
             program.as_ptr(),
             program.len(),
             proof.as_ptr(),
@@ -452,7 +452,7 @@ mod tests {
             let mut store = [7; 15];
             // SAFETY: the slices are valid for these lengths and do not overlap.
             let code = unsafe {
-                examiner_check_texts(
+                aspdrupe_check_texts(
                     PROGRAM.as_ptr(),
                     PROGRAM.len(),
                     PROOF.as_ptr(),
@@ -474,7 +474,7 @@ mod tests {
             let mut numbers = [9i32; 67];
             // SAFETY: as above.
             let code = unsafe {
-                examiner_read_line(
+                aspdrupe_read_line(
                     PROOF.as_ptr(),
                     PROOF.len(),
                     0,

@@ -1,13 +1,13 @@
 // The four services for programs in C and Rust, on numbers and slices. An answer's case is the code that is returned, and its
 // numbers are put at the front of the lent `answer`, as many as fit; what the codes and numbers are is specs/Codes.antt, and what
-// each function returns and leaves is specs/Services.antt. bindings/c/examiner.h declares the functions for C.
+// each function returns and leaves is specs/Services.antt. bindings/c/aspdrupe.h declares the functions for C.
 mod answers;
 
 ghost use Rattle.exports.specs.Services.{ProgramService, SetService, LineService, CheckService};
 
 // Reads a program text into the table.
 #[no_mangle]
-pub extern "C" fn examiner_read_program(text: &[u8], table: &mut [i32], answer: &mut [u64]) -> u32
+pub extern "C" fn aspdrupe_read_program(text: &[u8], table: &mut [i32], answer: &mut [u64]) -> u32
     ensures { λ r. ⌜ ProgramService (now (text .entry)) (now (table .entry)) (now (table .exit)) (now (answer .entry)) (now (answer .exit)) r ⌝ }
 {
     let reading = aspif::read_program(text, table);
@@ -16,7 +16,7 @@ pub extern "C" fn examiner_read_program(text: &[u8], table: &mut [i32], answer: 
 
 // Tests a set against the program that the table holds.
 #[no_mangle]
-pub extern "C" fn examiner_test_set(
+pub extern "C" fn aspdrupe_test_set(
     table: &[i32],
     rules: u64,
     set: &[u16],
@@ -31,7 +31,7 @@ pub extern "C" fn examiner_test_set(
 
 // Reads the proof line that begins at the position.
 #[no_mangle]
-pub extern "C" fn examiner_read_line(
+pub extern "C" fn aspdrupe_read_line(
     text: &[u8],
     position: u64,
     numbers: &mut [i32],
@@ -48,7 +48,7 @@ pub extern "C" fn examiner_read_line(
 
 // Checks a proof text against a program text.
 #[no_mangle]
-pub extern "C" fn examiner_check_texts(
+pub extern "C" fn aspdrupe_check_texts(
     program: &[u8],
     proof: &[u8],
     table: &mut [i32],

@@ -1,4 +1,4 @@
-/* The four services of the examiner for C: the program reader, the set test, the proof-line reader and the whole check over two
+/* The four services of the proof checker for C: the program reader, the set test, the proof-line reader and the whole check over two
  * texts. The functions are in target/staticlib/libexports.a, which `rt staticlib exports` writes, for x86-64 Linux.
  *
  * Each function is proved to meet its contract (crates/exports/src/lib.rt and crates/exports/specs/) on every input: no text, no
@@ -10,9 +10,9 @@
  * own may run at the same time.
  *
  * The result is a code. Further numbers are put at the front of `answer`, as many as fit; what does not fit is not written, and
- * all other entries of `answer` stay as they were. EXAMINER_ANSWER entries hold every answer. */
-#ifndef EXAMINER_H
-#define EXAMINER_H
+ * all other entries of `answer` stay as they were. ASPDRUPE_ANSWER entries hold every answer. */
+#ifndef ASPDRUPE_H
+#define ASPDRUPE_H
 
 #include <stddef.h>
 #include <stdint.h>
@@ -22,61 +22,61 @@ extern "C" {
 #endif
 
 /* The most numbers that an answer has. */
-#define EXAMINER_ANSWER 4
+#define ASPDRUPE_ANSWER 4
 
 /* The marks that the set test asks for. */
-#define EXAMINER_MARKS 4096
+#define ASPDRUPE_MARKS 4096
 
 /* The numbers that the proof-line reader puts. */
-#define EXAMINER_NUMBERS 65
+#define ASPDRUPE_NUMBERS 65
 
-/* What examiner_test_set returns, other than a refusal's number. */
-#define EXAMINER_YES 0
-#define EXAMINER_DIFFERS 1
-#define EXAMINER_BROKEN 2
+/* What aspdrupe_test_set returns, other than a refusal's number. */
+#define ASPDRUPE_YES 0
+#define ASPDRUPE_DIFFERS 1
+#define ASPDRUPE_BROKEN 2
 
-/* What examiner_check_texts returns. */
-#define EXAMINER_INCONSISTENT 0
-#define EXAMINER_OPEN 1
-#define EXAMINER_REFUSED_PROGRAM 2
-#define EXAMINER_REFUSED_PROOF 3
+/* What aspdrupe_check_texts returns. */
+#define ASPDRUPE_INCONSISTENT 0
+#define ASPDRUPE_OPEN 1
+#define ASPDRUPE_REFUSED_PROGRAM 2
+#define ASPDRUPE_REFUSED_PROOF 3
 
 /* Reads a program text.
  * Returns 0 where it is read: answer[0] is N, the largest atom, and answer[1] the number of rules; the table holds the rules' words
  * and 0 after them.
  * Otherwise returns the number of the question that the text fails, 1 to 11: answer[0] is the line, counted from 1, or 0 where the
  * whole text is at fault, and answer[1] is 0; the table is 0 throughout. */
-uint32_t examiner_read_program(const uint8_t *text, size_t text_len, int32_t *table, size_t table_len, uint64_t *answer,
+uint32_t aspdrupe_read_program(const uint8_t *text, size_t text_len, int32_t *table, size_t table_len, uint64_t *answer,
                                size_t answer_len);
 
-/* Tests whether a set of atoms is an answer set of the program that a table holds, as examiner_read_program leaves it with that
- * number of rules. The set is ascending; there are EXAMINER_MARKS marks.
- * Returns EXAMINER_YES; or EXAMINER_DIFFERS, where answer[0] is an atom that lies in just one of the set and the least model of its
- * reduct; or EXAMINER_BROKEN, where the two are equal and answer[0] is the number of the first broken constraint, counted from 1.
+/* Tests whether a set of atoms is an answer set of the program that a table holds, as aspdrupe_read_program leaves it with that
+ * number of rules. The set is ascending; there are ASPDRUPE_MARKS marks.
+ * Returns ASPDRUPE_YES; or ASPDRUPE_DIFFERS, where answer[0] is an atom that lies in just one of the set and the least model of its
+ * reduct; or ASPDRUPE_BROKEN, where the two are equal and answer[0] is the number of the first broken constraint, counted from 1.
  * The marks then hold 1 at each atom of the least model, atom v at marks[v], and 0 elsewhere.
- * Otherwise returns 41 (no such table), 42 (no such set) or 43 (not EXAMINER_MARKS marks): all marks are 0. Where no number is
+ * Otherwise returns 41 (no such table), 42 (no such set) or 43 (not ASPDRUPE_MARKS marks): all marks are 0. Where no number is
  * named, `answer` stays as it was. */
-uint32_t examiner_test_set(const int32_t *table, size_t table_len, uint64_t rules, const uint16_t *set, size_t set_len,
+uint32_t aspdrupe_test_set(const int32_t *table, size_t table_len, uint64_t rules, const uint16_t *set, size_t set_len,
                            uint8_t *marks, size_t marks_len, uint64_t *answer, size_t answer_len);
 
 /* Reads the proof line that begins at a byte position of a text, counted from 0.
  * Returns the letter's byte ('a', 'b', 'c', 'd', 'e', 'l' or 's') where there is one: answer[0] is how many numbers it has, without
  * the closing 0, and answer[1] the position after its newline; `numbers` begins with the line's numbers as written, followed by 0 up
- * to EXAMINER_NUMBERS entries, as many as fit.
- * Returns 0 at the end of the text, and otherwise the number of the question that is failed, 21 to 25: the first EXAMINER_NUMBERS
+ * to ASPDRUPE_NUMBERS entries, as many as fit.
+ * Returns 0 at the end of the text, and otherwise the number of the question that is failed, 21 to 25: the first ASPDRUPE_NUMBERS
  * entries of `numbers` are 0, as many as there are, and `answer` stays as it was.
- * Entries of `numbers` after the first EXAMINER_NUMBERS stay as they were. */
-uint32_t examiner_read_line(const uint8_t *text, size_t text_len, uint64_t position, int32_t *numbers, size_t numbers_len,
+ * Entries of `numbers` after the first ASPDRUPE_NUMBERS stay as they were. */
+uint32_t aspdrupe_read_line(const uint8_t *text, size_t text_len, uint64_t position, int32_t *numbers, size_t numbers_len,
                             uint64_t *answer, size_t answer_len);
 
 /* Checks a proof text against a program text.
- * Returns EXAMINER_INCONSISTENT or EXAMINER_OPEN where both are good: answer[0] to answer[3] are N, the largest atom, the number of
+ * Returns ASPDRUPE_INCONSISTENT or ASPDRUPE_OPEN where both are good: answer[0] to answer[3] are N, the largest atom, the number of
  * rules, the number of steps, and the number of live nogoods after the last step; the table holds the rules' words and the store
- * the live nogoods' words, each with 0 after them. EXAMINER_INCONSISTENT means that the program has no answer set.
- * Returns EXAMINER_REFUSED_PROGRAM: answer[0] is the number of the question that the program fails, 1 to 11, and answer[1] the line.
- * Returns EXAMINER_REFUSED_PROOF: answer[0] is the number of the question that the proof fails, 21 to 34, and answer[1] the step.
+ * the live nogoods' words, each with 0 after them. ASPDRUPE_INCONSISTENT means that the program has no answer set.
+ * Returns ASPDRUPE_REFUSED_PROGRAM: answer[0] is the number of the question that the program fails, 1 to 11, and answer[1] the line.
+ * Returns ASPDRUPE_REFUSED_PROOF: answer[0] is the number of the question that the proof fails, 21 to 34, and answer[1] the step.
  * Line and step are counted from 1, and are 0 where the whole text is at fault. After a refusal table and store are 0 throughout. */
-uint32_t examiner_check_texts(const uint8_t *program, size_t program_len, const uint8_t *proof, size_t proof_len, int32_t *table,
+uint32_t aspdrupe_check_texts(const uint8_t *program, size_t program_len, const uint8_t *proof, size_t proof_len, int32_t *table,
                               size_t table_len, int32_t *store, size_t store_len, uint64_t *answer, size_t answer_len);
 
 #ifdef __cplusplus

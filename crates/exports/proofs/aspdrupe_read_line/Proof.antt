@@ -1,4 +1,4 @@
--- `exports::examiner_read_line` meets its contract: what is put and told is the reading's, and the reading is what the text has
+-- `exports::aspdrupe_read_line` meets its contract: what is put and told is the reading's, and the reading is what the text has
 -- at the position.
 -- Assumes nothing.
 use mathlib.Core.Path.{_≡_}
@@ -11,8 +11,8 @@ use Rattle.drupe.specs.declared.LineReading.{LineReading}
 use Rattle.exports.specs.Codes.{Told, lineCode, lineNumbers}
 use Rattle.exports.specs.Services.{LineService}
 use borrow.Author.Needs.{needs}
-use Rattle.exports.proofs.examiner_read_line.Statement.{statement}
-use Rattle.exports.proofs.examiner_read_line.Tie as tie
+use Rattle.exports.proofs.aspdrupe_read_line.Statement.{statement}
+use Rattle.exports.proofs.aspdrupe_read_line.Tie as tie
 
 line-told : {text : List ℕ} {position : ℕ} {r : LineReading} {numbers numbers′ : List ℤ} {answer answer′ : List ℕ} {result : ℕ}
     → Reads text position r → numbers′ ≡ sets numbers 0 (r .numbers)
@@ -28,8 +28,8 @@ returns c =
     let read = c .before .before .before .before .before .before .before .before .before .read-line .ensures in
     line-told read (c .before .before .before .before .before .put-words .ensures) (c .before .before .tell-line .ensures)
 
-pub examiner-read-line-spec : {M : Type 1} → statement M
-examiner-read-line-spec =
+pub aspdrupe-read-line-spec : {M : Type 1} → statement M
+aspdrupe-read-line-spec =
     tie.close
     (tie.spec
     (λ c κs. search needs)
