@@ -70,9 +70,18 @@ impl Court {
         self.settle(good, || told_check(pair, table_room, store_room));
         self.tally.verdict("check_texts", &expected.verdict);
         if matches!(answered, examiner::Verdict::Inconsistent(_)) {
+            self.count_letters(&pair.proof);
             self.no_answer_set(&pair.program, table_room);
         }
         expected.verdict
+    }
+
+    /// Counts which letters the proof of an 'inconsistent' has.
+    fn count_letters(&mut self, proof: &[u8]) {
+        let letters: HashSet<u8> = proof.split(|byte| *byte == b'\n').filter_map(|line| line.first().copied()).collect();
+        for letter in letters {
+            self.tally.count(format!("inconsistent by a proof with {}", letter as char));
+        }
     }
 
     /// An 'inconsistent' on a small program, tried against every set of its atoms and with further constraints.

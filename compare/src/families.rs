@@ -3,7 +3,7 @@
 use crate::court::Court;
 use crate::inputs::random::Random;
 use crate::inputs::refutations::{refute, Author};
-use crate::inputs::{changes, fixed, guided, limits, noise, programs, Pair};
+use crate::inputs::{changes, deep, fixed, guided, limits, noise, programs, Pair};
 use crate::reference::check::{most_live_words, verdict_line};
 use crate::reference::models::{self, every_set};
 use crate::reference::program::{read, table_words, Program, Rule};
@@ -29,6 +29,7 @@ pub fn families() -> Vec<Family> {
         listed("wide-tables", 1, run_wide_tables),
         family("refutation", 100, run_refutation),
         family("guided", 200, run_guided),
+        family("deep", 60, run_deep),
         family("noise", 300, run_noise),
         family("tables", 300, run_tables),
         family("lines", 200, run_lines),
@@ -36,19 +37,18 @@ pub fn families() -> Vec<Family> {
     ]
 }
 
+/// A proof of so many bytes is tried with few lengths only.
+const HEAVY: usize = 25_000;
+
 /// The lengths of table and store that matter for the texts: none, one word too few, just enough, one more, many.
 fn rooms(pair: &Pair) -> Vec<(usize, usize)> {
     let many = fixed::ROOM;
     let Ok(program) = read(&pair.program, usize::MAX) else { return vec![(many, many), (0, 0), (5, 3)] };
     let table = table_words(&program.rules).len();
     let store = most_live_words(&program, &pair.proof);
-    let mut rooms = vec![(many, many), (table, store), (0, store), (table, 0), (0, 0), (table + 1, store + 1), (100_000, 70_000)];
-    if table > 0 {
-        rooms.push((table - 1, store));
-    }
-    if store > 0 {
-        rooms.push((table, store - 1));
-        rooms.push((many, store / 2));
+    let mut rooms = vec![(many, many), (table, store), (table, store.saturating_sub(1))];
+    if pair.proof.len() < HEAVY {
+        rooms.extend([(table.saturating_sub(1), store), (0, store), (table, 0), (0, 0), (many, store / 2), (table + 1, store + 1), (100_000, 70_000)]);
     }
     rooms
 }
@@ -168,7 +168,8 @@ fn readable(rules: &[Rule]) -> (Vec<u8>, Program) {
 fn run_refutation(court: &mut Court, _: u64) {
     let (text, program) = small_program(&mut court.random);
     let mut author = Author::of(&program);
-    refute(&mut author, &mut court.random);
+    let found = refute(&mut author, &mut court.random);
+    court.tally.count(format!("search: {}", found.kind()));
     let pair = Pair::of(text, author.text());
     compare_some(court, &pair, 30);
     compare_lines(court, &pair.proof, 60);
@@ -210,6 +211,14 @@ fn run_guided(court: &mut Court, _: u64) {
     compare_changed(court, &pair, 3);
 }
 
+fn run_deep(court: &mut Court, _: u64) {
+    let (text, program) = readable(&deep::rules(&mut court.random));
+    let proof = deep::proof(&program, &mut court.random);
+    let pair = Pair::of(text, proof);
+    compare_some(court, &pair, 20);
+    compare_changed(court, &pair, 2);
+}
+
 fn run_noise(court: &mut Court, _: u64) {
     let pair = noise::pair(&mut court.random);
     compare_some(court, &pair, 10);
@@ -248,7 +257,8 @@ fn run_hard(court: &mut Court, index: u64) {
     };
     let (text, program) = readable(&rules);
     let mut author = Author::of(&program);
-    refute(&mut author, &mut court.random);
+    let found = refute(&mut author, &mut court.random);
+    court.tally.count(format!("search: {}", found.kind()));
     let pair = Pair::of(text, author.text());
     compare_all(court, &pair);
     compare_changed(court, &pair, 10);

@@ -59,6 +59,8 @@ fn wanted(with_binary: bool) -> Vec<String> {
     wanted.push(String::from("read_line: end"));
     wanted.extend((21..=25).map(|number| format!("read_line: refused {number}")));
     wanted.extend(["yes", "differs", "broken", "refused 41", "refused 42", "refused 43"].map(|word| format!("test_set: {word}")));
+    wanted.extend("abcdels".chars().map(|letter| format!("inconsistent by a proof with {letter}")));
+    wanted.extend(["refuted", "answer set"].map(|word| format!("search: {word}")));
     wanted.extend(["program", "program with further constraints"].map(|what| format!("no answer set: {what}")));
     wanted
 }

@@ -42,6 +42,7 @@ fn all_cases() -> Vec<Case> {
     cases.extend(full_stores());
     cases.extend(long_loops());
     cases.extend(long_chains());
+    cases.extend(chains_behind_many_words());
     cases
 }
 
@@ -346,6 +347,19 @@ fn long_loops() -> Vec<Case> {
         most.extend((1..=count.min(64)).map(|atom| -(top + atom)));
         text.push_str(&line_of(b'd', &most));
         cases.push(case(format!("a deletion after a loop nogood of {top}"), text_of(&rules), text, ""));
+    }
+    cases
+}
+
+/// Chains behind more live words than the store of `verdict` has; a longer store holds them.
+fn chains_behind_many_words() -> Vec<Case> {
+    let rules = [choice(&count_to(64), &[])];
+    let wide: String = (0..65).map(|place| extension_over(2_000 + place, 64)).collect();
+    let chain = String::from("e 65 64 0\n") + &(66..=465).map(|name| line_of(b'e', &[name, name - 1])).collect::<String>();
+    let mut cases = Vec::new();
+    for last in ["a 1 -2000 0", "a 465 -64 0", "a -465 64 0", "a 465 64 0", "a -64 2003 0"] {
+        cases.push(case(format!("{last} behind many words"), text_of(&rules), wide.clone() + &chain + last + "\n", "refused proof 34 64"));
+        cases.push(case(format!("{last} before many words"), text_of(&rules), chain.clone() + &wide + last + "\n", ""));
     }
     cases
 }

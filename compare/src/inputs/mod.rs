@@ -1,6 +1,7 @@
 //! Where the inputs come from: fixed cases, cases at the limits, random programs and proofs, changes of them, and noise.
 
 pub mod changes;
+pub mod deep;
 pub mod fixed;
 pub mod guided;
 pub mod limits;

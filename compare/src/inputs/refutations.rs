@@ -20,6 +20,16 @@ pub enum Found {
     Nothing,
 }
 
+impl Found {
+    pub fn kind(&self) -> &'static str {
+        match self {
+            Found::Refutation => "refuted",
+            Found::AnswerSet(_) => "answer set",
+            Found::Nothing => "given up",
+        }
+    }
+}
+
 /// A proof as it is being written, with the state that its steps have led to.
 pub struct Author<'a> {
     pub program: &'a Program,
@@ -56,7 +66,7 @@ impl<'a> Author<'a> {
     }
 
     /// The body's name, which is introduced where it has none.
-    fn named(&mut self, random: &mut Random, body: &[i32]) -> Option<i32> {
+    pub fn named(&mut self, random: &mut Random, body: &[i32]) -> Option<i32> {
         if self.state.name_of(body).is_none() {
             let name = self.fresh(random);
             let mut numbers = vec![name];
@@ -65,6 +75,19 @@ impl<'a> Author<'a> {
             self.write(b'b', &numbers).ok()?;
         }
         self.state.name_of(body)
+    }
+
+    /// The support of an atom whose bodies are all named; nothing where a line cannot hold them.
+    pub fn write_support(&mut self, random: &mut Random, atom: i32) -> Option<()> {
+        let rules = self.program.rules.iter().filter(|rule| rule.heads.contains(&atom));
+        let names: BTreeSet<i32> = rules.filter_map(|rule| self.state.name_of(&rule.body)).collect();
+        let mut numbers = vec![atom];
+        numbers.extend(names);
+        random.shuffle(&mut numbers[1..]);
+        if numbers.len() > LINE_LIMIT {
+            return Some(());
+        }
+        self.write(b's', &numbers).ok()
     }
 }
 
@@ -118,22 +141,10 @@ fn write_completion(author: &mut Author, random: &mut Random) -> Option<()> {
     }
     for atom in 1..=program.atoms {
         if random.percent(80) {
-            write_support(author, random, atom)?;
+            author.write_support(random, atom)?;
         }
     }
     Some(())
-}
-
-fn write_support(author: &mut Author, random: &mut Random, atom: i32) -> Option<()> {
-    let rules = author.program.rules.iter().filter(|rule| rule.heads.contains(&atom));
-    let names: BTreeSet<i32> = rules.filter_map(|rule| author.state.name_of(&rule.body)).collect();
-    let mut numbers = vec![atom];
-    numbers.extend(names);
-    random.shuffle(&mut numbers[1..]);
-    if numbers.len() > LINE_LIMIT {
-        return Some(());
-    }
-    author.write(b's', &numbers).ok()
 }
 
 /// Learns the decisions, or fewer of them that contradict as well.
