@@ -2,9 +2,9 @@
 
 use crate::inputs::programs::constraint;
 use crate::inputs::random::Random;
+use crate::reference::by_variable;
 use crate::reference::models::{answer_set_over, Set};
 use crate::reference::program::{Program, Rule};
-use crate::reference::by_variable;
 
 /// The most atoms that all sets are tried of.
 pub const MOST_ATOMS: i32 = 12;

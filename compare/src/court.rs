@@ -4,7 +4,6 @@ use std::collections::HashSet;
 
 use crate::binary::Binary;
 use crate::brute;
-use crate::examiner;
 use crate::inputs::fixed::ROOM;
 use crate::inputs::random::Random;
 use crate::inputs::Pair;
@@ -112,7 +111,11 @@ impl Court {
         let line = verdict_line(&expected) + "\n";
         self.tally.verdict("verdict", &expected);
         self.settle(printed == line, || {
-            format!("verdict printed {printed:?}, not {line:?}: program {} proof {}", cut(program.unwrap_or(b"")), cut(proof.unwrap_or(b"")))
+            format!(
+                "verdict printed {printed:?}, not {line:?}: program {} proof {}",
+                cut(program.unwrap_or(b"")),
+                cut(proof.unwrap_or(b""))
+            )
         });
     }
 
@@ -208,7 +211,7 @@ fn difference(found: &[i32], expected: &[i32]) -> String {
 }
 
 /// The reference's verdict as the library would say it.
-pub fn in_library_form(verdict: &Verdict) -> examiner::Verdict {
+fn in_library_form(verdict: &Verdict) -> examiner::Verdict {
     let counted = |c: &Counts| examiner::Counts { atoms: c.atoms, rules: c.rules, steps: c.steps, nogoods: c.nogoods };
     match verdict {
         Verdict::Inconsistent(counts) => examiner::Verdict::Inconsistent(counted(counts)),

@@ -2,7 +2,7 @@
 
 use crate::court::Court;
 use crate::inputs::random::Random;
-use crate::inputs::refutations::{refute, Author};
+use crate::inputs::refutations::{go_on, refute, Author, Found};
 use crate::inputs::{changes, deep, fixed, guided, limits, noise, programs, Pair};
 use crate::reference::check::{most_live_words, verdict_line};
 use crate::reference::models::{self, every_set};
@@ -43,12 +43,22 @@ const HEAVY: usize = 25_000;
 /// The lengths of table and store that matter for the texts: none, one word too few, just enough, one more, many.
 fn rooms(pair: &Pair) -> Vec<(usize, usize)> {
     let many = fixed::ROOM;
-    let Ok(program) = read(&pair.program, usize::MAX) else { return vec![(many, many), (0, 0), (5, 3)] };
+    let Ok(program) = read(&pair.program, usize::MAX) else {
+        return vec![(many, many), (60, 20), (0, 0), (5, 3), (3_071, 3), (3_072, 0), (3_075, 9)];
+    };
     let table = table_words(&program.rules).len();
     let store = most_live_words(&program, &pair.proof);
     let mut rooms = vec![(many, many), (table, store), (table, store.saturating_sub(1))];
     if pair.proof.len() < HEAVY {
-        rooms.extend([(table.saturating_sub(1), store), (0, store), (table, 0), (0, 0), (many, store / 2), (table + 1, store + 1), (100_000, 70_000)]);
+        rooms.extend([
+            (table.saturating_sub(1), store),
+            (0, store),
+            (table, 0),
+            (0, 0),
+            (many, store / 2),
+            (table + 1, store + 1),
+            (100_000, 70_000),
+        ]);
     }
     rooms
 }
@@ -100,7 +110,7 @@ fn run_fixed(court: &mut Court, index: u64) {
     court.settle(line == case.line, || format!("{}: the reference says {line:?}, document 01 {:?}", case.name, case.line));
     if case.name == "starred 1" {
         let mut store = vec![7; fixed::STORE_1.len()];
-        crate::examiner::check_texts(&case.pair.program, &case.pair.proof, &mut [0; 5], &mut store);
+        examiner::check_texts(&case.pair.program, &case.pair.proof, &mut [0; 5], &mut store);
         court.settle(store == fixed::STORE_1, || format!("starred 1: the store is {store:?}"));
     }
     compare_all(court, &case.pair);
@@ -151,6 +161,9 @@ fn run_wide_tables(court: &mut Court, _: u64) {
 /// A small program read from a text of its own, with its numbers in a random order.
 fn small_program(random: &mut Random) -> (Vec<u8>, Program) {
     let mut rules = programs::small(random);
+    if random.percent(10) {
+        programs::scatter(&mut rules, random);
+    }
     for rule in &mut rules {
         random.shuffle(&mut rule.heads);
         random.shuffle(&mut rule.body);
@@ -170,6 +183,9 @@ fn run_refutation(court: &mut Court, _: u64) {
     let mut author = Author::of(&program);
     let found = refute(&mut author, &mut court.random);
     court.tally.count(format!("search: {}", found.kind()));
+    if found == Found::Refutation && court.random.percent(25) {
+        go_on(&mut author, &mut court.random);
+    }
     let pair = Pair::of(text, author.text());
     compare_some(court, &pair, 30);
     compare_lines(court, &pair.proof, 60);
@@ -196,10 +212,14 @@ fn compare_sets(court: &mut Court, program: &Program) {
     let room = court.random.below(20);
     let words = table_words(&program.rules);
     let table = filled(words.clone(), words.len() + room);
-    let atoms: Vec<i32> = (1..=program.atoms.min(7)).collect();
+    let atoms: Vec<i32> = (1..=program.atoms.min(8)).collect();
     for set in every_set(&atoms) {
         let listed: Vec<u16> = set.iter().map(|atom| *atom as u16).collect();
         court.test_set(&table, program.rules.len(), &listed, MARKS);
+    }
+    for _ in 0..if program.atoms > 8 { 60 } else { 2 } {
+        let set = tables::any_set(program.atoms, &mut court.random);
+        court.test_set(&table, program.rules.len(), &set, MARKS);
     }
 }
 

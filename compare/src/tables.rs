@@ -4,7 +4,8 @@ use crate::inputs::random::Random;
 use crate::reference::filled;
 
 /// Words that matter in a table.
-const NOTABLE: [i32; 20] = [0, 1, -1, 2, -2, 3, 63, 64, 65, -64, 4_094, 4_095, 4_096, -4_095, -4_096, i32::MAX, i32::MIN, i32::MIN + 1, 65_536, 1 << 16 | 1];
+const NOTABLE: [i32; 20] =
+    [0, 1, -1, 2, -2, 3, 63, 64, 65, -64, 4_094, 4_095, 4_096, -4_095, -4_096, i32::MAX, i32::MIN, i32::MIN + 1, 65_536, 1 << 16 | 1];
 
 /// The table of a program with a word changed, put in, taken out or doubled, or another rule count.
 pub fn changed(words: &[i32], count: usize, random: &mut Random) -> (Vec<i32>, usize) {

@@ -3,8 +3,26 @@
 use super::random::Random;
 
 /// Numbers at the limits of document 01, as they may be written in a text.
-const NOTABLE: [&str; 18] =
-    ["0", "1", "-1", "2", "-2", "64", "65", "66", "1024", "1025", "4094", "4095", "-4095", "4096", "-4096", "-0", "01", "99999999999999999999"];
+const NOTABLE: [&str; 18] = [
+    "0",
+    "1",
+    "-1",
+    "2",
+    "-2",
+    "64",
+    "65",
+    "66",
+    "1024",
+    "1025",
+    "4094",
+    "4095",
+    "-4095",
+    "4096",
+    "-4096",
+    "-0",
+    "01",
+    "99999999999999999999",
+];
 
 /// Bytes that matter to the readers.
 const BYTES: &[u8] = b"0123456789- \nabcdelsf\r\t\0\xff";

@@ -89,14 +89,25 @@ fn others() -> Vec<Case> {
         case("literal -4,095", &["1 0 1 1 0 1 -4095"], &[], "open 4095 1 0 0"),
         case("atom 4,096", &["1 0 1 4096 0 0"], &[], "refused program 4 2"),
         case("literal -4,096", &["1 0 1 1 0 1 -4096"], &[], "refused program 4 2"),
-        case("a support that leaves out a body", &["1 0 1 1 0 1 2", "1 0 1 1 0 1 -2"], &["b 3 2 0", "b 4 -2 0", "s 1 3 0"], "refused proof 30 3"),
-        case("a support that leaves out a choice body", &["1 0 1 1 0 1 2", "1 1 1 1 0 0"], &["b 3 2 0", "b 4 0", "s 1 3 0"], "refused proof 30 3"),
+        case(
+            "a support that leaves out a body",
+            &["1 0 1 1 0 1 2", "1 0 1 1 0 1 -2"],
+            &["b 3 2 0", "b 4 -2 0", "s 1 3 0"],
+            "refused proof 30 3",
+        ),
+        case(
+            "a support that leaves out a choice body",
+            &["1 0 1 1 0 1 2", "1 1 1 1 0 0"],
+            &["b 3 2 0", "b 4 0", "s 1 3 0"],
+            "refused proof 30 3",
+        ),
         case("a support with both bodies", &["1 0 1 1 0 1 2", "1 1 1 1 0 0"], &["b 3 2 0", "b 4 0", "s 1 4 3 0"], "open 2 2 3 4"),
     ]
 }
 
 fn tempting() -> Vec<Case> {
     let with = |more: &[&'static str]| [PROOF_1, more].concat();
+    let emptied = ["d -1 -2 0", "d 2 1 0", "d -1 2 0", "d 1 -2 0", "d 1 0", "a 1 0", "a -2 0"];
     let unnamed = &["1 0 1 1 0 1 2", "1 0 1 2 0 1 1", "1 0 1 1 0 1 -3"];
     vec![
         case("a body that leans on the set needs no name", RULES_6, &["l 1 2 0"], "open 2 2 1 1"),
@@ -108,6 +119,8 @@ fn tempting() -> Vec<Case> {
         case("a deleted body's name as fresh", RULE_1, &with(&["d -1 -2 0", "d 1 2 0", "b 2 -1 0"]), "refused proof 27 8"),
         case("a body named again", RULE_1, &with(&["d -1 -2 0", "d 1 2 0", "b 3 -1 0"]), "refused proof 28 8"),
         case("after the empty nogood everything follows", RULE_1, &with(&["a -1 0", "d 0"]), "open 1 1 7 6"),
+        case("the empty nogood alone lets anything follow", RULE_1, &with(&emptied), "inconsistent 1 1 12 3"),
+        case("nothing follows once it is deleted", RULE_1, &with(&[&emptied[..5], &["d 0", "a 1 0"]].concat()), "refused proof 33 12"),
         case("the empty nogood is looked for after the last step only", RULE_1, &with(&["d 0", "a 0"]), "inconsistent 1 1 7 6"),
     ]
 }
@@ -115,7 +128,10 @@ fn tempting() -> Vec<Case> {
 fn source() -> Case {
     Case {
         name: "worked example of source 000",
-        pair: Pair::of(include_bytes!("../../../examples/source-000/case.aspif"), include_bytes!("../../../examples/source-000/case.drupe")),
+        pair: Pair::of(
+            include_bytes!("../../../examples/source-000/case.aspif"),
+            include_bytes!("../../../examples/source-000/case.drupe"),
+        ),
         table: ROOM,
         store: ROOM,
         line: String::from(include_str!("../../../examples/source-000/expected").trim_end()),

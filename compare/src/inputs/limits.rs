@@ -52,10 +52,14 @@ fn count_to(last: i32) -> Vec<i32> {
 
 fn head_counts() -> Vec<Case> {
     let mut cases = Vec::new();
-    for (count, line) in [(0, "refused program 7 2"), (1, "open 1 1 0 0"), (64, "open 64 1 0 0"), (65, "refused program 6 2"), (66, "refused program 6 2")] {
+    for (count, line) in
+        [(0, "refused program 7 2"), (1, "open 1 1 0 0"), (64, "open 64 1 0 0"), (65, "refused program 6 2"), (66, "refused program 6 2")]
+    {
         cases.push(case(format!("choice of {count}"), text_of(&[choice(&count_to(count), &[])]), "", line));
     }
-    for (count, line) in [(0, "open 0 1 0 0"), (1, "open 1 1 0 0"), (2, "refused program 7 2"), (64, "refused program 7 2"), (65, "refused program 6 2")] {
+    for (count, line) in
+        [(0, "open 0 1 0 0"), (1, "open 1 1 0 0"), (2, "refused program 7 2"), (64, "refused program 7 2"), (65, "refused program 6 2")]
+    {
         let rule = Rule { choice: false, heads: count_to(count), body: Vec::new() };
         cases.push(case(format!("normal rule with {count} heads"), text_of(&[rule]), "", line));
     }
@@ -64,7 +68,9 @@ fn head_counts() -> Vec<Case> {
 
 fn body_counts() -> Vec<Case> {
     let mut cases = Vec::new();
-    for (count, line) in [(0, "open 1 1 0 0"), (63, "open 63 1 0 0"), (64, "open 64 1 0 0"), (65, "refused program 6 2"), (66, "refused program 6 2")] {
+    for (count, line) in
+        [(0, "open 1 1 0 0"), (63, "open 63 1 0 0"), (64, "open 64 1 0 0"), (65, "refused program 6 2"), (66, "refused program 6 2")]
+    {
         for sign in [1, -1] {
             let body: Vec<i32> = count_to(count).iter().rev().map(|atom| atom * sign).collect();
             cases.push(case(format!("body of {count}"), text_of(&[normal(1, &body)]), "", line));
@@ -110,17 +116,29 @@ fn rule_counts() -> Vec<Case> {
     cases
 }
 
+/// Lines of three kinds that have just so many bytes together, most of them of the first kind.
+fn lines_of_length(length: usize, kinds: [&str; 3]) -> String {
+    let mut others = String::new();
+    for kind in [kinds[2], kinds[1]].repeat(10) {
+        if (length - others.len()) % kinds[0].len() == 0 {
+            break;
+        }
+        let after = others.len() + kind.len();
+        let fits_better = kind == kinds[1] || (length - others.len()) % 2 == 1;
+        if after <= length && fits_better {
+            others.push_str(kind);
+        }
+    }
+    kinds[0].repeat((length - others.len()) / kinds[0].len()) + &others
+}
+
 /// A program of just so many bytes.
 pub fn program_of_length(length: usize) -> Vec<u8> {
     let big = rule_line(&choice(&(1_000..1_064).collect::<Vec<_>>(), &[]));
-    let (ten, twelve, thirteen) = ("1 0 0 0 0\n", "1 0 1 1 0 0\n", "1 0 1 10 0 0\n");
     let inner = length - "asp 1 0 0\n0\n".len();
     let many = inner / big.len() - 1;
-    let rest = inner - many * big.len();
-    let (twelves, thirteens) = (0..10).flat_map(|b| (0..10).map(move |c| (b, c))).find(|(b, c)| (rest - 12 * b - 13 * c) % 10 == 0).unwrap_or((0, 0));
-    let tens = (rest - 12 * twelves - 13 * thirteens) / 10;
-    let body = big.repeat(many) + &ten.repeat(tens) + &twelve.repeat(twelves) + &thirteen.repeat(thirteens);
-    format!("asp 1 0 0\n{body}0\n").into_bytes()
+    let rest = lines_of_length(inner - many * big.len(), ["1 0 0 0 0\n", "1 0 1 1 0 0\n", "1 0 1 10 0 0\n"]);
+    format!("asp 1 0 0\n{}{rest}0\n", big.repeat(many)).into_bytes()
 }
 
 fn program_lengths() -> Vec<Case> {
@@ -171,10 +189,7 @@ fn program_shapes() -> Vec<Case> {
 
 /// A proof of just so many bytes, all of it deletions of nothing.
 fn proof_of_length(length: usize) -> Vec<u8> {
-    let (four, six, seven) = ("d 0\n", "d 1 0\n", "d -1 0\n");
-    let (sixes, sevens) = (0..4).flat_map(|b| (0..4).map(move |c| (b, c))).find(|(b, c)| (length - 6 * b - 7 * c) % 4 == 0).unwrap_or((0, 0));
-    let fours = (length - 6 * sixes - 7 * sevens) / 4;
-    (four.repeat(fours) + &six.repeat(sixes) + &seven.repeat(sevens)).into_bytes()
+    lines_of_length(length, ["d 0\n", "d 1 0\n", "d -1 0\n"]).into_bytes()
 }
 
 fn proof_lengths() -> Vec<Case> {
@@ -202,7 +217,12 @@ fn number_counts() -> Vec<Case> {
                 if let Some(number) = numbers.first_mut() {
                     *number = first;
                 }
-                cases.push(case(format!("{} with {count} numbers from {first}", letter as char), text_of(&rules), line_of(letter, &numbers), ""));
+                cases.push(case(
+                    format!("{} with {count} numbers from {first}", letter as char),
+                    text_of(&rules),
+                    line_of(letter, &numbers),
+                    "",
+                ));
             }
         }
     }
@@ -337,7 +357,9 @@ fn extension_over(name: i32, count: i32) -> String {
 /// Loop nogoods that are longer than any line.
 fn long_loops() -> Vec<Case> {
     let mut cases = Vec::new();
-    for (count, line) in [(64, "open 65 64 65 129"), (65, "open 66 65 66 131"), (66, "open 67 66 67 133"), (1_024, "open 1025 1024 1025 2049")] {
+    for (count, line) in
+        [(64, "open 65 64 65 129"), (65, "open 66 65 66 131"), (66, "open 67 66 67 133"), (1_024, "open 1025 1024 1025 2049")]
+    {
         let top = count + 1;
         let rules: Vec<Rule> = (1..=count).map(|atom| normal(top, &[atom])).collect();
         let mut text: String = (1..=count).map(|atom| line_of(b'b', &[top + atom, atom])).collect();
@@ -351,32 +373,51 @@ fn long_loops() -> Vec<Case> {
     cases
 }
 
-/// Chains behind more live words than the store of `verdict` has; a longer store holds them.
-fn chains_behind_many_words() -> Vec<Case> {
-    let rules = [choice(&count_to(64), &[])];
-    let wide: String = (0..65).map(|place| extension_over(2_000 + place, 64)).collect();
-    let chain = String::from("e 65 64 0\n") + &(66..=465).map(|name| line_of(b'e', &[name, name - 1])).collect::<String>();
+/// Rules that leave atom 1 no way to be true, and steps that say so by propagation and not by a nogood of atom 1 alone.
+const DEAD_END: &[&str] = &["1 1 2 1 2 0 0", "1 0 0 0 2 1 2", "1 0 0 0 2 1 -2"];
+const DEAD_END_STEPS: &str = "b 3 1 2 0\nb 4 1 -2 0\nc 3 0\nc 4 0\n";
+
+/// Names that are each equal to the one before, the first to atom 1.
+fn chain(first: i32, last: i32) -> String {
+    let link = |name: i32| line_of(b'e', &[name, if name == first { 1 } else { name - 1 }]);
+    (first..=last).map(link).collect()
+}
+
+/// Chains of extensions that propagation has to go along, with the order of the store and against it.
+fn long_chains() -> Vec<Case> {
     let mut cases = Vec::new();
-    for last in ["a 1 -2000 0", "a 465 -64 0", "a -465 64 0", "a 465 64 0", "a -64 2003 0"] {
-        cases.push(case(format!("{last} behind many words"), text_of(&rules), wide.clone() + &chain + last + "\n", "refused proof 34 64"));
-        cases.push(case(format!("{last} before many words"), text_of(&rules), chain.clone() + &wide + last + "\n", ""));
+    for links in [1, 3, 100, 2_600] {
+        let last = 4 + links;
+        let steps = String::from(DEAD_END_STEPS) + &chain(5, last);
+        let with = |more: String| steps.clone() + &more + "\n";
+        let open = format!("open 2 3 {} {}", links + 5, 2 * links + 9);
+        let refused = format!("refused proof 33 {}", links + 5);
+        cases.push(case(format!("against the order, {links} links"), program(DEAD_END), with(format!("a {last} 0")), &open));
+        cases.push(case(format!("no contradiction over {links} links"), program(DEAD_END), with(format!("a -{last} 0")), &refused));
+        cases.push(case(format!("with the order, {links} links"), program(DEAD_END), with(format!("a 1 -{last} 0")), &open));
+        let early = chain(5, last).replace("e 5 1 0\n", "e 5 2 0\n");
+        cases.push(case(
+            format!("a chain of {links} links elsewhere"),
+            program(DEAD_END),
+            String::from(DEAD_END_STEPS) + &early + &format!("a {last} 0\n"),
+            &refused,
+        ));
+        let cut = with(format!("d -{last} {} 0\nd {last} -{} 0\na {last} 0", last - 1, last - 1));
+        cases.push(case(format!("a cut chain of {links} links"), program(DEAD_END), cut, ""));
     }
     cases
 }
 
-/// Chains of extensions that propagation has to go along, with and against the order of the store.
-fn long_chains() -> Vec<Case> {
+/// Chains among more live words than the store of `verdict` has; a longer store holds them.
+fn chains_behind_many_words() -> Vec<Case> {
+    let rules = [choice(&count_to(64), &[]), constraint(&[1, 2]), constraint(&[1, -2])];
+    let wide: String = (0..65).map(|place| extension_over(2_000 + place, 64)).collect();
+    let steps = DEAD_END_STEPS.replace("b 3", "b 3000").replace("b 4", "b 3001").replace("c 3", "c 3000").replace("c 4", "c 3001")
+        + &chain(65, 465);
     let mut cases = Vec::new();
-    for length in [3, 100, 2_700] {
-        let chain: String = (2..=length).map(|name| line_of(b'e', &[name, name - 1])).collect();
-        let first = format!("refused proof 33 {length}");
-        let open = format!("open 1 1 {length} {}", 2 * (length - 1) + 1);
-        let with = |more: &str| chain.clone() + more + "\n";
-        cases.push(case(format!("forward along {length}"), program(&["1 1 1 1 0 0"]), with(&format!("a 1 -{length} 0")), &open));
-        cases.push(case(format!("backward along {length}"), program(&["1 1 1 1 0 0"]), with(&format!("a -1 {length} 0")), &open));
-        cases.push(case(format!("nothing along {length}"), program(&["1 1 1 1 0 0"]), with(&format!("a {length} 0")), &first));
-        let broken = with(&format!("d -{} {} 0\na -{length} 1 0", length / 2 + 1, length / 2));
-        cases.push(case(format!("a broken chain of {length}"), program(&["1 1 1 1 0 0"]), broken, ""));
+    for last in ["a 465 0", "a -465 0", "a 1 -465 0", "a 465 2064 0", "a -2 2003 0", "a 3 -2003 0"] {
+        cases.push(case(format!("{last} behind many words"), text_of(&rules), wide.clone() + &steps + last + "\n", "refused proof 34 64"));
+        cases.push(case(format!("{last} before many words"), text_of(&rules), steps.clone() + &wide + last + "\n", ""));
     }
     cases
 }

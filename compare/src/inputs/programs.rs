@@ -51,6 +51,17 @@ pub fn small(random: &mut Random) -> Vec<Rule> {
     }
 }
 
+/// Gives the atoms other numbers up to 12, so that some numbers are no rule's.
+pub fn scatter(rules: &mut [Rule], random: &mut Random) {
+    let mut numbers: Vec<i32> = (1..=12).collect();
+    random.shuffle(&mut numbers);
+    let moved = |literal: &mut i32| *literal = numbers[literal.unsigned_abs() as usize - 1] * literal.signum();
+    for rule in rules {
+        rule.heads.iter_mut().for_each(moved);
+        rule.body.iter_mut().for_each(moved);
+    }
+}
+
 /// Rules of all kinds: so many in a hundred are facts, constraints and choice rules, and so many literals are negated.
 fn mixed(random: &mut Random, most_atoms: i32, kinds: [usize; 3], negated: usize) -> Vec<Rule> {
     let atoms = random.between(1, most_atoms);

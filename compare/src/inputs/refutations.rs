@@ -180,7 +180,7 @@ fn forget_weaker(author: &mut Author, learnt: &[i32]) {
 
 /// Now and then an extension, a nogood twice and one of them deleted, or a deletion of nothing.
 fn sprinkle(author: &mut Author, random: &mut Random) {
-    match random.below(20) {
+    match random.below(12) {
         0 => extend(author, random),
         1 => repeat(author, random),
         2 => {
@@ -190,6 +190,28 @@ fn sprinkle(author: &mut Author, random: &mut Random) {
             }
         }
         _ => {}
+    }
+}
+
+/// Steps after the empty nogood: deletions, additions that only it lets pass, and now and then its own deletion.
+pub fn go_on(author: &mut Author, random: &mut Random) {
+    let deletions = if random.percent(50) { author.state.live.len() } else { random.below(6) };
+    let mut nogoods: Vec<Vec<i32>> = author.state.live.iter().filter(|nogood| !nogood.is_empty()).cloned().collect();
+    random.shuffle(&mut nogoods);
+    for nogood in nogoods.iter().take(deletions).filter(|nogood| nogood.len() <= LINE_LIMIT) {
+        let _ = author.write(b'd', nogood);
+    }
+    for _ in 0..random.below(4) {
+        let numbers = known_literals(author, random, 4);
+        let _ = author.write(b'a', &numbers);
+        sprinkle(author, random);
+    }
+    if random.percent(20) {
+        let _ = author.write(b'd', &[]);
+    }
+    if random.percent(30) {
+        let numbers = known_literals(author, random, 3);
+        author.lines.push(line_of(b'a', &numbers));
     }
 }
 

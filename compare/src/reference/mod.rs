@@ -1,4 +1,16 @@
 //! The slow and plain reference: every service of document 01 once more, written from its words.
+//!
+//! Where its words left room for doubt, this is how they are read here:
+//! - A refused proof zeroes the table too: the whole check "is lent both texts and a table and a store to fill", and every refusal
+//!   zeroes "the whole of the table, store or marks that the call was lent to fill".
+//! - Question 7 comes after both counts and the body kind, although it is about the head count alone: the questions stand in that order.
+//! - `c` with more than two numbers is refused with 29, after 25 and 26: "no more numbers" stands in the description of `c`, and
+//!   "`c`?" is question 29.
+//! - `s` of a name is 30 and not 24: that h is an atom depends on the program, which the line's signs do not.
+//! - Equal nogoods are kept as often as they were added, and K counts each: `d` takes away "the oldest live nogood equal to L".
+//! - Question 34 is asked of the words after the whole step, not between the nogoods that `b` and `e` add.
+//! - The table of the set test may be of any length that holds its rules, with zeros after them; more than 1,024 rules are 41.
+//! - A number of numbers above 65 leaves out the closing 0: "up to 65 nonzero numbers, a closing `0`".
 
 pub mod check;
 pub mod closure;

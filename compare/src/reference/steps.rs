@@ -131,7 +131,8 @@ fn support(program: &Program, state: &mut State, numbers: &[i32]) -> Result<(), 
 
 /// "External bodies are the different bodies of rules with a head in U and no positive atom in U."
 pub fn external_bodies(program: &Program, atoms: &[i32]) -> BTreeSet<Vec<i32>> {
-    let is_external = |rule: &&Rule| rule.heads.iter().any(|head| atoms.contains(head)) && !rule.positive().any(|atom| atoms.contains(&atom));
+    let is_external =
+        |rule: &&Rule| rule.heads.iter().any(|head| atoms.contains(head)) && !rule.positive().any(|atom| atoms.contains(&atom));
     program.rules.iter().filter(is_external).map(|rule| rule.body.clone()).collect()
 }
 
