@@ -118,18 +118,14 @@ fn rule_counts() -> Vec<Case> {
 
 /// Lines of three kinds that have just so many bytes together, most of them of the first kind.
 fn lines_of_length(length: usize, kinds: [&str; 3]) -> String {
-    let mut others = String::new();
-    for kind in [kinds[2], kinds[1]].repeat(10) {
-        if (length - others.len()) % kinds[0].len() == 0 {
-            break;
-        }
-        let after = others.len() + kind.len();
-        let fits_better = kind == kinds[1] || (length - others.len()) % 2 == 1;
-        if after <= length && fits_better {
-            others.push_str(kind);
+    let first = kinds[0].len();
+    for (second, third) in (0..first).flat_map(|second| [(second, 0), (second, 1)]) {
+        let others = kinds[1].repeat(second) + &kinds[2].repeat(third);
+        if (length - others.len()).is_multiple_of(first) {
+            return kinds[0].repeat((length - others.len()) / first) + &others;
         }
     }
-    kinds[0].repeat((length - others.len()) / kinds[0].len()) + &others
+    panic!("no lines of these kinds have {length} bytes together")
 }
 
 /// A program of just so many bytes.
