@@ -1,19 +1,20 @@
 //! Makes failing inputs small enough to be read: texts by lines left out, and long texts cut when they are told.
 
+use std::time::{Duration, Instant};
+
 use crate::inputs::Pair;
 
-/// How often a smaller input is tried.
-const TRIES: usize = 600;
+/// How long smaller inputs are tried.
+const PATIENCE: Duration = Duration::from_secs(2);
 
 /// The texts with every line left out that the failure does not need.
 pub fn shrunk(pair: &Pair, fails: impl Fn(&Pair) -> bool) -> Pair {
     let mut small = pair.clone();
-    let mut tries = 0;
+    let started = Instant::now();
     for of_program in [true, false] {
         let mut place = lines(&small, of_program).len();
-        while place > 0 && tries < TRIES {
+        while place > 0 && started.elapsed() < PATIENCE {
             place -= 1;
-            tries += 1;
             let smaller = without(&small, of_program, place);
             if fails(&smaller) {
                 small = smaller;
