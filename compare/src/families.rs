@@ -7,7 +7,7 @@ use crate::inputs::{changes, deep, fixed, guided, limits, noise, programs, Pair}
 use crate::reference::check::{most_live_words, verdict_line};
 use crate::reference::models::{self, every_set};
 use crate::reference::program::{read, table_words, Program, Rule};
-use crate::reference::{filled, lines, MARKS};
+use crate::reference::{filled, MARKS};
 use crate::tables;
 
 /// A family: its name, how many inputs it has for a count of 100, and what is done with one.
@@ -44,6 +44,7 @@ const HEAVY: usize = 25_000;
 fn rooms(pair: &Pair) -> Vec<(usize, usize)> {
     let many = fixed::ROOM;
     let Ok(program) = read(&pair.program, usize::MAX) else {
+        // 1,024 constraints without a literal take 3,072 words.
         return vec![(many, many), (60, 20), (0, 0), (5, 3), (3_071, 3), (3_072, 0), (3_075, 9)];
     };
     let table = table_words(&program.rules).len();
@@ -282,5 +283,4 @@ fn run_hard(court: &mut Court, index: u64) {
     let pair = Pair::of(text, author.text());
     compare_all(court, &pair);
     compare_changed(court, &pair, 10);
-    assert!(matches!(lines::read_line(&pair.proof, 0), lines::Answer::Line(_)));
 }
