@@ -1,0 +1,108 @@
+//! Holds the static library and the program `verdict` against a slow and plain reference written from document 01.
+//! Usage: compare [--seed N] [--count N] [--verdict PATH|none] [--only FAMILY/INDEX]
+//! --count says how many programs are refuted; the other random families grow with it. --verdict names the program `verdict`,
+//! which is target/bin/verdict otherwise, or leaves it out. --only runs one input again, as a failure names it.
+//! The last line is 'N passed, M failed'; the exit status is 0 exactly when nothing failed.
+
+#![forbid(unsafe_code)]
+
+mod binary;
+mod brute;
+mod court;
+mod families;
+mod inputs;
+mod reference;
+mod shrink;
+mod tables;
+mod tally;
+
+use std::process::ExitCode;
+
+use binary::Binary;
+use court::Court;
+use families::{families, Family};
+use inputs::random::Random;
+
+struct Arguments {
+    seed: u64,
+    count: u64,
+    verdict: String,
+    only: Option<(String, u64)>,
+}
+
+fn arguments() -> Result<Arguments, String> {
+    let mut given = Arguments { seed: 20_261_115, count: 2_000, verdict: String::from("target/bin/verdict"), only: None };
+    let mut words = std::env::args().skip(1);
+    while let Some(word) = words.next() {
+        let value = words.next().ok_or(format!("{word} needs a value"))?;
+        match word.as_str() {
+            "--seed" => given.seed = value.parse().map_err(|_| format!("{value} is no seed"))?,
+            "--count" => given.count = value.parse().map_err(|_| format!("{value} is no count"))?,
+            "--verdict" => given.verdict = value,
+            "--only" => given.only = Some(input_named(&value).ok_or(format!("{value} is no FAMILY/INDEX"))?),
+            _ => return Err(format!("{word} is not known; known are --seed, --count, --verdict and --only")),
+        }
+    }
+    Ok(given)
+}
+
+fn input_named(place: &str) -> Option<(String, u64)> {
+    let (family, index) = place.split_once('/')?;
+    let known = families().iter().any(|listed| listed.name == family);
+    Some((String::from(family), index.parse().ok()?)).filter(|_| known)
+}
+
+fn main() -> ExitCode {
+    match arguments().and_then(compare) {
+        Ok(true) => ExitCode::SUCCESS,
+        Ok(false) => ExitCode::FAILURE,
+        Err(message) => {
+            eprintln!("{message}");
+            ExitCode::from(2)
+        }
+    }
+}
+
+/// The whole run; whether nothing failed.
+fn compare(given: Arguments) -> Result<bool, String> {
+    let binary = match given.verdict.as_str() {
+        "none" => None,
+        path => Some(Binary::of(path).map_err(|error| format!("{path}: {error} (--verdict none leaves the program out)"))?),
+    };
+    let mut court = Court::of(binary);
+    for family in &families() {
+        match &given.only {
+            None => run_family(&mut court, family, &given),
+            Some((name, index)) if name == family.name => run_input(&mut court, family, given.seed, *index),
+            Some(_) => {}
+        }
+    }
+    if given.only.is_none() {
+        account_for_tally(&mut court);
+    }
+    println!("{} passed, {} failed", court.passed, court.failed);
+    Ok(court.failed == 0)
+}
+
+fn run_family(court: &mut Court, family: &Family, given: &Arguments) {
+    let started = std::time::Instant::now();
+    let before = court.passed;
+    let count = family.fixed_count.unwrap_or(family.share * given.count / 100);
+    for index in 0..count {
+        run_input(court, family, given.seed, index);
+    }
+    println!("{}: {count} inputs, {} comparisons passed, {:.1} s", family.name, court.passed - before, started.elapsed().as_secs_f64());
+}
+
+fn run_input(court: &mut Court, family: &Family, seed: u64, index: u64) {
+    court.open(format!("{}/{index} --seed {seed}", family.name), Random::of(seed, family.name, index));
+    (family.run)(court, index);
+}
+
+/// Prints the tally; an answer that was never seen is a failure.
+fn account_for_tally(court: &mut Court) {
+    court.tally.print();
+    for what in court.tally.missing(court.binary.is_some()) {
+        court.settle(false, || format!("never seen: {what}"));
+    }
+}

@@ -1,0 +1,54 @@
+//! The slow and plain reference: every service of document 01 once more, written from its words.
+//!
+//! Where its words left room for doubt, this is how they are read here:
+//! - A refused proof zeroes the table too: the whole check "is lent both texts and a table and a store to fill", and every refusal
+//!   zeroes "the whole of the table, store or marks that the call was lent to fill".
+//! - Question 7 comes after both counts and the body kind, although it is about the head count alone: the questions stand in that order.
+//! - `c` with more than two numbers is refused with 29, after 25 and 26: "no more numbers" stands in the description of `c`, and
+//!   "`c`?" is question 29.
+//! - `s` of a name is 30 and not 24: that h is an atom depends on the program, which the line's signs do not.
+//! - Equal nogoods are kept as often as they were added, and K counts each: `d` takes away "the oldest live nogood equal to L".
+//! - Question 34 is asked of the words after the whole step, not between the nogoods that `b` and `e` add.
+//! - The table of the set test may be of any length that holds its rules, with zeros after them; more than 1,024 rules are 41.
+//! - A number of numbers above 65 leaves out the closing 0: "up to 65 nonzero numbers, a closing `0`".
+
+pub mod check;
+pub mod closure;
+pub mod lines;
+pub mod models;
+pub mod numbers;
+pub mod program;
+pub mod steps;
+
+/// The largest variable and the largest atom.
+pub const LARGEST: i32 = 4_095;
+/// The most bytes that a text may have.
+pub const TEXT_LIMIT: usize = 65_535;
+/// The most heads of a choice rule and the most literals of a body.
+pub const PART_LIMIT: i32 = 64;
+/// The most numbers of a proof line, the closing 0 aside.
+pub const LINE_LIMIT: usize = 65;
+/// The most rules of a program.
+pub const RULE_LIMIT: usize = 1_024;
+/// The bytes of marks that the set test is lent.
+pub const MARKS: usize = 4_096;
+
+/// The words, and zeros up to the length that was lent.
+pub fn filled(mut words: Vec<i32>, room: usize) -> Vec<i32> {
+    words.resize(room, 0);
+    words
+}
+
+/// Whether the numbers name no variable twice, whatever their signs.
+pub fn variables_differ(numbers: &[i32]) -> bool {
+    let mut variables: Vec<i32> = numbers.iter().map(|number| number.abs()).collect();
+    variables.sort_unstable();
+    variables.windows(2).all(|pair| pair[0] != pair[1])
+}
+
+/// The literals in ascending order of their variables.
+pub fn by_variable(literals: &[i32]) -> Vec<i32> {
+    let mut sorted = literals.to_vec();
+    sorted.sort_by_key(|literal| literal.abs());
+    sorted
+}

@@ -1,0 +1,88 @@
+//! Tables and sets for the set test: changed tables, tables at the limits, and sets of every kind.
+
+use crate::inputs::random::Random;
+use crate::reference::filled;
+
+/// Words that matter in a table.
+const NOTABLE: [i32; 20] =
+    [0, 1, -1, 2, -2, 3, 63, 64, 65, -64, 4_094, 4_095, 4_096, -4_095, -4_096, i32::MAX, i32::MIN, i32::MIN + 1, 65_536, 1 << 16 | 1];
+
+/// The table of a program with a word changed, put in, taken out or doubled, or another rule count.
+pub fn changed(words: &[i32], count: usize, random: &mut Random) -> (Vec<i32>, usize) {
+    let room = random.below(6);
+    let mut table = filled(words.to_vec(), words.len() + room);
+    let mut rules = count;
+    for _ in 0..random.below(3) {
+        change_once(&mut table, &mut rules, random);
+    }
+    (table, rules)
+}
+
+fn change_once(table: &mut Vec<i32>, rules: &mut usize, random: &mut Random) {
+    let place = random.below(table.len() + 1);
+    match random.below(7) {
+        0 => *rules = *random.pick(&[0, 1, *rules + 1, rules.saturating_sub(1), 1_024, 1_025, usize::MAX, 1 << 32]),
+        1 => table.insert(place, *random.pick(&NOTABLE)),
+        2 if place < table.len() => {
+            table.remove(place);
+        }
+        3 => table.truncate(place),
+        4 if place < table.len() => table[place] = -table[place].checked_abs().unwrap_or(0),
+        5 if place + 1 < table.len() => table.swap(place, place + 1),
+        _ if place < table.len() => table[place] = *random.pick(&NOTABLE),
+        _ => table.push(*random.pick(&NOTABLE)),
+    }
+}
+
+/// A set of atoms, most often one that question 42 lets pass.
+pub fn any_set(atoms: i32, random: &mut Random) -> Vec<u16> {
+    let mut set: Vec<u16> = (1..=atoms as u16).filter(|_| random.percent(50)).collect();
+    if random.percent(25) {
+        let atom = *random.pick(&[0, 1, atoms as u16, atoms as u16 + 1, 4_095, 4_096, 65_535]);
+        let place = random.below(set.len() + 1);
+        set.insert(place, atom);
+    }
+    if random.percent(10) {
+        random.shuffle(&mut set);
+    }
+    set
+}
+
+/// Tables at the limits, with their rule counts.
+pub fn wide() -> Vec<(Vec<i32>, usize)> {
+    let mut tables = Vec::new();
+    for rules in [0, 1, 2, 1_023, 1_024, 1_025] {
+        for words in [0, 2, 3, 5, 6, 3_069, 3_071, 3_072, 3_075, 100_000] {
+            tables.push((vec![0; words], rules));
+        }
+    }
+    for heads in [0, 1, 2, 63, 64, 65, 66] {
+        for kind in [0, 1, 2, -1] {
+            let mut table = vec![kind, heads, 0];
+            table.extend(1..=heads);
+            tables.push((table, 1));
+        }
+    }
+    for count in [0, 1, 63, 64, 65, 66] {
+        let mut table = vec![0, 1, count, 4_095];
+        table.extend((1..=count).map(|atom| if atom % 2 == 0 { -atom } else { atom }));
+        tables.push((table, 1));
+    }
+    tables.extend([4_094, 4_095, 4_096, 4_097, 65_537, -1, -4_095, i32::MIN, i32::MAX].map(|head| (vec![0, 1, 0, head], 1)));
+    tables.extend([4_094, 4_095, 4_096, -4_095, -4_096, 0, 65_537, i32::MIN, i32::MAX].map(|literal| (vec![0, 0, 1, literal], 1)));
+    tables.extend([-1, 65, 4_096, i32::MIN, i32::MAX].map(|count| (vec![1, count, 0, 1, 0, 0, 0, 0], 1)));
+    tables.extend([-1, 65, 4_096, i32::MIN, i32::MAX].map(|count| (vec![0, 1, count, 1, 0, 0, 0, 0], 1)));
+    tables.extend([usize::MAX, usize::MAX / 3, 1 << 32, 1 << 63, (1 << 32) + 1].map(|rules| (vec![0; 9], rules)));
+    tables.extend(filled_with_rules());
+    tables
+}
+
+/// 1,024 rules with both heads and bodies: a chain of all atoms, and rules of 64 heads and 64 literals, which no text could hold.
+fn filled_with_rules() -> Vec<(Vec<i32>, usize)> {
+    let mut chain = vec![0, 1, 0, 1_024];
+    chain.extend((1..1_024).flat_map(|atom| [0, 1, 1, atom, atom + 1]));
+    let mut widest = vec![1, 64, 64];
+    widest.extend(4_032..=4_095);
+    widest.extend((3_000..3_064).map(|atom| -atom));
+    vec![(chain, 1_024), (widest.repeat(1_024), 1_024), (widest.repeat(1_025), 1_025)]
+}

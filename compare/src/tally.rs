@@ -1,0 +1,66 @@
+//! How often each answer was seen, and which of those that must be seen never was.
+
+use std::collections::BTreeMap;
+
+use crate::reference::check::{verdict_line, Verdict};
+
+#[derive(Default)]
+pub struct Tally {
+    seen: BTreeMap<String, u64>,
+}
+
+impl Tally {
+    pub fn count(&mut self, what: String) {
+        *self.seen.entry(what).or_insert(0) += 1;
+    }
+
+    pub fn verdict(&mut self, service: &str, verdict: &Verdict) {
+        self.count(format!("{service}: {}", kind(verdict)));
+    }
+
+    /// What was never seen of all that a run has to see.
+    pub fn missing(&self, with_binary: bool) -> Vec<String> {
+        wanted(with_binary).into_iter().filter(|what| !self.seen.contains_key(what)).collect()
+    }
+
+    pub fn print(&self) {
+        for (what, times) in &self.seen {
+            println!("{times:>9}  {what}");
+        }
+    }
+}
+
+/// The verdict without its counts and places: the word, and a refusal's number.
+fn kind(verdict: &Verdict) -> String {
+    let words = match verdict {
+        Verdict::Inconsistent(_) | Verdict::Open(_) => 1,
+        _ => 3,
+    };
+    let line = verdict_line(verdict);
+    let kept: Vec<String> = line.split(' ').take(words).map(padded).collect();
+    kept.join(" ")
+}
+
+fn padded(word: &str) -> String {
+    word.parse::<u8>().map_or(String::from(word), |number| format!("{number:02}"))
+}
+
+fn wanted(with_binary: bool) -> Vec<String> {
+    let mut wanted = Vec::new();
+    let services: &[&str] = if with_binary { &["check_texts", "verdict"] } else { &["check_texts"] };
+    for service in services {
+        wanted.extend(["inconsistent", "open"].map(|word| format!("{service}: {word}")));
+        wanted.extend((1..=11).map(|number| format!("{service}: refused program {number:02}")));
+        wanted.extend((21..=34).map(|number| format!("{service}: refused proof {number}")));
+    }
+    wanted.push(String::from("read_program: read"));
+    wanted.extend((1..=11).map(|number| format!("read_program: refused {number:02}")));
+    wanted.extend("abcdels".chars().map(|letter| format!("read_line: {letter}")));
+    wanted.push(String::from("read_line: end"));
+    wanted.extend((21..=25).map(|number| format!("read_line: refused {number}")));
+    wanted.extend(["yes", "differs", "broken", "refused 41", "refused 42", "refused 43"].map(|word| format!("test_set: {word}")));
+    wanted.extend("abcdels".chars().map(|letter| format!("inconsistent by a proof with {letter}")));
+    wanted.extend(["refuted", "answer set"].map(|word| format!("search: {word}")));
+    wanted.extend(["program", "program with further constraints"].map(|what| format!("no answer set: {what}")));
+    wanted
+}
