@@ -4,6 +4,8 @@
 //! With `--once` each input is run once by each checker. Without arguments the times are medians of 31 repetitions; a number as
 //! the argument says how many others there are to be.
 
+#![forbid(unsafe_code)]
+
 mod inputs;
 mod measure;
 mod random;

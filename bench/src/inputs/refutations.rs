@@ -1,5 +1,5 @@
-//! A small search for refutations: it splits on atoms that propagation leaves open, writes the nogood of each node once both of its
-//! halves are refuted, and deletes some of the halves.
+//! A small search for refutations: it splits on atoms that propagation leaves open, writes the nogood of each node once both
+//! of its halves are refuted, and deletes some of the halves.
 
 use super::programs::{atoms_of, completion, Line, Rule};
 use crate::random::Random;

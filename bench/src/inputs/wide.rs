@@ -64,11 +64,9 @@ fn support_line(rules: &[Rule], atoms: i32, bodies: &[Vec<i32>], turn: usize) ->
 fn loop_line(rules: &[Rule], atoms: i32, bodies: &[Vec<i32>], random: &mut Random) -> (Line, usize) {
     let count = 1 + random.below(3);
     let set = random.different(count, INNER);
-    let is_external = |rule: &&Rule| {
-        rule.heads.iter().any(|head| set.contains(head)) && !rule.body.iter().any(|literal| set.contains(literal))
-    };
-    let mut names: Vec<i32> =
-        rules.iter().filter(is_external).map(|rule| name_of(atoms, bodies, &rule.body)).collect();
+    let is_external =
+        |rule: &&Rule| rule.heads.iter().any(|head| set.contains(head)) && !rule.body.iter().any(|literal| set.contains(literal));
+    let mut names: Vec<i32> = rules.iter().filter(is_external).map(|rule| name_of(atoms, bodies, &rule.body)).collect();
     names.sort_unstable();
     names.dedup();
     (Line::of('l', &set), NOGOOD_WORDS + 1 + names.len())

@@ -96,9 +96,7 @@ impl Rules {
 
     /// The names, all different, are those of exactly the bodies that support the atom.
     pub fn supports(&self, atom: i32, names: &[i32]) -> bool {
-        let of_one = |&name: &i32| {
-            self.named[name as usize].is_some_and(|body| self.supported.contains(&pair(atom, body)))
-        };
+        let of_one = |&name: &i32| self.named[name as usize].is_some_and(|body| self.supported.contains(&pair(atom, body)));
         atom as usize <= self.atoms && self.supports[atom as usize].len() == names.len() && names.iter().all(of_one)
     }
 

@@ -1,9 +1,9 @@
 //! The live nogoods and propagation over them with two watched literals. What follows from the nogoods alone is kept from step to
 //! step; a deletion undoes what it was the reason of. Deleting finds its nogood by a hash of the set.
 //!
-//! A literal is a code: twice its variable, and one more for a negative one. In each nogood the two literals in front are watched:
-//! neither is true, unless the other is false. Nogoods of two literals have lists of their own, since their watches never move. A
-//! nogood is known by its place in `words`, where its length stands.
+//! A literal is a code: twice its variable, and one more for a negative one. In each nogood the two literals in front are
+//! watched: neither is true, unless the other is false. Nogoods of two literals have lists of their own, since their watches
+//! never move. A nogood is known by its place in `words`, where its length stands.
 
 use super::hashing;
 
