@@ -1,4 +1,4 @@
-//! Measuring: both checkers on one input, in turn, and the median of the times.
+//! Measuring: both checkers on one input, in turn, and the median and the least of the times.
 
 use crate::inputs::{Input, STORE_WORDS, TABLE_WORDS};
 use crate::unverified;
@@ -26,12 +26,18 @@ fn unverified(input: &Input) -> Verdict {
     unverified::check(black_box(&input.program), black_box(&input.proof), TABLE_WORDS, STORE_WORDS)
 }
 
-/// What both checkers say of an input, and the median of their times.
+/// What both checkers say of an input, and their times.
 pub struct Measured {
     pub verified: Verdict,
     pub unverified: Verdict,
-    pub verified_time: Duration,
-    pub unverified_time: Duration,
+    pub verified_times: Times,
+    pub unverified_times: Times,
+}
+
+/// The median and the least of the times of a checker on an input.
+pub struct Times {
+    pub median: Duration,
+    pub least: Duration,
 }
 
 /// Runs both in turn so many times, or until they differ.
@@ -44,8 +50,8 @@ pub fn measure(input: &Input, buffers: &mut Buffers, repetitions: usize) -> Meas
         verified_times.push(verified_time);
         unverified_times.push(unverified_time);
         if verified != unverified || verified_times.len() == repetitions {
-            let (verified_time, unverified_time) = (median(verified_times), median(unverified_times));
-            return Measured { verified, unverified, verified_time, unverified_time };
+            let (verified_times, unverified_times) = (times_of(verified_times), times_of(unverified_times));
+            return Measured { verified, unverified, verified_times, unverified_times };
         }
     }
 }
@@ -56,7 +62,7 @@ fn timed(check: impl FnOnce() -> Verdict) -> (Verdict, Duration) {
     (verdict, start.elapsed())
 }
 
-fn median(mut times: Vec<Duration>) -> Duration {
+fn times_of(mut times: Vec<Duration>) -> Times {
     times.sort_unstable();
-    times[times.len() / 2]
+    Times { median: times[times.len() / 2], least: times[0] }
 }

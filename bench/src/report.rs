@@ -6,28 +6,33 @@ use examiner::{Counts, Verdict};
 use std::time::Duration;
 
 pub fn heading(repetitions: usize) {
-    println!("Times of the whole check: median of {repetitions}.");
-    println!("{:<12} {:>15} {:>27} {:>21} {:>6} {:>21}", "", "bytes", "", "milliseconds", "", "microseconds a step");
+    println!("The whole check, {repetitions} times on each input; ratio and times a step are of the medians.");
     println!(
-        "{:<12} {:>7} {:>7} {:>27} {:>10} {:>10} {:>6} {:>10} {:>10}",
-        "input", "program", "proof", "verdict", "verified", "unverified", "ratio", "verified", "unverified"
+        "{:<12} {:>15} {:>29} {:>17} {:>17} {:>6} {:>19}",
+        "", "bytes", "", "verified, ms", "unverified, ms", "", "microseconds a step"
+    );
+    println!(
+        "{:<12} {:>7} {:>7} {:>29} {:>8} {:>8} {:>8} {:>8} {:>6} {:>8} {:>10}",
+        "input", "program", "proof", "verdict", "median", "least", "median", "least", "ratio", "verified", "unverified"
     );
 }
 
 pub fn row(input: &Input, measured: &Measured) {
-    let (verified, unverified) = (measured.verified_time, measured.unverified_time);
+    let (verified, unverified) = (&measured.verified_times, &measured.unverified_times);
     let steps = counts_of(&measured.verified).map_or(1, |counts| counts.steps);
     println!(
-        "{:<12} {:>7} {:>7} {:>27} {:>10.3} {:>10.3} {:>6.1} {:>10.2} {:>10.2}",
+        "{:<12} {:>7} {:>7} {:>29} {:>8.3} {:>8.3} {:>8.3} {:>8.3} {:>6.1} {:>8.2} {:>10.2}",
         input.name,
         input.program.len(),
         input.proof.len(),
         line_of(&measured.verified),
-        milliseconds(verified),
-        milliseconds(unverified),
-        milliseconds(verified) / milliseconds(unverified),
-        microseconds_each(verified, steps),
-        microseconds_each(unverified, steps),
+        milliseconds(verified.median),
+        milliseconds(verified.least),
+        milliseconds(unverified.median),
+        milliseconds(unverified.least),
+        milliseconds(verified.median) / milliseconds(unverified.median),
+        microseconds_each(verified.median, steps),
+        microseconds_each(unverified.median, steps),
     );
 }
 
