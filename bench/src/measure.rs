@@ -2,7 +2,7 @@
 
 use crate::inputs::{Input, STORE_WORDS, TABLE_WORDS};
 use crate::unverified;
-use examiner::Verdict;
+use aspdrupe::Verdict;
 use std::hint::black_box;
 use std::time::{Duration, Instant};
 
@@ -18,7 +18,7 @@ impl Buffers {
     }
 
     fn verified(&mut self, input: &Input) -> Verdict {
-        examiner::check_texts(black_box(&input.program), black_box(&input.proof), &mut self.table, &mut self.store)
+        aspdrupe::check_texts(black_box(&input.program), black_box(&input.proof), &mut self.table, &mut self.store)
     }
 }
 

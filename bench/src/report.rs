@@ -2,7 +2,7 @@
 
 use crate::inputs::Input;
 use crate::measure::Measured;
-use examiner::{Counts, Verdict};
+use aspdrupe::{Counts, Verdict};
 use std::time::Duration;
 
 pub fn heading(repetitions: usize) {

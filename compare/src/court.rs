@@ -64,11 +64,11 @@ impl Court {
     pub fn check_texts(&mut self, pair: &Pair, table_room: usize, store_room: usize) -> Verdict {
         let expected = check(&pair.program, &pair.proof, table_room, store_room);
         let (mut table, mut store) = (self.pattern(table_room), self.pattern(store_room));
-        let answered = examiner::check_texts(&pair.program, &pair.proof, &mut table, &mut store);
+        let answered = aspdrupe::check_texts(&pair.program, &pair.proof, &mut table, &mut store);
         let good = answered == in_library_form(&expected.verdict) && table == expected.table && store == expected.store;
         self.settle(good, || told_check(pair, table_room, store_room));
         self.tally.verdict("check_texts", &expected.verdict);
-        if matches!(answered, examiner::Verdict::Inconsistent(_)) {
+        if matches!(answered, aspdrupe::Verdict::Inconsistent(_)) {
             self.count_letters(&pair.proof);
             self.no_answer_set(&pair.program, table_room);
         }
@@ -124,16 +124,16 @@ impl Court {
         let (expected, words) = match read(text, room) {
             Ok(program) => {
                 self.tally.count(String::from("read_program: read"));
-                let form = examiner::ProgramReading::Read { atoms: program.atoms as usize, rules: program.rules.len() };
+                let form = aspdrupe::ProgramReading::Read { atoms: program.atoms as usize, rules: program.rules.len() };
                 (form, filled(table_words(&program.rules), room))
             }
             Err((number, line)) => {
                 self.tally.count(format!("read_program: refused {number:02}"));
-                (examiner::ProgramReading::Refused { number, line }, vec![0; room])
+                (aspdrupe::ProgramReading::Refused { number, line }, vec![0; room])
             }
         };
         let mut table = self.pattern(room);
-        let answered = examiner::read_program(text, &mut table);
+        let answered = aspdrupe::read_program(text, &mut table);
         self.settle(answered == expected && table == words, || {
             format!("read_program, table {room}: {answered:?}, not {expected:?}{}: {}", difference(&table, &words), cut(text))
         });
@@ -144,16 +144,16 @@ impl Court {
         let mut numbers = [0; 65];
         let mut after = None;
         let expected = match lines::read_line(text, position) {
-            lines::Answer::End => examiner::LineAnswer::End,
-            lines::Answer::Refused(number) => examiner::LineAnswer::Refused(number),
+            lines::Answer::End => aspdrupe::LineAnswer::End,
+            lines::Answer::Refused(number) => aspdrupe::LineAnswer::Refused(number),
             lines::Answer::Line(line) => {
                 numbers[..line.numbers.len()].copy_from_slice(&line.numbers);
                 after = Some(line.next);
-                examiner::LineAnswer::Line { letter: line.letter, count: line.numbers.len(), next: line.next }
+                aspdrupe::LineAnswer::Line { letter: line.letter, count: line.numbers.len(), next: line.next }
             }
         };
         self.tally.count(format!("read_line: {}", line_kind(&expected)));
-        let (answered, given) = examiner::read_line(text, position);
+        let (answered, given) = aspdrupe::read_line(text, position);
         self.settle(answered == expected && given == numbers, || {
             format!("read_line at {position}: {answered:?}, not {expected:?}{}: {}", difference(&given, &numbers), cut(text))
         });
@@ -164,7 +164,7 @@ impl Court {
     pub fn test_set(&mut self, table: &[i32], rules: usize, set: &[u16], marks_room: usize) {
         let (expected, expected_marks) = models::test_set(table, rules, set, marks_room);
         let mut marks = vec![self.random.below(256) as u8; marks_room];
-        let answered = examiner::test_set(table, rules, set, &mut marks);
+        let answered = aspdrupe::test_set(table, rules, set, &mut marks);
         let good = marks == expected_marks && set_answer_fits(&answered, &expected, set);
         self.tally.count(format!("test_set: {}", set_kind(&expected)));
         self.settle(good, || {
@@ -194,7 +194,7 @@ fn told_check(pair: &Pair, table_room: usize, store_room: usize) -> String {
 fn check_differs(pair: &Pair, table_room: usize, store_room: usize) -> Option<(String, String, String)> {
     let expected = check(&pair.program, &pair.proof, table_room, store_room);
     let (mut table, mut store) = (vec![0x5A5A_5A5A; table_room], vec![0x5A5A_5A5A; store_room]);
-    let answered = examiner::check_texts(&pair.program, &pair.proof, &mut table, &mut store);
+    let answered = aspdrupe::check_texts(&pair.program, &pair.proof, &mut table, &mut store);
     if answered == in_library_form(&expected.verdict) && table == expected.table && store == expected.store {
         return None;
     }
@@ -211,23 +211,23 @@ fn difference(found: &[i32], expected: &[i32]) -> String {
 }
 
 /// The reference's verdict as the library would say it.
-fn in_library_form(verdict: &Verdict) -> examiner::Verdict {
-    let counted = |c: &Counts| examiner::Counts { atoms: c.atoms, rules: c.rules, steps: c.steps, nogoods: c.nogoods };
+fn in_library_form(verdict: &Verdict) -> aspdrupe::Verdict {
+    let counted = |c: &Counts| aspdrupe::Counts { atoms: c.atoms, rules: c.rules, steps: c.steps, nogoods: c.nogoods };
     match verdict {
-        Verdict::Inconsistent(counts) => examiner::Verdict::Inconsistent(counted(counts)),
-        Verdict::Open(counts) => examiner::Verdict::Open(counted(counts)),
-        Verdict::RefusedProgram { number, line } => examiner::Verdict::RefusedProgram { number: *number, line: *line },
-        Verdict::RefusedProof { number, step } => examiner::Verdict::RefusedProof { number: *number, step: *step },
+        Verdict::Inconsistent(counts) => aspdrupe::Verdict::Inconsistent(counted(counts)),
+        Verdict::Open(counts) => aspdrupe::Verdict::Open(counted(counts)),
+        Verdict::RefusedProgram { number, line } => aspdrupe::Verdict::RefusedProgram { number: *number, line: *line },
+        Verdict::RefusedProof { number, step } => aspdrupe::Verdict::RefusedProof { number: *number, step: *step },
     }
 }
 
 /// Whether the answer is the expected one; the atom shown has to lie in just one of the two sets.
-fn set_answer_fits(answered: &examiner::SetAnswer, expected: &models::Answer, set: &[u16]) -> bool {
+fn set_answer_fits(answered: &aspdrupe::SetAnswer, expected: &models::Answer, set: &[u16]) -> bool {
     match (answered, expected) {
-        (examiner::SetAnswer::Yes, models::Answer::Yes) => true,
-        (examiner::SetAnswer::Differs(atom), models::Answer::Differs { least }) => least.contains(&i32::from(*atom)) != set.contains(atom),
-        (examiner::SetAnswer::Broken(rule), models::Answer::Broken(number)) => rule == number,
-        (examiner::SetAnswer::Refused(one), models::Answer::Refused(other)) => one == other,
+        (aspdrupe::SetAnswer::Yes, models::Answer::Yes) => true,
+        (aspdrupe::SetAnswer::Differs(atom), models::Answer::Differs { least }) => least.contains(&i32::from(*atom)) != set.contains(atom),
+        (aspdrupe::SetAnswer::Broken(rule), models::Answer::Broken(number)) => rule == number,
+        (aspdrupe::SetAnswer::Refused(one), models::Answer::Refused(other)) => one == other,
         _ => false,
     }
 }
@@ -241,10 +241,10 @@ fn set_kind(answer: &models::Answer) -> String {
     }
 }
 
-fn line_kind(answer: &examiner::LineAnswer) -> String {
+fn line_kind(answer: &aspdrupe::LineAnswer) -> String {
     match answer {
-        examiner::LineAnswer::End => String::from("end"),
-        examiner::LineAnswer::Refused(number) => format!("refused {number}"),
-        examiner::LineAnswer::Line { letter, .. } => String::from(*letter as char),
+        aspdrupe::LineAnswer::End => String::from("end"),
+        aspdrupe::LineAnswer::Refused(number) => format!("refused {number}"),
+        aspdrupe::LineAnswer::Line { letter, .. } => String::from(*letter as char),
     }
 }

@@ -111,7 +111,7 @@ fn run_fixed(court: &mut Court, index: u64) {
     court.settle(line == case.line, || format!("{}: the reference says {line:?}, document 01 {:?}", case.name, case.line));
     if case.name == "starred 1" {
         let mut store = vec![7; fixed::STORE_1.len()];
-        examiner::check_texts(&case.pair.program, &case.pair.proof, &mut [0; 5], &mut store);
+        aspdrupe::check_texts(&case.pair.program, &case.pair.proof, &mut [0; 5], &mut store);
         court.settle(store == fixed::STORE_1, || format!("starred 1: the store is {store:?}"));
     }
     compare_all(court, &case.pair);

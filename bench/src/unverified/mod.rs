@@ -8,7 +8,7 @@ pub mod nogoods;
 mod program;
 mod steps;
 
-use examiner::{Counts, Verdict};
+use aspdrupe::{Counts, Verdict};
 use steps::Checking;
 
 /// The longest text, in bytes.
