@@ -295,6 +295,8 @@ fn proof_shapes() -> Vec<Case> {
         ("b 2 1 0", "refused proof 28 1"),
         ("e 2 3 0", "refused proof 26 1"),
         ("e 1 0", "refused proof 27 1"),
+        ("e 1 3 0", "refused proof 26 1"),
+        ("b 1 3 0", "refused proof 26 1"),
         ("c 1 0", "refused proof 29 1"),
         ("c 2 0", "refused proof 26 1"),
         ("s 1 0", "refused proof 30 1"),
