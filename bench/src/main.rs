@@ -13,7 +13,7 @@ mod report;
 mod unverified;
 
 use inputs::Input;
-use measure::Buffers;
+use measure::Measured;
 use std::process::ExitCode;
 
 const REPETITIONS: usize = 31;
@@ -31,22 +31,22 @@ fn main() -> ExitCode {
             }
         },
     };
-    let failed = run(&inputs::all(), repetitions);
+    let inputs = inputs::all();
+    let measured = measure::measure(&inputs, repetitions);
+    report::heading(repetitions);
+    let failed = report_all(&inputs, &measured);
     ExitCode::from(u8::from(failed > 0))
 }
 
-/// Runs and reports every input. On how many the checkers differ.
-fn run(inputs: &[Input], repetitions: usize) -> usize {
-    let mut buffers = Buffers::new();
+/// Reports every input. On how many the checkers differ.
+fn report_all(inputs: &[Input], measured: &[Measured]) -> usize {
     let mut failed = 0;
-    report::heading(repetitions);
-    for input in inputs {
-        let measured = measure::measure(input, &mut buffers, repetitions);
+    for (input, measured) in inputs.iter().zip(measured) {
         if measured.verified == measured.unverified {
-            report::row(input, &measured);
+            report::row(input, measured);
         } else {
             failed += 1;
-            report::difference(input, &measured);
+            report::difference(input, measured);
         }
     }
     println!("{} passed, {failed} failed", inputs.len() - failed);

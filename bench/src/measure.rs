@@ -1,4 +1,4 @@
-//! Measuring: both checkers on one input, in turn, and the median and the least of the times.
+//! Measuring: both checkers on each input, in turn, and the median and the least of the times.
 
 use crate::inputs::{Input, STORE_WORDS, TABLE_WORDS};
 use crate::unverified;
@@ -7,13 +7,13 @@ use std::hint::black_box;
 use std::time::{Duration, Instant};
 
 /// A table and a store, lent to each check through the library. The check itself zeroes them.
-pub struct Buffers {
+struct Buffers {
     table: Vec<i32>,
     store: Vec<i32>,
 }
 
 impl Buffers {
-    pub fn new() -> Self {
+    fn new() -> Self {
         Buffers { table: vec![0; TABLE_WORDS], store: vec![0; STORE_WORDS] }
     }
 
@@ -40,19 +40,35 @@ pub struct Times {
     pub least: Duration,
 }
 
-/// Runs both in turn so many times, or until they differ.
-pub fn measure(input: &Input, buffers: &mut Buffers, repetitions: usize) -> Measured {
-    let mut verified_times = Vec::with_capacity(repetitions);
-    let mut unverified_times = Vec::with_capacity(repetitions);
-    loop {
-        let (verified, verified_time) = timed(|| buffers.verified(input));
-        let (unverified, unverified_time) = timed(|| unverified(input));
-        verified_times.push(verified_time);
-        unverified_times.push(unverified_time);
-        if verified != unverified || verified_times.len() == repetitions {
-            let (verified_times, unverified_times) = (times_of(verified_times), times_of(unverified_times));
-            return Measured { verified, unverified, verified_times, unverified_times };
+/// One run of both checkers on an input.
+struct Run {
+    verified: (Verdict, Duration),
+    unverified: (Verdict, Duration),
+}
+
+/// Goes so many times through all inputs and runs both checkers on each, so that a busy moment of the machine touches all alike.
+pub fn measure(inputs: &[Input], repetitions: usize) -> Vec<Measured> {
+    let mut buffers = Buffers::new();
+    let mut runs: Vec<Vec<Run>> = inputs.iter().map(|_| Vec::with_capacity(repetitions)).collect();
+    for _ in 0..repetitions {
+        for (input, runs) in inputs.iter().zip(&mut runs) {
+            let verified = timed(|| buffers.verified(input));
+            let unverified = timed(|| unverified(input));
+            runs.push(Run { verified, unverified });
         }
+    }
+    runs.iter().map(|runs| summed_up(runs)).collect()
+}
+
+/// The verdicts of the first run in which they differ, or of the last, and the times of all.
+fn summed_up(runs: &[Run]) -> Measured {
+    let differing = runs.iter().find(|run| run.verified.0 != run.unverified.0);
+    let shown = differing.unwrap_or(&runs[runs.len() - 1]);
+    Measured {
+        verified: shown.verified.0,
+        unverified: shown.unverified.0,
+        verified_times: times_of(runs.iter().map(|run| run.verified.1).collect()),
+        unverified_times: times_of(runs.iter().map(|run| run.unverified.1).collect()),
     }
 }
 

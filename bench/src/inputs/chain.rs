@@ -1,4 +1,4 @@
-//! The worst case for propagation: a long chain of names, each the one before, and additions and deletions at its far end. Each
+//! A hard case for propagation: a long chain of names, each the one before, and additions and deletions at its far end. Each
 //! addition is refuted only once propagation has gone down the whole chain.
 
 use super::programs::{program_text, proof_text, Line, Rule};
