@@ -110,7 +110,7 @@ fn propagate(nogoods: &[i32], assignment: &mut [u8; ENTRIES]) -> bool
     requires { ⌜ length (now assignment) ≡ entries ⌝ }
     ensures { λ r. ⌜ Ends (now (nogoods .entry)) (now (assignment .entry)) (now (assignment .exit)) r ⌝ }
 {
-    let swept = settle(nogoods, 3, assignment);
+    let swept = settle(nogoods, 2, assignment);
     match swept {
         Swept::Refuted => true,
         Swept::Same => false,
