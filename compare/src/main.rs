@@ -10,7 +10,7 @@
 
 mod binary;
 mod brute;
-mod court;
+mod comparison;
 mod families;
 mod inputs;
 mod reference;
@@ -21,7 +21,7 @@ mod tally;
 use std::process::ExitCode;
 
 use binary::Binary;
-use court::Court;
+use comparison::Comparison;
 use families::{families, Family};
 use inputs::random::Random;
 
@@ -71,40 +71,45 @@ fn compare(given: Arguments) -> Result<bool, String> {
         "none" => None,
         path => Some(Binary::of(path).map_err(|error| format!("{path}: {error} (--verdict none leaves the program out)"))?),
     };
-    let mut court = Court::of(binary);
+    let mut comparison = Comparison::of(binary);
     for family in &families() {
         match &given.only {
-            None => run_family(&mut court, family, &given),
-            Some((name, index)) if name == family.name => run_input(&mut court, family, given.seed, *index),
+            None => run_family(&mut comparison, family, &given),
+            Some((name, index)) if name == family.name => run_input(&mut comparison, family, given.seed, *index),
             Some(_) => {}
         }
     }
     if given.only.is_none() {
-        account_for_tally(&mut court);
+        account_for_tally(&mut comparison);
     }
-    println!("{} passed, {} failed", court.passed, court.failed);
-    Ok(court.failed == 0)
+    println!("{} passed, {} failed", comparison.passed, comparison.failed);
+    Ok(comparison.failed == 0)
 }
 
-fn run_family(court: &mut Court, family: &Family, given: &Arguments) {
+fn run_family(comparison: &mut Comparison, family: &Family, given: &Arguments) {
     let started = std::time::Instant::now();
-    let before = court.passed;
+    let before = comparison.passed;
     let count = family.fixed_count.unwrap_or(family.share * given.count / 100);
     for index in 0..count {
-        run_input(court, family, given.seed, index);
+        run_input(comparison, family, given.seed, index);
     }
-    println!("{}: {count} inputs, {} comparisons passed, {:.1} s", family.name, court.passed - before, started.elapsed().as_secs_f64());
+    println!(
+        "{}: {count} inputs, {} comparisons passed, {:.1} s",
+        family.name,
+        comparison.passed - before,
+        started.elapsed().as_secs_f64()
+    );
 }
 
-fn run_input(court: &mut Court, family: &Family, seed: u64, index: u64) {
-    court.open(format!("{}/{index} --seed {seed}", family.name), Random::of(seed, family.name, index));
-    (family.run)(court, index);
+fn run_input(comparison: &mut Comparison, family: &Family, seed: u64, index: u64) {
+    comparison.open(format!("{}/{index} --seed {seed}", family.name), Random::of(seed, family.name, index));
+    (family.run)(comparison, index);
 }
 
 /// Prints the tally; an answer that was never seen is a failure.
-fn account_for_tally(court: &mut Court) {
-    court.tally.print();
-    for what in court.tally.missing(court.binary.is_some()) {
-        court.settle(false, || format!("never seen: {what}"));
+fn account_for_tally(comparison: &mut Comparison) {
+    comparison.tally.print();
+    for what in comparison.tally.missing(comparison.binary.is_some()) {
+        comparison.settle(false, || format!("never seen: {what}"));
     }
 }

@@ -16,7 +16,7 @@ use crate::tally::Tally;
 /// How many failures are told in full.
 const TOLD: u64 = 20;
 
-pub struct Court {
+pub struct Comparison {
     pub passed: u64,
     pub failed: u64,
     pub tally: Tally,
@@ -26,10 +26,10 @@ pub struct Court {
     refuted: HashSet<Vec<Rule>>,
 }
 
-impl Court {
-    pub fn of(binary: Option<Binary>) -> Court {
+impl Comparison {
+    pub fn of(binary: Option<Binary>) -> Comparison {
         let random = Random::of(0, "patterns", 0);
-        Court { passed: 0, failed: 0, tally: Tally::default(), random, binary, place: String::new(), refuted: HashSet::new() }
+        Comparison { passed: 0, failed: 0, tally: Tally::default(), random, binary, place: String::new(), refuted: HashSet::new() }
     }
 
     /// Names the input that the next comparisons belong to, and takes up its random numbers.
