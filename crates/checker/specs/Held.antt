@@ -18,7 +18,7 @@ use Rattle.text.specs.declared.Letter.{Letter}
 use Rattle.drupe.specs.Lines.{mostNumbers, signsOf, signed, LineAt, end, line}
 use Rattle.drupe.specs.Lines as Lines
 use Rattle.derivation.specs.States.{Named, State, isAtom, isKnown}
-use Rattle.derivation.specs.Steps.{Outcome, refused, next, step}
+use Rattle.derivation.specs.Steps.{Outcome, refused, next, byLetter, step}
 use Rattle.nogoods.specs.Store.{Literals, liveWords, Holds}
 use Rattle.nogoods.specs.declared.store.Added.{Added}
 use Rattle.nogoods.specs.declared.store.Added.the-variants as Added
@@ -86,6 +86,11 @@ Kept live store (Fails k) = (k ≡ 34) × (length store < length (liveWords live
 abbrev pub Left : List Rule → List ℕ → List ℕ → List ℤ → Outcome → Stepped → Type 0
 Left P known names store (refused k) r = r ≡ Fails k
 Left P known names store (next z) r = Kept (z .live) store r × Tracks P known names (z .introduced) (z .named)
+
+-- the contract of a letter's function: what the step leaves, of whatever state the arrays and the store held before
+abbrev pub Stepping : List Rule → Letter → List ℤ → ℕ → List ℕ → List ℕ → List ℤ → List ℕ → List ℕ → List ℤ → Stepped → Type 0
+Stepping P x zs used known names store known′ names′ store′ r =
+    (z : State) → Tracks P known names (z .introduced) (z .named) → Holds store used (z .live) → Left P known′ names′ store′ (byLetter P z x zs) r
 
 -- the nogood of an `l` step, ascending: of n numbers from v on, h itself and minus each one that passes
 abbrev pub gathered : (ℕ → Bool) → ℤ → ℕ → ℕ → List ℤ

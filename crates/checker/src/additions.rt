@@ -4,10 +4,8 @@ ghost use Prim.Native.Nat.{ℕ};
 ghost use lib.IntN.{ℤ};
 ghost use Rattle.aspif.specs.Rules.{Rule};
 ghost use Rattle.text.specs.declared.Letter.the-variants.{Addition, Deletion};
-ghost use Rattle.derivation.specs.States.{State};
-ghost use Rattle.derivation.specs.Steps.{byLetter};
 ghost use Rattle.nogoods.specs.Store.{Holds};
-ghost use Rattle.checker.specs.Held.{Line, Tracks, Left};
+ghost use Rattle.checker.specs.Held.{Line, Stepping};
 use crate::steps;
 use crate::steps::Stepped;
 use names::variables;
@@ -18,8 +16,8 @@ use nogoods::store;
 pub fn addition(known: &[u8], store: &mut [i32], used: usize, numbers: &mut [i32]) -> Stepped
     requires { ⌜ ((live : List (List ℤ)) × Holds (now store) used live) ⌝ }
     requires { ⌜ Line Addition (now numbers) ⌝ }
-    ensures { λ r. ⌜ ((P : List Rule) (names : List ℕ) (z : State) → Tracks P (now (known .entry)) names (z .introduced) (z .named) → Holds (now (store .entry)) used (z .live)
-        → Left P (now (known .entry)) names (now (store .exit)) (byLetter P z Addition (now (numbers .entry))) r) ⌝ }
+    ensures { λ r. ⌜ ((P : List Rule) (names : List ℕ) → Stepping P Addition (now (numbers .entry)) used (now (known .entry)) names (now (store .entry))
+        (now (known .entry)) names (now (store .exit)) r) ⌝ }
 {
     if !variables::all_marked(numbers, known) {
         return Stepped::Fails(26);
@@ -35,8 +33,8 @@ pub fn addition(known: &[u8], store: &mut [i32], used: usize, numbers: &mut [i32
 pub fn deletion(known: &[u8], store: &mut [i32], used: usize, numbers: &mut [i32]) -> Stepped
     requires { ⌜ ((live : List (List ℤ)) × Holds (now store) used live) ⌝ }
     requires { ⌜ Line Deletion (now numbers) ⌝ }
-    ensures { λ r. ⌜ ((P : List Rule) (names : List ℕ) (z : State) → Tracks P (now (known .entry)) names (z .introduced) (z .named) → Holds (now (store .entry)) used (z .live)
-        → Left P (now (known .entry)) names (now (store .exit)) (byLetter P z Deletion (now (numbers .entry))) r) ⌝ }
+    ensures { λ r. ⌜ ((P : List Rule) (names : List ℕ) → Stepping P Deletion (now (numbers .entry)) used (now (known .entry)) names (now (store .entry))
+        (now (known .entry)) names (now (store .exit)) r) ⌝ }
 {
     if !variables::all_marked(numbers, known) {
         return Stepped::Fails(26);

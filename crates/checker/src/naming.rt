@@ -12,10 +12,10 @@ ghost use Rattle.aspif.specs.Rules.{Rule};
 ghost use Rattle.answer_set.specs.SetTest.{rulesAt, soundRules};
 ghost use Rattle.text.specs.declared.Letter.the-variants.{Body, Extension};
 ghost use Rattle.derivation.specs.States.{State};
-ghost use Rattle.derivation.specs.Steps.{definition, isUnnamedBody, byLetter};
+ghost use Rattle.derivation.specs.Steps.{definition, isUnnamedBody};
 ghost use Rattle.nogoods.specs.Store.{Literals, Holds};
 ghost use Rattle.names.specs.Queries.{renamed};
-ghost use Rattle.checker.specs.Held.{Line, Tracks, Kept, Left};
+ghost use Rattle.checker.specs.Held.{Line, Tracks, Kept, Stepping};
 use crate::states::CheckingState;
 use crate::steps;
 use crate::steps::Stepped;
@@ -42,8 +42,8 @@ fn define(known: &mut [u8], store: &mut [i32], used: usize, numbers: &mut [i32])
 pub fn extension(known: &mut [u8], store: &mut [i32], used: usize, numbers: &mut [i32]) -> Stepped
     requires { ⌜ ((live : List (List ℤ)) × Holds (now store) used live) ⌝ }
     requires { ⌜ Line Extension (now numbers) ⌝ }
-    ensures { λ r. ⌜ ((P : List Rule) (names : List ℕ) (z : State) → Tracks P (now (known .entry)) names (z .introduced) (z .named) → Holds (now (store .entry)) used (z .live)
-        → Left P (now (known .exit)) names (now (store .exit)) (byLetter P z Extension (now (numbers .entry))) r) ⌝ }
+    ensures { λ r. ⌜ ((P : List Rule) (names : List ℕ) → Stepping P Extension (now (numbers .entry)) used (now (known .entry)) names (now (store .entry))
+        (now (known .exit)) names (now (store .exit)) r) ⌝ }
 {
     if !variables::all_marked(&numbers[1..], known) {
         return Stepped::Fails(26);
@@ -86,8 +86,8 @@ pub fn body(
     requires { ⌜ (soundRules rules (now table) ≡ true) × (rules ≤ length (now names)) ⌝ }
     requires { ⌜ ((live : List (List ℤ)) × Holds (now store) used live) ⌝ }
     requires { ⌜ Line Body (now numbers) ⌝ }
-    ensures { λ r. ⌜ ((z : State) → Tracks (rulesAt rules (now (table .entry))) (now (known .entry)) (now (names .entry)) (z .introduced) (z .named) → Holds (now (store .entry)) used (z .live)
-        → Left (rulesAt rules (now (table .entry))) (now (known .exit)) (now (names .exit)) (now (store .exit)) (byLetter (rulesAt rules (now (table .entry))) z Body (now (numbers .entry))) r) ⌝ }
+    ensures { λ r. ⌜ Stepping (rulesAt rules (now (table .entry))) Body (now (numbers .entry)) used (now (known .entry)) (now (names .entry)) (now (store .entry))
+        (now (known .exit)) (now (names .exit)) (now (store .exit)) r ⌝ }
 {
     if !variables::all_marked(&numbers[1..], known) {
         return Stepped::Fails(26);

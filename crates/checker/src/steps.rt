@@ -6,10 +6,9 @@ ghost use Prim.Native.Nat.{_≤_};
 ghost use lib.IntN.{ℤ};
 ghost use lib.ListN.{length};
 ghost use Rattle.answer_set.specs.SetTest.{rulesAt};
-ghost use Rattle.derivation.specs.States.{State};
 ghost use Rattle.derivation.specs.Steps.{byLetter};
 ghost use Rattle.nogoods.specs.Store.{Holds};
-ghost use Rattle.checker.specs.Held.{Line, Program, Tracks, Left, kept};
+ghost use Rattle.checker.specs.Held.{Line, Program, kept, Stepping};
 use crate::additions;
 use crate::naming;
 use crate::supports;
@@ -48,8 +47,8 @@ pub fn step(
     requires { ⌜ Program (now table) rules atoms × (rules ≤ length (now names)) ⌝ }
     requires { ⌜ ((live : List (List ℤ)) × Holds (now store) used live) ⌝ }
     requires { ⌜ Line letter (now numbers) ⌝ }
-    ensures { λ r. ⌜ ((z : State) → Tracks (rulesAt rules (now (table .entry))) (now (known .entry)) (now (names .entry)) (z .introduced) (z .named) → Holds (now (store .entry)) used (z .live)
-        → Left (rulesAt rules (now (table .entry))) (now (known .exit)) (now (names .exit)) (now (store .exit)) (byLetter (rulesAt rules (now (table .entry))) z letter (now (numbers .entry))) r) ⌝ }
+    ensures { λ r. ⌜ Stepping (rulesAt rules (now (table .entry))) letter (now (numbers .entry)) used (now (known .entry)) (now (names .entry)) (now (store .entry))
+        (now (known .exit)) (now (names .exit)) (now (store .exit)) r ⌝ }
 {
     match letter {
         Letter::Addition => additions::addition(known, store, used, numbers),

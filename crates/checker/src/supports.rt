@@ -10,9 +10,9 @@ ghost use Rattle.drupe.specs.Lines.{mostNumbers};
 ghost use Rattle.answer_set.specs.SetTest.{rulesAt, soundRules};
 ghost use Rattle.text.specs.declared.Letter.the-variants.{Completion, Support};
 ghost use Rattle.derivation.specs.States.{State};
-ghost use Rattle.derivation.specs.Steps.{isSupport, byLetter};
+ghost use Rattle.derivation.specs.Steps.{isSupport};
 ghost use Rattle.nogoods.specs.Store.{Literals, Holds};
-ghost use Rattle.checker.specs.Held.{Line, Program, Tracks, Kept, Left};
+ghost use Rattle.checker.specs.Held.{Line, Program, Tracks, Kept, Stepping};
 use crate::steps;
 use crate::steps::Stepped;
 use answer_set::marks;
@@ -46,12 +46,13 @@ pub fn completion(
     requires { ⌜ (soundRules rules (now table) ≡ true) × (rules ≤ length (now names)) ⌝ }
     requires { ⌜ ((live : List (List ℤ)) × Holds (now store) used live) ⌝ }
     requires { ⌜ Line Completion (now numbers) ⌝ }
-    ensures { λ r. ⌜ ((z : State) → Tracks (rulesAt rules (now (table .entry))) (now (known .entry)) (now (names .entry)) (z .introduced) (z .named) → Holds (now (store .entry)) used (z .live)
-        → Left (rulesAt rules (now (table .entry))) (now (known .entry)) (now (names .entry)) (now (store .exit)) (byLetter (rulesAt rules (now (table .entry))) z Completion (now (numbers .entry))) r) ⌝ }
+    ensures { λ r. ⌜ Stepping (rulesAt rules (now (table .entry))) Completion (now (numbers .entry)) used (now (known .entry)) (now (names .entry)) (now (store .entry))
+        (now (known .entry)) (now (names .entry)) (now (store .exit)) r ⌝ }
 {
     if !variables::all_marked(numbers, known) {
         return Stepped::Fails(26);
     }
+    // the query reads no set
     let found = queries::names_of(table, rules, names, Query::Normal, &numbers[1..], known);
     if !marks::is_marked(&found, words::variable_of(numbers[0])) {
         return Stepped::Fails(29);
@@ -71,6 +72,7 @@ fn is_supported(table: &[i32], rules: usize, atoms: usize, names: &[u16], number
         return false;
     }
     let listed = variables::marks_of(&numbers[1..]);
+    // the query reads neither literals nor a set
     let found = queries::names_of(table, rules, names, Query::Head(h), numbers, &listed);
     variables::is_same_set(&listed, &found)
 }
@@ -89,8 +91,8 @@ pub fn support(
     requires { ⌜ Program (now table) rules atoms × (rules ≤ length (now names)) ⌝ }
     requires { ⌜ ((live : List (List ℤ)) × Holds (now store) used live) ⌝ }
     requires { ⌜ Line Support (now numbers) ⌝ }
-    ensures { λ r. ⌜ ((z : State) → Tracks (rulesAt rules (now (table .entry))) (now (known .entry)) (now (names .entry)) (z .introduced) (z .named) → Holds (now (store .entry)) used (z .live)
-        → Left (rulesAt rules (now (table .entry))) (now (known .entry)) (now (names .entry)) (now (store .exit)) (byLetter (rulesAt rules (now (table .entry))) z Support (now (numbers .entry))) r) ⌝ }
+    ensures { λ r. ⌜ Stepping (rulesAt rules (now (table .entry))) Support (now (numbers .entry)) used (now (known .entry)) (now (names .entry)) (now (store .entry))
+        (now (known .entry)) (now (names .entry)) (now (store .exit)) r ⌝ }
 {
     if !variables::all_marked(numbers, known) {
         return Stepped::Fails(26);

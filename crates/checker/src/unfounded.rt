@@ -8,10 +8,8 @@ ghost use Rattle.words.specs.Limits.{largest};
 ghost use Rattle.words.specs.Literals.{variable, ascending};
 ghost use Rattle.answer_set.specs.SetTest.{marked, marksLent, rulesAt};
 ghost use Rattle.text.specs.declared.Letter.the-variants.{Loop};
-ghost use Rattle.derivation.specs.States.{State};
-ghost use Rattle.derivation.specs.Steps.{byLetter};
 ghost use Rattle.nogoods.specs.Store.{Holds};
-ghost use Rattle.checker.specs.Held.{Line, Program, Tracks, Left, gathered};
+ghost use Rattle.checker.specs.Held.{Line, Program, gathered, Stepping};
 use crate::states::CheckingState;
 use crate::steps;
 use crate::steps::Stepped;
@@ -65,8 +63,8 @@ pub fn loops(
     requires { ⌜ Program (now table) rules atoms × (rules ≤ length (now names)) ⌝ }
     requires { ⌜ ((live : List (List ℤ)) × Holds (now store) used live) ⌝ }
     requires { ⌜ Line Loop (now numbers) ⌝ }
-    ensures { λ r. ⌜ ((z : State) → Tracks (rulesAt rules (now (table .entry))) (now (known .entry)) (now (names .entry)) (z .introduced) (z .named) → Holds (now (store .entry)) used (z .live)
-        → Left (rulesAt rules (now (table .entry))) (now (known .entry)) (now (names .entry)) (now (store .exit)) (byLetter (rulesAt rules (now (table .entry))) z Loop (now (numbers .entry))) r) ⌝ }
+    ensures { λ r. ⌜ Stepping (rulesAt rules (now (table .entry))) Loop (now (numbers .entry)) used (now (known .entry)) (now (names .entry)) (now (store .entry))
+        (now (known .entry)) (now (names .entry)) (now (store .exit)) r ⌝ }
 {
     if !variables::all_marked(numbers, known) {
         return Stepped::Fails(26);

@@ -139,9 +139,9 @@ Settles s rounds m m′ Changed = Grows s m m′ × (rounds + free m′ ≤ free
 Settles s rounds m m′ Same = Grows s m m′ × AllSettled s m′
 
 -- a conflict was found, or the assignment grew
-abbrev pub Runs : List ℤ → List ℕ → List ℕ → Bool → Type 0
-Runs s m m′ true = Clashes s m
-Runs s m m′ false = Grows s m m′
+abbrev pub Saturates : List ℤ → List ℕ → List ℕ → Bool → Type 0
+Saturates s m m′ true = Clashes s m
+Saturates s m m′ false = Grows s m m′
 
 -- a conflict was found, or there is none
 abbrev pub Ends : List ℤ → List ℕ → List ℕ → Bool → Type 0

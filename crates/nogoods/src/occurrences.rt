@@ -12,7 +12,7 @@ ghost use lib.IntN.{ℤ};
 ghost use lib.ListN.{length};
 ghost use Rattle.words.specs.Limits.{largest};
 ghost use Rattle.words.specs.Literals.{variable};
-ghost use Rattle.nogoods.specs.Propagate.{entries, countAt, Encodes, Readable, Stands, Runs};
+ghost use Rattle.nogoods.specs.Propagate.{entries, countAt, Encodes, Readable, Stands, Saturates};
 ghost use Rattle.nogoods.specs.PropagateChains.{places, reach, Links, Below, Queue, Walks};
 use crate::units;
 use crate::units::Derived;
@@ -196,7 +196,7 @@ fn run(
     requires { ⌜ Below (length (now nogoods)) (now head) ⌝ }
     requires { ⌜ length (now assignment) ≡ entries ⌝ }
     requires { ⌜ Below places (now queue) ⌝ }
-    ensures { λ r. ⌜ Runs (now (nogoods .entry)) (now (assignment .entry)) (now (assignment .exit)) r ⌝ }
+    ensures { λ r. ⌜ Saturates (now (nogoods .entry)) (now (assignment .entry)) (now (assignment .exit)) r ⌝ }
 {
     let mut t = load(assignment, queue);
     let mut h = 0;
@@ -221,7 +221,7 @@ fn run(
 pub fn saturate(nogoods: &[i32], assignment: &mut [u8; ENTRIES]) -> bool
     requires { ⌜ ((live : List (List ℤ)) × Encodes (now nogoods) live) ⌝ }
     requires { ⌜ length (now assignment) ≡ entries ⌝ }
-    ensures { λ r. ⌜ Runs (now (nogoods .entry)) (now (assignment .entry)) (now (assignment .exit)) r ⌝ }
+    ensures { λ r. ⌜ Saturates (now (nogoods .entry)) (now (assignment .entry)) (now (assignment .exit)) r ⌝ }
 {
     if nogoods.len() == 0 {
         return false;
