@@ -1,7 +1,7 @@
 -- The marks and the answer of specs/SetTest.antt are those of specs/AnswerSets.antt: `marks-least` and `yes-answer-set`.
 -- Assumes nothing.
 use mathlib.Core.Path.{_≡_, refl, sym, _∙_, subst}
-use mathlib.Core.Logic.{inl, _↔_}
+use mathlib.Core.Logic.{inl}
 use mathlib.Core.Bool.{Bool, true, false, cond, _||_, true≢false}
 use mathlib.Core.Option.{none, some, Option·some-injective, Option·none-ne-some}
 use mathlib.Core.List.{List, [], _∷_, nil≢cons, List·Memᴰ·head, List·Memᴰ·tail, Memᴰ·cast}

@@ -1,8 +1,8 @@
 -- The loop over the proof's lines: where it stands, and how it ends or goes on.
 -- Assumes nothing.
-use mathlib.Core.Path.{_≡_, refl, sym, _∙_, ap, subst}
+use mathlib.Core.Path.{_≡_, refl, _∙_, subst}
 use mathlib.Core.List.{List, []}
-use Prim.Native.Nat.{ℕ, zero, suc, _+_, _-_, _≤_, _<_}
+use Prim.Native.Nat.{ℕ, _+_, _-_, _≤_, _<_}
 use native.Mathlib.Omega.{arith}
 use lib.IntN.{ℤ, pos}
 use lib.ListN.{length, replicate}
@@ -16,7 +16,7 @@ use Rattle.drupe.proofs.Lines.{passed-line}
 use Rattle.derivation.specs.States.{State, start}
 use Rattle.derivation.specs.Steps.{Outcome, refused, next, step}
 use Rattle.nogoods.specs.Store.{Holds}
-use Rattle.checker.specs.Check.{Course, stopped, through, course}
+use Rattle.checker.specs.Check.{Course, stopped, course}
 use Rattle.checker.specs.Claims.{Runs, ends, unread, unaccepted, full, good}
 use Rattle.checker.specs.Held.{Tracks, Left, turnOf, LineTurn, Ran}
 use Rattle.checker.specs.declared.steps.Stepped.{Stepped}

@@ -6,12 +6,12 @@ use mathlib.Core.Bool.{Bool, true, false, cond, not, _&&_, _||_, true≢false}
 use mathlib.Core.List.{List, [], _∷_, map, List·Memᴰ·head, List·Memᴰ·tail, Memᴰ·map, Memᴰ·of-map, Memᴰ·cast}
 use Prim.Native.Nat.{ℕ, zero, suc, _+_, _≤_, _<_}
 use native.Mathlib.Omega.{arith}
-use borrow.Author.Tests.{eqb-true, eqb-false, lt-ltb, ltb-true, ltb-false}
-use lib.Dec.{T, eqb, ltb, leb}
+use borrow.Author.Tests.{eqb-true, eqb-false, ltb-true, ltb-false}
+use lib.Dec.{T, eqb, ltb}
 use lib.IntN.{ℤ, pos, negℤ}
 use lib.ListN.{length, List·getD-eq-default}
 use Rattle.words.specs.Limits.{largest}
-use Rattle.words.specs.Lists.{_∈_, any, all, keep}
+use Rattle.words.specs.Lists.{_∈_, any, keep}
 use Rattle.words.specs.Literals.{variable, mentions, noneTwice, rising, sameList, has, top, ascending}
 use Rattle.words.proofs.Lists.{Decides, itself, reworded, and-decides, any-decides, all-decides, eqb-decides, leb-decides, keep→, keep←, passed, failed, and-left, and-right, same-test}
 use Rattle.words.proofs.Literals.{sameList-decides, has-decides, variable-complement, ascending→, ascending←}

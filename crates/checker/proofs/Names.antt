@@ -1,17 +1,16 @@
 -- What the names kept by rule tell of a state: the questions 28 to 32, answered by marks of the names of the rules that a step is
 -- about.
 -- Assumes nothing.
-use mathlib.Core.Path.{_≡_, refl, sym, _∙_, ap, fun-ext}
-use mathlib.Core.Logic.{_⊎_, inl, inr}
+use mathlib.Core.Path.{_≡_, refl, sym, _∙_, ap}
+use mathlib.Core.Logic.{inl, inr}
 use mathlib.Core.Bool.{Bool, true, false, cond, not, _&&_, _||_}
-use mathlib.Core.List.{List, [], _∷_, map, List·Memᴰ·head, List·Memᴰ·tail, Memᴰ·map, Memᴰ·of-map, Memᴰ·cast}
-use Prim.Native.Nat.{ℕ, zero, suc, _≤_, _<_}
+use mathlib.Core.List.{List, [], _∷_, map, List·Memᴰ·head, List·Memᴰ·tail, Memᴰ·map, Memᴰ·of-map}
+use Prim.Native.Nat.{ℕ, _≤_, _<_}
 use native.Mathlib.Omega.{arith}
-use lib.Dec.{T, eqb, leb}
-use lib.IntN.{ℤ, pos, negsuc}
-use lib.ListN.{length, take, drop, getD}
+use lib.Dec.{T}
+use lib.IntN.{ℤ, pos}
 use Rattle.words.specs.Limits.{largest}
-use Rattle.words.specs.Lists.{_∈_, any, all, keep}
+use Rattle.words.specs.Lists.{_∈_, any, keep}
 use Rattle.words.specs.Literals.{variable, mentions, sameList, has, ascending}
 use Rattle.words.proofs.Lists.{Decides, itself, reworded, failed, and-decides, if-decides, not-decides, any-decides, all-decides, eqb-decides, keep→, keep←, same-test}
 use Rattle.words.proofs.Literals.{sameList-decides}

@@ -2,22 +2,22 @@
 -- Assumes nothing.
 use mathlib.Core.Path.{_≡_, refl, sym, _∙_, ap, ap₂, fun-ext}
 use mathlib.Core.Logic.{_⊎_, inl, inr}
-use mathlib.Core.Bool.{Bool, true, false, cond, not, _&&_, _||_, or-assoc, or-comm}
+use mathlib.Core.Bool.{Bool, false, cond, _&&_, _||_, or-assoc, or-comm}
 use mathlib.Core.List.{List, [], _∷_, map, List·Memᴰ·head, List·Memᴰ·tail, Memᴰ·cast}
-use Prim.Native.Nat.{ℕ, zero, suc, _≤_, _<_}
+use Prim.Native.Nat.{ℕ, zero, suc, _≤_}
 use native.Mathlib.Omega.{arith}
-use lib.Dec.{T, eqb, leb}
-use lib.IntN.{ℤ, pos}
+use lib.Dec.{T, eqb}
+use lib.IntN.{ℤ}
 use lib.ListN.{length, take, set, replicate, length-set, length-replicate}
 use Rattle.words.specs.Limits.{largest}
 use Rattle.words.specs.Lists.{_∈_, any, all}
-use Rattle.words.specs.Literals.{variable, mentions, noneTwice, sameList, ascending}
-use Rattle.words.proofs.Lists.{Decides, itself, reworded, and-decides, or-decides, not-decides, any-decides, eqb-decides, leb-decides, failed, same-test}
+use Rattle.words.specs.Literals.{variable, sameList}
+use Rattle.words.proofs.Lists.{Decides, itself, reworded, and-decides, or-decides, eqb-decides, leb-decides, same-test}
 use Rattle.words.proofs.Literals.{sameList-decides}
 use Rattle.words.proofs.Places.{equal?}
 use Rattle.aspif.specs.Rules.{Rule, atoms}
 use Rattle.aspif.specs.Reading.{mostRules}
-use Rattle.answer_set.specs.SetTest.{listed, marked, marksLent}
+use Rattle.answer_set.specs.SetTest.{listed, marked}
 use Rattle.derivation.specs.States.{Named, State, isAtom, isKnown}
 use Rattle.derivation.specs.Steps.{allKnown}
 use Rattle.derivation.proofs.Questions.{known-decides}

@@ -4,7 +4,7 @@ use mathlib.Core.Path.{_≡_, refl, sym, _∙_, ap, subst}
 use mathlib.Core.Bool.{Bool, true, false, cond, _||_, or-comm}
 use mathlib.Core.Option.{Option, none, some}
 use mathlib.Core.List.{List}
-use Prim.Native.Nat.{ℕ, zero, suc, _+_, _-_, _≤_, _<_}
+use Prim.Native.Nat.{ℕ, _-_, _≤_}
 use native.Mathlib.Omega.{arith}
 use lib.Dec.{T, ltb}
 use lib.IntN.{ℤ, pos}
@@ -21,10 +21,9 @@ use Rattle.aspif.specs.Rules.{Rule}
 use Rattle.answer_set.proofs.Readable.{inside}
 use Rattle.drupe.specs.Lines.{mostNumbers, signsOf, signed, lineRefusal, LineAt, end, line, lineAt, answerOf, numbersOf, Reads}
 use Rattle.drupe.specs.Lines as Lines
-use Rattle.drupe.specs.declared.LineAnswer.{LineAnswer}
 use Rattle.drupe.specs.declared.LineAnswer.the-variants.{Line as Answered, End, Refused}
 use Rattle.drupe.specs.declared.LineReading.{LineReading}
-use Rattle.drupe.proofs.Lines.{passed-line, few}
+use Rattle.drupe.proofs.Lines.{few}
 use Rattle.derivation.specs.States.{State}
 use Rattle.derivation.specs.Steps.{step, byLetter}
 use Rattle.checker.specs.Held.{Line}

@@ -3,7 +3,7 @@
 use mathlib.Core.Path.{_≡_, refl, sym, _∙_, ap, ap₂}
 use mathlib.Core.Bool.{Bool, true, false, cond}
 use mathlib.Core.List.{List}
-use Prim.Native.Nat.{ℕ, _≤_, _<_}
+use Prim.Native.Nat.{ℕ, _<_}
 use native.Mathlib.Omega.{arith}
 use borrow.Author.Tests.{lt-ltb}
 use lib.Dec.{leb}
@@ -25,7 +25,7 @@ use Rattle.answer_set.proofs.Answered.{rules-of}
 use Rattle.answer_set.proofs.Readable.{table-read}
 use Rattle.derivation.specs.States.{State}
 use Rattle.nogoods.specs.Store.{storeWords, Holds}
-use Rattle.checker.specs.Check.{Course, stopped, through, course, Checked, saying, judged, judgedReading, check}
+use Rattle.checker.specs.Check.{Course, stopped, through, course, saying, judged, judgedReading, check}
 use Rattle.checker.specs.Held.{Program, Ran}
 use Rattle.checker.specs.declared.ProofRefusal.{ProofRefusal}
 use Rattle.checker.specs.declared.Verdict.{Verdict}

@@ -19,14 +19,13 @@ use Rattle.drupe.proofs.Lines.{passed-line}
 use Rattle.derivation.specs.States.{State, start}
 use Rattle.derivation.specs.Steps.{Step, Outcome, next, step, steps, emptyLive}
 use Rattle.derivation.specs.Steps as Steps
-use Rattle.derivation.specs.Claims.{NoAnswerSet}
 use Rattle.derivation.proofs.Sound.{demand3}
 use Rattle.nogoods.specs.Store.{liveWords}
 use Rattle.checker.specs.Check.{Course, stopped, through, fitting, lineStep, stepsFrom, course, countsOf, saying, judged, judgedReading, check, Checked}
 use Rattle.checker.specs.Claims.{Runs, ends, unread, unaccepted, full, good, StepByStep, Ended, Demand2, Demand3Whole, Demand2Service, Demand3Service}
 use Rattle.checker.specs.declared.Counts.{Counts}
 use Rattle.checker.specs.declared.ProofRefusal.{ProofRefusal}
-use Rattle.checker.specs.declared.Verdict.the-variants.{Inconsistent, Open, RefusedProof}
+use Rattle.checker.specs.declared.Verdict.the-variants.{Inconsistent, RefusedProof}
 
 module _ (P : List Rule) (size : ℕ) (text : List ℕ) where
   -- one turn more than there are bytes left is enough

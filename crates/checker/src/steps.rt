@@ -6,7 +6,6 @@ ghost use Prim.Native.Nat.{_≤_};
 ghost use lib.IntN.{ℤ};
 ghost use lib.ListN.{length};
 ghost use Rattle.answer_set.specs.SetTest.{rulesAt};
-ghost use Rattle.derivation.specs.Steps.{byLetter};
 ghost use Rattle.nogoods.specs.Store.{Holds};
 ghost use Rattle.checker.specs.Held.{Line, Program, kept, Stepping};
 use crate::additions;

@@ -5,7 +5,6 @@ ghost use Prim.Native.Nat.{_≤_, _<_};
 ghost use lib.IntN.{ℤ};
 ghost use lib.ListN.{length, take};
 ghost use Rattle.words.specs.Limits.{largest};
-ghost use Rattle.words.specs.Literals.{variable, ascending};
 ghost use Rattle.answer_set.specs.SetTest.{marked, marksLent, rulesAt};
 ghost use Rattle.text.specs.declared.Letter.the-variants.{Loop};
 ghost use Rattle.nogoods.specs.Store.{Holds};

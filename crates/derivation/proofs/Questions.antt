@@ -5,7 +5,7 @@ use mathlib.Core.List.{List, List·Memᴰ·head, List·Memᴰ·tail, Memᴰ·cas
 use Prim.Native.Nat.{ℕ, _≤_, max}
 use native.Mathlib.Omega.{arith}
 use lib.Dec.{T}
-use lib.IntN.{ℤ, pos, negsuc}
+use lib.IntN.{ℤ, pos}
 use Rattle.words.specs.Lists.{_∈_}
 use Rattle.words.specs.Literals.{variable}
 use Rattle.words.proofs.Lists.{Decides, itself, reworded, and-decides, or-decides, any-decides, eqb-decides, leb-decides}
@@ -13,9 +13,7 @@ use Rattle.words.proofs.Literals.{sameList-decides, variable-positive}
 use Rattle.words.proofs.Tops.{top-le}
 use Rattle.answer_set.proofs.Answered.{positive}
 use Rattle.words.specs.Literals.{top}
-use Rattle.aspif.specs.Rules.{Rule, isNormal, atoms}
-use Rattle.aspif.specs.declared.Kind.{Kind}
-use Rattle.aspif.specs.declared.Kind.the-variants.{Normal, Choice}
+use Rattle.aspif.specs.Rules.{Rule, atoms}
 use Rattle.drupe.specs.Lines.{isPositive}
 use Rattle.derivation.specs.States.{Named, State, isAtom, isKnown, isName, hasName}
 
