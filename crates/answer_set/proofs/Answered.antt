@@ -19,7 +19,8 @@ use Rattle.words.proofs.Lists.{Decides, itself, passed, failed, reworded, and-d
 use Rattle.aspif.specs.Rules.{Rule, isNormal, isEmpty, ruleTop, atoms}
 use Rattle.aspif.specs.declared.Kind.{Kind}
 use Rattle.aspif.specs.declared.Kind.the-variants.{Normal, Choice}
-use Rattle.words.proofs.Lists.{and-left, and-right}
+use Rattle.words.proofs.Lists.{and-left, and-right, or-false-left, or-false-right}
+use Rattle.words.proofs.Tops.{top-le}
 use Rattle.answer_set.specs.AnswerSets.{Constraint, LeastModel, derive, Met, AnswerSet}
 use Rattle.answer_set.specs.SetTest.{headsSound, sizeAt, headsAt, shapeSound, soundAt, rulesAt, soundRules, soundTable, rulesOf, listed, marksLent, marked, rounds, least, isBroken, anyBelow, justOne, yes, differs, broken, brokenFrom, apart, verdictOf}
 use Rattle.answer_set.specs.Claims.{Listed, Ready, MarksLeast, YesAnswerSet}
@@ -29,10 +30,6 @@ use Rattle.answer_set.proofs.Tested.{atoms-small, none-marked}
 use Rattle.answer_set.proofs.LeastModels.{Bits, Head, met-decides, rounds-decide, rounds-bits, rounds-length}
 
 -- Heads of the rules of a table
-
-in-top : {z : ℤ} {l : List ℤ} → z ∈ l → variable z ≤ top l
-in-top (List·Memᴰ·head {xs = l} p) = rw p (omega arith)
-in-top (List·Memᴰ·tail {xs = l} i) = let h = in-top i in omega arith
 
 in-atoms : {r : Rule} {rs : List Rule} → r ∈ rs → ruleTop r ≤ atoms rs
 in-atoms (List·Memᴰ·head {xs = rs} p) = rw p (omega arith)
@@ -53,7 +50,7 @@ sound-heads (suc n) ws e (List·Memᴰ·tail i) = sound-heads n (drop (sizeAt ws
 head-of : (rs : List Rule) (r : Rule) → r ∈ rs → headsSound (r .heads) ≡ true → (z : ℤ) → z ∈ r .heads → Head (atoms rs) z
 head-of rs r i e z j =
     let p = positive z (all-decides (λ h. itself (ltZ (pos 0) h)) (r .heads) .to (passed _ .from (and-left (all (λ h. ltZ (pos 0) h) (r .heads)) _ e)) z j) in
-    record { is = p .0; low = p .1; high = omega (arith, in-atoms i, in-top j) }
+    record { is = p .0; low = p .1; high = omega (arith, in-atoms i, top-le j) }
 
 -- The set as listed, and the marks
 
@@ -119,14 +116,6 @@ marks-least table rules l rs h =
     }
 
 -- The answer
-
-or-false-left : (a b : Bool) → (a || b) ≡ false → a ≡ false
-or-false-left true b e = e
-or-false-left false b e = refl
-
-or-false-right : (a b : Bool) → (a || b) ≡ false → b ≡ false
-or-false-right true b e = absurd (true≢false e)
-or-false-right false b e = e
 
 below-all : (f : ℕ → Bool) (n : ℕ) → anyBelow f n ≡ false → (v : ℕ) → v < n → f v ≡ false
 below-all f zero e v h = absurd (omega arith)

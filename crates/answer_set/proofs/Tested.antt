@@ -48,11 +48,11 @@ atoms-small (suc n) ws e =
 
 -- The marks of a set say what its list says
 
-marked-set : (m : List ℕ) (x v : ℕ) → x < length m → marked (set m x 1) v ≡ (eqb v x || marked m v)
+pub marked-set : (m : List ℕ) (x v : ℕ) → (v ≡ x → x < length m) → marked (set m x 1) v ≡ (eqb v x || marked m v)
 marked-set m x v h = by (eqb v x) refl
   where
     by : (t : Bool) → eqb v x ≡ t → marked (set m x 1) v ≡ (t || marked m v)
-    by true e = rw (eqb-true v x e, getD-set-same m x 1 0 h)
+    by true e = let p = eqb-true v x e in rw (p, getD-set-same m x 1 0 (h p))
     by false e = rw (getD-set-other m x v 1 0 (eqb-false v x e))
 
 marked-all : (low high : ℕ) (l m : List ℕ) (v : ℕ) → ascends low high l ≡ true → high < length m → marked (markAll l m) v ≡ (listed l v || marked m v)
@@ -61,7 +61,7 @@ marked-all low high (x ∷ l) m v e h =
     let f = and-right (ltb low x) _ e in
     let p = leb-true x high (and-left (leb x high) _ f) in
     marked-all x high l (set m x 1) v (and-right (leb x high) _ f) (rw (length-set m x 1) h)
-    ∙ rw (marked-set m x v (omega arith)) (or-swap (listed l v) (eqb v x) (marked m v))
+    ∙ rw (marked-set m x v (λ k. omega arith)) (or-swap (listed l v) (eqb v x) (marked m v))
   where
     or-swap : (a b c : Bool) → (a || (b || c)) ≡ (b || a || c)
     or-swap true b c = rw (or-comm b true)

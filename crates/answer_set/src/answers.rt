@@ -2,7 +2,8 @@
 ghost use mathlib.Core.Path.{_≡_};
 ghost use mathlib.Core.Bool.{Bool, true, cond};
 ghost use Prim.Native.Nat.{ℕ, _+_, _≤_};
-ghost use Rattle.answer_set.specs.SetTest.{ruleAt, shapeSound, rulesAt, soundTable, marked, isConstraint, isBroken, anyBelow, justOne, differs, brokenFrom, apart, Says};
+ghost use Rattle.words.specs.Limits.{largest};
+ghost use Rattle.answer_set.specs.SetTest.{marksLent, ruleAt, shapeSound, rulesAt, soundTable, marked, isConstraint, isBroken, anyBelow, justOne, differs, brokenFrom, apart, Says};
 ghost use Rattle.answer_set.specs.Private.{Finds};
 use crate::SetAnswer;
 use crate::marks;
@@ -25,7 +26,7 @@ fn just_one(a: bool, b: bool) -> bool
 
 // A number below n that lies in just one of M and the least model, if there is one.
 fn differing(inside: &[u8], marks: &[u8], n: usize) -> Found
-    requires { ⌜ n ≤ 4096 ⌝ }
+    requires { ⌜ n ≤ marksLent ⌝ }
     ensures { λ r. ⌜ Finds (apart (marked (now (inside .entry))) (now (marks .entry))) n r ⌝ }
 {
     let mut i = n;
@@ -83,7 +84,7 @@ fn first_broken(table: &[i32], rules: usize, inside: &[u8]) -> SetAnswer
 
 // The answer for a set M and the marks of the least model, with atoms from 1 to the number given.
 pub fn judge(table: &[i32], rules: usize, atoms: usize, inside: &[u8], marks: &[u8]) -> SetAnswer
-    requires { ⌜ (soundTable (now table) rules ≡ true) × (atoms ≤ 4095) ⌝ }
+    requires { ⌜ (soundTable (now table) rules ≡ true) × (atoms ≤ largest) ⌝ }
     ensures { λ r. ⌜ (let M = marked (now (inside .entry)) in
         let just = apart M (now (marks .entry)) in
         Says just (cond (anyBelow just (atoms + 1)) differs (brokenFrom M 1 (rulesAt rules (now (table .entry))))) r) ⌝ }

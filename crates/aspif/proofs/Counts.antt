@@ -10,7 +10,7 @@ use lib.IntN.{ℤ, pos}
 use lib.Signed.{leZ}
 use lib.ListN.{getD}
 use Rattle.words.specs.Literals.{variable}
-use Rattle.words.proofs.Lists.{and-left, and-right}
+use Rattle.words.proofs.Lists.{and-left, and-right, by-test}
 use Rattle.aspif.specs.Reading.{isAt, isCount, suited, bodyShape, headShape, shapeOf}
 use Rattle.aspif.specs.declared.Kind.{Kind}
 use Rattle.aspif.specs.declared.Kind.the-variants.{Normal, Choice}
@@ -27,8 +27,7 @@ Counted n (Wrong k) = Unit {0}
 Counted n (Shaped k h b) = (h ≤ 64) × (b ≤ 64) × (5 + h + b ≡ n)
 
 by : (n : ℕ) (t : Bool) (x y : Shape) → (t ≡ true → Counted n x) → Counted n y → Counted n (cond t x y)
-by n true x y f g = f refl
-by n false x y f g = g
+by n t x y f g = by-test (Counted n) t f (λ e. g)
 
 suited-counted : (n : ℕ) (k : Kind) (h b : ℕ) → h ≤ 64 → b ≤ 64 → 5 + h + b ≡ n → Counted n (suited k h b)
 suited-counted n Normal h b p q e = by n (leb h 1) (Shaped Normal h b) (Wrong 7) (λ t. (p, q, e)) tt

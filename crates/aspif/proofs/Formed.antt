@@ -18,6 +18,8 @@ use Rattle.words.proofs.Lists.{Decides, itself, passed, failed, not-decides, al
 use Rattle.words.proofs.Literals.{has-decides, ascending→}
 use Rattle.words.proofs.Sorting.{length-ascending, rising-ascending}
 use Rattle.text.specs.Line.{Line, broken, numbers, lineOf, outside, anyOutside}
+use Rattle.words.proofs.Lists.{or-false-left, or-false-right, by-test}
+use Rattle.words.proofs.Segments.{record-append}
 use Rattle.aspif.specs.Rules.{Rule, ruleWords, programWords}
 use Rattle.aspif.specs.Reading.{mostLiterals, mostRules, suited, isAt, isCount, bodyShape, headShape, shapeOf, headsGood, bodyGood, RuleRead, fails, reads, ruleOf, Turn, refuses, ends, adds, isLast, room, turnOf, onward, linesFrom, refused, program, header, startsWith, readLines}
 use Rattle.aspif.specs.declared.Kind.{Kind}
@@ -47,23 +49,15 @@ pub record Fits (size : ℕ) (rs : List Rule) : Type 0 where
 
 -- Sizes
 
-or-left : (a b : Bool) → (a || b) ≡ false → a ≡ false
-or-left true b e = e
-or-left false b e = refl
-
-or-right : (a b : Bool) → (a || b) ≡ false → b ≡ false
-or-right true b e = absurd (true≢false e)
-or-right false b e = e
-
 take-in : (n : ℕ) (zs : List ℤ) → anyOutside zs ≡ false → anyOutside (take n zs) ≡ false
 take-in zero zs e = refl
 take-in (suc n) [] e = refl
-take-in (suc n) (z ∷ zs) e = rw (or-left (outside z) _ e) (take-in n zs (or-right (outside z) _ e))
+take-in (suc n) (z ∷ zs) e = rw (or-false-left (outside z) _ e) (take-in n zs (or-false-right (outside z) _ e))
 
 drop-in : (n : ℕ) (zs : List ℤ) → anyOutside zs ≡ false → anyOutside (drop n zs) ≡ false
 drop-in zero zs e = e
 drop-in (suc n) [] e = e
-drop-in (suc n) (z ∷ zs) e = drop-in n zs (or-right (outside z) _ e)
+drop-in (suc n) (z ∷ zs) e = drop-in n zs (or-false-right (outside z) _ e)
 
 -- every word is inside
 pub inside-decides : (zs : List ℤ) → Decides (not (anyOutside zs)) ((z : ℤ) → z ∈ zs → T (not (outside z)))
@@ -87,10 +81,6 @@ ascending-in zs e =
 abbrev Suits : Shape → Type 0
 Suits (Wrong k) = Unit {0}
 Suits (Shaped k h b) = suited k h b ≡ Shaped k h b
-
-by-test : {A : Type 0} (P : A → Type 0) (t : Bool) {x y : A} → (t ≡ true → P x) → (t ≡ false → P y) → P (cond t x y)
-by-test P true f g = f refl
-by-test P false f g = g refl
 
 suited-suits : (k : Kind) (h b : ℕ) → Suits (suited k h b)
 suited-suits Normal h b = by-test Suits (leb h 1) (λ e. rw e) (λ e. tt)
@@ -170,13 +160,9 @@ turn-added rules free left (numbers zs n) =
 
 -- Line after line
 
-join-append : {A : Type 0} (k l : List (List A)) → joinAll (k ++ l) ≡ joinAll k ++ joinAll l
-join-append [] l = refl
-join-append (x ∷ k) l = rw (join-append k l) (sym (append-assoc x (joinAll k) (joinAll l)))
-
 -- the words of rules one after another
 pub words-append : (rs ss : List Rule) → programWords (rs ++ ss) ≡ programWords rs ++ programWords ss
-words-append rs ss = ap joinAll (map-append ruleWords rs ss) ∙ join-append (map ruleWords rs) (map ruleWords ss)
+words-append = record-append ruleWords
 
 length-more : (rs : List Rule) (r : Rule) → length (programWords (rs ++ (r ∷ []))) ≡ length (programWords rs) + length (ruleWords r)
 length-more rs r = ap length (words-append rs (r ∷ [])) ∙ rw (append-nil (ruleWords r)) (length-append (programWords rs) (ruleWords r))

@@ -5,6 +5,5 @@ pub mod Agree
 pub mod Passes
 pub mod Fronts
 pub mod Programs
-pub mod Decimals
 pub mod Formed
 pub mod Written

@@ -22,7 +22,7 @@ use Rattle.aspif.specs.Reading.{mostLiterals, mostRules, suited, bodySha
 use Rattle.aspif.specs.declared.Kind.{Kind}
 use Rattle.aspif.specs.declared.Kind.the-variants.{Normal, Choice}
 use Rattle.words.proofs.Lists.{and-left, and-right}
-use Rattle.aspif.proofs.Decimals.{lineBytes, line-read}
+use Rattle.text.proofs.Decimals.{lineBytes, line-read}
 use Rattle.aspif.proofs.Formed.{Formed, Fits, words-append}
 
 -- Words that rise are in order

@@ -10,9 +10,13 @@ ghost use Rattle.words.specs.Literals.{same};
 ghost use Rattle.text.specs.Line.{lineOf};
 ghost use Rattle.aspif.specs.Reading.{turnOf, linesFrom, startsWith};
 ghost use Rattle.aspif.specs.Turns.{TurnTaken, LinesRead};
+use crate::MOST_LITERALS;
 use crate::ProgramRefusal;
 use crate::rules;
 use text::LineRead;
+
+// The numbers of the longest rule line: three before the heads, two before the body, and both parts.
+const ROW: usize = 5 + MOST_LITERALS + MOST_LITERALS;
 
 // What a line makes of the reading: it is refused, it ends the text, or a rule is added.
 pub enum LineTurn {
@@ -50,7 +54,7 @@ fn is_last(row: &[i32], count: usize) -> bool
 fn read_rule(rest: &[u8], free: &mut [i32], rules: usize) -> LineTurn
     ensures { λ r. ⌜ TurnTaken (turnOf rules (length (now (free .entry))) (length (now (rest .entry))) (lineOf (now (rest .entry)))) (now (free .entry)) (now (free .exit)) r ⌝ }
 {
-    let mut row = [0i32; 133];
+    let mut row = [0i32; ROW];
     let read = text::read_line(rest, &mut row);
     match read {
         LineRead::Broken => LineTurn::Refuses(3),

@@ -6,7 +6,7 @@ ghost use lib.IntN.{pos};
 ghost use lib.ListN.{length, drop};
 ghost use Rattle.words.specs.Literals.{ascending};
 ghost use Rattle.aspif.specs.Rules.{kindWord};
-ghost use Rattle.aspif.specs.Reading.{isAt, isCount, suited, bodyShape, headShape, shapeOf, headsGood, bodyGood, reads, ruleOf, room};
+ghost use Rattle.aspif.specs.Reading.{mostLiterals, isAt, isCount, suited, bodyShape, headShape, shapeOf, headsGood, bodyGood, reads, ruleOf, room};
 ghost use Rattle.aspif.specs.Turns.{rowSize, rowRule, rowWords, Sorted, TurnTaken};
 use crate::Kind;
 use crate::MOST_LITERALS;
@@ -70,7 +70,7 @@ fn suited_shape(kind: Kind, heads: usize, body: usize) -> Shape
 
 // The body kind and the body count, after the heads.
 fn body_shape(row: &[i32], count: usize, kind: Kind, heads: usize) -> Shape
-    requires { ⌜ heads ≤ 64 ⌝ }
+    requires { ⌜ heads ≤ mostLiterals ⌝ }
     ensures { λ r. ⌜ r ≡ bodyShape (now (row .entry)) count kind heads ⌝ }
 {
     if is_at(row, count, 3 + heads, 0) {
@@ -133,7 +133,7 @@ fn sort_body(part: &mut [i32]) -> bool
 
 // Question 8 of a rule line, whose heads and body ascend afterwards.
 fn sort_parts(row: &mut [i32], heads: usize, body: usize) -> bool
-    requires { ⌜ (heads ≤ 64) × (body ≤ 64) × (5 + heads + body ≤ length (now row)) ⌝ }
+    requires { ⌜ (heads ≤ mostLiterals) × (body ≤ mostLiterals) × (5 + heads + body ≤ length (now row)) ⌝ }
     ensures { λ r. ⌜ Sorted (now (row .entry)) (now (row .exit)) heads body r ⌝ }
 {
     let after = 3 + heads;
@@ -159,7 +159,7 @@ fn kind_word(kind: Kind) -> i32
 
 // A rule's head kind, head count and body count at the front of the free words.
 fn write_counts(free: &mut [i32], kind: Kind, heads: usize, body: usize)
-    requires { ⌜ (heads ≤ 64) × (body ≤ 64) × (3 ≤ length (now free)) ⌝ }
+    requires { ⌜ (heads ≤ mostLiterals) × (body ≤ mostLiterals) × (3 ≤ length (now free)) ⌝ }
     ensures { λ _. ⌜ now (free .exit) ≡ (kindWord kind ∷ pos heads ∷ pos body ∷ []) ++ drop 3 (now (free .entry)) ⌝ }
 {
     free[0] = kind_word(kind);
@@ -169,7 +169,7 @@ fn write_counts(free: &mut [i32], kind: Kind, heads: usize, body: usize)
 
 // The words of a rule at the front of the free words: its heads and body stand in the row as in the line.
 fn write_rule(free: &mut [i32], row: &[i32], kind: Kind, heads: usize, body: usize)
-    requires { ⌜ (heads ≤ 64) × (body ≤ 64) × (5 + heads + body ≤ length (now row)) × (3 + heads + body ≤ length (now free)) ⌝ }
+    requires { ⌜ (heads ≤ mostLiterals) × (body ≤ mostLiterals) × (5 + heads + body ≤ length (now row)) × (3 + heads + body ≤ length (now free)) ⌝ }
     ensures { λ _. ⌜ now (free .exit) ≡ rowWords (now (row .entry)) kind heads body ++ drop (3 + heads + body) (now (free .entry)) ⌝ }
 {
     write_counts(free, kind, heads, body);
@@ -190,7 +190,7 @@ fn add_rule(
     next: usize,
     rules: usize,
 ) -> LineTurn
-    requires { ⌜ (heads ≤ 64) × (body ≤ 64) × (5 + heads + body ≤ length (now row)) ⌝ }
+    requires { ⌜ (heads ≤ mostLiterals) × (body ≤ mostLiterals) × (5 + heads + body ≤ length (now row)) ⌝ }
     ensures { λ r. ⌜ TurnTaken (room rules (length (now (free .entry))) (reads (rowRule (now (row .entry)) kind heads body)) next) (now (free .entry)) (now (free .exit)) r ⌝ }
 {
     if MOST_RULES <= rules {

@@ -15,7 +15,8 @@ use Rattle.aspif.specs.declared.Kind.the-variants.{Normal, Choice}
 use Rattle.answer_set.specs.AnswerSets.{Gives, LeastModel, derive, AnswerSet}
 use Rattle.text.specs.Decimals.{decimals, decimal}
 use Rattle.checker.specs.Report.{printed}
-use Rattle.checker.specs.Check.{check}
+use Rattle.drupe.specs.Texts.{stepsAt, stepsOf}
+use Rattle.checker.specs.Check.{course, check}
 use Rattle.checker.specs.Examples.{Nothing, One, OneTwo, Starred, Source000}
 
 -- Which sets pass: the programs as they are read
@@ -70,7 +71,7 @@ eight-one : {a : ℕ} → a ≡ 1 → LeastModel One rules8 a
 eight-one p = gives One rules8 _ (List·Memᴰ·tail (List·Memᴰ·head refl)) refl (List·Memᴰ·head (rw p), tt)
 
 pub starred : Starred
-unfolding check readText readLines linesFrom shapeOf lineOf insert insertAll printed decimal decimals
+unfolding check course stepsOf stepsAt readText readLines linesFrom shapeOf lineOf insert insertAll printed decimal decimals
 starred = record {
   onePrints = refl;
   one = refl;
@@ -99,5 +100,5 @@ starred = record {
 }
 
 pub source000 : Source000
-unfolding check readText readLines linesFrom shapeOf lineOf insert insertAll
+unfolding check course stepsOf stepsAt readText readLines linesFrom shapeOf lineOf insert insertAll
 source000 = refl

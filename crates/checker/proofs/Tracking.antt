@@ -23,7 +23,7 @@ use Rattle.derivation.specs.Steps.{allKnown}
 use Rattle.derivation.proofs.Questions.{known-decides}
 use Rattle.names.specs.Queries.{Marks, upTo, renamed}
 use Rattle.names.proofs.Picks.{renamed-map, length-renamed}
-use Rattle.names.proofs.Sets.{marked-set}
+use Rattle.answer_set.proofs.Tested.{marked-set}
 use Rattle.checker.specs.Held.{nameOf, Proper, Tracks}
 use Rattle.checker.proofs.Names.{unlisted, name-of}
 
@@ -84,7 +84,7 @@ module _ {P : List Rule} {known names : List ℕ} (z : State) (tracks : Tracks P
   swapped a b c = sym (or-assoc a b c) ∙ ap (λ (d : Bool). d || c) (or-comm a b) ∙ or-assoc b a c
 
   knows-new : (v : ℕ) → v ≤ largest → marked (set known n 1) v ≡ (isAtom P v || (eqb v n || any (eqb v) (z .introduced)))
-  knows-new v h = marked-set known n v (omega (arith, tracks .entries)) ∙ rw (tracks .knows v h) (swapped (eqb v n) (isAtom P v) (any (eqb v) (z .introduced)))
+  knows-new v h = marked-set known n v (λ k. omega (arith, tracks .entries)) ∙ rw (tracks .knows v h) (swapped (eqb v n) (isAtom P v) (any (eqb v) (z .introduced)))
 
   -- `e`
   pub extended : Tracks P (set known n 1) names (n ∷ z .introduced) (z .named)

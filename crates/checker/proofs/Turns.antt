@@ -16,7 +16,7 @@ use Rattle.words.specs.Literals.{has, noneTwice}
 use Rattle.words.proofs.Literals.{has-decides, variable-positive}
 use Rattle.text.specs.declared.Letter.{Letter}
 use Rattle.text.specs.Line.{anyOutside}
-use Rattle.text.proofs.Lines.{or-false-right}
+use Rattle.words.proofs.Lists.{or-false-right}
 use Rattle.aspif.specs.Rules.{Rule}
 use Rattle.answer_set.proofs.Readable.{inside}
 use Rattle.drupe.specs.Lines.{mostNumbers, signsOf, signed, lineRefusal, LineAt, end, line, lineAt, answerOf, numbersOf, Reads}

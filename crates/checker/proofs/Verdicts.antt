@@ -23,6 +23,7 @@ use Rattle.answer_set.proofs.Fronts.{few-rules, sound-rules}
 use Rattle.answer_set.proofs.Tested.{atoms-small}
 use Rattle.answer_set.proofs.Answered.{rules-of}
 use Rattle.answer_set.proofs.Readable.{table-read}
+use Rattle.drupe.specs.Texts.{stepsOf}
 use Rattle.derivation.specs.States.{State}
 use Rattle.nogoods.specs.Store.{storeWords, Holds}
 use Rattle.checker.specs.Check.{Course, stopped, through, course, saying, judged, judgedReading, check}
@@ -36,6 +37,7 @@ use Rattle.checker.specs.declared.runs.Run.the-variants.{Stopped, Throug
 -- The proof's lines
 
 pub too-long : (P : List Rule) (size : ℕ) (text : List ℕ) → longest < length text → course P size text ≡ stopped 21 0
+unfolding course stepsOf
 too-long P size text h = rw (lt-ltb longest (length text) h)
 
 module _ (store : List ℤ) where

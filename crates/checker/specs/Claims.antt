@@ -14,12 +14,13 @@ use Rattle.aspif.specs.Rules.{Rule}
 use Rattle.aspif.specs.Reading.{program, readText}
 use Rattle.drupe.specs.Lines.{end, line, lineAt}
 use Rattle.drupe.specs.Lines as Lines
+use Rattle.drupe.specs.Texts.{Step, textOf, steps, stepsOf}
 use Rattle.derivation.specs.States.{State, start}
 use Rattle.derivation.specs.Steps.{next, step, emptyLive}
 use Rattle.derivation.specs.Steps as Steps
 use Rattle.derivation.specs.Claims.{NoAnswerSet}
 use Rattle.nogoods.specs.Store.{liveWords}
-use Rattle.checker.specs.Check.{Course, stopped, through, course, countsOf, check, CheckedTexts}
+use Rattle.checker.specs.Check.{Course, stopped, through, runSteps, course, countsOf, check, CheckedTexts}
 use Rattle.checker.specs.declared.Counts.{Counts}
 use Rattle.checker.specs.declared.Verdict.{Verdict}
 use Rattle.checker.specs.declared.Verdict.the-variants.{Inconsistent, Open}
@@ -44,12 +45,22 @@ StepByStep =
     (P : List Rule) (size : ℕ) (text : List ℕ) (c : Course) → length text ≤ longest
     → (course P size text ≡ c) ↔ Runs P size text 0 0 start c
 
--- The proof text passes 21, every line of it is a good step that fits the store, and after the last the empty nogood is live, or
--- is not; the counts are those of the program, the steps and the live nogoods.
+-- The proof text's steps are ts, they run through, and after the last the empty nogood is live, or is not; the counts are those of
+-- the program, the steps and the live nogoods.
 abbrev pub Ended : List Rule → ℕ → List ℕ → Bool → Counts → Type 0
 Ended P size proof empty c =
-    (length proof ≤ longest)
-    × ((n : ℕ) × (z : State) × Runs P size proof 0 0 start (through n z) × (emptyLive z ≡ empty) × (c ≡ countsOf P n z))
+    (ts : List Step) × (z : State) × (stepsOf proof ≡ steps ts) × (runSteps P size 0 start ts ≡ through (length ts) z)
+    × (emptyLive z ≡ empty) × (c ≡ countsOf P (length ts) z)
+
+-- The same in the words of a writer: the proof is the text of steps that run through, and no reader is spoken of. That each passes
+-- 22 to 25 need not be said, since a step that is accepted does.
+abbrev pub Written : List Rule → ℕ → List ℕ → Bool → Counts → Type 0
+Written P size proof empty c =
+    (ts : List Step) × (z : State) × (proof ≡ textOf ts) × (length proof ≤ longest) × (runSteps P size 0 start ts ≡ through (length ts) z)
+    × (emptyLive z ≡ empty) × (c ≡ countsOf P (length ts) z)
+
+abbrev pub EndedWritten : Type 0
+EndedWritten = (P : List Rule) (size : ℕ) (proof : List ℕ) (empty : Bool) (c : Counts) → Ended P size proof empty c ↔ Written P size proof empty c
 
 -- "Once the program is read, the verdict is "inconsistent" exactly when the steps form an ASP-DRUPE proof under document 01 that
 -- fits the lent store, and "open" exactly when every step is good but the empty nogood does not stand after the last."

@@ -1,10 +1,7 @@
 -- The line that `verdict` prints: document 01, 'What `verdict` prints'.
 -- Assumes nothing.
-use mathlib.Core.Path.{_≡_}
 use mathlib.Core.List.{List, [], _∷_, _++_}
-use Prim.Native.Nat.{ℕ, _+_}
-use lib.ListN.{length}
-use lib.Seq.{sets}
+use Prim.Native.Nat.{ℕ}
 use Rattle.text.specs.Decimals.{decimal}
 use Rattle.checker.specs.Texts.{bytes}
 use Rattle.checker.specs.Check.{check}
@@ -36,8 +33,3 @@ lent = 16384
 -- what `verdict` prints of a program text and a proof text
 unfoldable pub printed : List ℕ → List ℕ → List ℕ
 printed text proof = lineOf (check text proof lent lent .verdict)
-
--- The bytes vs stand in a buffer from `at` on, as many as fit, and no other byte has changed; `next` is the position after them.
-pub record Put (vs before after : List ℕ) (at next : ℕ) : Type 0 where
-  pub stands : after ≡ sets before at vs
-  pub ends : next ≡ at + length vs

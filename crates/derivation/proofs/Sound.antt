@@ -20,7 +20,8 @@ use Rattle.aspif.specs.Rules.{Rule}
 use Rattle.answer_set.specs.AnswerSets.{Constraint, LeastModel, derive, AnswerSet}
 use Rattle.drupe.specs.Lines.{signsOf, isPositive, signed, lineRefusal, mostNumbers}
 use Rattle.derivation.specs.States.{Named, State, start, isAtom, isKnown, isName, hasName}
-use Rattle.derivation.specs.Steps.{Step, Outcome, refused, next, allKnown, body, extension, completion, support, isExternal, externalNames, loop, addition, deletion, naming, citing, byLetter, step, steps, emptyLive}
+use Rattle.drupe.specs.Texts.{Step}
+use Rattle.derivation.specs.Steps.{Outcome, refused, next, allKnown, body, extension, completion, support, isExternal, externalNames, loop, addition, deletion, naming, citing, byLetter, step, steps, emptyLive}
 use Rattle.derivation.specs.Claims.{Demand3}
 use Rattle.derivation.proofs.Closure.{empty-decides, refuted-decides}
 use Rattle.derivation.proofs.Valuations.{conflict-false}

@@ -11,7 +11,8 @@ use Rattle.aspif.specs.Rules.{Rule}
 use Rattle.answer_set.specs.AnswerSets.{Constraint, AnswerSet}
 use Rattle.derivation.specs.Propagation.{Conflict, refuted}
 use Rattle.derivation.specs.States.{State, start}
-use Rattle.derivation.specs.Steps.{Step, next, steps, emptyLive}
+use Rattle.drupe.specs.Texts.{Step}
+use Rattle.derivation.specs.Steps.{next, steps, emptyLive}
 
 -- "no set of atoms is an answer set of that program. Nor is any set an answer set of that program with any list of further
 -- constraints appended": a set is any predicate on numbers, and a further constraint has any literals, also above N, above the

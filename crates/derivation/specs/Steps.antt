@@ -11,13 +11,9 @@ use Rattle.text.specs.declared.Letter.{Letter}
 use Rattle.text.specs.declared.Letter.the-variants.{Addition, Body, Completion, Deletion, Extension, Loop, Support}
 use Rattle.aspif.specs.Rules.{Rule, isNormal, isEmpty}
 use Rattle.drupe.specs.Lines.{lineRefusal}
+use Rattle.drupe.specs.Texts.{Step}
 use Rattle.derivation.specs.Propagation.{refuted}
 use Rattle.derivation.specs.States.{Named, State, isAtom, isKnown, isName, hasName}
-
--- a step: a line's letter and its numbers as written, without the closing 0
-pub record Step : Type 0 where
-  pub letter : Letter
-  pub numbers : List ℤ
 
 -- "A refused step ends the check", with the number of the question; otherwise the three things as the step leaves them
 pub data Outcome : Type 0 where

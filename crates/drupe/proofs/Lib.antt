@@ -1,2 +1,3 @@
 -- Laws of proof lines.
 pub mod Lines
+pub mod Texts

@@ -18,7 +18,8 @@ use Rattle.words.proofs.Lists.{if-true, failed, not-decides, and-left, and-righ
 use Rattle.words.proofs.Literals.{same-decides}
 use Rattle.text.specs.Bytes.{classOf}
 use Rattle.text.specs.Line.{Line, broken, numbers, lineOf, outside, anyOutside, isClosed}
-use Rattle.text.proofs.Lines.{capped-all, or-false-right, Numbered, bounds-of}
+use Rattle.words.proofs.Lists.{or-false-right}
+use Rattle.text.proofs.Lines.{capped-all, Numbered, bounds-of}
 use Rattle.text.specs.declared.Letter.{Letter}
 use Rattle.text.specs.declared.Class.{Class}
 use Rattle.text.specs.declared.Class.the-variants.{Newline, Space, Minus, Digit, Step, Other}

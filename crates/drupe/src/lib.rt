@@ -1,6 +1,7 @@
 // The proof-line reader: document 01, 'The proof's seven letters' and questions 21 to 25.
 // The claim of `read_line` is `Reads` in specs/Lines.antt.
 pub mod reader;
+pub mod writing;
 
 use text::Class;
 use text::Letter;

@@ -14,15 +14,8 @@ use Rattle.words.specs.Limits.{largest}
 use Rattle.words.proofs.Lists.{Decides, passed, reworded, and-decides}
 use Rattle.words.proofs.Places.{equal?}
 use Rattle.answer_set.specs.SetTest.{listed, marked, marksLent}
+use Rattle.answer_set.proofs.Tested.{marked-set}
 use Rattle.names.specs.Queries.{Marks, upTo, agree, sameMarks}
-
--- one more mark
-pub marked-set : (m : List ℕ) (x v : ℕ) → v < length m → marked (set m x 1) v ≡ (eqb v x || marked m v)
-marked-set m x v h = go (equal? v x)
-  where
-    go : (v ≡ x) ⊎ (¬ (v ≡ x)) → marked (set m x 1) v ≡ (eqb v x || marked m v)
-    go (inl e) = rw (← e, getD-set-same m v 1 0 h, eq-eqb v v refl) refl
-    go (inr n) = rw (getD-set-other m x v 1 0 n, ne-eqb v x n) refl
 
 -- A loop that marks number by number: what is marked and what is left make the whole.
 pub record Found (m left whole : List ℕ) : Type 0 where
@@ -38,7 +31,7 @@ pub found-on : {m left whole : List ℕ} {x : ℕ} → Found m (x ∷ left) whol
 found-on {m} {left} {whole} {x} f = record {
   long = length-set m x 1 ∙ f .long;
   has = λ v h.
-      rw (marked-set m x v (omega (arith, f .long, h)), or-comm (eqb v x) (marked m v), or-assoc (marked m v) (eqb v x) (listed left v)) (f .has v h);
+      rw (marked-set m x v (λ k. omega (arith, f .long, h)), or-comm (eqb v x) (marked m v), or-assoc (marked m v) (eqb v x) (listed left v)) (f .has v h);
 }
 
 -- nothing is left

@@ -12,6 +12,7 @@ use Rattle.words.specs.Lists.{_∈_}
 use Rattle.words.specs.Literals.{variable, complement}
 use Rattle.words.proofs.Literals.{variable-complement}
 use Rattle.words.proofs.Places.{equal?, in-at, place-of, distinct}
+use Rattle.words.proofs.Laws.{padded}
 use Rattle.nogoods.specs.Store.{Literals}
 use Rattle.nogoods.specs.Propagate.{entry, Assigns, Valued, free}
 use Rattle.nogoods.specs.declared.units.Value.the-variants.{Free}
@@ -78,9 +79,7 @@ free-most (x ∷ m) = omega (arith, free-cons x m, free-most m)
 
 -- nothing is true where all are free
 pub zeros : (n k : ℕ) → _≡_ {A = ℕ} (getD (replicate n 0) k 0) 0
-zeros zero k = refl
-zeros (suc n) zero = refl
-zeros (suc n) (suc k) = zeros n k
+zeros n k = padded 0 [] n k
 
 pub none-true : (n : ℕ) (z : ℤ) → ¬ Assigns (replicate n 0) z
 none-true n z a = let e = zeros n (variable z) in elim (entry-cases z) [ inl p ↦ omega arith | inr p ↦ omega arith ]

@@ -100,8 +100,6 @@ pub variables-complements : (l : List ℤ) → map variable (map complement l) �
 variables-complements [] = refl
 variables-complements (x ∷ l) = ap₂ (λ v k. v ∷ k) (variable-complement x) (variables-complements l)
 
-pub literals-complements : (l : List ℤ) → Literals l → Literals (map complement l)
-literals-complements l h = literals-variables l (map complement l) (sym (variables-complements l)) h
 
 -- the first literal's complement, or those of the others
 pub literals-complement-first : (x : ℤ) (l : List ℤ) → Literals (x ∷ l) → Literals (complement x ∷ l)

@@ -4,6 +4,7 @@ ghost use mathlib.Core.List.{List, [], _∷_, _++_};
 ghost use Prim.Native.Nat.{suc, _≤_};
 ghost use lib.IntN.{ℤ};
 ghost use lib.ListN.{length, drop};
+ghost use Rattle.words.specs.Limits.{largest};
 ghost use Rattle.words.specs.Lists.{any, dropFirst};
 ghost use Rattle.words.specs.Literals.{sameList};
 ghost use Rattle.aspif.specs.Rules.{isEmpty};
@@ -25,7 +26,7 @@ pub enum Added {
 
 // The words of a nogood at the front of the free tail.
 pub fn write(free: &mut [i32], literals: &[i32])
-    requires { ⌜ (suc (length (now literals)) ≤ length (now free)) × (length (now literals) ≤ 4096) ⌝ }
+    requires { ⌜ (suc (length (now literals)) ≤ length (now free)) × (length (now literals) ≤ largest) ⌝ }
     ensures { λ _. ⌜ now (free .exit) ≡ nogoodWords (now (literals .entry)) ++ drop (suc (length (now (literals .entry)))) (now (free .entry)) ⌝ }
 {
     free[0] = literals.len() as i32;
@@ -35,7 +36,7 @@ pub fn write(free: &mut [i32], literals: &[i32])
 // One more live nogood, after the others.
 pub fn append(store: &mut [i32], used: usize, literals: &[i32]) -> Added
     requires { ⌜ ((live : List (List ℤ)) × Holds (now store) used live) ⌝ }
-    requires { ⌜ Literals (now literals) × (length (now literals) ≤ 4096) ⌝ }
+    requires { ⌜ Literals (now literals) × (length (now literals) ≤ largest) ⌝ }
     ensures { λ r. ⌜ ((live : List (List ℤ)) → Holds (now (store .entry)) used live → Fits (live ++ (now (literals .entry) ∷ [])) (now (store .exit)) r) ⌝ }
 {
     let size = literals.len() + 1;

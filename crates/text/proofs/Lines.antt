@@ -10,6 +10,7 @@ use lib.ListN.{length, length-map}
 use lib.Seq.{sets}
 use borrow.Author.Tests.{ltb-false}
 use Rattle.words.specs.Limits.{largest}
+use Rattle.words.proofs.Lists.{or-false-left, or-false-right}
 use Rattle.text.specs.Bytes.{classOf}
 use Rattle.text.specs.Line.{number, also, numbersOf, Words, unended, words, apart, joined, cut, span, Line, broken, numbers, spanned, ofWords, lineOf, outside, anyOutside, isClosed, capped, Told, Reads}
 use Rattle.text.specs.declared.Class.{Class}
@@ -24,14 +25,6 @@ capped-inside (pos m) e = ap pos (omega (arith, ltb-false largest m e))
 capped-inside (negsuc m) e =
     let h : min (suc m) (suc largest) ≡ suc m = omega (arith, ltb-false largest (suc m) e) in
     ap (λ (n : ℕ). negℤ (pos n)) h
-
-or-false-left : (a b : Bool) → a || b ≡ false → a ≡ false
-or-false-left true b e = e
-or-false-left false b e = refl
-
-pub or-false-right : (a b : Bool) → a || b ≡ false → b ≡ false
-or-false-right true b e = absurd (let z : _≡_ {A = ℕ} 0 1 = cc in omega arith)
-or-false-right false b e = e
 
 -- where no number is outside, the row keeps the numbers themselves
 pub capped-all : (zs : List ℤ) → anyOutside zs ≡ false → map capped zs ≡ zs

@@ -3,3 +3,4 @@ pub mod Bytes
 pub mod Decimals
 pub mod Line
 pub mod Scan
+pub mod Writing

@@ -1,5 +1,7 @@
 // Bytes to lines and numbers, for the program reader and the proof-line reader alike: document 01, 'Program text'.
-// The claim of `read_line` is `Reads` in specs/Line.antt.
+// The claim of `read_line` is `Reads` in specs/Line.antt. Module `writing` goes the other way.
+pub mod writing;
+
 ghost use mathlib.Core.Path.{_≡_};
 ghost use lib.ListN.{set};
 ghost use Rattle.text.specs.Bytes.{classOf, letterOr};

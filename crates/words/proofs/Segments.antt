@@ -67,9 +67,6 @@ module _ {A : Type 0} (f : A → List ℤ) where
       pub seg : Segment s i e left
       pub same : F i left ≡ F 0 live
 
-    pub all-left : Segment s 0 e live → Left 0
-    all-left S = record { left = live; seg = S; same = refl }
-
   -- after the last record
   pub none-left : {s : List ℤ} {i e : ℕ} {left : List A} → ((x : A) → 0 < length (f x)) → Segment s i e left → e ≤ i → left ≡ []
   none-left {left = []} p S h = refl

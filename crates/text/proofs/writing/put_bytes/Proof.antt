@@ -1,4 +1,4 @@
--- `checker::report::put_bytes` meets its contract. After i turns the first i bytes are put.
+-- `text::writing::put_bytes` meets its contract. After i turns the first i bytes are put.
 -- Assumes nothing.
 use mathlib.Core.Path.{_≡_, _∙_}
 use Prim.Native.Nat.{_-_, _≤_}
@@ -6,9 +6,9 @@ use native.Mathlib.Omega.{arith}
 use lib.ListN.{length, take}
 use lib.Seq.{sets, length-sets, take-length}
 use borrow.Author.Needs.{needs}
-use Rattle.checker.proofs.Puts.{sets-more}
-use Rattle.checker.proofs.report.put_bytes.Statement.{statement}
-use Rattle.checker.proofs.report.put_bytes.Tie as tie
+use Rattle.text.proofs.Puts.{sets-more}
+use Rattle.text.proofs.writing.put_bytes.Statement.{statement}
+use Rattle.text.proofs.writing.put_bytes.Tie as tie
 
 abbrev Inv-loop : tie.InvT-loop
 Inv-loop buffer₀ at bytes i₀ buffer i = (i ≤ length bytes) × (buffer ≡ sets buffer₀ at (take i bytes))

@@ -1,4 +1,4 @@
--- `checker::report::put_digits` meets its contract. The number is the measure: a tenth of it is less.
+-- `text::writing::put_digits` meets its contract. The number is the measure: a tenth of it is less.
 -- Assumes nothing.
 use Prim.Native.Nat.{ℕ, _/_, _<_}
 use native.Mathlib.Nat.{mod-lt}
@@ -6,14 +6,14 @@ use native.Mathlib.Omega.{arith}
 use borrow.Fn.Kinds.{In}
 use borrow.Fn.PlainCycle.{Measures, is, falls, and}
 use borrow.Author.Needs.{needs}
-use Rattle.aspif.proofs.Decimals.{tenth}
-use Rattle.checker.proofs.Puts.{put-on, decimal-one, decimal-more, decimal-short}
-use Rattle.checker.proofs.report.put_digits.Reads as put-digits
-use Rattle.checker.proofs.report.put_digits.Kinds as put-digits-kinds
-use Rattle.checker.proofs.report.+put_digits.Lts-put_digits as put-digits-lts
-use Rattle.checker.proofs.report.put_digit.Reads as put-digit-reads
-use Rattle.checker.proofs.report.+put_digits.{statement}
-use Rattle.checker.proofs.report.+put_digits.Tie.{close}
+use Rattle.text.proofs.Decimals.{tenth}
+use Rattle.text.proofs.Puts.{put-on, decimal-one, decimal-more, decimal-short}
+use Rattle.text.proofs.writing.put_digits.Reads as put-digits
+use Rattle.text.proofs.writing.put_digits.Kinds as put-digits-kinds
+use Rattle.text.proofs.writing.+put_digits.Lts-put_digits as put-digits-lts
+use Rattle.text.proofs.writing.put_digit.Reads as put-digit-reads
+use Rattle.text.proofs.writing.+put_digits.{statement}
+use Rattle.text.proofs.writing.+put_digits.Tie.{close}
 
 abbrev μ-put-digits : Measures 1 put-digits-kinds.ps ℕ
 μ-put-digits κs a = a .1 .1 .0

@@ -1,7 +1,7 @@
 -- Numbers and lines written as bytes, and that they are read back: `line-read`. The text of a line is the decimal digits of each
 -- number, a minus before those of a negative one, a space between two and a newline at the end.
 -- Assumes nothing.
-use mathlib.Core.Path.{_≡_, refl, _∙_, ap, ap₂}
+use mathlib.Core.Path.{_≡_, refl, sym, _∙_, ap, ap₂}
 use mathlib.Core.Bool.{Bool, true, false, cond}
 use mathlib.Core.Option.{some, Option·none-ne-some}
 use mathlib.Core.List.{List, [], _∷_, _++_, map, append-nil, append-assoc, map-append, List·Memᴰ·head, List·Memᴰ·tail}
@@ -13,11 +13,11 @@ use lib.Dec.{ltb}
 use lib.IntN.{ℤ, pos, negsuc}
 use lib.ListN.{length, length-append, length-map}
 use Rattle.words.specs.Lists.{_∈_}
 use Rattle.text.specs.Bytes.{classOf}
-use Rattle.text.specs.Decimals.{decimals, digitsOf, digitByte, decimal}
+use Rattle.text.specs.Decimals.{decimals, digitsOf, digitByte, decimal, numberBytes, spaced}
 use Rattle.text.specs.Line.{digits, natural, nonNegative, negative, number, numbersOf, Words, unended, words, joined, cut, span, numbers, ofWords, lineOf}
 use Rattle.text.specs.declared.Class.{Class}
 use Rattle.text.specs.declared.Class.the-variants.{Newline, Space, Minus, Digit, Step, Other}
 
 -- Digits
 
@@ -85,12 +85,7 @@ pub decimal-read : (m : ℕ) → natural (map classOf (decimal m)) ≡ some m
 unfolding decimal
 decimal-read m = rw (class-digits (digitsOf m) (digits-small m)) (digits-read m)
 
--- a signed number as bytes; 45 is the minus
-pub numberBytes : ℤ → List ℕ
-numberBytes (pos m) = decimal m
-numberBytes (negsuc m) = 45 ∷ decimal (suc m)
-
--- and as classes
+-- a signed number as classes
 abbrev wordOf : ℤ → List Class
 wordOf z = map classOf (numberBytes z)
 
@@ -149,12 +144,12 @@ cut-inner (Other ∷ w) i t = absurd i
 -- Lines
 
 -- the numbers after the first, each behind a space, and the newline
-rest : List ℤ → List ℕ
+unfoldable pub rest : List ℤ → List ℕ
 rest [] = 10 ∷ []
 rest (z ∷ zs) = 32 ∷ (numberBytes z ++ rest zs)
 
 -- a line of one number at least
-pub lineBytes : ℤ → List ℤ → List ℕ
+unfoldable pub lineBytes : ℤ → List ℤ → List ℕ
 lineBytes z zs = numberBytes z ++ rest zs
 
 cut-first : (z : ℤ) (zs : List ℤ) (s : List ℕ) → cut (map classOf (lineBytes z zs ++ s)) ≡ before (wordOf z) (cut (map classOf (rest zs ++ s)))
@@ -185,3 +180,10 @@ span-line z (y ∷ zs) =
 pub line-read : (z : ℤ) (zs : List ℤ) (s : List ℕ) → lineOf (lineBytes z zs ++ s) ≡ numbers (z ∷ zs) (length (lineBytes z zs))
 unfolding lineOf
 line-read z zs s = rw (cut-line z zs s, first-read (wordOf z) (map wordOf zs) (z ∷ zs) (numbers-read (z ∷ zs)), span-line z zs)
+
+-- the first numbers of what follows a line's first one, each behind a space
+pub rest-spaced : (zs ys : List ℤ) → rest (zs ++ ys) ≡ spaced zs ++ rest ys
+unfolding rest spaced
+rest-spaced [] ys = refl
+rest-spaced (z ∷ zs) ys =
+    ap (λ (l : List ℕ). 32 ∷ l) (ap (λ (l : List ℕ). numberBytes z ++ l) (rest-spaced zs ys) ∙ sym (append-assoc (numberBytes z) (spaced zs) (rest ys)))

@@ -1,10 +1,10 @@
--- `checker::report::put` meets its contract: a store within the buffer, or `set` past its end, which changes nothing.
+-- `text::writing::put` meets its contract: a store within the buffer, or `set` past its end, which changes nothing.
 -- Assumes nothing.
 use mathlib.Core.Path.{sym}
 use lib.Seq.{set-out}
 use borrow.Author.Needs.{needs}
-use Rattle.checker.proofs.report.put.Statement.{statement}
-use Rattle.checker.proofs.report.put.Tie as tie
+use Rattle.text.proofs.writing.put.Statement.{statement}
+use Rattle.text.proofs.writing.put.Tie as tie
 
 returns-2 : tie.Need-returns-2
 returns-2 c = sym (set-out _ _ _ (c .if1 .left))
