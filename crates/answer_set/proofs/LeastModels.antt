@@ -11,14 +11,15 @@ use lib.Dec.{T, eqb, ltb, leb}
 use lib.IntN.{ℤ, pos, negsuc}
 use lib.ListN.{length, getD, set, length-set}
 use lib.Seq.{getD-set-same, getD-set-other, set-out, set-getD}
-use Rattle.words.specs.Lists.{_∈_, keep}
+use Rattle.words.specs.Lists.{_∈_, filter}
 use Rattle.words.specs.Literals.{variable}
 use Rattle.words.proofs.Lists.{Decides, itself, passed, answered, reworded, not-decides, all-decides, keep←, length-keep, keep-lt, none-in}
 use Rattle.aspif.specs.Rules.{Rule}
 use Rattle.aspif.specs.declared.Kind.{Kind}
 use Rattle.aspif.specs.declared.Kind.the-variants.{Normal, Choice}
-use Rattle.answer_set.specs.AnswerSets.{Taken, Chosen, LeastModel, derive}
-use Rattle.answer_set.specs.SetTest.{marked, literalHolds, bodyHolds, gives, giveHead, giveHeads, giveRule, round, rounds}
+use Rattle.aspif.specs.AnswerSets.{Taken, Chosen, LeastModel, derive}
+use Rattle.marks.specs.Marks.{marked}
+use Rattle.answer_set.specs.SetTest.{literalHolds, bodyHolds, gives, giveHead, giveHeads, giveRule, round, rounds}
 use Rattle.answer_set.proofs.Marking.{rounds-still}
 
 -- Marks only grow
@@ -257,7 +258,7 @@ module _ (M : ℕ → Bool) (W : ℕ → Type 0) (dec : (v : ℕ) → Decides (M
 
   -- how many atoms are still to be marked
   missing : List ℕ → ℕ
-  missing m = length (keep (lacks m) (upTo N))
+  missing m = length (filter (lacks m) (upTo N))
 
   module _ (m : List ℕ) (l : N < length m) where
     fewer : {z : ℤ} → Head N z → T (not (marked m (variable z))) → T (marked (round M P m) (variable z)) → missing (round M P m) < missing m

@@ -15,7 +15,7 @@ use Rattle.words.specs.Literals.{variable}
 use Rattle.aspif.specs.Rules.{Rule}
 use Rattle.aspif.specs.declared.Kind.{Kind}
 use Rattle.answer_set.specs.SetTest.{literalHolds, giveHead, giveHeads, round, rounds, anyBelow}
-use Rattle.answer_set.specs.Private.{Marking, markAll}
+use Rattle.marks.specs.Marks.{Marking, markAll}
 
 module _ (M S : ℕ → Bool) where
   -- a literal by its sign
@@ -70,12 +70,3 @@ module _ (f : ℕ → Bool) where
   pub below-end : (n : ℕ) → n ≤ 0 → anyBelow f n ≡ false
   below-end zero h = refl
   below-end (suc n) h = absurd (omega arith)
-
--- The loop of `mark_all`
-
-module _ (l m : List ℕ) where
-  pub mark-on : (i : ℕ) → i < length l → markAll (drop i l) m ≡ markAll (drop (i + 1) l) (set m (getD l i 0) 1)
-  mark-on i h = rw (add-one, drop-cons l i 0 h)
-
-  pub mark-end : {i : ℕ} → length l ≤ i → markAll (drop i l) m ≡ m
-  mark-end h = rw (drop-of-length-le l h)

@@ -2,17 +2,18 @@
 ghost use mathlib.Core.Path.{_≡_};
 ghost use mathlib.Core.Bool.{Bool, true, cond};
 ghost use Prim.Native.Nat.{ℕ, _+_, _≤_};
-ghost use Rattle.words.specs.Limits.{largest};
-ghost use Rattle.answer_set.specs.SetTest.{marksLent, ruleAt, shapeSound, rulesAt, soundTable, marked, isConstraint, isBroken, anyBelow, justOne, differs, brokenFrom, apart, Says};
+ghost use Rattle.words.specs.Limits.{largest, entries};
+ghost use Rattle.aspif.specs.Tables.{ruleAt, shapeSound, rulesAt, soundTable};
+ghost use Rattle.marks.specs.Marks.{marked};
+ghost use Rattle.answer_set.specs.SetTest.{isConstraint, isBroken, anyBelow, justOne, differs, brokenFrom, differsAt, Says};
 ghost use Rattle.answer_set.specs.Private.{Finds};
 use crate::SetAnswer;
-use crate::marks;
 use crate::models;
-use crate::tables;
 use aspif::Kind;
+use aspif::tables;
 
 // What a search finds.
-pub enum Found {
+pub enum Search {
     At(u16),
     Nothing,
 }
@@ -25,18 +26,18 @@ fn just_one(a: bool, b: bool) -> bool
 }
 
 // A number below n that lies in just one of M and the least model, if there is one.
-fn differing(inside: &[u8], marks: &[u8], n: usize) -> Found
-    requires { ⌜ n ≤ marksLent ⌝ }
-    ensures { λ r. ⌜ Finds (apart (marked (now (inside .entry))) (now (marks .entry))) n r ⌝ }
+fn differing(inside: &[u8], marks: &[u8], n: usize) -> Search
+    requires { ⌜ n ≤ entries ⌝ }
+    ensures { λ r. ⌜ Finds (differsAt (marked (now (inside .entry))) (now (marks .entry))) n r ⌝ }
 {
     let mut i = n;
     while 0 < i {
         i -= 1;
         if just_one(marks::is_marked(inside, i), marks::is_marked(marks, i)) {
-            return Found::At(i as u16);
+            return Search::At(i as u16);
         }
     }
-    Found::Nothing
+    Search::Nothing
 }
 
 // The rule at the front is a constraint.
@@ -86,12 +87,12 @@ fn first_broken(table: &[i32], rules: usize, inside: &[u8]) -> SetAnswer
 pub fn judge(table: &[i32], rules: usize, atoms: usize, inside: &[u8], marks: &[u8]) -> SetAnswer
     requires { ⌜ (soundTable (now table) rules ≡ true) × (atoms ≤ largest) ⌝ }
     ensures { λ r. ⌜ (let M = marked (now (inside .entry)) in
-        let just = apart M (now (marks .entry)) in
+        let just = differsAt M (now (marks .entry)) in
         Says just (cond (anyBelow just (atoms + 1)) differs (brokenFrom M 1 (rulesAt rules (now (table .entry))))) r) ⌝ }
 {
     let found = differing(inside, marks, atoms + 1);
     match found {
-        Found::At(v) => SetAnswer::Differs(v),
-        Found::Nothing => first_broken(table, rules, inside),
+        Search::At(v) => SetAnswer::Differs(v),
+        Search::Nothing => first_broken(table, rules, inside),
     }
 }

@@ -1,11 +1,11 @@
 // The least model of a reduct, as marks. The set M is lent as marks too: `inside` holds 1 at each number of M.
 ghost use mathlib.Core.Path.{_≡_};
 ghost use mathlib.Core.Bool.{true};
-ghost use Rattle.answer_set.specs.SetTest.{ruleAt, shapeSound, rulesAt, soundRules, marked, literalHolds, bodyHolds, gives, giveHead, giveHeads, giveRule, round, rounds};
-ghost use Rattle.answer_set.specs.Private.{Marking};
-use crate::marks;
-use crate::tables;
+ghost use Rattle.aspif.specs.Tables.{ruleAt, shapeSound, rulesAt, soundRules};
+ghost use Rattle.marks.specs.Marks.{marked, Marking};
+ghost use Rattle.answer_set.specs.SetTest.{literalHolds, bodyHolds, gives, giveHead, giveHeads, giveRule, round, rounds};
 use aspif::Kind;
+use aspif::tables;
 
 // A positive literal's atom is marked; a negated one's is outside M.
 fn literal_holds(word: i32, inside: &[u8], marks: &[u8]) -> bool

@@ -12,22 +12,21 @@ use lib.IntN.{ℤ, pos}
 use lib.Signed.{ltZ}
 use lib.ListN.{length, take, drop, length-append, length-drop}
 use lib.Seq.{length-take-le}
-use Rattle.words.specs.Lists.{_∈_, all, joinAll}
+use Rattle.words.specs.Lists.{_∈_, all, concat}
 use Rattle.words.specs.Literals.{has, rising, ascending}
-use Rattle.words.proofs.Lists.{Decides, itself, passed, failed, not-decides, all-decides}
+use Rattle.words.proofs.Lists.{Decides, itself, passed, failed, not-decides, all-decides, or-false-left, or-false-right, by-test, and-left, and-right}
 use Rattle.words.proofs.Literals.{has-decides, ascending→}
 use Rattle.words.proofs.Sorting.{length-ascending, rising-ascending}
 use Rattle.text.specs.Line.{Line, broken, numbers, lineOf, outside, anyOutside}
-use Rattle.words.proofs.Lists.{or-false-left, or-false-right, by-test}
 use Rattle.words.proofs.Segments.{record-append}
 use Rattle.aspif.specs.Rules.{Rule, ruleWords, programWords}
-use Rattle.aspif.specs.Reading.{mostLiterals, mostRules, suited, isAt, isCount, bodyShape, headShape, shapeOf, headsGood, bodyGood, RuleRead, fails, reads, ruleOf, Turn, refuses, ends, adds, isLast, room, turnOf, onward, linesFrom, refused, program, header, startsWith, readLines}
+use Rattle.words.specs.Limits.{mostLiterals, mostRules}
+use Rattle.aspif.specs.Reading.{suited, isAt, isCount, bodyShape, headShape, shapeOf, headsGood, bodyGood, RuleRead, fails, reads, ruleOf, Turn, refuses, ends, adds, isLast, room, turnOf, onward, linesFrom, refused, program, header, startsWith, readLines}
 use Rattle.aspif.specs.declared.Kind.{Kind}
 use Rattle.aspif.specs.declared.Kind.the-variants.{Normal, Choice}
 use Rattle.aspif.specs.declared.rules.Shape.{Shape}
 use Rattle.aspif.specs.declared.rules.Shape.the-variants.{Wrong, Shaped}
 use Rattle.aspif.proofs.Counts.{Counted, shape-counted}
-use Rattle.words.proofs.Lists.{and-left, and-right}
 
 -- A rule that passes questions 4 to 8, its heads and its body ascending
 pub record Formed (r : Rule) : Type 0 where
@@ -42,7 +41,7 @@ pub record Formed (r : Rule) : Type 0 where
   pub body-in : anyOutside (r .body) ≡ false
 
 -- A program that passes questions 9 and 10 too, for a table of `size` words
-pub record Fits (size : ℕ) (rs : List Rule) : Type 0 where
+pub record FitsTable (size : ℕ) (rs : List Rule) : Type 0 where
   pub formed : (r : Rule) → r ∈ rs → Formed r
   pub few : length rs ≤ mostRules
   pub room : length (programWords rs) ≤ size
@@ -168,7 +167,7 @@ length-more : (rs : List Rule) (r : Rule) → length (programWords (rs ++ (r ∷
 length-more rs r = ap length (words-append rs (r ∷ [])) ∙ rw (append-nil (ruleWords r)) (length-append (programWords rs) (ruleWords r))
 
 module _ (size : ℕ) where
-  fits-more : (rs : List Rule) (r : Rule) → Fits size rs → Added (length rs) (size - length (programWords rs)) (adds r 0) → Fits size (rs ++ (r ∷ []))
+  fits-more : (rs : List Rule) (r : Rule) → FitsTable size rs → Added (length rs) (size - length (programWords rs)) (adds r 0) → FitsTable size (rs ++ (r ∷ []))
   fits-more rs r f a =
       record {
         formed = λ s i. elim (List·Memᴰ·append-cases rs i) [ inl j ↦ f .formed s j | inr j ↦ rw (List·Memᴰ·eq-of-singleton j) (a .0) ];
@@ -176,24 +175,24 @@ module _ (size : ℕ) where
         room = omega (arith, length-more rs r, a .2, f .room);
       }
 
-  lines-fit : (turns : ℕ) (s : List ℕ) (line : ℕ) (so-far rs : List Rule) → Fits size so-far → linesFrom size turns s line so-far ≡ program rs → Fits size rs
+  lines-fit : (turns : ℕ) (s : List ℕ) (line : ℕ) (so-far rs : List Rule) → FitsTable size so-far → linesFrom size turns s line so-far ≡ program rs → FitsTable size rs
   unfolding linesFrom
   lines-fit zero s line so-far rs f e = absurd (let z : _≡_ {A = ℕ} 0 1 = cc in omega arith)
   lines-fit (suc turns) s line so-far rs f e =
       by (turnOf (length so-far) (size - length (programWords so-far)) (length s) (lineOf s)) (turn-added _ _ _ (lineOf s)) (λ n ss g. lines-fit turns (drop n s) (line + 1) ss rs g) e
     where
       by : (t : Turn) → Added (length so-far) (size - length (programWords so-far)) t
-          → ((n : ℕ) (ss : List Rule) → Fits size ss → linesFrom size turns (drop n s) (line + 1) ss ≡ program rs → Fits size rs)
-          → onward (λ n. linesFrom size turns (drop n s) (line + 1)) so-far line t ≡ program rs → Fits size rs
+          → ((n : ℕ) (ss : List Rule) → FitsTable size ss → linesFrom size turns (drop n s) (line + 1) ss ≡ program rs → FitsTable size rs)
+          → onward (λ n. linesFrom size turns (drop n s) (line + 1)) so-far line t ≡ program rs → FitsTable size rs
       by (refuses k) a g p = absurd (let z : _≡_ {A = ℕ} 0 1 = cc in omega arith)
       by ends a g p = let q : so-far ≡ rs = cc in rw (← q) f
       by (adds r n) a g p = g n (so-far ++ (r ∷ [])) (fits-more so-far r f a) p
 
   -- a program that is read is formed, and fits
-  pub read-fits : (text : List ℕ) (rs : List Rule) → readLines size text ≡ program rs → Fits size rs
+  pub read-fits : (text : List ℕ) (rs : List Rule) → readLines size text ≡ program rs → FitsTable size rs
   unfolding readLines
   read-fits text rs e = by (startsWith header text) e
     where
-      by : (b : Bool) → cond b (linesFrom size (suc (length text)) (drop 10 text) 2 []) (refused 2 1) ≡ program rs → Fits size rs
+      by : (b : Bool) → cond b (linesFrom size (suc (length text)) (drop 10 text) 2 []) (refused 2 1) ≡ program rs → FitsTable size rs
       by true p = lines-fit (suc (length text)) (drop 10 text) 2 [] rs (record { formed = λ r i. elim i [ ]; few = omega arith; room = omega arith }) p
       by false p = absurd (let z : _≡_ {A = ℕ} 0 1 = cc in omega arith)

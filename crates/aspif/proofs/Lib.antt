@@ -7,3 +7,6 @@ pub mod Fronts
 pub mod Programs
 pub mod Formed
 pub mod Written
+pub mod RuleTests
+pub mod Cursors
+pub mod Readable

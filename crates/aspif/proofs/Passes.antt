@@ -16,10 +16,11 @@ use Rattle.words.proofs.Segments.{record-append}
 use Rattle.text.specs.Line.{Line, broken, numbers, lineOf, anyOutside}
 use Rattle.text.proofs.Lines.{bounds-of}
 use Rattle.aspif.specs.Rules.{Rule, ruleTop, atoms, ruleWords, programWords}
-use Rattle.aspif.specs.Reading.{mostRules, RuleRead, fails, reads, Turn, refuses, ends, adds, isLast, shapeOf, ruleOf, room, turnOf, onward, linesFrom, Reading, refused, program}
+use Rattle.words.specs.Limits.{mostRules}
+use Rattle.aspif.specs.Reading.{RuleRead, fails, reads, Turn, refuses, ends, adds, isLast, shapeOf, ruleOf, room, turnOf, onward, linesFrom, Reading, refused, program}
 use Rattle.aspif.specs.Turns.{turnTold, freeAfter, TurnTaken, LinesRead}
-use Rattle.aspif.specs.declared.lines.LineTurn.{LineTurn}
-use Rattle.aspif.specs.declared.lines.LineTurn.the-variants.{Refuses, Ends, Adds}
+use Rattle.aspif.specs.declared.rules.LineTurn.{LineTurn}
+use Rattle.aspif.specs.declared.rules.LineTurn.the-variants.{Refuses, Ends, Adds}
 use Rattle.aspif.specs.declared.lines.Lines.the-variants.{Program, Refused}
 
 -- What a turn told says of the turn
@@ -87,7 +88,7 @@ atoms-more (x ∷ rs) r = ap (λ (n : ℕ). max (ruleTop x) n) (atoms-more rs r)
 
 -- Where the loop stands
 
-pub record Stands (text : List ℕ) (table₀ table : List ℤ) (at line used rules top : ℕ) : Type 0 where
+pub record Standing (text : List ℕ) (table₀ table : List ℤ) (at line used rules top : ℕ) : Type 0 where
   pub so-far : List Rule
   pub turns : ℕ
   pub enough : length text < at + turns
@@ -102,7 +103,7 @@ pub record Stands (text : List ℕ) (table₀ table : List ℤ) (at line used ru
   pub fits : used ≤ length table
   pub long : length table ≡ length table₀
 
-module _ {text : List ℕ} {table₀ table : List ℤ} {at line used rules top : ℕ} (S : Stands text table₀ table at line used rules top) where
+module _ {text : List ℕ} {table₀ table : List ℤ} {at line used rules top : ℕ} (S : Standing text table₀ table at line used rules top) where
   abbrev pub rest : List ℕ
   rest = drop at text
 
@@ -174,7 +175,7 @@ module _ {text : List ℕ} {table₀ table : List ℤ} {at line used rules top :
         ap (take (used + length w)) e ∙ take-at (take used table ++ w) tail (used + length w) l ∙ ap (λ (x : List ℤ). x ++ w) (S .front)
         ∙ sym (words-more (S .so-far) r)
 
-    stands-adds : Stands text table₀ next-table (at + n) (line + 1) (used + length (ruleWords r)) (rules + 1) (max (ruleTop r) top)
+    stands-adds : Standing text table₀ next-table (at + n) (line + 1) (used + length (ruleWords r)) (rules + 1) (max (ruleTop r) top)
     stands-adds =
         record {
           so-far = S .so-far ++ (r ∷ []);
@@ -194,7 +195,7 @@ module _ {text : List ℕ} {table₀ table : List ℤ} {at line used rules top :
 
 -- What the loop does with a turn
 
-module _ {text : List ℕ} {table₀ table : List ℤ} {at line used rules top : ℕ} (S : Stands text table₀ table at line used rules top)
+module _ {text : List ℕ} {table₀ table : List ℤ} {at line used rules top : ℕ} (S : Standing text table₀ table at line used rules top)
     {ys : List ℤ} {r : LineTurn} (T : TurnTaken (turn S) (free S) ys r) where
   abbrev after : List ℤ
   after = putMid used (length table - used) table ys
@@ -226,7 +227,7 @@ module _ {text : List ℕ} {table₀ table : List ℤ} {at line used rules top :
     pub text-left : at + next ≤ length text
     pub words-left : used + words ≤ length table
     pub rules-left : rules < mostRules
-    pub stands : Stands text table₀ after (at + next) (line + 1) (used + words) (rules + 1) (max most top)
+    pub stands : Standing text table₀ after (at + next) (line + 1) (used + words) (rules + 1) (max most top)
 
   pub lines-added : {next words most : ℕ} → r ≡ Adds next words most → Onward next words most
   lines-added {next} {words} {most} e =
@@ -243,7 +244,7 @@ module _ {text : List ℕ} {table₀ table : List ℤ} {at line used rules top :
             stands = rw (size, top-is, y) (stands-adds S x next is);
           }
 
-pub stands-start : (text : List ℕ) (table : List ℤ) → 10 ≤ length text → Stands text table table 10 2 0 0 0
+pub stands-start : (text : List ℕ) (table : List ℤ) → 10 ≤ length text → Standing text table table 10 2 0 0 0
 stands-start text table h =
     record {
       so-far = [];

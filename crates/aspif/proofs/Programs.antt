@@ -12,7 +12,7 @@ use borrow.Rule.Slice.PartMut.{putMid}
 use Rattle.words.specs.Limits.{longest}
 use Rattle.words.proofs.Parts.{put-tail, tail-of}
 use Rattle.aspif.specs.Rules.{programWords}
-use Rattle.aspif.specs.Reading.{header, startsWith, linesFrom, readLines, readText, Reading, refused, program, answerOf, tableOf, ProgramRead}
+use Rattle.aspif.specs.Reading.{header, startsWith, linesFrom, readLines, readText, Reading, refused, program, programAnswer, tableOf, ProgramRead}
 use Rattle.aspif.specs.Turns.{linesTold, Front, LinesRead}
 use Rattle.aspif.specs.declared.ProgramRefusal.{ProgramRefusal}
 use Rattle.aspif.specs.declared.ProgramReading.{ProgramReading}
@@ -21,9 +21,9 @@ use Rattle.aspif.specs.declared.lines.Lines.{Lines}
 use Rattle.aspif.specs.declared.lines.Lines as L
 
 module _ (text : List ℕ) (table : List ℤ) where
-  told : (x : Reading) → readText (length table) text ≡ x → {after : List ℤ} {r : ProgramReading} → r ≡ answerOf x → after ≡ tableOf (length table) x
+  told : (x : Reading) → readText (length table) text ≡ x → {after : List ℤ} {r : ProgramReading} → r ≡ programAnswer x → after ≡ tableOf (length table) x
       → ProgramRead text table after r
-  told x e p q = record { answer = p ∙ ap answerOf (sym e); table = q ∙ ap (tableOf (length table)) (sym e) }
+  told x e p q = record { answer = p ∙ ap programAnswer (sym e); table = q ∙ ap (tableOf (length table)) (sym e) }
 
   -- question 1
   pub read-long : longest < length text → ProgramRead text table (replicate (length table) (pos 0)) (Refused (record { number = 1; line = 0 }))

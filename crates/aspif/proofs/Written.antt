@@ -11,19 +11,19 @@ use lib.Dec.{ltb}
 use lib.IntN.{ℤ, pos}
 use lib.ListN.{length, take, drop, getD, length-append}
 use lib.Seq.{take-append-seam, drop-append-seam, drop-append-add, getD-append-add, take-length, append-snoc}
-use Rattle.words.specs.Limits.{largest}
+use Rattle.words.specs.Limits.{largest, mostLiterals, mostRules}
 use Rattle.words.specs.Lists.{_∈_}
-use Rattle.words.specs.Literals.{variable, noneTwice, rising, insert, insertAll, ascending}
+use Rattle.words.specs.Literals.{variable, distinct, rising, insert, insertAll, ascending}
 use Rattle.words.proofs.Sorting.{rising-ascending}
 use Rattle.text.specs.Line.{numbers, lineOf, outside, anyOutside}
 use Rattle.text.proofs.Lines.{bounds-of}
 use Rattle.aspif.specs.Rules.{Rule, kindWord, ruleWords, programWords}
-use Rattle.aspif.specs.Reading.{mostLiterals, mostRules, suited, bodyShape, headShape, shapeOf, headsGood, bodyGood, reads, ruleOf, adds, isLast, room, turnOf, linesFrom, program, header, readLines}
+use Rattle.aspif.specs.Reading.{suited, bodyShape, headShape, shapeOf, headsGood, bodyGood, reads, ruleOf, adds, isLast, room, turnOf, linesFrom, program, header, readLines}
 use Rattle.aspif.specs.declared.Kind.{Kind}
 use Rattle.aspif.specs.declared.Kind.the-variants.{Normal, Choice}
 use Rattle.words.proofs.Lists.{and-left, and-right}
 use Rattle.text.proofs.Decimals.{lineBytes, line-read}
-use Rattle.aspif.proofs.Formed.{Formed, Fits, words-append}
+use Rattle.aspif.proofs.Formed.{Formed, FitsTable, words-append}
 
 -- Words that rise are in order
 
@@ -55,7 +55,7 @@ unfolding insertAll
 in-order [] e = refl
 in-order (x ∷ l) e = insert-rising [] x l (λ y i. elim i [ ]) e
 
-rising-once : (l : List ℤ) → rising l ≡ true → noneTwice l ≡ true
+rising-once : (l : List ℤ) → rising l ≡ true → distinct l ≡ true
 rising-once l e = sym (rising-ascending l) ∙ ap rising (in-order l e) ∙ e
 
 -- A rule's line
@@ -175,7 +175,7 @@ last-line : lineOf (lineBytes (pos 0) []) ≡ numbers (pos 0 ∷ []) (length (li
 last-line = rw (append-nil (lineBytes (pos 0) [])) at (line-read (pos 0) [] [])
 
 module _ (size : ℕ) where
-  lines-read : (rs so-far : List Rule) (turns line : ℕ) → Fits size (so-far ++ rs) → length rs < turns → linesFrom size turns (programBytes rs) line so-far ≡ program (so-far ++ rs)
+  lines-read : (rs so-far : List Rule) (turns line : ℕ) → FitsTable size (so-far ++ rs) → length rs < turns → linesFrom size turns (programBytes rs) line so-far ≡ program (so-far ++ rs)
   unfolding linesFrom programBytes ruleBytes
   lines-read rs so-far zero line f h = absurd (omega arith)
   lines-read [] so-far (suc turns) line f h =
@@ -192,7 +192,7 @@ module _ (size : ℕ) where
       (lines-read rs (so-far ++ (r ∷ [])) turns (line + 1) (rw (append-snoc so-far r rs) f) (omega arith) ∙ ap program (append-snoc so-far r rs))
 
   -- a program that is formed and fits is read from its text
-  pub written-read : (rs : List Rule) → Fits size rs → readLines size (textOf rs) ≡ program rs
+  pub written-read : (rs : List Rule) → FitsTable size rs → readLines size (textOf rs) ≡ program rs
   unfolding readLines textOf
   written-read rs f =
       lines-read rs [] (suc (length (textOf rs))) 2 f (omega (arith, more-bytes rs, length-append header (programBytes rs)))

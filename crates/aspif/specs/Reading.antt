@@ -8,9 +8,9 @@ use lib.Dec.{eqb, ltb, leb}
 use lib.IntN.{ℤ, pos}
 use lib.Signed.{ltZ, leZ}
 use lib.ListN.{length, take, drop, getD, replicate}
-use Rattle.words.specs.Limits.{longest}
+use Rattle.words.specs.Limits.{longest, mostLiterals, mostRules}
 use Rattle.words.specs.Lists.{all}
-use Rattle.words.specs.Literals.{variable, same, has, noneTwice, ascending}
+use Rattle.words.specs.Literals.{variable, same, has, distinct, ascending}
 use Rattle.text.specs.Line.{Line, broken, numbers, lineOf, anyOutside}
 use Rattle.aspif.specs.Rules.{Rule, atoms, ruleWords, programWords, tableWords}
 use Rattle.aspif.specs.declared.Kind.{Kind}
@@ -19,14 +19,6 @@ use Rattle.aspif.specs.declared.rules.Shape.{Shape}
 use Rattle.aspif.specs.declared.rules.Shape.the-variants.{Wrong, Shaped}
 use Rattle.aspif.specs.declared.ProgramReading.{ProgramReading}
 use Rattle.aspif.specs.declared.ProgramReading.the-variants.{Read, Refused}
-
--- "Are both counts .. 0 to 64"
-abbrev pub mostLiterals : ℕ
-mostLiterals = 64
-
--- "At most 1,024 rules."
-abbrev pub mostRules : ℕ
-mostRules = 1024
 
 -- One line's numbers
 
@@ -66,11 +58,11 @@ module _ (zs : List ℤ) (count : ℕ) where
 
 -- question 8, of the heads: positive and distinct
 abbrev pub headsGood : List ℤ → Bool
-headsGood hs = all (λ h. ltZ (pos 0) h) hs && noneTwice hs
+headsGood hs = all (λ h. ltZ (pos 0) h) hs && distinct hs
 
 -- question 8, of the body's literals: nonzero with no atom twice
 abbrev pub bodyGood : List ℤ → Bool
-bodyGood ls = not (has (pos 0) ls) && noneTwice ls
+bodyGood ls = not (has (pos 0) ls) && distinct ls
 
 -- a rule, or the number of the first question that it fails
 pub data RuleRead : Type 0 where
@@ -151,9 +143,9 @@ readText size text = cond (leb (length text) longest) (readLines size text) (ref
 -- What the service answers and leaves
 
 -- this paper's values of each case: N and the rule count, or the number and the line
-abbrev pub answerOf : Reading → ProgramReading
-answerOf (refused k line) = Refused (record { number = k; line = line })
-answerOf (program rs) = Read (atoms rs) (length rs)
+abbrev pub programAnswer : Reading → ProgramReading
+programAnswer (refused k line) = Refused (record { number = k; line = line })
+programAnswer (program rs) = Read (atoms rs) (length rs)
 
 -- "Every refusal zeroes the whole of the table"
 abbrev pub tableOf : ℕ → Reading → List ℤ
@@ -162,5 +154,5 @@ tableOf size (program rs) = tableWords size rs
 
 -- the public contract: the answer and every word of the table
 pub record ProgramRead (text : List ℕ) (before after : List ℤ) (r : ProgramReading) : Type 0 where
-  pub answer : r ≡ answerOf (readText (length before) text)
+  pub answer : r ≡ programAnswer (readText (length before) text)
   pub table : after ≡ tableOf (length before) (readText (length before) text)

@@ -5,7 +5,7 @@ use mathlib.Core.List.{List, [], _∷_, _++_, map}
 use Prim.Native.Nat.{ℕ, _-_, max}
 use lib.IntN.{ℤ, pos}
 use lib.ListN.{length, replicate}
-use Rattle.words.specs.Lists.{joinAll}
+use Rattle.words.specs.Lists.{concat}
 use Rattle.words.specs.Literals.{top}
 use Rattle.aspif.specs.declared.Kind.{Kind}
 use Rattle.aspif.specs.declared.Kind.the-variants.{Normal, Choice}
@@ -45,7 +45,7 @@ ruleWords r = kindWord (r .kind) ∷ pos (length (r .heads)) ∷ pos (length (r 
 
 -- "The lent table" (document 01's term for the words that the caller lends for the rules) "holds the rules in order"
 abbrev pub programWords : List Rule → List ℤ
-programWords rs = joinAll (map ruleWords rs)
+programWords rs = concat (map ruleWords rs)
 
 -- a table of the length given: "All later words are 0"
 abbrev pub tableWords : ℕ → List Rule → List ℤ

@@ -10,24 +10,14 @@ ghost use Rattle.words.specs.Literals.{same};
 ghost use Rattle.text.specs.Line.{lineOf};
 ghost use Rattle.aspif.specs.Reading.{turnOf, linesFrom, startsWith};
 ghost use Rattle.aspif.specs.Turns.{TurnTaken, LinesRead};
-use crate::MOST_LITERALS;
 use crate::ProgramRefusal;
 use crate::rules;
+use crate::rules::LineTurn;
 use text::LineRead;
+use words::MOST_LITERALS;
 
 // The numbers of the longest rule line: three before the heads, two before the body, and both parts.
 const ROW: usize = 5 + MOST_LITERALS + MOST_LITERALS;
-
-// What a line makes of the reading: it is refused, it ends the text, or a rule is added.
-pub enum LineTurn {
-    Refuses(u8),
-    Ends,
-    Adds {
-        next: usize,
-        words: usize,
-        top: usize,
-    },
-}
 
 // What the lines after the first make: the largest atom, the rules and the words that they take in the table; or a refusal.
 pub enum Lines {

@@ -6,12 +6,23 @@ ghost use lib.IntN.{pos};
 ghost use lib.ListN.{length, drop};
 ghost use Rattle.words.specs.Literals.{ascending};
 ghost use Rattle.aspif.specs.Rules.{kindWord};
-ghost use Rattle.aspif.specs.Reading.{mostLiterals, isAt, isCount, suited, bodyShape, headShape, shapeOf, headsGood, bodyGood, reads, ruleOf, room};
+ghost use Rattle.words.specs.Limits.{mostLiterals};
+ghost use Rattle.aspif.specs.Reading.{isAt, isCount, suited, bodyShape, headShape, shapeOf, headsGood, bodyGood, reads, ruleOf, room};
 ghost use Rattle.aspif.specs.Turns.{rowSize, rowRule, rowWords, Sorted, TurnTaken};
 use crate::Kind;
-use crate::MOST_LITERALS;
-use crate::MOST_RULES;
-use crate::lines::LineTurn;
+use words::MOST_LITERALS;
+use words::MOST_RULES;
+
+// What a line makes of the reading: it is refused, it ends the text, or a rule is added.
+pub enum LineTurn {
+    Refuses(u8),
+    Ends,
+    Adds {
+        next: usize,
+        words: usize,
+        top: usize,
+    },
+}
 
 // The first of questions 5 to 7 that a line fails, or a rule line's head kind, head count and body count.
 pub enum Shape {

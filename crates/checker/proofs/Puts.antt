@@ -1,4 +1,4 @@
--- What the proofs of `checker::report` cite: a verdict's line, two verdicts with their lines, and the line of two texts.
+-- What the proofs of `checker::report` cite: a verdict's line, and the line of two texts.
 -- Assumes nothing.
 use mathlib.Core.Path.{_≡_, refl, _∙_, ap, ap₂}
 use mathlib.Core.List.{List, [], _∷_}
@@ -7,34 +7,21 @@ use native.Mathlib.Omega.{arith}
 use lib.IntN.{ℤ}
 use lib.ListN.{length}
 use lib.Seq.{sets}
-use Rattle.text.specs.Decimals.{decimals, decimal}
 use Rattle.text.specs.Writing.{Put}
-use Rattle.checker.specs.Texts.{lines}
 use Rattle.checker.specs.Check.{Checked, check, CheckedTexts}
-use Rattle.checker.specs.Report.{lineOf, lent, printed}
-use Rattle.checker.specs.Examples.{undecided, refusedProgram}
+use Rattle.checker.specs.Report.{verdictLine, lent, printed}
 use Rattle.checker.specs.declared.Verdict.{Verdict}
 
 -- a verdict's line from the front on
 pub line-put : {v w : Verdict} {before after : List ℕ} {next : ℕ}
-    → v ≡ w → Put (lineOf w) before after 0 next → next ≤ 97
-    → (next ≡ length (lineOf v)) × ((after ≡ sets before 0 (lineOf v)) × (next ≤ 97))
+    → v ≡ w → Put (verdictLine w) before after 0 next → next ≤ 97
+    → (next ≡ length (verdictLine v)) × ((after ≡ sets before 0 (verdictLine v)) × (next ≤ 97))
 line-put e p h = rw e (omega (arith, p .ends), (p .stands, h))
-
--- Two verdicts with numbers of several digits, and their lines
-
-pub open-line : lineOf (undecided 4095 1 0 0) ≡ lines ("open 4095 1 0 0" ∷ [])
-unfolding decimal decimals
-open-line = refl
-
-pub program-line : lineOf (refusedProgram 10 1025) ≡ lines ("refused program 10 1025" ∷ [])
-unfolding decimal decimals
-program-line = refl
 
 -- The line of two texts
 
 -- the verdict's line, where the table and the store are as long as `verdict` lends them
 pub line-printed : (text proof : List ℕ) (table store : List ℤ) {table′ store′ : List ℤ} {v : Verdict} → length table ≡ lent → length store ≡ lent
-    → CheckedTexts text proof table store table′ store′ v → lineOf v ≡ printed text proof
+    → CheckedTexts text proof table store table′ store′ v → verdictLine v ≡ printed text proof
 unfolding printed
-line-printed text proof table store a b e = ap lineOf (ap (λ (x : Checked). x .verdict) e ∙ ap₂ (λ t s. check text proof t s .verdict) a b)
+line-printed text proof table store a b e = ap verdictLine (ap (λ (x : Checked). x .verdict) e ∙ ap₂ (λ t s. check text proof t s .verdict) a b)

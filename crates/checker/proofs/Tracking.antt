@@ -9,21 +9,20 @@ use native.Mathlib.Omega.{arith}
 use lib.Dec.{T, eqb}
 use lib.IntN.{ℤ}
 use lib.ListN.{length, take, set, replicate, length-set, length-replicate}
-use Rattle.words.specs.Limits.{largest}
+use Rattle.words.specs.Limits.{largest, mostRules}
 use Rattle.words.specs.Lists.{_∈_, any, all}
 use Rattle.words.specs.Literals.{variable, sameList}
 use Rattle.words.proofs.Lists.{Decides, itself, reworded, and-decides, or-decides, eqb-decides, leb-decides, same-test}
 use Rattle.words.proofs.Literals.{sameList-decides}
 use Rattle.words.proofs.Places.{equal?}
 use Rattle.aspif.specs.Rules.{Rule, atoms}
-use Rattle.aspif.specs.Reading.{mostRules}
-use Rattle.answer_set.specs.SetTest.{listed, marked}
+use Rattle.marks.specs.Marks.{listed, marked, Marks, upTo}
 use Rattle.derivation.specs.States.{Named, State, isAtom, isKnown}
 use Rattle.derivation.specs.Steps.{allKnown}
 use Rattle.derivation.proofs.Questions.{known-decides}
-use Rattle.names.specs.Queries.{Marks, upTo, renamed}
+use Rattle.names.specs.Queries.{renamed}
 use Rattle.names.proofs.Picks.{renamed-map, length-renamed}
-use Rattle.answer_set.proofs.Tested.{marked-set}
+use Rattle.marks.proofs.Sets.{marked-set}
 use Rattle.checker.specs.Held.{nameOf, Proper, Tracks}
 use Rattle.checker.proofs.Names.{unlisted, name-of}
 
@@ -66,7 +65,7 @@ start-tracks {P} {known} marks few =
         new = λ x i. elim i [ ];
         old = λ x i. elim i [ ];
         once = λ x y i. elim i [ ];
-        distinct = refl;
+        different = refl;
       };
     }
 
@@ -100,7 +99,7 @@ module _ {P : List Rule} {known names : List ℕ} (z : State) (tracks : Tracks P
           new = proper .new;
           old = λ x i. List·Memᴰ·tail (proper .old x i);
           once = proper .once;
-          distinct = proper .distinct;
+          different = proper .different;
         };
       }
 
@@ -122,7 +121,7 @@ module _ {P : List Rule} {known names : List ℕ} (z : State) (tracks : Tracks P
       new = each (λ t. unknown (known-decides P z n .from (inl t))) (proper .new);
       old = each (List·Memᴰ·head refl) (λ x i. List·Memᴰ·tail (proper .old x i));
       once = once;
-      distinct = rw (unlisted n (z .named) not-older, proper .distinct);
+      different = rw (unlisted n (z .named) not-older, proper .different);
     }
       where
         each : {F : Named → Type 0} → F entry → ((x : Named) → x ∈ z .named → F x) → (x : Named) → x ∈ entry ∷ z .named → F x

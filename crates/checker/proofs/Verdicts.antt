@@ -13,16 +13,14 @@ use Rattle.words.proofs.Lists.{zero-one}
 use Rattle.words.specs.Limits.{longest}
 use Rattle.words.specs.Lists.{any}
 use Rattle.aspif.specs.Rules.{Rule, isEmpty, atoms, tableWords}
-use Rattle.aspif.specs.Reading.{Reading, program, readText, readLines, answerOf, tableOf}
+use Rattle.aspif.specs.Reading.{Reading, program, readText, readLines, programAnswer, tableOf}
 use Rattle.aspif.specs.Reading as Reading
 use Rattle.aspif.specs.declared.ProgramReading.{ProgramReading}
 use Rattle.aspif.specs.declared.ProgramReading.the-variants.{Read, Refused}
 use Rattle.aspif.specs.declared.ProgramRefusal.{ProgramRefusal}
-use Rattle.answer_set.specs.SetTest.{rulesAt}
-use Rattle.answer_set.proofs.Fronts.{few-rules, sound-rules}
-use Rattle.answer_set.proofs.Tested.{atoms-small}
-use Rattle.answer_set.proofs.Answered.{rules-of}
-use Rattle.answer_set.proofs.Readable.{table-read}
+use Rattle.aspif.specs.Tables.{rulesAt}
+use Rattle.aspif.proofs.Cursors.{few-rules, sound-rules, atoms-small, rules-of}
+use Rattle.aspif.proofs.Readable.{table-read}
 use Rattle.drupe.specs.Texts.{stepsOf}
 use Rattle.derivation.specs.States.{State}
 use Rattle.nogoods.specs.Store.{storeWords, Holds}
@@ -84,13 +82,13 @@ lines-read t text P e = by (leb (length text) longest) e
     by true e = e
     by false e = absurd (zero-one (cc))
 
-module _ (t s : ℕ) (text proof : List ℕ) {r : ProgramReading} (answer : r ≡ answerOf (readText t text)) {table : List ℤ} (words : table ≡ tableOf t (readText t text)) where
+module _ (t s : ℕ) (text proof : List ℕ) {r : ProgramReading} (answer : r ≡ programAnswer (readText t text)) {table : List ℤ} (words : table ≡ tableOf t (readText t text)) where
   pub program-refused : (x : ProgramRefusal) {store : List ℤ} → r ≡ Refused x → store ≡ replicate s (pos 0)
       → record { verdict = RefusedProgram x; table = table; store = store } ≡ check text proof t s
   unfolding check
   program-refused x {store} e z = by (readText t text) (sym answer ∙ e) words
     where
-      by : (d : Reading) → answerOf d ≡ Refused x → table ≡ tableOf t d
+      by : (d : Reading) → programAnswer d ≡ Refused x → table ≡ tableOf t d
           → record { verdict = RefusedProgram x; table = table; store = store } ≡ judgedReading t s proof d
       by (Reading.refused k n) e w = let p : x ≡ record { number = k; line = n } = cc in rw (p, w, z)
       by (program P) e w = absurd (zero-one (cc))
@@ -106,7 +104,7 @@ module _ (t s : ℕ) (text proof : List ℕ) {r : ProgramReading} (answer : r �
   pub program-read : (N R : ℕ) → r ≡ Read N R → ReadProgram N R
   program-read N R e = by (readText t text) refl (sym answer ∙ e) words
     where
-      by : (d : Reading) → readText t text ≡ d → answerOf d ≡ Read N R → table ≡ tableOf t d → ReadProgram N R
+      by : (d : Reading) → readText t text ≡ d → programAnswer d ≡ Read N R → table ≡ tableOf t d → ReadProgram N R
       by (Reading.refused k n) q e w = absurd (zero-one (cc))
       by (program P) q e w = record { P = P; read = q; top = cc; count = cc; rules = w }
 

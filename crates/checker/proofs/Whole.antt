@@ -1,5 +1,5 @@
 -- The whole check: its course is what its lines come to one by one; and demand 3, part two: the lines that it goes through are a
--- list of steps accepted in turn, so what `demand3` says of every such list holds wherever the check says "inconsistent".
+-- list of steps accepted in turn, so what `soundness` says of every such list holds wherever the check says "inconsistent".
 -- Assumes nothing.
 use mathlib.Core.Path.{_≡_, refl, sym, _∙_, ap, ap₂, subst}
 use mathlib.Core.Bool.{Bool, true, false, cond}
@@ -23,14 +23,14 @@ use Rattle.drupe.specs.Lines.{lineRefusal, LineAt, end, line, lineAt}
 use Rattle.drupe.specs.Lines as Lines
 use Rattle.drupe.proofs.Lines.{passed-line}
 use Rattle.derivation.specs.States.{State, start}
-use Rattle.drupe.specs.Texts.{Step, StepsRead, steps, refused, after, textOf, stepsAt, stepsOf, Passes}
+use Rattle.drupe.specs.Texts.{Step, StepsRead, steps, refused, after, textOf, stepsAt, stepsOf, LinePasses}
 use Rattle.drupe.proofs.Texts.{steps-exact, read-back}
 use Rattle.derivation.specs.Steps.{Outcome, next, byLetter, step, emptyLive}
 use Rattle.derivation.specs.Steps as Steps
-use Rattle.derivation.proofs.Sound.{demand3}
+use Rattle.derivation.proofs.Sound.{soundness}
 use Rattle.nogoods.specs.Store.{liveWords}
 use Rattle.checker.specs.Check.{Course, stopped, through, thenStopped, runSteps, runRead, course, countsOf, saying, judged, judgedReading, check, Checked}
-use Rattle.checker.specs.Claims.{Runs, ends, unread, unaccepted, full, good, StepByStep, Ended, Written, EndedWritten, Demand2, Demand3Whole, Demand2Service, Demand3Service}
+use Rattle.checker.specs.Claims.{Runs, ends, unread, unaccepted, full, good, StepByStep, Ended, Written, EndedWritten, VerdictExact, SoundWhole, ServiceExact, ServiceSound}
 use Rattle.checker.specs.declared.Counts.{Counts}
 use Rattle.checker.specs.declared.ProofRefusal.{ProofRefusal}
 use Rattle.checker.specs.declared.Verdict.the-variants.{Inconsistent, RefusedProof}
@@ -179,31 +179,31 @@ run-append P size n m z w (t ∷ ts) us e = by (λ z′ f. run-append P size (n 
         fits false e = absurd (zero-one (cc))
 
 -- the course of a text that a writer of good steps leaves
-pub course-written : (P : List Rule) (size : ℕ) (ts : List Step) → ((t : Step) → t ∈ ts → Passes t) → length (textOf ts) ≤ longest
+pub course-written : (P : List Rule) (size : ℕ) (ts : List Step) → ((t : Step) → t ∈ ts → LinePasses t) → length (textOf ts) ≤ longest
     → course P size (textOf ts) ≡ runSteps P size 0 start ts
 unfolding course
 course-written P size ts p h = ap (runRead P size 0 start) (read-back ts p h)
 
 -- a step that is accepted passes questions 22 to 25
-accepted-passes : (P : List Rule) (z w : State) (t : Step) → step P z t ≡ next w → Passes t
+accepted-passes : (P : List Rule) (z w : State) (t : Step) → step P z t ≡ next w → LinePasses t
 accepted-passes P z w t e = by (has (pos 0) (t .numbers)) refl (lineRefusal (t .letter) (t .numbers)) refl e
   where
     by : (b : Bool) → has (pos 0) (t .numbers) ≡ b → (o : Option ℕ) → lineRefusal (t .letter) (t .numbers) ≡ o
-        → cond b (Steps.refused 22) (elim o as (λ x. Outcome) [ some k ↦ Steps.refused k | none ↦ byLetter P z (t .letter) (t .numbers) ]) ≡ next w → Passes t
+        → cond b (Steps.refused 22) (elim o as (λ x. Outcome) [ some k ↦ Steps.refused k | none ↦ byLetter P z (t .letter) (t .numbers) ]) ≡ next w → LinePasses t
     by true p o q e = absurd (zero-one (cc))
     by false p (some k) q e = absurd (zero-one (cc))
     by false p none q e = (q, p)
 
-pub steps-pass : (P : List Rule) (z w : State) (ts : List Step) → Steps.steps P z ts ≡ next w → (t : Step) → t ∈ ts → Passes t
+pub steps-pass : (P : List Rule) (z w : State) (ts : List Step) → Steps.steps P z ts ≡ next w → (t : Step) → t ∈ ts → LinePasses t
 steps-pass P z w [] e t m = elim m [ ]
 steps-pass P z w (u ∷ us) e t m = by (λ z′ f i. steps-pass P z′ w us f t i) (step P z u) refl e m
   where
-    at : Passes u → (t ∈ us → Passes t) → t ∈ u ∷ us → Passes t
+    at : LinePasses u → (t ∈ us → LinePasses t) → t ∈ u ∷ us → LinePasses t
     at p f (List·Memᴰ·head q) = rw q p
     at p f (List·Memᴰ·tail i) = f i
 
-    by : ((z′ : State) → Steps.steps P z′ us ≡ next w → t ∈ us → Passes t) → (o : Outcome) → step P z u ≡ o
-        → elim o as (λ x. Outcome) [ Steps.refused k ↦ Steps.refused k | next z′ ↦ Steps.steps P z′ us ] ≡ next w → t ∈ u ∷ us → Passes t
+    by : ((z′ : State) → Steps.steps P z′ us ≡ next w → t ∈ us → LinePasses t) → (o : Outcome) → step P z u ≡ o
+        → elim o as (λ x. Outcome) [ Steps.refused k ↦ Steps.refused k | next z′ ↦ Steps.steps P z′ us ] ≡ next w → t ∈ u ∷ us → LinePasses t
     by later (Steps.refused k) q e m = absurd (zero-one (cc))
     by later (next z′) q e m = at (accepted-passes P z z′ u q) (later z′ e) m
 
@@ -255,26 +255,26 @@ module _ (proof : List ℕ) (t s : ℕ) (P : List Rule) (b : Bool) (c : Counts) 
   ended← E =
       ap (λ (o : Course). judged t s P o .verdict) (ap (runRead P s 0 start) (E .2) ∙ E .3) ∙ ap₂ (λ a d. saying a d) (E .4) (sym (E .5))
 
-pub demand2 : Demand2
+pub verdict-exact : VerdictExact
 unfolding check
-demand2 text proof t s P q c = rw q ((ended→ proof t s P true c, ended← proof t s P true c), (ended→ proof t s P false c, ended← proof t s P false c))
+verdict-exact text proof t s P q c = rw q ((ended→ proof t s P true c, ended← proof t s P true c), (ended→ proof t s P false c, ended← proof t s P false c))
 
 -- no program that is refused is said to be inconsistent
 read-of : (t s : ℕ) (proof : List ℕ) (r : Reading) (c : Counts) → judgedReading t s proof r .verdict ≡ Inconsistent c → (P : List Rule) × (r ≡ program P)
 read-of t s proof (Reading.refused k n) c e = absurd (zero-one (cc))
 read-of t s proof (program P) c e = (P, refl)
 
-pub demand3-whole : Demand3Whole
+pub soundness-whole : SoundWhole
 unfolding check
-demand3-whole text proof t s c e =
+soundness-whole text proof t s c e =
     let r = read-of t s proof (readText t text) c e in
-    let E = demand2 text proof t s (r .0) (r .1) c .0 .0 e in
-    (r .0, r .1, demand3 (r .0) (E .0) (E .1) (run-through (r .0) s 0 _ start (E .1) (E .0) (E .3) .0) (E .4))
+    let E = verdict-exact text proof t s (r .0) (r .1) c .0 .0 e in
+    (r .0, r .1, soundness (r .0) (E .0) (E .1) (run-through (r .0) s 0 _ start (E .1) (E .0) (E .3) .0) (E .4))
 
-pub demand2-service : Demand2Service
-demand2-service text proof table store table′ store′ r e P q c =
-    rw (ap (λ (x : Checked). x .verdict) e) (demand2 text proof (length table) (length store) P q c)
+pub service-exact : ServiceExact
+service-exact text proof table store table′ store′ r e P q c =
+    rw (ap (λ (x : Checked). x .verdict) e) (verdict-exact text proof (length table) (length store) P q c)
 
-pub demand3-service : Demand3Service
-demand3-service text proof table store table′ store′ c e =
-    demand3-whole text proof (length table) (length store) c (sym (ap (λ (x : Checked). x .verdict) e))
+pub service-sound : ServiceSound
+service-sound text proof table store table′ store′ c e =
+    soundness-whole text proof (length table) (length store) c (sym (ap (λ (x : Checked). x .verdict) e))

@@ -64,8 +64,8 @@ EndedWritten = (P : List Rule) (size : ℕ) (proof : List ℕ) (empty : Bool) (c
 
 -- "Once the program is read, the verdict is "inconsistent" exactly when the steps form an ASP-DRUPE proof under document 01 that
 -- fits the lent store, and "open" exactly when every step is good but the empty nogood does not stand after the last."
-abbrev pub Demand2 : Type 0
-Demand2 =
+abbrev pub VerdictExact : Type 0
+VerdictExact =
     (text proof : List ℕ) (t s : ℕ) (P : List Rule) → readText t text ≡ program P → (c : Counts)
     → ((check text proof t s .verdict ≡ Inconsistent c) ↔ Ended P s proof true c)
     × ((check text proof t s .verdict ≡ Open c) ↔ Ended P s proof false c)
@@ -73,24 +73,24 @@ Demand2 =
 -- "So wherever the whole check says "inconsistent", whatever the two texts, the table and the store it was lent, the same is
 -- true of the program it read": "no set of atoms is an answer set of that program. Nor is any set an answer set of that program
 -- with any list of further constraints appended, over old atoms or new."
-abbrev pub Demand3Whole : Type 1
-Demand3Whole =
+abbrev pub SoundWhole : Type 1
+SoundWhole =
     (text proof : List ℕ) (t s : ℕ) (c : Counts)
     → check text proof t s .verdict ≡ Inconsistent c
     → (P : List Rule) × (readText t text ≡ program P) × NoAnswerSet P
 
 -- Both of the function `check_texts`, by its contract, whatever the two texts, the table and the store that it is lent.
 -- Demand 2: once the program is read, it answers "inconsistent" and "open" exactly when.
-abbrev pub Demand2Service : Type 0
-Demand2Service =
+abbrev pub ServiceExact : Type 0
+ServiceExact =
     (text proof : List ℕ) (table store table′ store′ : List ℤ) (r : Verdict) → CheckedTexts text proof table store table′ store′ r
     → (P : List Rule) → readText (length table) text ≡ program P → (c : Counts)
     → ((r ≡ Inconsistent c) ↔ Ended P (length store) proof true c) × ((r ≡ Open c) ↔ Ended P (length store) proof false c)
 
 -- Demand 3: where it answers "inconsistent", no set is an answer set of the program that it read, nor of that program with any
 -- further constraints.
-abbrev pub Demand3Service : Type 1
-Demand3Service =
+abbrev pub ServiceSound : Type 1
+ServiceSound =
     (text proof : List ℕ) (table store table′ store′ : List ℤ) (c : Counts)
     → CheckedTexts text proof table store table′ store′ (Inconsistent c)
     → (P : List Rule) × (readText (length table) text ≡ program P) × NoAnswerSet P

@@ -3,7 +3,7 @@
 use mathlib.Core.List.{List, [], _∷_, _++_}
 use Prim.Native.Nat.{ℕ}
 use Rattle.text.specs.Decimals.{decimal}
-use Rattle.checker.specs.Texts.{bytes}
+use Rattle.text.specs.Strings.{bytes}
 use Rattle.checker.specs.Check.{check}
 use Rattle.checker.specs.declared.Counts.{Counts}
 use Rattle.checker.specs.declared.Verdict.{Verdict}
@@ -20,11 +20,11 @@ countsText c = numbered (c .atoms ∷ c .rules ∷ c .steps ∷ c .nogoods ∷ [
 
 -- "Its one line is `inconsistent N R S K` or `open N R S K` (R rules, S steps, K live nogoods), `refused program NUMBER LINE` or
 -- `refused proof NUMBER STEP`."
-abbrev pub lineOf : Verdict → List ℕ
-lineOf (Inconsistent c) = bytes "inconsistent" ++ countsText c
-lineOf (Open c) = bytes "open" ++ countsText c
-lineOf (RefusedProgram r) = bytes "refused program" ++ numbered (r .number ∷ r .line ∷ [])
-lineOf (RefusedProof r) = bytes "refused proof" ++ numbered (r .number ∷ r .step ∷ [])
+abbrev pub verdictLine : Verdict → List ℕ
+verdictLine (Inconsistent c) = bytes "inconsistent" ++ countsText c
+verdictLine (Open c) = bytes "open" ++ countsText c
+verdictLine (RefusedProgram r) = bytes "refused program" ++ numbered (r .number ∷ r .line ∷ [])
+verdictLine (RefusedProof r) = bytes "refused proof" ++ numbered (r .number ∷ r .step ∷ [])
 
 -- "with a table and a store of 16,384 words"
 abbrev pub lent : ℕ
@@ -32,4 +32,4 @@ lent = 16384
 
 -- what `verdict` prints of a program text and a proof text
 unfoldable pub printed : List ℕ → List ℕ → List ℕ
-printed text proof = lineOf (check text proof lent lent .verdict)
+printed text proof = verdictLine (check text proof lent lent .verdict)

@@ -5,7 +5,7 @@ ghost use lib.IntN.{ℤ, pos};
 ghost use lib.ListN.{length, replicate};
 ghost use Rattle.words.specs.Lists.{any};
 ghost use Rattle.aspif.specs.Rules.{Rule, isEmpty, tableWords};
-ghost use Rattle.answer_set.specs.SetTest.{rulesAt};
+ghost use Rattle.aspif.specs.Tables.{rulesAt};
 ghost use Rattle.nogoods.specs.Store.{Holds};
 ghost use Rattle.checker.specs.Check.{saying, judged, course};
 ghost use Rattle.checker.specs.Held.{Program};

@@ -3,6 +3,7 @@
 mod additions;
 mod judging;
 mod naming;
+mod outcomes;
 pub mod report;
 mod runs;
 mod states;

@@ -5,24 +5,21 @@ ghost use mathlib.Core.List.{List, _++_};
 ghost use Prim.Native.Nat.{ℕ, _≤_};
 ghost use lib.IntN.{ℤ, pos};
 ghost use lib.ListN.{length, drop, getD, set};
-ghost use Rattle.words.specs.Limits.{largest};
+ghost use Rattle.words.specs.Limits.{largest, mostNumbers};
 ghost use Rattle.words.specs.Literals.{variable, sameList, ascending};
-ghost use Rattle.drupe.specs.Lines.{mostNumbers};
 ghost use Rattle.aspif.specs.Rules.{Rule};
-ghost use Rattle.answer_set.specs.SetTest.{rulesAt, soundRules};
+ghost use Rattle.aspif.specs.Tables.{rulesAt, soundRules};
 ghost use Rattle.text.specs.declared.Letter.the-variants.{Body, Extension};
 ghost use Rattle.derivation.specs.States.{State};
 ghost use Rattle.derivation.specs.Steps.{definition, isUnnamedBody};
 ghost use Rattle.nogoods.specs.Store.{Literals, Holds};
 ghost use Rattle.names.specs.Queries.{renamed};
-ghost use Rattle.checker.specs.Held.{Line, Tracks, Kept, Stepping};
+ghost use Rattle.checker.specs.Held.{PassedLine, Tracks, Fitted, Stepping};
+use crate::outcomes;
+use crate::outcomes::Stepped;
 use crate::states::CheckingState;
-use crate::steps;
-use crate::steps::Stepped;
-use answer_set::marks;
 use names::queries;
 use names::queries::Query;
-use names::variables;
 use nogoods::definitions;
 use nogoods::store;
 
@@ -32,20 +29,20 @@ fn define(known: &mut [u8], store: &mut [i32], used: usize, numbers: &mut [i32])
     requires { ⌜ Literals (now numbers) × (1 ≤ length (now numbers)) × (length (now numbers) ≤ mostNumbers) ⌝ }
     ensures { λ r. ⌜ (now (known .exit) ≡ set (now (known .entry)) (variable (getD (now (numbers .entry)) 0 (pos 0))) 1)
         × ((live : List (List ℤ)) → Holds (now (store .entry)) used live
-        → Kept (live ++ definition (getD (now (numbers .entry)) 0 (pos 0)) (drop 1 (now (numbers .entry)))) (now (store .exit)) r) ⌝ }
+        → Fitted (live ++ definition (getD (now (numbers .entry)) 0 (pos 0)) (drop 1 (now (numbers .entry)))) (now (store .exit)) r) ⌝ }
 {
     marks::mark(known, words::variable_of(numbers[0]));
-    steps::fitted(definitions::append(store, used, numbers))
+    outcomes::fitted(definitions::append(store, used, numbers))
 }
 
 // `e`
 pub fn extension(known: &mut [u8], store: &mut [i32], used: usize, numbers: &mut [i32]) -> Stepped
     requires { ⌜ ((live : List (List ℤ)) × Holds (now store) used live) ⌝ }
-    requires { ⌜ Line Extension (now numbers) ⌝ }
+    requires { ⌜ PassedLine Extension (now numbers) ⌝ }
     ensures { λ r. ⌜ ((P : List Rule) (names : List ℕ) → Stepping P Extension (now (numbers .entry)) used (now (known .entry)) names (now (store .entry))
         (now (known .exit)) names (now (store .exit)) r) ⌝ }
 {
-    if !variables::all_marked(&numbers[1..], known) {
+    if !marks::all_marked(&numbers[1..], known) {
         return Stepped::Fails(26);
     }
     if marks::is_marked(known, words::variable_of(numbers[0])) {
@@ -85,11 +82,11 @@ pub fn body(
 ) -> Stepped
     requires { ⌜ (soundRules rules (now table) ≡ true) × (rules ≤ length (now names)) ⌝ }
     requires { ⌜ ((live : List (List ℤ)) × Holds (now store) used live) ⌝ }
-    requires { ⌜ Line Body (now numbers) ⌝ }
+    requires { ⌜ PassedLine Body (now numbers) ⌝ }
     ensures { λ r. ⌜ Stepping (rulesAt rules (now (table .entry))) Body (now (numbers .entry)) used (now (known .entry)) (now (names .entry)) (now (store .entry))
         (now (known .exit)) (now (names .exit)) (now (store .exit)) r ⌝ }
 {
-    if !variables::all_marked(&numbers[1..], known) {
+    if !marks::all_marked(&numbers[1..], known) {
         return Stepped::Fails(26);
     }
     let name = words::variable_of(numbers[0]);

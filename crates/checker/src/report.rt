@@ -7,7 +7,7 @@ ghost use lib.ListN.{length};
 ghost use lib.Seq.{sets};
 ghost use Rattle.text.specs.Decimals.{decimal};
 ghost use Rattle.text.specs.Writing.{Put};
-ghost use Rattle.checker.specs.Report.{numbered, countsText, lineOf, printed};
+ghost use Rattle.checker.specs.Report.{numbered, countsText, verdictLine, printed};
 use crate::Counts;
 use crate::Verdict;
 use crate::check_texts;
@@ -53,8 +53,8 @@ fn put_counts(buffer: &mut [u8], at: usize, counts: Counts) -> usize
 // The verdict's line, its newline included, at the front of the buffer, as many bytes as fit; the answer is the line's length. A
 // buffer of 97 bytes holds every line.
 pub fn write_line(verdict: Verdict, buffer: &mut [u8]) -> usize
-    ensures { λ r. ⌜ r ≡ length (lineOf verdict) ⌝ }
-    ensures { λ r. ⌜ now (buffer .exit) ≡ sets (now (buffer .entry)) 0 (lineOf verdict) ⌝ }
+    ensures { λ r. ⌜ r ≡ length (verdictLine verdict) ⌝ }
+    ensures { λ r. ⌜ now (buffer .exit) ≡ sets (now (buffer .entry)) 0 (verdictLine verdict) ⌝ }
     ensures { λ r. ⌜ r ≤ 97 ⌝ }
 {
     match verdict {

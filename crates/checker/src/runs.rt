@@ -5,21 +5,21 @@ ghost use Prim.Native.Nat.{_≤_};
 ghost use lib.IntN.{ℤ, pos};
 ghost use lib.ListN.{length, replicate};
 ghost use Rattle.words.specs.Limits.{longest};
-ghost use Rattle.answer_set.specs.SetTest.{rulesAt};
+ghost use Rattle.aspif.specs.Tables.{rulesAt};
 ghost use Rattle.drupe.specs.Lines.{lineAt};
 ghost use Rattle.derivation.specs.States.{State};
 ghost use Rattle.nogoods.specs.Store.{Holds};
 ghost use Rattle.checker.specs.Check.{course};
-ghost use Rattle.checker.specs.Held.{Program, Tracks, turnOf, LineTurn, Ran};
+ghost use Rattle.checker.specs.Held.{Program, Tracks, proofTurn, LineLeaves, Ran};
 use crate::ProofRefusal;
+use crate::outcomes::Stepped;
 use crate::states::CheckingState;
 use crate::steps;
-use crate::steps::Stepped;
 use drupe::LineAnswer;
 use drupe::reader;
 
 // What stands at a position comes to: the end, the question that is answered no, or the next position and the words used then.
-pub enum Turn {
+pub enum ProofTurn {
     Ends,
     Fails(u8),
     Goes { next: usize, used: usize },
@@ -32,12 +32,12 @@ pub enum Run {
 }
 
 // What a step comes to, with the position after its line.
-fn turn_of(next: usize, stepped: Stepped) -> Turn
-    ensures { λ r. ⌜ r ≡ turnOf next stepped ⌝ }
+fn turn_of(next: usize, stepped: Stepped) -> ProofTurn
+    ensures { λ r. ⌜ r ≡ proofTurn next stepped ⌝ }
 {
     match stepped {
-        Stepped::Uses(used) => Turn::Goes { next, used },
-        Stepped::Fails(number) => Turn::Fails(number),
+        Stepped::Uses(used) => ProofTurn::Goes { next, used },
+        Stepped::Fails(number) => ProofTurn::Fails(number),
     }
 }
 
@@ -52,19 +52,19 @@ fn turn_at(
     names: &mut [u16],
     store: &mut [i32],
     used: usize,
-) -> Turn
+) -> ProofTurn
     requires { ⌜ Program (now table) rules atoms × (rules ≤ length (now names)) ⌝ }
     requires { ⌜ ((live : List (List ℤ)) × Holds (now store) used live) ⌝ }
     ensures { λ r. ⌜ ((z : State) → Tracks (rulesAt rules (now (table .entry))) (now (known .entry)) (now (names .entry)) (z .introduced) (z .named)
         → Holds (now (store .entry)) used (z .live)
-        → LineTurn (rulesAt rules (now (table .entry))) (now (known .exit)) (now (names .exit)) (now (store .exit)) used z (lineAt (now (proof .entry)) at) r) ⌝ }
+        → LineLeaves (rulesAt rules (now (table .entry))) (now (known .exit)) (now (names .exit)) (now (store .exit)) used z (lineAt (now (proof .entry)) at) r) ⌝ }
 {
     let reading = reader::step_at(proof, at);
     let answer = reading.answer;
     let mut numbers = reading.numbers;
     match answer {
-        LineAnswer::End => Turn::Ends,
-        LineAnswer::Refused(number) => Turn::Fails(number),
+        LineAnswer::End => ProofTurn::Ends,
+        LineAnswer::Refused(number) => ProofTurn::Fails(number),
         LineAnswer::Line {
             letter,
             count,
@@ -111,16 +111,16 @@ pub fn run_lines(proof: &[u8], table: &[i32], rules: usize, atoms: usize, store:
             used,
         );
         match turned {
-            Turn::Ends => {
+            ProofTurn::Ends => {
                 return Run::Through { steps, used };
             }
-            Turn::Fails(number) => {
+            ProofTurn::Fails(number) => {
                 return Run::Stopped(ProofRefusal {
                     number,
                     step: steps + 1,
                 });
             }
-            Turn::Goes { next, used: n } => {
+            ProofTurn::Goes { next, used: n } => {
                 at = next;
                 used = n;
                 steps += 1;

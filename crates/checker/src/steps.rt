@@ -1,35 +1,18 @@
 // The seven steps, questions 26 to 34, by letter: document 01, 'The proof's seven letters'. What each comes to is derivation's `byLetter`;
 // how arrays and store hold a state is specs/Held.antt.
-ghost use mathlib.Core.Path.{_≡_};
 ghost use mathlib.Core.List.{List};
 ghost use Prim.Native.Nat.{_≤_};
 ghost use lib.IntN.{ℤ};
 ghost use lib.ListN.{length};
-ghost use Rattle.answer_set.specs.SetTest.{rulesAt};
+ghost use Rattle.aspif.specs.Tables.{rulesAt};
 ghost use Rattle.nogoods.specs.Store.{Holds};
-ghost use Rattle.checker.specs.Held.{Line, Program, kept, Stepping};
+ghost use Rattle.checker.specs.Held.{PassedLine, Program, Stepping};
 use crate::additions;
 use crate::naming;
+use crate::outcomes::Stepped;
 use crate::supports;
 use crate::unfounded;
-use nogoods::store::Added;
 use text::Letter;
-
-// What a step comes to: how many words of the store are used then, or the question that is answered no.
-pub enum Stepped {
-    Uses(usize),
-    Fails(u8),
-}
-
-// Question 34.
-pub fn fitted(added: Added) -> Stepped
-    ensures { λ r. ⌜ r ≡ kept added ⌝ }
-{
-    match added {
-        Added::Uses(used) => Stepped::Uses(used),
-        Added::Full => Stepped::Fails(34),
-    }
-}
 
 // The step of a line that passed questions 22 to 25.
 pub fn step(
@@ -45,7 +28,7 @@ pub fn step(
 ) -> Stepped
     requires { ⌜ Program (now table) rules atoms × (rules ≤ length (now names)) ⌝ }
     requires { ⌜ ((live : List (List ℤ)) × Holds (now store) used live) ⌝ }
-    requires { ⌜ Line letter (now numbers) ⌝ }
+    requires { ⌜ PassedLine letter (now numbers) ⌝ }
     ensures { λ r. ⌜ Stepping (rulesAt rules (now (table .entry))) letter (now (numbers .entry)) used (now (known .entry)) (now (names .entry)) (now (store .entry))
         (now (known .exit)) (now (names .exit)) (now (store .exit)) r ⌝ }
 {

@@ -6,19 +6,17 @@ ghost use Prim.Native.Nat.{ℕ, _≤_, _<_};
 ghost use lib.IntN.{ℤ, pos};
 ghost use lib.ListN.{length, drop, getD};
 ghost use Rattle.words.specs.Literals.{complement, ascending};
-ghost use Rattle.drupe.specs.Lines.{mostNumbers};
-ghost use Rattle.answer_set.specs.SetTest.{rulesAt, soundRules};
+ghost use Rattle.words.specs.Limits.{mostNumbers};
+ghost use Rattle.aspif.specs.Tables.{rulesAt, soundRules};
 ghost use Rattle.text.specs.declared.Letter.the-variants.{Completion, Support};
 ghost use Rattle.derivation.specs.States.{State};
 ghost use Rattle.derivation.specs.Steps.{isSupport};
 ghost use Rattle.nogoods.specs.Store.{Literals, Holds};
-ghost use Rattle.checker.specs.Held.{Line, Program, Tracks, Kept, Stepping};
-use crate::steps;
-use crate::steps::Stepped;
-use answer_set::marks;
+ghost use Rattle.checker.specs.Held.{PassedLine, Program, Tracks, Fitted, Stepping};
+use crate::outcomes;
+use crate::outcomes::Stepped;
 use names::queries;
 use names::queries::Query;
-use names::variables;
 use nogoods::store;
 
 // The first number with the complements of the others is live, after the other nogoods.
@@ -26,11 +24,11 @@ fn join(store: &mut [i32], used: usize, numbers: &mut [i32]) -> Stepped
     requires { ⌜ ((live : List (List ℤ)) × Holds (now store) used live) ⌝ }
     requires { ⌜ Literals (now numbers) × (1 ≤ length (now numbers)) × (length (now numbers) ≤ mostNumbers) ⌝ }
     ensures { λ r. ⌜ ((live : List (List ℤ)) → Holds (now (store .entry)) used live
-        → Kept (live ++ (ascending (getD (now (numbers .entry)) 0 (pos 0) ∷ map complement (drop 1 (now (numbers .entry)))) ∷ [])) (now (store .exit)) r) ⌝ }
+        → Fitted (live ++ (ascending (getD (now (numbers .entry)) 0 (pos 0) ∷ map complement (drop 1 (now (numbers .entry)))) ∷ [])) (now (store .exit)) r) ⌝ }
 {
     words::complement_all(&mut numbers[1..]);
     words::sort(numbers);
-    steps::fitted(store::append(store, used, numbers))
+    outcomes::fitted(store::append(store, used, numbers))
 }
 
 // `c`
@@ -45,11 +43,11 @@ pub fn completion(
 ) -> Stepped
     requires { ⌜ (soundRules rules (now table) ≡ true) × (rules ≤ length (now names)) ⌝ }
     requires { ⌜ ((live : List (List ℤ)) × Holds (now store) used live) ⌝ }
-    requires { ⌜ Line Completion (now numbers) ⌝ }
+    requires { ⌜ PassedLine Completion (now numbers) ⌝ }
     ensures { λ r. ⌜ Stepping (rulesAt rules (now (table .entry))) Completion (now (numbers .entry)) used (now (known .entry)) (now (names .entry)) (now (store .entry))
         (now (known .entry)) (now (names .entry)) (now (store .exit)) r ⌝ }
 {
-    if !variables::all_marked(numbers, known) {
+    if !marks::all_marked(numbers, known) {
         return Stepped::Fails(26);
     }
     // the query reads no set
@@ -63,7 +61,7 @@ pub fn completion(
 // Question 30.
 fn is_supported(table: &[i32], rules: usize, atoms: usize, names: &[u16], numbers: &[i32]) -> bool
     requires { ⌜ Program (now table) rules atoms × (rules ≤ length (now names)) ⌝ }
-    requires { ⌜ Line Support (now numbers) ⌝ }
+    requires { ⌜ PassedLine Support (now numbers) ⌝ }
     ensures { λ r. ⌜ ((known : List ℕ) (z : State) → Tracks (rulesAt rules (now (table .entry))) known (now (names .entry)) (z .introduced) (z .named)
         → r ≡ isSupport (rulesAt rules (now (table .entry))) z (getD (now (numbers .entry)) 0 (pos 0)) (drop 1 (now (numbers .entry)))) ⌝ }
 {
@@ -71,10 +69,10 @@ fn is_supported(table: &[i32], rules: usize, atoms: usize, names: &[u16], number
     if atoms < words::variable_of(h) {
         return false;
     }
-    let listed = variables::marks_of(&numbers[1..]);
+    let listed = marks::marks_of(&numbers[1..]);
     // the query reads neither literals nor a set
     let found = queries::names_of(table, rules, names, Query::Head(h), numbers, &listed);
-    variables::is_same_set(&listed, &found)
+    marks::is_same_set(&listed, &found)
 }
 
 // `s`
@@ -90,11 +88,11 @@ pub fn support(
 ) -> Stepped
     requires { ⌜ Program (now table) rules atoms × (rules ≤ length (now names)) ⌝ }
     requires { ⌜ ((live : List (List ℤ)) × Holds (now store) used live) ⌝ }
-    requires { ⌜ Line Support (now numbers) ⌝ }
+    requires { ⌜ PassedLine Support (now numbers) ⌝ }
     ensures { λ r. ⌜ Stepping (rulesAt rules (now (table .entry))) Support (now (numbers .entry)) used (now (known .entry)) (now (names .entry)) (now (store .entry))
         (now (known .entry)) (now (names .entry)) (now (store .exit)) r ⌝ }
 {
-    if !variables::all_marked(numbers, known) {
+    if !marks::all_marked(numbers, known) {
         return Stepped::Fails(26);
     }
     if !is_supported(table, rules, atoms, names, numbers) {

@@ -12,7 +12,7 @@ use Rattle.words.proofs.Lists.{itself, and-decides, not-decides, any-decides, k
 use Rattle.words.proofs.Literals.{sameList-decides, has-decides}
 use Rattle.aspif.specs.Rules.{Rule}
 use Rattle.aspif.specs.declared.Kind.the-variants.{Normal}
-use Rattle.answer_set.specs.AnswerSets.{Taken, Chosen, LeastModel, derive, Met, AnswerSet}
+use Rattle.aspif.specs.AnswerSets.{Taken, Chosen, LeastModel, derive, Met, AnswerSet}
 use Rattle.drupe.specs.Lines.{isPositive}
 use Rattle.derivation.specs.States.{Named, State, isAtom, isName, hasName}
 use Rattle.derivation.specs.Steps.{isExternal, externalNames}

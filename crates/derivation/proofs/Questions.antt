@@ -7,12 +7,10 @@ use native.Mathlib.Omega.{arith}
 use lib.Dec.{T}
 use lib.IntN.{ℤ, pos}
 use Rattle.words.specs.Lists.{_∈_}
-use Rattle.words.specs.Literals.{variable}
+use Rattle.words.specs.Literals.{variable, top}
 use Rattle.words.proofs.Lists.{Decides, itself, reworded, and-decides, or-decides, any-decides, eqb-decides, leb-decides}
-use Rattle.words.proofs.Literals.{sameList-decides, variable-positive}
+use Rattle.words.proofs.Literals.{sameList-decides, variable-positive, positive}
 use Rattle.words.proofs.Tops.{top-le}
-use Rattle.answer_set.proofs.Answered.{positive}
-use Rattle.words.specs.Literals.{top}
 use Rattle.aspif.specs.Rules.{Rule, atoms}
 use Rattle.drupe.specs.Lines.{isPositive}
 use Rattle.derivation.specs.States.{Named, State, isAtom, isKnown, isName, hasName}

@@ -5,7 +5,7 @@ use mathlib.Core.Option.{none, some}
 use mathlib.Core.List.{List, [], _∷_, _++_, map}
 use Prim.Native.Nat.{ℕ}
 use lib.IntN.{ℤ, pos, negℤ}
-use Rattle.words.specs.Lists.{any, all, keep, dropFirst}
+use Rattle.words.specs.Lists.{any, all, filter, dropFirst}
 use Rattle.words.specs.Literals.{variable, complement, sameList, has, ascending}
 use Rattle.text.specs.declared.Letter.{Letter}
 use Rattle.text.specs.declared.Letter.the-variants.{Addition, Body, Completion, Deletion, Extension, Loop, Support}
@@ -77,7 +77,7 @@ module _ (P : List Rule) (z : State) where
 
   -- the names of the external bodies
   abbrev pub externalNames : List ℤ → List ℕ
-  externalNames U = map (λ x. x .name) (keep (λ x. any (λ r. isExternal U r && sameList (x .body) (r .body)) P) (z .named))
+  externalNames U = map (λ x. x .name) (filter (λ x. any (λ r. isExternal U r && sameList (x .body) (r .body)) P) (z .named))
 
   -- question 31: "are all atoms?"
   abbrev pub allAtoms : List ℤ → Bool

@@ -15,13 +15,12 @@ use lib.Seq.{take-append-seam, drop-append-seam, drop-drop}
 use Rattle.words.specs.Limits.{longest}
 use Rattle.words.specs.Lists.{_∈_}
 use Rattle.words.specs.Literals.{same, has}
-use Rattle.words.proofs.Lists.{zero-one, if-true, same-test, and-right}
+use Rattle.words.proofs.Lists.{zero-one, if-true, same-test, and-right, or-false-left, or-false-right}
 use Rattle.words.proofs.Literals.{same-decides}
 use Rattle.text.specs.Bytes.{byteOf, classOf}
 use Rattle.text.specs.Decimals.{decimals, decimal, numberBytes, spaced}
 use Rattle.text.specs.Writing.{Put}
 use Rattle.text.specs.Line.{Line, broken, numbers, lineOf, isClosed}
-use Rattle.text.proofs.Lines.{or-false-left, or-false-right}
 use Rattle.text.proofs.Decimals.{rest, lineBytes, line-read, rest-spaced}
 use Rattle.text.proofs.Spelling.{Byte, byte-of, class-letter, line-spelled}
 use Rattle.text.specs.declared.Letter.{Letter}
@@ -29,7 +28,7 @@ use Rattle.text.specs.declared.Class.{Class}
 use Rattle.text.specs.declared.Class.the-variants as Class
 use Rattle.drupe.specs.Lines.{lineRefusal, LineAt, end, line, refusedOr, ofNumbers, isSpace, afterLetter, afterFirst, lineFrom, lineAt}
 use Rattle.drupe.specs.Lines as Lines
-use Rattle.drupe.specs.Texts.{Step, stepText, textOf, StepsRead, steps, refused, after, stepsAt, stepsOf, Passes, Spelled, ReadBack, StepsExact, Stops, RefusedExact}
+use Rattle.drupe.specs.Texts.{Step, stepText, textOf, StepsRead, steps, refused, after, stepsAt, stepsOf, LinePasses, Spelled, ReadBack, StepsExact, Stops, RefusedExact}
 use Rattle.drupe.proofs.Lines.{at-end, at-line, passed-line}
 
 -- The closing 0
@@ -80,7 +79,7 @@ unfolding stepText rest lineBytes
 step-bytes x zs y ys e = ap (λ (l : List ℕ). byteOf x ∷ l) (ended zs ∙ ap rest e)
 
 -- a step's text, where it stands, is read as the step
-module _ (x : Letter) (zs : List ℤ) (p : Passes (record { letter = x; numbers = zs })) where
+module _ (x : Letter) (zs : List ℤ) (p : LinePasses (record { letter = x; numbers = zs })) where
   numbers-back : (from n : ℕ) → ofNumbers x from (numbers (zs ++ (pos 0 ∷ [])) n) ≡ line x zs (from + n)
   numbers-back from n = rw (closed-end zs (p .1), before-end zs, p .0)
 
@@ -202,9 +201,9 @@ module _ (text : List ℕ) (at : ℕ) where
 
 -- every step passes
 abbrev pub AllPass : List Step → Type 0
-AllPass ts = (t : Step) → t ∈ ts → Passes t
+AllPass ts = (t : Step) → t ∈ ts → LinePasses t
 
-pub pass-one : {t : Step} {ts : List Step} → Passes t → AllPass ts → AllPass (t ∷ ts)
+pub pass-one : {t : Step} {ts : List Step} → LinePasses t → AllPass ts → AllPass (t ∷ ts)
 pass-one p f u (List·Memᴰ·head q) = rw q p
 pass-one p f u (List·Memᴰ·tail m) = f u m
 
@@ -243,7 +242,7 @@ module _ (text : List ℕ) where
   stepped zero at n h l = absurd (omega arith)
   stepped (suc turns) at n h l = by (λ next a b. stepped turns next (n + 1) a (omega arith)) (lineAt text at) refl
     where
-      on : (t : Step) (next : ℕ) (o : StepsRead) → Passes t → drop at text ≡ stepText t ++ drop next text → next ≡ at + length (stepText t) → Stepped next (n + 1) o → Stepped at n (after t o)
+      on : (t : Step) (next : ℕ) (o : StepsRead) → LinePasses t → drop at text ≡ stepText t ++ drop next text → next ≡ at + length (stepText t) → Stepped next (n + 1) o → Stepped at n (after t o)
       on t next (steps ts) p q e f = (q ∙ ap (λ (l : List ℕ). stepText t ++ l) (f .0), pass-one p (f .1))
       on t next (refused ts k m) p q e f =
           let g = f .1 .1 in

@@ -65,8 +65,8 @@ stepsOf text = cond (ltb longest (length text)) (refused [] 21 0) (stepsAt text 
 -- Claims
 
 -- a step passes questions 22 to 25
-abbrev pub Passes : Step → Type 0
-Passes t = (lineRefusal (t .letter) (t .numbers) ≡ none) × (has (pos 0) (t .numbers) ≡ false)
+abbrev pub LinePasses : Step → Type 0
+LinePasses t = (lineRefusal (t .letter) (t .numbers) ≡ none) × (has (pos 0) (t .numbers) ≡ false)
 
 -- one spelling: a proof text that passes 21 to 25 is the text of its steps
 abbrev pub Spelled : Type 0
@@ -74,18 +74,18 @@ Spelled = (text : List ℕ) (ts : List Step) → stepsOf text ≡ steps ts → t
 
 -- steps that pass 22 to 25 are read back from their text, where it is short enough
 abbrev pub ReadBack : Type 0
-ReadBack = (ts : List Step) → ((t : Step) → t ∈ ts → Passes t) → length (textOf ts) ≤ longest → stepsOf (textOf ts) ≡ steps ts
+ReadBack = (ts : List Step) → ((t : Step) → t ∈ ts → LinePasses t) → length (textOf ts) ≤ longest → stepsOf (textOf ts) ≡ steps ts
 
 -- both, with what a text that is read passes: no turns and no positions are left
 abbrev pub StepsExact : Type 0
 StepsExact =
     (text : List ℕ) (ts : List Step)
-    → (stepsOf text ≡ steps ts) ↔ ((text ≡ textOf ts) × (length text ≤ longest) × ((t : Step) → t ∈ ts → Passes t))
+    → (stepsOf text ≡ steps ts) ↔ ((text ≡ textOf ts) × (length text ≤ longest) × ((t : Step) → t ∈ ts → LinePasses t))
 
 -- the text goes on after the text of steps that pass with a line that is refused with k
 abbrev pub Stops : List ℕ → List Step → ℕ → Type 0
 Stops text before k =
-    ((t : Step) → t ∈ before → Passes t)
+    ((t : Step) → t ∈ before → LinePasses t)
     × ((left : List ℕ) × ((text ≡ textOf before ++ left) × (lineAt text (length (textOf before)) ≡ Lines.refused k)))
 
 -- a text that is refused is either too long, or the text of steps that pass, with a line after them of which the question is

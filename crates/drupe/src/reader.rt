@@ -3,7 +3,7 @@
 use crate::LineReading;
 use crate::read_line;
 ghost use mathlib.Core.Path.{_≡_};
-ghost use Rattle.drupe.specs.Lines.{Reads};
+ghost use Rattle.drupe.specs.Lines.{ProofLineRead};
 
 pub struct ProofReader<'a> {
     pub text: &'a [u8],
@@ -19,7 +19,7 @@ pub fn start<'a>(text: &'a [u8]) -> ProofReader<'a>
 
 // The step at the position.
 pub fn step<'a>(r: ProofReader<'a>) -> LineReading
-    ensures { λ s. ⌜ Reads (now (r .entry .text)) (r .entry .at) s ⌝ }
+    ensures { λ s. ⌜ ProofLineRead (now (r .entry .text)) (r .entry .at) s ⌝ }
 {
     read_line(r.text, r.at)
 }
@@ -36,7 +36,7 @@ pub fn past<'a>(r: ProofReader<'a>, next: usize) -> ProofReader<'a>
 
 // The step at a position of a text: its callers need no walk.
 pub fn step_at(text: &[u8], position: usize) -> LineReading
-    ensures { λ r. ⌜ Reads (now (text .entry)) position r ⌝ }
+    ensures { λ r. ⌜ ProofLineRead (now (text .entry)) position r ⌝ }
 {
     step(past(start(text), position))
 }

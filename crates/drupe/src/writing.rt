@@ -6,7 +6,7 @@ ghost use Prim.Native.Nat.{_+_, _≤_};
 ghost use lib.ListN.{length};
 ghost use Rattle.text.specs.Decimals.{spaced};
 ghost use Rattle.text.specs.Writing.{Put, farthest};
-ghost use Rattle.drupe.specs.Lines.{mostNumbers};
+ghost use Rattle.words.specs.Limits.{mostNumbers};
 ghost use Rattle.drupe.specs.Texts.{Step, stepText};
 
 // The numbers, each after a space.

@@ -8,32 +8,13 @@ use Prim.Native.Nat.{ℕ, zero, suc, _≤_}
 use lib.IntN.{ℤ, pos}
 use lib.Signed.{ltZ}
 use lib.ListN.{length, getD, drop}
-use Rattle.words.specs.Limits.{largest}
+use Rattle.words.specs.Limits.{largest, entries}
 use Rattle.words.specs.Lists.{any}
 use Rattle.words.specs.Literals.{variable, sameList, has}
 use Rattle.aspif.specs.Rules.{Rule, isNormal}
-use Rattle.answer_set.specs.SetTest.{listed, marked, marksLent}
+use Rattle.marks.specs.Marks.{listed, marked}
 use Rattle.names.specs.declared.queries.Query.{Query}
 use Rattle.names.specs.declared.queries.Query.the-variants.{Body, Normal, Head, External}
-
--- "arrays of 4,096 entries": the marks are those of the numbers listed, as far as these are variables or 0
-pub record Marks (m l : List ℕ) : Type 0 where
-  pub long : length m ≡ marksLent
-  pub has : (v : ℕ) → v ≤ largest → marked m v ≡ listed l v
-
--- the numbers from n down to 1
-abbrev pub upTo : ℕ → List ℕ
-upTo zero = []
-upTo (suc n) = suc n ∷ upTo n
-
--- two answers are the same
-abbrev pub agree : Bool → Bool → Bool
-agree a b = cond a b (not b)
-
--- the same numbers below n are marked
-unfoldable pub sameMarks : ℕ → List ℕ → List ℕ → Bool
-sameMarks zero a b = true
-sameMarks (suc n) a b = agree (marked a n) (marked b n) && sameMarks n a b
 
 -- a positive literal whose atom is marked
 abbrev pub isInside : List ℕ → ℤ → Bool

@@ -6,11 +6,11 @@ ghost use lib.ListN.{length, set};
 ghost use Rattle.words.specs.Lists.{any};
 ghost use Rattle.words.specs.Literals.{sameList};
 ghost use Rattle.aspif.specs.Rules.{isNormal};
-ghost use Rattle.answer_set.specs.SetTest.{ruleAt, shapeSound, rulesAt, soundRules};
-ghost use Rattle.names.specs.Queries.{Marks, isInside, isExternalBy, asks, picks, renamed};
-use answer_set::marks;
-use answer_set::tables;
+ghost use Rattle.aspif.specs.Tables.{ruleAt, shapeSound, rulesAt, soundRules};
+ghost use Rattle.marks.specs.Marks.{Marks};
+ghost use Rattle.names.specs.Queries.{isInside, isExternalBy, asks, picks, renamed};
 use aspif::Kind;
+use aspif::tables;
 use words::ENTRIES;
 
 // The rules that a step is about: those with a body; the normal ones with just some heads; those with a head; those with a head in

@@ -9,7 +9,8 @@ use lib.IntN.{ℤ}
 use lib.ListN.{length, drop, getD, set, replicate, drop-of-length-le}
 use lib.Seq.{drop-cons}
 use Rattle.words.proofs.Places.{set-each}
-use Rattle.nogoods.specs.Propagate.{entries, free, Stands}
+use Rattle.words.specs.Limits.{entries}
+use Rattle.nogoods.specs.Propagate.{free, Stands}
 use Rattle.nogoods.specs.PropagateChains.{places, Links, Below, Queue}
 use Rattle.nogoods.proofs.Assignments.{zeros, free-assigned, free-cons}
 use Rattle.nogoods.proofs.Segments.{rest-start, rest-here}

@@ -22,9 +22,9 @@ use Rattle.nogoods.proofs.Literals.{literals-ascending, literals-pair, 
 
 -- A name and its literals, in one list of numbers
 
-pub apart : (numbers : List ℤ) → 1 ≤ length numbers → Literals numbers → Literals (getD numbers 0 (pos 0) ∷ drop 1 numbers)
-apart [] h k = absurd (omega arith)
-apart (x ∷ l) h k = k
+pub name-and-literals : (numbers : List ℤ) → 1 ≤ length numbers → Literals numbers → Literals (getD numbers 0 (pos 0) ∷ drop 1 numbers)
+name-and-literals [] h k = absurd (omega arith)
+name-and-literals (x ∷ l) h k = k
 
 -- in a nogood's words w the name's complement y is put in the name's place, and the literals are sorted
 pub first-written : (numbers free w s : List ℤ) (y : ℤ) (k : ℕ) → 1 ≤ length numbers → k ≡ length numbers

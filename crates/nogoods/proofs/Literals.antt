@@ -9,7 +9,7 @@ use lib.Dec.{eqb}
 use lib.IntN.{ℤ}
 use Rattle.words.specs.Limits.{largest}
 use Rattle.words.specs.Lists.{_∈_, any}
-use Rattle.words.specs.Literals.{variable, complement, mentions, noneTwice, ascending}
+use Rattle.words.specs.Literals.{variable, complement, mentions, distinct, ascending}
 use Rattle.words.proofs.Lists.{if-true, is-true}
 use Rattle.words.proofs.Literals.{variable-complement, ascending→}
 use Rattle.words.proofs.Sorting.{none-twice-ascending}
@@ -73,7 +73,7 @@ mentions-variables : (v : ℕ) (l : List ℤ) → mentions v l ≡ any (eqb v) (
 mentions-variables v [] = refl
 mentions-variables v (x ∷ l) = rw (mentions-variables v l)
 
-none-twice-variables : (l m : List ℤ) → map variable l ≡ map variable m → noneTwice l ≡ noneTwice m
+none-twice-variables : (l m : List ℤ) → map variable l ≡ map variable m → distinct l ≡ distinct m
 none-twice-variables [] [] e = refl
 none-twice-variables [] (y ∷ m) e = absurd (nil≢cons e)
 none-twice-variables (x ∷ l) [] e = absurd (nil≢cons (sym e))
@@ -99,7 +99,6 @@ literals-variables l m e h =
 pub variables-complements : (l : List ℤ) → map variable (map complement l) ≡ map variable l
 variables-complements [] = refl
 variables-complements (x ∷ l) = ap₂ (λ v k. v ∷ k) (variable-complement x) (variables-complements l)
-
 
 -- the first literal's complement, or those of the others
 pub literals-complement-first : (x : ℤ) (l : List ℤ) → Literals (x ∷ l) → Literals (complement x ∷ l)

@@ -14,7 +14,7 @@ use Rattle.words.proofs.Places.{in-at}
 use Rattle.words.proofs.Segments.{Segment, at-front}
 use Rattle.nogoods.specs.Store.{nogoodWords, liveWords, Holds}
 use Rattle.nogoods.specs.Propagate.{Encodes, countAt, nogoodAt, Readable, Stands}
-use Rattle.nogoods.proofs.Stored.{Turn, turn}
+use Rattle.nogoods.proofs.Stored.{AtNogood, at-nogood}
 
 -- the first words of a store are those of its nogoods
 pub front : (s : List ℤ) (used : ℕ) (live : List (List ℤ)) → Holds s used live → Encodes (take used s) live
@@ -35,8 +35,8 @@ module _ (s : List ℤ) where
   }
 
   module _ (live : List (List ℤ)) (i : ℕ) (w : Rest live i) (h : i < length s) where
-    abbrev rest-turn : Turn s i (length s) (countAt s i) (w .left)
-    rest-turn = turn (w .seg) h refl
+    abbrev rest-turn : AtNogood s i (length s) (countAt s i) (w .left)
+    rest-turn = at-nogood (w .seg) h refl
 
     pub rest-is : w .left ≡ nogoodAt s i ∷ rest-turn .gs
     rest-is = rest-turn .is ∙ ap (λ (g : List ℤ). g ∷ rest-turn .gs) (sym (rest-turn .literals))

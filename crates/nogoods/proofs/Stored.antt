@@ -28,7 +28,7 @@ pub segment : {store : List ℤ} {used : ℕ} {live : List (List ℤ)} → Holds
 segment {store} {used} {live} H = at-front nogoodWords store _ used live (H .words) (sym (H .extent))
 
 -- a turn at i, where n is the count that was read
-pub record Turn (s : List ℤ) (i e n : ℕ) (left : List (List ℤ)) : Type 0 where
+pub record AtNogood (s : List ℤ) (i e n : ℕ) (left : List (List ℤ)) : Type 0 where
   pub g : List ℤ
   pub gs : List (List ℤ)
   pub is : left ≡ g ∷ gs
@@ -37,8 +37,8 @@ pub record Turn (s : List ℤ) (i e n : ℕ) (left : List (List ℤ)) : Type 0 w
   pub room : i + 1 + n ≤ e
   pub literals : take n (drop (i + 1) s) ≡ g
 
-pub turn : {s : List ℤ} {i e n : ℕ} {left : List (List ℤ)} → Segment nogoodWords s i e left → i < e → n ≡ variable (getD s i (pos 0)) → Turn s i e n left
-turn {s} {i} {e} {n} S h c =
+pub at-nogood : {s : List ℤ} {i e n : ℕ} {left : List (List ℤ)} → Segment nogoodWords s i e left → i < e → n ≡ variable (getD s i (pos 0)) → AtNogood s i e n left
+at-nogood {s} {i} {e} {n} S h c =
     let t = next nogoodWords S h in
     let g = t .x in
     let w : drop i s ≡ pos (length g) ∷ (g ++ drop (i + suc (length g)) s) = t .here in
@@ -63,8 +63,8 @@ Going Q store used i = (live : List (List ℤ)) → Holds store used live → (l
 module _ {Q : List (List ℤ) → List (List ℤ) → Type 0} {store : List ℤ} {used i n : ℕ} (G : Going Q store used i) (h : i < used)
     (c : n ≡ countAt store i) where
   -- the nogood at i, where n is the count that was read
-  pub here : {live : List (List ℤ)} (H : Holds store used live) → Turn store i used n (G live H .0)
-  here {live} H = turn (G live H .1) h c
+  pub here : {live : List (List ℤ)} (H : Holds store used live) → AtNogood store i used n (G live H .0)
+  here {live} H = at-nogood (G live H .1) h c
 
   -- it stands within the used words, of a store that holds some nogoods
   pub room : (live : List (List ℤ)) × Holds store used live → (i + 1 + n ≤ used) × (used ≤ length store)

@@ -11,7 +11,8 @@ use lib.ListN.{length}
 use Rattle.words.specs.Lists.{_∈_}
 use Rattle.words.proofs.Segments.{none-left}
 use Rattle.nogoods.specs.Store.{nogoodWords, Literals}
-use Rattle.nogoods.specs.Propagate.{entries, Encodes, free, Settled, Derives, countAt, nogoodAt, Stands, Grows, AllSettled}
+use Rattle.words.specs.Limits.{entries}
+use Rattle.nogoods.specs.Propagate.{Encodes, free, Settled, Derives, countAt, nogoodAt, Stands, Grows, AllSettled}
 use Rattle.nogoods.specs.declared.units.Derived.the-variants.{Assigned}
 use Rattle.nogoods.proofs.Stored.{some-words}
 use Rattle.nogoods.proofs.Segments.{Rest, rest-start, rest-is, rest-here, rest-on}

@@ -24,10 +24,6 @@ use Rattle.nogoods.specs.declared.propagation.Swept.the-variants.{Refute
 
 -- Assignments: an entry for each variable, 0 free, 1 true, 2 false
 
--- "arrays of 4,096 entries hold .. the propagation's assignment": as many as there are variables, and one for 0
-abbrev pub entries : ℕ
-entries = suc largest
-
 -- the entry of its variable that makes a literal true
 abbrev pub entry : ℤ → ℕ
 entry (pos n) = 1
@@ -108,19 +104,19 @@ Stands s r = (live : List (List ℤ)) → Encodes s live → (nogoodAt s r ∈ l
 -- Propagation
 
 -- what the assignment makes true is in the closure
-abbrev pub Within : List (List ℤ) → List ℤ → List ℕ → Type 0
-Within live L m = (z : ℤ) → Assigns m z → Closure live L z
+abbrev pub InClosure : List (List ℤ) → List ℤ → List ℕ → Type 0
+InClosure live L m = (z : ℤ) → Assigns m z → Closure live L z
 
 -- from m to m′ the assignment grew by what follows from the nogoods
 pub record Grows (s : List ℤ) (m m′ : List ℕ) : Type 0 where
-  pub sound : (live : List (List ℤ)) (L : List ℤ) → Encodes s live → Within live L m → Within live L m′
+  pub sound : (live : List (List ℤ)) (L : List ℤ) → Encodes s live → InClosure live L m → InClosure live L m′
   pub kept : (z : ℤ) → Assigns m z → Assigns m′ z
   pub size : length m′ ≡ length m
   pub fewer : free m′ ≤ free m
 
 -- the nogoods and what the assignment makes true contradict each other
 abbrev pub Clashes : List ℤ → List ℕ → Type 0
-Clashes s m = (live : List (List ℤ)) (L : List ℤ) → Encodes s live → Within live L m → Conflict live L
+Clashes s m = (live : List (List ℤ)) (L : List ℤ) → Encodes s live → InClosure live L m → Conflict live L
 
 -- nothing follows from any nogood
 abbrev pub AllSettled : List ℤ → List ℕ → Type 0

@@ -8,8 +8,8 @@ use Prim.Native.Nat.{ℕ, _-_, _≤_, _<_}
 use lib.IntN.{ℤ, pos}
 use lib.ListN.{length, replicate}
 use Rattle.words.specs.Limits.{largest}
-use Rattle.words.specs.Lists.{_∈_, joinAll}
-use Rattle.words.specs.Literals.{variable, noneTwice}
+use Rattle.words.specs.Lists.{_∈_, concat}
+use Rattle.words.specs.Literals.{variable, distinct}
 use Rattle.nogoods.specs.declared.store.Added.{Added}
 use Rattle.nogoods.specs.declared.store.Added.the-variants.{Uses, Full}
 
@@ -19,7 +19,7 @@ nogoodWords g = pos (length g) ∷ g
 
 -- "keeps live nogoods oldest first, in signed 32-bit words"
 abbrev pub liveWords : List (List ℤ) → List ℤ
-liveWords live = joinAll (map nogoodWords live)
+liveWords live = concat (map nogoodWords live)
 
 -- a store of the length given: "All later words are 0."
 abbrev pub storeWords : ℕ → List (List ℤ) → List ℤ
@@ -29,7 +29,7 @@ storeWords size live = liveWords live ++ replicate (size - length (liveWords liv
 pub record Literals (g : List ℤ) : Type 0 where
   pub low : (x : ℤ) → x ∈ g → 1 ≤ variable x
   pub high : (x : ℤ) → x ∈ g → variable x ≤ largest
-  pub once : noneTwice g ≡ true
+  pub once : distinct g ≡ true
 
 -- The store holds the live nogoods in its first `used` words, and 0 after them.
 pub record Holds (store : List ℤ) (used : ℕ) (live : List (List ℤ)) : Type 0 where

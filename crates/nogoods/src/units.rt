@@ -2,10 +2,10 @@
 ghost use mathlib.Core.Path.{_≡_};
 ghost use Prim.Native.Nat.{_≤_};
 ghost use lib.ListN.{length, set};
-ghost use Rattle.words.specs.Limits.{largest};
+ghost use Rattle.words.specs.Limits.{largest, entries};
 ghost use Rattle.words.specs.Literals.{variable};
 ghost use Rattle.nogoods.specs.Store.{Literals};
-ghost use Rattle.nogoods.specs.Propagate.{entries, entry, Valued, Looked, Derives, countAt, nogoodAt, Readable};
+ghost use Rattle.nogoods.specs.Propagate.{entry, Valued, Looked, Derives, countAt, nogoodAt, Readable};
 use words::ENTRIES;
 
 // A literal under an assignment.

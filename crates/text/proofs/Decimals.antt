@@ -15,7 +15,7 @@ use lib.ListN.{length, length-append, length-map}
 use Rattle.words.specs.Lists.{_∈_}
 use Rattle.text.specs.Bytes.{classOf}
 use Rattle.text.specs.Decimals.{decimals, digitsOf, digitByte, decimal, numberBytes, spaced}
-use Rattle.text.specs.Line.{digits, natural, nonNegative, negative, number, numbersOf, Words, unended, words, joined, cut, span, numbers, ofWords, lineOf}
+use Rattle.text.specs.Line.{digits, natural, nonNegative, negative, number, numbersIn, Words, unended, words, joined, cut, span, numbers, ofWords, lineOf}
 use Rattle.text.specs.declared.Class.{Class}
 use Rattle.text.specs.declared.Class.the-variants.{Newline, Space, Minus, Digit, Step, Other}
 
@@ -162,11 +162,11 @@ unfolding lineBytes rest
 cut-line z [] s = cut-first z [] s ∙ rw (append-nil (wordOf z))
 cut-line z (y ∷ zs) s = cut-first z (y ∷ zs) s ∙ rw (cut-line y zs s, append-nil (wordOf z))
 
-numbers-read : (zs : List ℤ) → numbersOf (map wordOf zs) ≡ some zs
+numbers-read : (zs : List ℤ) → numbersIn (map wordOf zs) ≡ some zs
 numbers-read [] = refl
 numbers-read (z ∷ zs) = rw (number-read z, numbers-read zs)
 
-first-read : (w : List Class) (ws : List (List Class)) (zs : List ℤ) → numbersOf (w ∷ ws) ≡ some zs → ofWords (words w ws) ≡ numbers zs (span (w ∷ ws))
+first-read : (w : List Class) (ws : List (List Class)) (zs : List ℤ) → numbersIn (w ∷ ws) ≡ some zs → ofWords (words w ws) ≡ numbers zs (span (w ∷ ws))
 first-read [] ws zs e = absurd (Option·none-ne-some zs e)
 first-read (c ∷ w) ws zs e = rw e
 

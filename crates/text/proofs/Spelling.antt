@@ -14,7 +14,7 @@ use lib.Seq.{append-snoc}
 use Rattle.words.proofs.Lists.{zero-one, and-left, and-right}
 use Rattle.text.specs.Bytes.{byteOf, classOf}
 use Rattle.text.specs.Decimals.{digitByte, decimal, numberBytes}
-use Rattle.text.specs.Line.{digits, natural, nonNegative, negative, number, also, numbersOf, Words, unended, words, apart, joined, cut, Line, broken, numbers, spanned, ofWords, lineOf}
+use Rattle.text.specs.Line.{digits, natural, nonNegative, negative, number, also, numbersIn, Words, unended, words, newWord, joined, cut, Line, broken, numbers, spanned, ofWords, lineOf}
 use Rattle.text.specs.declared.Letter.{Letter}
 use Rattle.text.specs.declared.Letter.the-variants.{Addition, Body, Completion, Deletion, Extension, Loop, Support}
 use Rattle.text.specs.declared.Class.{Class}
@@ -174,7 +174,7 @@ cut-pieces (b ∷ s) = by (classOf b) refl (byte-of b) (cut-pieces s)
           text = ap (λ (l : List ℕ). b ∷ l) (p .text);
         }
 
-    parting : b ≡ 32 → (o : Words) → Cut s o → Cut (b ∷ s) (apart o)
+    parting : b ≡ 32 → (o : Words) → Cut s o → Cut (b ∷ s) (newWord o)
     parting q unended p = tt
     parting q (words w ws) p =
         record {
@@ -194,13 +194,13 @@ cut-pieces (b ∷ s) = by (classOf b) refl (byte-of b) (cut-pieces s)
     by (Step x) q o p = joining (Step x) q (cut (map classOf s)) p
     by Other q o p = joining Other q (cut (map classOf s)) p
 
-words-spelled : (us : List (List ℕ)) (zs : List ℤ) → numbersOf (map (map classOf) us) ≡ some zs → behind us ≡ rest zs
+words-spelled : (us : List (List ℕ)) (zs : List ℤ) → numbersIn (map (map classOf) us) ≡ some zs → behind us ≡ rest zs
 unfolding behind rest
 words-spelled [] zs e = ap rest (Option·some-injective [] zs e)
-words-spelled (u ∷ us) zs e = by (number (map classOf u)) refl (numbersOf (map (map classOf) us)) refl (λ ys f. words-spelled us ys f) e
+words-spelled (u ∷ us) zs e = by (number (map classOf u)) refl (numbersIn (map (map classOf) us)) refl (λ ys f. words-spelled us ys f) e
   where
-    by : (a : Option ℤ) → number (map classOf u) ≡ a → (o : Option (List ℤ)) → numbersOf (map (map classOf) us) ≡ o
-        → ((ys : List ℤ) → numbersOf (map (map classOf) us) ≡ some ys → behind us ≡ rest ys) → also a o ≡ some zs → behind (u ∷ us) ≡ rest zs
+    by : (a : Option ℤ) → number (map classOf u) ≡ a → (o : Option (List ℤ)) → numbersIn (map (map classOf) us) ≡ o
+        → ((ys : List ℤ) → numbersIn (map (map classOf) us) ≡ some ys → behind us ≡ rest ys) → also a o ≡ some zs → behind (u ∷ us) ≡ rest zs
     by none p o q f e = absurd (Option·none-ne-some zs e)
     by (some z) p none q f e = absurd (Option·none-ne-some zs e)
     by (some z) p (some ys) q f e =
@@ -208,19 +208,19 @@ words-spelled (u ∷ us) zs e = by (number (map classOf u)) refl (numbersOf (map
 
 -- Lines
 
-numbers-of : (w : List Class) (ws : List (List Class)) (z : ℤ) (zs : List ℤ) (n : ℕ) → ofWords (words w ws) ≡ numbers (z ∷ zs) n → numbersOf (w ∷ ws) ≡ some (z ∷ zs)
+numbers-of : (w : List Class) (ws : List (List Class)) (z : ℤ) (zs : List ℤ) (n : ℕ) → ofWords (words w ws) ≡ numbers (z ∷ zs) n → numbersIn (w ∷ ws) ≡ some (z ∷ zs)
 numbers-of [] [] z zs n e = absurd (never e)
   where
     never : numbers [] 1 ≡ numbers (z ∷ zs) n → ⊥
     never e = let q : _≡_ {A = List ℤ} [] (z ∷ zs) = cc in zero-one (cc)
 numbers-of [] (w ∷ ws) z zs n e = absurd (zero-one (cc))
-numbers-of (c ∷ w) ws z zs n e = by (numbersOf ((c ∷ w) ∷ ws)) _ e
+numbers-of (c ∷ w) ws z zs n e = by (numbersIn ((c ∷ w) ∷ ws)) _ e
   where
     by : (o : Option (List ℤ)) (k : ℕ) → spanned o k ≡ numbers (z ∷ zs) n → o ≡ some (z ∷ zs)
     by none k e = absurd (zero-one (cc))
     by (some ys) k e = let q : ys ≡ z ∷ zs = cc in ap some q
 
-first-spelled : (u : List ℕ) (us : List (List ℕ)) (z : ℤ) (zs : List ℤ) → numbersOf (map (map classOf) (u ∷ us)) ≡ some (z ∷ zs) → u ++ behind us ≡ lineBytes z zs
+first-spelled : (u : List ℕ) (us : List (List ℕ)) (z : ℤ) (zs : List ℤ) → numbersIn (map (map classOf) (u ∷ us)) ≡ some (z ∷ zs) → u ++ behind us ≡ lineBytes z zs
 unfolding behind rest lineBytes
 first-spelled u us z zs e = tail-eq-of-cons-eq (words-spelled (u ∷ us) (z ∷ zs) e)
 
@@ -232,5 +232,5 @@ line-spelled s z zs n e = by (cut (map classOf s)) (cut-pieces s) e
     by : (o : Words) → Cut s o → ofWords o ≡ numbers (z ∷ zs) n → (r : List ℕ) × (s ≡ lineBytes z zs ++ r)
     by unended p e = absurd (zero-one (cc))
     by (words w ws) p e =
-        let q : numbersOf (map (map classOf) (p .first ∷ p .others)) ≡ some (z ∷ zs) = rw (p .first-is, p .others-are) (numbers-of w ws z zs n e) in
+        let q : numbersIn (map (map classOf) (p .first ∷ p .others)) ≡ some (z ∷ zs) = rw (p .first-is, p .others-are) (numbers-of w ws z zs n e) in
         (p .left, p .text ∙ sym (append-assoc (p .first) (behind (p .others)) (p .left)) ∙ ap (λ (l : List ℕ). l ++ p .left) (first-spelled (p .first) (p .others) z zs q))

@@ -4,3 +4,4 @@ pub mod Decimals
 pub mod Line
 pub mod Scan
 pub mod Writing
+pub mod Strings

@@ -1,11 +1,11 @@
 // Bytes to lines and numbers, for the program reader and the proof-line reader alike: document 01, 'Program text'.
-// The claim of `read_line` is `Reads` in specs/Line.antt. Module `writing` goes the other way.
+// The claim of `read_line` is `LineScanned` in specs/Line.antt. Module `writing` goes the other way.
 pub mod writing;
 
 ghost use mathlib.Core.Path.{_≡_};
 ghost use lib.ListN.{set};
 ghost use Rattle.text.specs.Bytes.{classOf, letterOr};
-ghost use Rattle.text.specs.Line.{Reads};
+ghost use Rattle.text.specs.Line.{LineScanned};
 ghost use Rattle.text.specs.Scan.{actionOf, digitOf, endOf, firstOf, moreOf, seeing, valueOf};
 
 // The proof's seven letters, by the names of source document 000.
@@ -201,7 +201,7 @@ fn store(row: &mut [i32], n: usize, neg: bool, m: u16)
 
 // The numbers of the line that the text begins with, into the row, as many as fit.
 pub fn read_line(text: &[u8], row: &mut [i32]) -> LineRead
-    ensures { λ r. ⌜ Reads (now (text .entry)) (now (row .entry)) (now (row .exit)) r ⌝ }
+    ensures { λ r. ⌜ LineScanned (now (text .entry)) (now (row .entry)) (now (row .exit)) r ⌝ }
 {
     let mut state = State::Start;
     let mut count: usize = 0;

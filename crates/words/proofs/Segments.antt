@@ -8,11 +8,11 @@ use native.Mathlib.Omega.{arith}
 use lib.ListN.{length, drop, length-append}
 use lib.Seq.{drop-drop, drop-append-seam, drop-at}
 use lib.IntN.{ℤ}
-use Rattle.words.specs.Lists.{joinAll}
+use Rattle.words.specs.Lists.{concat}
 
 module _ {A : Type 0} (f : A → List ℤ) where
   abbrev pub recordWords : List A → List ℤ
-  recordWords xs = joinAll (map f xs)
+  recordWords xs = concat (map f xs)
 
   pub record-append : (xs ys : List A) → recordWords (xs ++ ys) ≡ recordWords xs ++ recordWords ys
   record-append [] ys = refl

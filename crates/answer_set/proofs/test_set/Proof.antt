@@ -3,9 +3,12 @@ use mathlib.Core.Bool.{true}
 use native.Mathlib.Omega.{arith}
 use borrow.Author.Tests.{not-true, not-false}
 use Rattle.aspif.specs.Rules.{atoms}
-use Rattle.answer_set.specs.SetTest.{ascends, rulesAt, soundTable, listed, marked}
-use Rattle.answer_set.proofs.Fronts.{sound-rules}
-use Rattle.answer_set.proofs.Tested.{atoms-small, marks-listed, refused-41, refused-42, refused-43, tested}
+use Rattle.words.specs.Lists.{ascends}
+use Rattle.aspif.specs.Tables.{rulesAt, soundTable}
+use Rattle.marks.specs.Marks.{listed, marked}
+use Rattle.aspif.proofs.Cursors.{sound-rules, atoms-small}
+use Rattle.marks.proofs.Sets.{marks-listed}
+use Rattle.answer_set.proofs.Tested.{refused-41, refused-42, refused-43, tested}
 use borrow.Author.Needs.{needs}
 use Rattle.answer_set.proofs.test_set.Statement.{statement}
 use Rattle.answer_set.proofs.test_set.Tie as tie

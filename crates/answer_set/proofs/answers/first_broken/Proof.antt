@@ -6,8 +6,10 @@ use native.Mathlib.Omega.{arith}
 use lib.IntN.{ℤ}
 use lib.ListN.{drop}
 use Rattle.words.proofs.Parts.{tail-of}
-use Rattle.answer_set.specs.SetTest.{sizeAt, ruleAt, rulesAt, marked, isBroken, brokenFrom, broken}
-use Rattle.answer_set.proofs.Fronts.{Cursor, Turn, turn, shape-of, no-rules, few-rules, sound-rules}
+use Rattle.aspif.specs.Tables.{sizeAt, ruleAt, rulesAt}
+use Rattle.marks.specs.Marks.{marked}
+use Rattle.answer_set.specs.SetTest.{isBroken, brokenFrom, breaks}
+use Rattle.aspif.proofs.Cursors.{Cursor, AtRule, at-rule, shape-of, no-rules, few-rules, sound-rules}
 use borrow.Author.Needs.{needs}
 use Rattle.answer_set.proofs.answers.first_broken.Statement.{statement}
 use Rattle.answer_set.proofs.answers.first_broken.Tie as tie
@@ -35,10 +37,10 @@ module _ (c : tie.After-rest Inv-loop μ-loop) where
   abbrev i : ℕ
   i = c .before .before .loop .i
 
-  at : Turn t (c .before .before .loop .left) i
-  at = turn (c .before .loop-test .taken) (c .before .before .loop .inv .0)
+  at : AtRule t (c .before .before .loop .left) i
+  at = at-rule (c .before .loop-test .taken) (c .before .before .loop .inv .0)
 
-  whole : brokenFrom M 1 (rulesAt (s .args .rules) t) ≡ cond (isBroken M (ruleAt (drop i t))) (broken (c .before .before .loop .number)) (brokenFrom M (c .before .before .loop .number + 1) (rulesAt (c .before .before .loop .left - 1) (drop (i + sizeAt (drop i t)) t)))
+  whole : brokenFrom M 1 (rulesAt (s .args .rules) t) ≡ cond (isBroken M (ruleAt (drop i t))) (breaks (c .before .before .loop .number)) (brokenFrom M (c .before .before .loop .number + 1) (rulesAt (c .before .before .loop .left - 1) (drop (i + sizeAt (drop i t)) t)))
   whole = c .before .before .loop .inv .2 ∙ ap (brokenFrom M (c .before .before .loop .number)) (at .rules)
 
 tells : (c : tie.After-is-broken Inv-loop μ-loop) → (let d = c .before in isBroken (M d) (ruleAt (drop (i d) (t d))) ≡ c .is-broken .result)

@@ -8,9 +8,10 @@ use lib.IntN.{ℤ}
 use lib.ListN.{length, drop}
 use Rattle.aspif.specs.Rules.{Rule}
 use Rattle.words.proofs.Parts.{tail-of}
-use Rattle.answer_set.specs.SetTest.{sizeAt, ruleAt, rulesAt, marked, giveRule, round}
-use Rattle.answer_set.specs.Private.{Marking}
-use Rattle.answer_set.proofs.Fronts.{Cursor, Turn, turn, shape-of, no-rules}
+use Rattle.aspif.specs.Tables.{sizeAt, ruleAt, rulesAt}
+use Rattle.marks.specs.Marks.{marked, Marking}
+use Rattle.answer_set.specs.SetTest.{giveRule, round}
+use Rattle.aspif.proofs.Cursors.{Cursor, AtRule, at-rule, shape-of, no-rules}
 use borrow.Author.Needs.{needs}
 use Rattle.answer_set.proofs.models.give_all.Statement.{statement}
 use Rattle.answer_set.proofs.models.give_all.Tie as tie
@@ -36,8 +37,8 @@ module _ (c : tie.After-rest Inv-loop μ-loop) where
   abbrev i : ℕ
   i = c .before .before .loop .i
 
-  at : Turn t (c .before .before .loop .left) i
-  at = turn (c .before .loop-test .taken) (c .before .before .loop .inv .0)
+  at : AtRule t (c .before .before .loop .left) i
+  at = at-rule (c .before .loop-test .taken) (c .before .before .loop .inv .0)
 
 told : (c : tie.After-give-rule Inv-loop μ-loop)
     → (let d = c .before .before in

@@ -4,7 +4,7 @@ use Prim.Native.Nat.{ℕ}
 use lib.IntN.{ℤ, pos}
 use lib.ListN.{length, replicate}
 use Rattle.aspif.specs.Rules.{Rule, atoms}
-use Rattle.answer_set.specs.SetTest.{rulesAt}
+use Rattle.aspif.specs.Tables.{rulesAt}
 use Rattle.checker.specs.Check.{Course, course}
 use Rattle.checker.specs.Held.{Ran}
 use Rattle.checker.proofs.Verdicts.{too-long, ran-stopped, ran-through, judged-stopped, judged-through}

@@ -9,7 +9,8 @@ use Rattle.words.specs.Literals.{variable, sameList, ascending}
 use Rattle.words.proofs.Words.{back}
 use Rattle.text.specs.declared.Letter.the-variants.{Body}
 use Rattle.aspif.specs.Rules.{Rule}
-use Rattle.answer_set.specs.SetTest.{marked, rulesAt}
+use Rattle.marks.specs.Marks.{marked}
+use Rattle.aspif.specs.Tables.{rulesAt}
 use Rattle.derivation.specs.States.{State}
 use Rattle.derivation.specs.Steps.{isUnnamedBody}
 use Rattle.names.specs.Queries.{renamed}

@@ -5,7 +5,7 @@ use Prim.Native.Nat.{ℕ}
 use lib.IntN.{ℤ}
 use borrow.Author.Tests.{not-true, not-false}
 use Rattle.words.specs.Literals.{sameList}
-use Rattle.answer_set.specs.SetTest.{rulesAt}
+use Rattle.aspif.specs.Tables.{rulesAt}
 use Rattle.derivation.specs.States.{State}
 use Rattle.derivation.specs.Steps.{isUnnamedBody}
 use Rattle.names.specs.Queries.{renamed}

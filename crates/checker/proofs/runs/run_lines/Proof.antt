@@ -5,11 +5,11 @@ use native.Mathlib.Omega.{arith}
 use lib.IntN.{ℤ}
 use lib.ListN.{length, length-replicate}
 use Rattle.aspif.specs.Rules.{Rule}
-use Rattle.aspif.specs.Reading.{mostRules}
-use Rattle.answer_set.specs.SetTest.{rulesAt}
-use Rattle.answer_set.proofs.Readable.{rules-count}
+use Rattle.words.specs.Limits.{mostRules}
+use Rattle.aspif.specs.Tables.{rulesAt}
+use Rattle.aspif.proofs.Readable.{rules-count}
 use Rattle.drupe.specs.Lines.{lineAt}
-use Rattle.checker.specs.Held.{LineTurn}
+use Rattle.checker.specs.Held.{LineLeaves}
 use Rattle.checker.proofs.Tracking.{start-tracks}
 use Rattle.checker.proofs.Courses.{Going, going-start, going-ends, going-fails, going-on}
 use borrow.Author.Needs.{needs}
@@ -43,7 +43,7 @@ module _ (c : tie.After-turn-at Inv-loop μ-loop) where
   G : Going P (length (start .args .store .now)) (start .args .proof .now) (c .before .before .before .before .loop .store) (c .before .before .before .before .loop .known) (c .before .before .before .before .loop .names) (c .before .before .before .before .loop .used) (c .before .before .before .before .loop .at) (c .before .before .before .before .loop .steps)
   G = c .before .before .before .before .loop .inv
 
-  turned : LineTurn P known′ names′ store′ (c .before .before .before .before .loop .used) (G .z) (lineAt (start .args .proof .now) (c .before .before .before .before .loop .at)) (c .turn-at .result)
+  turned : LineLeaves P known′ names′ store′ (c .before .before .before .before .loop .used) (G .z) (lineAt (start .args .proof .now) (c .before .before .before .before .loop .at)) (c .turn-at .result)
   turned = c .turn-at .ensures (G .z) (G .tracks) (G .holds)
 
 start-requires : tie.Need-start-requires Inv-loop μ-loop

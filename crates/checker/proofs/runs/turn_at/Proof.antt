@@ -5,7 +5,7 @@ use lib.IntN.{pos}
 use lib.ListN.{take}
 use lib.Seq.{length-take-le}
 use Rattle.words.specs.Literals.{has}
-use Rattle.answer_set.specs.SetTest.{rulesAt}
+use Rattle.aspif.specs.Tables.{rulesAt}
 use Rattle.drupe.specs.Lines.{lineRefusal, line, lineAt}
 use Rattle.drupe.proofs.Lines.{passed-line}
 use Rattle.checker.proofs.Turns.{good-line, step-is, read-end, read-refused, read-line, read-count}

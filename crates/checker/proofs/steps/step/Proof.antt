@@ -1,14 +1,14 @@
 use mathlib.Core.Path.{_≡_, subst}
-use Rattle.answer_set.specs.SetTest.{rulesAt}
+use Rattle.aspif.specs.Tables.{rulesAt}
 use Rattle.text.specs.declared.Letter.{Letter}
-use Rattle.checker.specs.Held.{Line}
+use Rattle.checker.specs.Held.{PassedLine}
 use borrow.Author.Needs.{needs}
 use Rattle.checker.proofs.steps.step.Statement.{statement}
 use Rattle.checker.proofs.steps.step.Tie as tie
 
 -- the numbers are those of the letter that was told
-line : (s : tie.Start) {x : Letter} → s .args .letter ≡ x → Line x (s .args .numbers .now)
-line s e = subst (λ x. Line x (s .args .numbers .now)) e (s .pre .1 .1)
+line : (s : tie.Start) {x : Letter} → s .args .letter ≡ x → PassedLine x (s .args .numbers .now)
+line s e = subst (λ x. PassedLine x (s .args .numbers .now)) e (s .pre .1 .1)
 
 addition-requires : tie.Need-addition-requires
 addition-requires c κs =

@@ -3,7 +3,7 @@ use borrow.Author.Tests.{not-true, not-false}
 use lib.ListN.{drop}
 use Rattle.words.proofs.Words.{back}
 use Rattle.text.specs.declared.Letter.the-variants.{Completion}
-use Rattle.answer_set.specs.SetTest.{rulesAt}
+use Rattle.aspif.specs.Tables.{rulesAt}
 use Rattle.derivation.specs.States.{State}
 use Rattle.derivation.specs.Steps.{isCompletion}
 use Rattle.checker.specs.Held.{Tracks}

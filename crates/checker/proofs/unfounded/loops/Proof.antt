@@ -12,10 +12,11 @@ use Rattle.words.specs.Lists.{all}
 use Rattle.words.specs.Literals.{variable, top}
 use Rattle.words.proofs.Words.{back}
 use Rattle.aspif.specs.Rules.{atoms}
-use Rattle.answer_set.specs.SetTest.{marked, rulesAt}
+use Rattle.marks.specs.Marks.{marked}
+use Rattle.aspif.specs.Tables.{rulesAt}
 use Rattle.text.specs.declared.Letter.the-variants.{Loop}
 use Rattle.nogoods.specs.Store.{Literals}
-use Rattle.checker.specs.Held.{Line, gathered}
+use Rattle.checker.specs.Held.{PassedLine, gathered}
 use Rattle.checker.proofs.Letters.{some-number, cited}
 use Rattle.checker.proofs.Kept.{kept-added}
 use Rattle.checker.proofs.Gathering.{gathered-literals}
@@ -32,7 +33,7 @@ module _ (c : tie.Else2) where
   abbrev U : List ℤ
   U = s .args .numbers .now
 
-  line : Line Loop U
+  line : PassedLine Loop U
   line = s .pre .1 .1
 
   known : all (λ x. marked (s .args .known .now) (variable x)) U ≡ true

@@ -44,7 +44,7 @@ use denote.Triple.Table.{entered, cited}
 use denote.Triple.Walked.{says, Stays, stay-none, walkOf, goes-none, Walks, ends-at, walked, walk-meets}
 use denote.Exit.{yes}
 use denote.Triple.Clauses.{ensured, lasts}
-use Rattle.drupe.specs.Lines.{Reads}
+use Rattle.drupe.specs.Lines.{ProofLineRead}
 use Rattle.drupe.specs.declared.reader.ProofReader.{ProofReader}
 use Rattle.drupe.specs.declared.LineReading.{LineReading}
 use Rattle.drupe.proofs.reader.ProofReader as T
@@ -82,7 +82,7 @@ module _ {M : Type 1} (𝓤 : URA M) (H : Heap 𝓤) (A : Atoms 𝓤) (W : Given
 
   -- what is claimed of the result
   abbrev Read : LineReading → Type 0
-  Read = Reads (now (d .text)) (d .at)
+  Read = ProofLineRead (now (d .text)) (d .at)
 
   abbrev Post : Val → SProp 𝓤
   Post = walkOf 𝓤 H A step.ended stayed (step.clauses 𝓤 H A mem run) .post (((κ, tt), (q, tt), tt, (d, tt), (mach ∷ [], tt)), tt)

@@ -40,7 +40,7 @@ use denote.Triple.Table.{entered, cited}
 use denote.Triple.Walked.{says, Stays, stay-none, stay-none-slice, walkOf, goes-none, goes-none-slice, Walks, ends-at, walked, walk-meets}
 use denote.Exit.{yes}
 use denote.Triple.Clauses.{ensured, lasts}
-use Rattle.drupe.specs.Lines.{Reads}
+use Rattle.drupe.specs.Lines.{ProofLineRead}
 use Rattle.drupe.specs.declared.LineReading.{LineReading}
 use Rattle.drupe.specs.declared.reader.ProofReader.{ProofReader}
 use Rattle.drupe.proofs.LineReading as S
@@ -111,7 +111,7 @@ module _ {M : Type 1} (𝓤 : URA M) (H : Heap 𝓤) (A : Atoms 𝓤) (W : Given
   abbrev Moved : ProofReader → ProofReader → Type 0
   Moved r p = (p .text ≡ r .text) × (p .at ≡ n)
 
-  read-there : (r p : ProofReader) (t : LineReading) → Started r → Moved r p → Reads (now (p .text)) (p .at) t → Reads (now s) n t
+  read-there : (r p : ProofReader) (t : LineReading) → Started r → Moved r p → ProofLineRead (now (p .text)) (p .at) t → ProofLineRead (now s) n t
   read-there r p t e e′ h = rw (e′ .0, e .0, e′ .1) at h
 
   -- the call of `start`: what it is passed, what it asks, and what is known of its result
@@ -147,10 +147,10 @@ module _ {M : Type 1} (𝓤 : URA M) (H : Heap 𝓤) (A : Atoms 𝓤) (W : Given
   goes-step : (p : ProofReader) (u : Val) → ent 𝓤 (⋆ 𝓤 H A (‵ (B (κ, tt) .own p (u ∷ [])) ∷ (‵ (flft κ q) ⊛ ‵ ftrue) ∷ [])) (Step 𝓤 H A mem run .pre (to-step p u))
   goes-step p u = qed W (‵ (B (κ, tt) .own p (u ∷ [])) ∷ (‵ (flft κ q) ⊛ ‵ ftrue) ∷ []) ∵ nothing ! $ move ! (1 ∷ 0 ∷ []) $ fjoin ! $ move ! (1 ∷ 0 ∷ []) $ join ! $ frame ! $ done !
 
-  step-said : (p : ProofReader) (t : LineReading) → ent 𝓤 (ensured 𝓤 H A step.ended (step.clauses 𝓤 H A mem run) (κ, tt) (p, tt) tt t) (fact 𝓤 (Reads (now (p .text)) (p .at) t))
-  step-said p t = exE 𝓤 _ (λ ws. snd∗ 𝓤 (sem 𝓤 H A (lasts step.ended (κ, tt) (p, tt) ws)) (fact 𝓤 (Reads (now (p .text)) (p .at) t)))
+  step-said : (p : ProofReader) (t : LineReading) → ent 𝓤 (ensured 𝓤 H A step.ended (step.clauses 𝓤 H A mem run) (κ, tt) (p, tt) tt t) (fact 𝓤 (ProofLineRead (now (p .text)) (p .at) t))
+  step-said p t = exE 𝓤 _ (λ ws. snd∗ 𝓤 (sem 𝓤 H A (lasts step.ended (κ, tt) (p, tt) ws)) (fact 𝓤 (ProofLineRead (now (p .text)) (p .at) t)))
 
-  exits : (t : LineReading) (u : Val) → Reads (now s) n t → ent 𝓤 (⋆ 𝓤 H A (‵ (S.the-row .own t (u ∷ [])) ∷ (‵ (flft κ q) ⊛ ‵ ftrue) ∷ ‵ Kept ∷ [])) (Post u)
+  exits : (t : LineReading) (u : Val) → ProofLineRead (now s) n t → ent 𝓤 (⋆ 𝓤 H A (‵ (S.the-row .own t (u ∷ [])) ∷ (‵ (flft κ q) ⊛ ‵ ftrue) ∷ ‵ Kept ∷ [])) (Post u)
   exits t u e =
       qed W (‵ (S.the-row .own t (u ∷ [])) ∷ (‵ (flft κ q) ⊛ ‵ ftrue) ∷ ‵ Kept ∷ []) ∵
       suffices ! _ (ends-at 𝓤 H A step-at.ended stayed (step-at.clauses 𝓤 H A mem run) W (((κ, tt), (q, tt), tt, (s, (n, tt)), at), tt) u t (tt, (tt, tt)) (tt, (tt, tt))) $ says ! e $
@@ -179,7 +179,7 @@ module _ {M : Type 1} (𝓤 : URA M) (H : Heap 𝓤) (A : Atoms 𝓤) (W : Given
         use2 W (raw (Step 𝓤 H A mem run .pre (to-step p u′))) (goes-step p u′) $
         calls-at ! fm (Step 𝓤 H A mem run) known-step (to-step p u′) (and-then ! (load ! (from ! (stop !)) (look ! 4 refl)) (no-more !)) (λ u″.
         use1 W (later (some (λ (t : LineReading). ((‵ (flft κ q) ⊛ ‵ ftrue) ⊛ ‵ (S.the-row .own t (u″ ∷ []))) ⊛ raw (ensured 𝓤 H A step.ended (step.clauses 𝓤 H A mem run) (κ, tt) (p, tt) tt t)))) (id⊢ 𝓤 _) $ await ! tt $ pick ! (λ t.
-        split ! $ move ! (1 ∷ []) $ use1 W (raw (fact 𝓤 (Reads (now (p .text)) (p .at) t))) (step-said p t) $ heard ! (Reads (now (p .text)) (p .at) t) (λ e″. split ! $ move ! (1 ∷ []) $
+        split ! $ move ! (1 ∷ []) $ use1 W (raw (fact 𝓤 (ProofLineRead (now (p .text)) (p .at) t))) (step-said p t) $ heard ! (ProofLineRead (now (p .text)) (p .at) t) (λ e″. split ! $ move ! (1 ∷ []) $
         -- [the result; the token; what is kept; _4; …; _3; …; _2; …; _1; …; room for _0; …]
         peeks ! S.the-row (Is S.the-row) (shows 𝓤 H A S.the-row) t (u″ ∷ []) (λ is″.
         land ! (from ! (stop !)) (init ! 11 refl (LL.lawful S.the-type S′.the-laws 𝓤 H A W .typed t _ is″ .0)) $

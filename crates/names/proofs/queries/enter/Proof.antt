@@ -8,8 +8,8 @@ use lib.ListN.{length, take, drop, getD, length-set, take-append-drop}
 use Rattle.words.specs.Literals.{sameList}
 use Rattle.words.proofs.Parts.{tail-of}
 use Rattle.aspif.specs.Rules.{Rule}
-use Rattle.answer_set.specs.SetTest.{sizeAt, ruleAt, rulesAt}
-use Rattle.answer_set.proofs.Fronts.{Cursor, Turn, turn, shape-of, no-rules}
+use Rattle.aspif.specs.Tables.{sizeAt, ruleAt, rulesAt}
+use Rattle.aspif.proofs.Cursors.{Cursor, AtRule, at-rule, shape-of, no-rules}
 use Rattle.names.specs.Queries.{renamed}
 use Rattle.names.proofs.Picks.{renamed-on}
 use borrow.Author.Needs.{needs}
@@ -51,8 +51,8 @@ module _ (c : tie.After-rest Inv-loop μ-loop) where
   abbrev f : Rule → Bool
   f = with (s .args .body .now)
 
-  at : Turn t (c .before .before .loop .inv .0) i
-  at = let l = c .before .before .loop in turn (omega (arith, c .before .loop-test .taken, l .inv .1)) (l .inv .2)
+  at : AtRule t (c .before .before .loop .inv .0) i
+  at = let l = c .before .before .loop in at-rule (omega (arith, c .before .loop-test .taken, l .inv .1)) (l .inv .2)
 
   room : k < length ns
   room = omega (arith, s .pre .1, c .before .loop-test .taken, c .before .before .loop .inv .3)

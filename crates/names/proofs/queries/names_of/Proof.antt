@@ -7,10 +7,10 @@ use lib.IntN.{ℤ}
 use lib.ListN.{drop, getD, set}
 use Rattle.words.proofs.Parts.{tail-of}
 use Rattle.aspif.specs.Rules.{Rule}
-use Rattle.answer_set.specs.SetTest.{sizeAt, ruleAt, rulesAt}
-use Rattle.answer_set.proofs.Fronts.{Cursor, Turn, turn, shape-of, no-rules}
+use Rattle.aspif.specs.Tables.{sizeAt, ruleAt, rulesAt}
+use Rattle.aspif.proofs.Cursors.{Cursor, AtRule, at-rule, shape-of, no-rules}
 use Rattle.names.specs.Queries.{asks, picks}
-use Rattle.names.proofs.Sets.{Found, found-none, found-all}
+use Rattle.marks.proofs.Sets.{MarkedSoFar, found-none, found-all}
 use Rattle.names.proofs.Picks.{found-pick}
 use borrow.Author.Needs.{needs}
 use Rattle.names.proofs.queries.names_of.Statement.{statement}
@@ -21,7 +21,7 @@ Inv-loop table rules names query literals inside found₀ k₀ i₀ found k i =
     (left : ℕ)
     × (k + left ≡ rules)
     × Cursor table left i
-    × Found found (picks (asks query literals inside) (rulesAt left (drop i table)) (drop k names)) (picks (asks query literals inside) (rulesAt rules table) names)
+    × MarkedSoFar found (picks (asks query literals inside) (rulesAt left (drop i table)) (drop k names)) (picks (asks query literals inside) (rulesAt rules table) names)
 
 abbrev μ-loop : tie.MeasureT-loop
 μ-loop table rules names query literals inside found₀ k₀ i₀ found k i = rules - k
@@ -43,8 +43,8 @@ module _ (c : tie.After-rest Inv-loop μ-loop) where
   abbrev f : Rule → Bool
   f = asks (s .args .query) (s .args .literals .now) (s .args .inside .now)
 
-  at : Turn t (c .before .before .loop .inv .0) i
-  at = let l = c .before .before .loop in turn (omega (arith, c .before .loop-test .taken, l .inv .1)) (l .inv .2)
+  at : AtRule t (c .before .before .loop .inv .0) i
+  at = let l = c .before .before .loop in at-rule (omega (arith, c .before .loop-test .taken, l .inv .1)) (l .inv .2)
 
 -- what the call tells of the rule and its name
 told : (c : tie.After-mark-asked Inv-loop μ-loop)

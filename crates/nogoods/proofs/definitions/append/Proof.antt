@@ -7,7 +7,7 @@ use lib.ListN.{length, take, drop, getD, length-drop}
 use Rattle.derivation.specs.Steps.{definition}
 use Rattle.nogoods.specs.Store.{liveWords}
 use Rattle.nogoods.proofs.Stored.{full, added}
-use Rattle.nogoods.proofs.Defined.{apart, definition-size, definition-literals}
+use Rattle.nogoods.proofs.Defined.{name-and-literals, definition-size, definition-literals}
 use borrow.Author.Needs.{needs}
 use Rattle.nogoods.proofs.definitions.append.Statement.{statement}
 use Rattle.nogoods.proofs.definitions.append.Tie as tie
@@ -34,7 +34,7 @@ returns-2 c =
     let s = t .before in
     let l = s .args .numbers .now in
     let n = size l (s .pre .1 .1) in
-    added H (defined l) n (omega (arith, t .if1 .left, H .fits)) (definition-literals (getD l 0 (pos 0)) (drop 1 l) (apart l (s .pre .1 .1) (s .pre .1 .0))) (w .last .0)
+    added H (defined l) n (omega (arith, t .if1 .left, H .fits)) (definition-literals (getD l 0 (pos 0)) (drop 1 l) (name-and-literals l (s .pre .1 .1) (s .pre .1 .0))) (w .last .0)
     (w .ensures ∙ ap (λ (k : ℕ). liveWords (defined l) ++ drop k (take (length (s .args .store .now) - s .args .used) (drop (s .args .used) (s .args .store .now)))) n)
 
 pub append-spec : {M : Type 1} → statement M

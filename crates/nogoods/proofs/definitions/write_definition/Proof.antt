@@ -7,7 +7,7 @@ use Rattle.words.proofs.Places.{in-at}
 use Rattle.words.proofs.Sorting.{length-ascending}
 use Rattle.words.proofs.Words.{back}
 use Rattle.nogoods.proofs.Literals.{literals-ascending, literals-tail}
-use Rattle.nogoods.proofs.Defined.{apart, others-sorted, definition-written}
+use Rattle.nogoods.proofs.Defined.{name-and-literals, others-sorted, definition-written}
 use borrow.Author.Needs.{needs}
 use Rattle.nogoods.proofs.definitions.write_definition.Statement.{statement}
 use Rattle.nogoods.proofs.definitions.write_definition.Tie as tie
@@ -26,7 +26,7 @@ write-pairs-requires c κs =
     let l = s .args .numbers .now in
     let end = length l + 1 in
     rw (others-sorted l (o .sort .last .0) (s .pre .1) (o .sort .ensures), tail-of end (w .last .0), length-drop, length-ascending, w .kept .0) (
-      literals-ascending (drop 1 l) (literals-tail (getD l 0 (pos 0)) (drop 1 l) (apart l (s .pre .1) (s .pre .0))),
+      literals-ascending (drop 1 l) (literals-tail (getD l 0 (pos 0)) (drop 1 l) (name-and-literals l (s .pre .1) (s .pre .0))),
       omega (arith, length-drop 1 l, s .pre),
     )
 

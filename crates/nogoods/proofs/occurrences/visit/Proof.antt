@@ -6,7 +6,8 @@ use native.Mathlib.Omega.{arith}
 use borrow.Author.Needs.{needs}
 use lib.IntN.{ℤ}
 use lib.ListN.{length, getD}
-use Rattle.nogoods.specs.Propagate.{entries, free, nogoodAt, Stands, Readable, Derives, Grows}
+use Rattle.words.specs.Limits.{entries}
+use Rattle.nogoods.specs.Propagate.{free, nogoodAt, Stands, Readable, Derives, Grows}
 use Rattle.nogoods.specs.PropagateChains.{reach, Queue}
 use Rattle.nogoods.specs.declared.units.Derived.{Derived}
 use Rattle.nogoods.proofs.Segments.{readable}
