@@ -76,7 +76,7 @@ fn first_broken(table: &[i32], rules: usize, inside: &[u8]) -> SetAnswer
         if is_broken(rest, inside) {
             return SetAnswer::Broken(number);
         }
-        i += tables::rule_size(rest);
+        i = tables::next_rule(table, i);
         number += 1;
         left -= 1;
     }

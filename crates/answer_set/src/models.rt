@@ -94,7 +94,7 @@ fn give_all(table: &[i32], rules: usize, inside: &[u8], marks: &mut [u8]) -> boo
         if give_rule(rest, inside, marks) {
             new = true;
         }
-        i += tables::rule_size(rest);
+        i = tables::next_rule(table, i);
         left -= 1;
     }
     new

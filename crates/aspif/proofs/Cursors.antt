@@ -15,19 +15,16 @@ use mathlib.Core.Option.{some, none, Option·some-injective, Option·none-ne-som
 use Rattle.words.proofs.Ascending.{top-ascends}
 use Rattle.words.specs.Lists.{all}
 use Rattle.words.specs.Literals.{variable, same}
-use Rattle.aspif.specs.Rules.{isEmpty, ruleTop, atoms, Rule}
-use Rattle.words.specs.Limits.{mostRules, largest}
+use Rattle.aspif.specs.Rules.{Rule, isCount, ruleTop, atoms}
+use Rattle.aspif.proofs.Counts.{count-small}
+use Rattle.words.specs.Limits.{mostLiterals, mostRules, largest}
 use Rattle.words.proofs.Lists.{and-left, and-right}
-use Rattle.aspif.specs.Tables.{isCount, suits, headsSound, bodySound, headCount, bodyCount, sizeAt, headsAt, bodyAt, ruleAt, shapeSound, soundAt, rulesAt, soundRules, soundTable, rulesOf}
-
--- a count is at most 64
-pub count-small : (w : ℤ) → isCount w ≡ true → variable w ≤ 64
-count-small w e = leb-true (variable w) 64 (and-right (leZ (pos 0) w) _ e)
+use Rattle.aspif.specs.Tables.{isHeaded, headsSound, bodySound, headCount, bodyCount, sizeAt, headsAt, bodyAt, ruleAt, shapeSound, soundAt, rulesAt, soundRules, soundTable, rulesOf}
 
 -- the counts are small, and the words are there
 pub record Shaped (ws : List ℤ) : Type 0 where
-  pub heads : headCount ws ≤ 64
-  pub body : bodyCount ws ≤ 64
+  pub heads : headCount ws ≤ mostLiterals
+  pub body : bodyCount ws ≤ mostLiterals
   pub fits : 3 + headCount ws + bodyCount ws ≤ length ws
 
 pub shaped : (ws : List ℤ) → shapeSound ws ≡ true → Shaped ws
@@ -38,7 +35,7 @@ shaped ws e =
     record {
       heads = count-small (getD ws 1 (pos 0)) (and-left _ _ e);
       body = count-small (getD ws 2 (pos 0)) (and-left _ _ f);
-      fits = leb-true _ _ (and-right (suits (getD ws 0 (pos 0)) (headCount ws)) _ g);
+      fits = leb-true _ _ (and-right (isHeaded ws) _ g);
     }
 
 -- Rules one after another
@@ -82,7 +79,7 @@ pub record Cursor (t : List ℤ) (left i : ℕ) : Type 0 where
 
 -- the rule there, and the cursor after it
 pub record AtRule (t : List ℤ) (left i : ℕ) : Type 0 where
-  pub sound : soundAt (drop i t) ≡ true
+  pub here : (i ≤ length t) × (shapeSound (drop i t) ≡ true)
   pub next : Cursor t (left - 1) (i + sizeAt (drop i t))
   pub rules : rulesAt left (drop i t) ≡ ruleAt (drop i t) ∷ rulesAt (left - 1) (drop (i + sizeAt (drop i t)) t)
 
@@ -94,7 +91,7 @@ at-rule {t} {left} {i} h c =
     let s = and-left (soundAt ws) _ e in
     let f = shaped ws (shape-of ws s) in
     record {
-      sound = s;
+      here = (c .within, shape-of ws s);
       next = record {
         within = omega (arith, f .fits, length-drop i t, c .within);
         sound = rw (← drop-drop (sizeAt ws) i t) (and-right (soundAt ws) _ e);

@@ -19,9 +19,9 @@ use Rattle.words.proofs.Literals.{has-decides, ascending→}
 use Rattle.words.proofs.Sorting.{length-ascending, rising-ascending}
 use Rattle.text.specs.Line.{Line, broken, numbers, lineOf, outside, anyOutside}
 use Rattle.words.proofs.Segments.{record-append}
-use Rattle.aspif.specs.Rules.{Rule, ruleWords, programWords}
+use Rattle.aspif.specs.Rules.{Rule, suits, ruleWords, programWords}
 use Rattle.words.specs.Limits.{mostLiterals, mostRules}
-use Rattle.aspif.specs.Reading.{suited, isAt, isCount, bodyShape, headShape, shapeOf, headsGood, bodyGood, RuleRead, fails, reads, ruleOf, Turn, refuses, ends, adds, isLast, room, turnOf, onward, linesFrom, refused, program, header, startsWith, readLines}
+use Rattle.aspif.specs.Reading.{suited, isAt, isCountAt, bodyShape, headShape, shapeOf, headsGood, bodyGood, RuleRead, fails, reads, ruleOf, Turn, refuses, ends, adds, isLast, room, turnOf, linesFrom, Reading, refused, program, header, startsWith, readLines}
 use Rattle.aspif.specs.declared.Kind.{Kind}
 use Rattle.aspif.specs.declared.Kind.the-variants.{Normal, Choice}
 use Rattle.aspif.specs.declared.rules.Shape.{Shape}
@@ -32,7 +32,7 @@ use Rattle.aspif.proofs.Counts.{Counted, shape-counted}
 pub record Formed (r : Rule) : Type 0 where
   pub heads-few : length (r .heads) ≤ mostLiterals
   pub body-few : length (r .body) ≤ mostLiterals
-  pub suits : suited (r .kind) (length (r .heads)) (length (r .body)) ≡ Shaped (r .kind) (length (r .heads)) (length (r .body))
+  pub headed : suits (r .kind) (length (r .heads)) ≡ true
   pub positive : all (λ h. ltZ (pos 0) h) (r .heads) ≡ true
   pub heads-rise : rising (r .heads) ≡ true
   pub nonzero : has (pos 0) (r .body) ≡ false
@@ -79,19 +79,18 @@ ascending-in zs e =
 -- a shape that is no refusal suits its kind
 abbrev Suits : Shape → Type 0
 Suits (Wrong k) = Unit {0}
-Suits (Shaped k h b) = suited k h b ≡ Shaped k h b
+Suits (Shaped k h b) = suits k h ≡ true
 
 suited-suits : (k : Kind) (h b : ℕ) → Suits (suited k h b)
-suited-suits Normal h b = by-test Suits (leb h 1) (λ e. rw e) (λ e. tt)
-suited-suits Choice h b = by-test Suits (leb 1 h) (λ e. rw e) (λ e. tt)
+suited-suits k h b = by-test Suits (suits k h) (λ e. e) (λ e. tt)
 
 module _ (zs : List ℤ) (n : ℕ) where
   body-suits : (k : Kind) (h : ℕ) → Suits (bodyShape zs n k h)
   body-suits k h =
-      by-test Suits (isAt zs n (3 + h) (pos 0)) (λ e. by-test Suits (isCount zs n (4 + h) && eqb _ n) (λ f. suited-suits k h _) (λ f. tt)) (λ e. tt)
+      by-test Suits (isAt zs n (3 + h) (pos 0)) (λ e. by-test Suits (isCountAt zs n (4 + h) && eqb _ n) (λ f. suited-suits k h _) (λ f. tt)) (λ e. tt)
 
   head-suits : (k : Kind) → Suits (headShape zs n k)
-  head-suits k = by-test Suits (isCount zs n 2 && leb _ n) (λ e. body-suits k _) (λ e. tt)
+  head-suits k = by-test Suits (isCountAt zs n 2 && leb _ n) (λ e. body-suits k _) (λ e. tt)
 
   shape-suits : Suits (shapeOf zs n)
   unfolding shapeOf
@@ -128,7 +127,7 @@ rule-formed zs o (Shaped k h b) c s = by-test Reads (headsGood hs && bodyGood ls
         record {
           heads-few = rw many (c .0);
           body-few = rw long (c .1);
-          suits = rw (many, long) s;
+          headed = rw many s;
           positive = passed _ .to (above (ascending hs) .from (λ z i. above hs .to (passed _ .from (and-left (all (λ h. ltZ (pos 0) h) hs) _ p)) z (ascending→ hs i)));
           heads-rise = rising-ascending hs ∙ and-right (all (λ h. ltZ (pos 0) h) hs) _ p;
           nonzero = failed _ (not-decides (has-decides (pos 0) (ascending ls)) .from (λ i. not-decides (has-decides (pos 0) ls) .to (passed _ .from (and-left (not (has (pos 0) ls)) _ q)) (ascending→ ls i)));
@@ -165,6 +164,17 @@ words-append = record-append ruleWords
 
 length-more : (rs : List Rule) (r : Rule) → length (programWords (rs ++ (r ∷ []))) ≡ length (programWords rs) + length (ruleWords r)
 length-more rs r = ap length (words-append rs (r ∷ [])) ∙ rw (append-nil (ruleWords r)) (length-append (programWords rs) (ruleWords r))
+
+-- what is made of a turn at a line; `on` reads the text that is left after so many bytes, with the rules so far
+abbrev pub onward : (ℕ → List Rule → Reading) → List Rule → ℕ → Turn → Reading
+onward on rs line t = elim t [ refuses k ↦ refused k line | ends ↦ program rs | adds r n ↦ on n (rs ++ (r ∷ [])) ]
+
+-- one line of the reading
+pub lines-on : (size turns : ℕ) (s : List ℕ) (line : ℕ) (rs : List Rule)
+    → linesFrom size (suc turns) s line rs
+    ≡ onward (λ n. linesFrom size turns (drop n s) (line + 1)) rs line (turnOf (length rs) (size - length (programWords rs)) (length s) (lineOf s))
+unfolding linesFrom
+lines-on size turns s line rs = refl
 
 module _ (size : ℕ) where
   fits-more : (rs : List Rule) (r : Rule) → FitsTable size rs → Added (length rs) (size - length (programWords rs)) (adds r 0) → FitsTable size (rs ++ (r ∷ []))

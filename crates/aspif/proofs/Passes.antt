@@ -17,7 +17,8 @@ use Rattle.text.specs.Line.{Line, broken, numbers, lineOf, anyOutside}
 use Rattle.text.proofs.Lines.{bounds-of}
 use Rattle.aspif.specs.Rules.{Rule, ruleTop, atoms, ruleWords, programWords}
 use Rattle.words.specs.Limits.{mostRules}
-use Rattle.aspif.specs.Reading.{RuleRead, fails, reads, Turn, refuses, ends, adds, isLast, shapeOf, ruleOf, room, turnOf, onward, linesFrom, Reading, refused, program}
+use Rattle.aspif.specs.Reading.{RuleRead, fails, reads, Turn, refuses, ends, adds, isLast, shapeOf, ruleOf, room, turnOf, linesFrom, Reading, refused, program}
+use Rattle.aspif.proofs.Formed.{onward, lines-on}
 use Rattle.aspif.specs.Turns.{turnTold, freeAfter, TurnTaken, LinesRead}
 use Rattle.aspif.specs.declared.rules.LineTurn.{LineTurn}
 use Rattle.aspif.specs.declared.rules.LineTurn.the-variants.{Refuses, Ends, Adds}
@@ -129,9 +130,9 @@ module _ {text : List ℕ} {table₀ table : List ℤ} {at line used rules top :
 
   -- one turn of the reading
   turned : linesFrom (length table₀) (suc (length text)) (drop 10 text) 2 [] ≡ onward (λ n. linesFrom (length table₀) (turn-left .0) (drop n rest) (line + 1)) (S .so-far) line turn
-  unfolding linesFrom
   turned =
       S .reading ∙ ap (λ n. linesFrom (length table₀) n rest line (S .so-far)) (turn-left .1)
+      ∙ lines-on (length table₀) (turn-left .0) rest line (S .so-far)
       ∙ ap (λ t. onward (λ n. linesFrom (length table₀) (turn-left .0) (drop n rest) (line + 1)) (S .so-far) line t) (sym turn-is)
 
   stands-refuses : (k : ℕ) → turn ≡ refuses k → linesFrom (length table₀) (suc (length text)) (drop 10 text) 2 [] ≡ refused k line

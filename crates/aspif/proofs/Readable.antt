@@ -1,7 +1,7 @@
 -- Question 41: the executable test says what the paper says, `table-read`. A rule that sound words hold is one that the reader
 -- forms, and the other way round; the text that is read is written from the rules. Assumes nothing.
 use mathlib.Core.Path.{_≡_, refl, sym, _∙_, ap, ap₂, subst}
-use mathlib.Core.Bool.{Bool, true, false, cond, _&&_, true≢false}
+use mathlib.Core.Bool.{Bool, true, false, cond, _&&_, _||_, true≢false}
 use mathlib.Core.Option.{some}
 use mathlib.Core.List.{List, [], _∷_, _++_, map, append-assoc, List·Memᴰ·head, List·Memᴰ·tail, Memᴰ·cast}
 use Prim.Native.Nat.{ℕ, zero, suc, _+_, _-_, _≤_}
@@ -18,14 +18,13 @@ use Rattle.words.specs.Literals.{variable, same, has}
 use Rattle.words.proofs.Lists.{itself, passed, failed, not-decides, all-decides, if-true, and-left, and-right}
 use Rattle.words.proofs.Literals.{same-decides, has-decides, variable-positive, positive}
 use Rattle.text.specs.Line.{anyOutside}
-use Rattle.aspif.specs.Rules.{Rule, kindWord, ruleWords, programWords, tableWords}
-use Rattle.aspif.specs.Reading.{suited}
+use Rattle.aspif.specs.Rules.{Rule, suits, isCount, kindWord, ruleWords, programWords, tableWords}
 use Rattle.aspif.specs.declared.Kind.{Kind}
 use Rattle.aspif.specs.declared.Kind.the-variants.{Normal, Choice}
 use Rattle.aspif.specs.declared.rules.Shape.the-variants.{Wrong, Shaped}
 use Rattle.aspif.proofs.Formed.{Formed, FitsTable, inside-decides, read-fits}
 use Rattle.aspif.proofs.Written.{textOf, written-read}
-use Rattle.aspif.specs.Tables.{ReadAs, kindOf, suits, isCount, headsSound, bodySound, headCount, bodyCount, sizeAt, headsAt, bodyAt, ruleAt, shapeSound, soundAt, rulesAt, soundRules, soundTable, rulesOf}
+use Rattle.aspif.specs.Tables.{ReadAs, kindOf, isKind, isHeaded, headsSound, bodySound, headCount, bodyCount, sizeAt, headsAt, bodyAt, ruleAt, shapeSound, soundAt, rulesAt, soundRules, soundTable, rulesOf}
 use Rattle.aspif.specs.Claims.{TableRead}
 use Rattle.words.proofs.Ascending.{ascends-rising, rising-ascends, ascends-words}
 use Rattle.aspif.proofs.Cursors.{shaped, shape-of, few-rules, sound-rules, rules-of}
@@ -57,31 +56,17 @@ body-sound r f =
 
 -- Kinds and counts
 
--- a head kind that suits its count is 0 or 1
-kind-suits : (w : ℤ) (h b : ℕ) → suits w h ≡ true → (suited (kindOf w) h b ≡ Shaped (kindOf w) h b) × (w ≡ kindWord (kindOf w))
-kind-suits w h b = by (same w (pos 0)) refl
+-- a head kind is 0 or 1
+kind-word : (w : ℤ) → isKind w ≡ true → w ≡ kindWord (kindOf w)
+kind-word w = by (same w (pos 0)) refl
   where
-    normal : (w : ℤ) → w ≡ pos 0 → leb h 1 ≡ true → (suited (kindOf w) h b ≡ Shaped (kindOf w) h b) × (w ≡ kindWord (kindOf w))
-    normal w p e = rw p (rw e refl, refl)
+    by : (t : Bool) → same w (pos 0) ≡ t → (t || same w (pos 1)) ≡ true → w ≡ kindWord (kindOf w)
+    by true p e = let z = if-true (same-decides w (pos 0)) p in rw z refl
+    by false p e = let z = if-true (same-decides w (pos 1)) e in rw z refl
 
-    choice : (w : ℤ) → w ≡ pos 1 → leb 1 h ≡ true → (suited (kindOf w) h b ≡ Shaped (kindOf w) h b) × (w ≡ kindWord (kindOf w))
-    choice w p e = rw p (rw e refl, refl)
-
-    by : (t : Bool) → same w (pos 0) ≡ t → cond t (leb h 1) (same w (pos 1) && leb 1 h) ≡ true → (suited (kindOf w) h b ≡ Shaped (kindOf w) h b) × (w ≡ kindWord (kindOf w))
-    by true p e = normal w (if-true (same-decides w (pos 0)) p) e
-    by false p e = choice w (if-true (same-decides w (pos 1)) (and-left _ _ e)) (and-right (same w (pos 1)) _ e)
-
-suits-kind : (k : Kind) (h b : ℕ) → suited k h b ≡ Shaped k h b → suits (kindWord k) h ≡ true
-suits-kind Normal h b = by (leb h 1)
-  where
-    by : (t : Bool) → cond t (Shaped Normal h b) (Wrong 7) ≡ Shaped Normal h b → t ≡ true
-    by true e = refl
-    by false e = absurd (let z : _≡_ {A = ℕ} 0 1 = cc in omega arith)
-suits-kind Choice h b = by (leb 1 h)
-  where
-    by : (t : Bool) → cond t (Shaped Choice h b) (Wrong 7) ≡ Shaped Choice h b → t ≡ true
-    by true e = refl
-    by false e = absurd (let z : _≡_ {A = ℕ} 0 1 = cc in omega arith)
+is-kind : (k : Kind) → isKind (kindWord k) ≡ true
+is-kind Normal = refl
+is-kind Choice = refl
 
 kind-of-word : (k : Kind) → kindOf (kindWord k) ≡ k
 kind-of-word Normal = refl
@@ -131,7 +116,7 @@ module _ (r : Rule) (f : Formed r) (t : List ℤ) where
   unfolding soundAt shapeSound sizeAt
   sound-words =
       let n : length ws ≡ 3 + (h + b + length t) = omega (arith, length-append (r .heads ++ r .body) t, length-append (r .heads) (r .body)) in
-      rw (is-count h (f .heads-few), is-count b (f .body-few), suits-kind (r .kind) h b (f .suits), le-leb (3 + h + b) (length ws) (omega arith), heads-at, heads-sound r f, body-at) (body-sound r f)
+      rw (is-count h (f .heads-few), is-count b (f .body-few), is-kind (r .kind), kind-of-word (r .kind), f .headed, le-leb (3 + h + b) (length ws) (omega arith), heads-at, heads-sound r f, body-at) (body-sound r f)
 
 module _ (t : List ℤ) (z : all (same (pos 0)) t ≡ true) where
   rules-back : (rs : List Rule) → ((r : Rule) → r ∈ rs → Formed r) → (soundRules (length rs) (programWords rs ++ t) ≡ true) × (rulesAt (length rs) (programWords rs ++ t) ≡ rs)
@@ -163,13 +148,13 @@ module _ (ws : List ℤ) (s : soundAt ws ≡ true) where
   abbrev body : ℕ
   body = bodyCount ws
 
-  counted : (isCount (getD ws 1 (pos 0)) ≡ true) × (isCount (getD ws 2 (pos 0)) ≡ true) × (suits (getD ws 0 (pos 0)) heads ≡ true)
+  counted : (isCount (getD ws 1 (pos 0)) ≡ true) × (isCount (getD ws 2 (pos 0)) ≡ true) × (isHeaded ws ≡ true)
   unfolding shapeSound
   counted =
       let e = shape-of ws s in
       let f = and-right (isCount (getD ws 1 (pos 0))) _ e in
       let g = and-right (isCount (getD ws 2 (pos 0))) _ f in
-      (and-left (isCount (getD ws 1 (pos 0))) _ e, and-left (isCount (getD ws 2 (pos 0))) _ f, and-left (suits (getD ws 0 (pos 0)) heads) _ g)
+      (and-left (isCount (getD ws 1 (pos 0))) _ e, and-left (isCount (getD ws 2 (pos 0))) _ f, and-left (isHeaded ws) _ g)
 
   sorted : (headsSound (headsAt ws) ≡ true) × (bodySound (bodyAt ws) ≡ true)
   unfolding soundAt
@@ -190,7 +175,7 @@ module _ (ws : List ℤ) (s : soundAt ws ≡ true) where
       record {
         heads-few = rw length-heads (f .heads);
         body-few = rw length-body (f .body);
-        suits = rw (length-heads, length-body) (kind-suits (getD ws 0 (pos 0)) heads body (counted .2) .0);
+        headed = rw length-heads (and-right (isKind (getD ws 0 (pos 0))) _ (counted .2));
         positive = and-left (all (λ h. ltZ (pos 0) h) (headsAt ws)) _ (sorted .0);
         heads-rise = ascends-rising 0 largest (headsAt ws) up;
         nonzero = ascends-nonzero (bodyAt ws) (sorted .1);
@@ -213,7 +198,7 @@ front-words (a ∷ c ∷ d ∷ t) s =
     let x : take m (drop n t) ≡ bodyAt ws = ap (take m) (drop-drop n 3 ws) in
     let y : drop (n + m) t ≡ drop (sizeAt ws) ws = let e : 3 + (n + m) ≡ 3 + n + m = omega arith in drop-drop (n + m) 3 ws ∙ ap (λ (i : ℕ). drop i ws) e in
     let cons : ℤ → List ℤ → List ℤ = λ z l. z ∷ l in
-    ap₂ cons (kind-suits a n m (k .2) .1)
+    ap₂ cons (kind-word a (and-left (isKind a) _ (k .2)))
     (ap₂ cons (count-word c (k .0) ∙ ap pos (sym (length-heads ws s)))
     (ap₂ cons (count-word d (k .1) ∙ ap pos (sym (length-body ws s))) (w ∙ ap₂ (λ u v. (take n t ++ u) ++ v) x y)))
 

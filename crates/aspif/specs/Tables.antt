@@ -2,18 +2,18 @@
 -- specs/Claims.antt says that the two agree.
 -- Assumes nothing.
 use mathlib.Core.Path.{_≡_}
-use mathlib.Core.Bool.{Bool, true, false, cond, _&&_}
+use mathlib.Core.Bool.{Bool, true, false, cond, _&&_, _||_}
 use mathlib.Core.Option.{Option, none, some}
 use mathlib.Core.List.{List, [], _∷_, map}
 use Prim.Native.Nat.{ℕ, zero, suc, _+_}
 use lib.Dec.{leb}
 use lib.IntN.{ℤ, pos}
-use lib.Signed.{ltZ, leZ}
+use lib.Signed.{ltZ}
 use lib.ListN.{length, take, drop, getD}
-use Rattle.words.specs.Limits.{largest, mostLiterals, mostRules}
+use Rattle.words.specs.Limits.{largest, mostRules}
 use Rattle.words.specs.Lists.{all, ascends}
 use Rattle.words.specs.Literals.{variable, same}
-use Rattle.aspif.specs.Rules.{Rule, tableWords}
+use Rattle.aspif.specs.Rules.{Rule, suits, isCount, tableWords}
 use Rattle.aspif.specs.Reading.{program, readLines}
 use Rattle.aspif.specs.declared.Kind.{Kind}
 use Rattle.aspif.specs.declared.Kind.the-variants.{Normal, Choice}
@@ -33,13 +33,9 @@ ReadTable table rules = (rs : List Rule) × ReadAs table rules rs
 abbrev pub kindOf : ℤ → Kind
 kindOf w = cond (same w (pos 1)) Choice Normal
 
--- the head kind is one, and suits the head count: "A normal rule has 0 or 1 heads", "A choice rule has 1 to 64"
-abbrev pub suits : ℤ → ℕ → Bool
-suits w heads = cond (same w (pos 0)) (leb heads 1) (same w (pos 1) && leb 1 heads)
-
--- "Are both counts .. 0 to 64"
-abbrev pub isCount : ℤ → Bool
-isCount w = leZ (pos 0) w && leb (variable w) mostLiterals
+-- "head kind present and 0 or 1"
+abbrev pub isKind : ℤ → Bool
+isKind w = same w (pos 0) || same w (pos 1)
 
 -- heads, from 1 to 4,095, ascending
 abbrev pub headsSound : List ℤ → Bool
@@ -70,10 +66,14 @@ module _ (ws : List ℤ) where
   abbrev pub ruleAt : Rule
   ruleAt = record { kind = kindOf (getD ws 0 (pos 0)); heads = headsAt; body = bodyAt }
 
+  -- the first word is a head kind, and the head count suits it
+  abbrev pub isHeaded : Bool
+  isHeaded = isKind (getD ws 0 (pos 0)) && suits (kindOf (getD ws 0 (pos 0))) headCount
+
   -- the counts and the kind are such, and the words are there
   unfoldable pub shapeSound : Bool
   shapeSound =
-      isCount (getD ws 1 (pos 0)) && (isCount (getD ws 2 (pos 0)) && (suits (getD ws 0 (pos 0)) headCount && leb sizeAt (length ws)))
+      isCount (getD ws 1 (pos 0)) && (isCount (getD ws 2 (pos 0)) && (isHeaded && leb sizeAt (length ws)))
 
   unfoldable pub soundAt : Bool
   soundAt = shapeSound && (headsSound headsAt && bodySound bodyAt)

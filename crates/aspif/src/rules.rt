@@ -7,10 +7,10 @@ ghost use lib.ListN.{length, drop};
 ghost use Rattle.words.specs.Literals.{ascending};
 ghost use Rattle.aspif.specs.Rules.{kindWord};
 ghost use Rattle.words.specs.Limits.{mostLiterals};
-ghost use Rattle.aspif.specs.Reading.{isAt, isCount, suited, bodyShape, headShape, shapeOf, headsGood, bodyGood, reads, ruleOf, room};
+ghost use Rattle.aspif.specs.Reading.{isAt, isCountAt, suited, bodyShape, headShape, shapeOf, headsGood, bodyGood, reads, ruleOf, room};
 ghost use Rattle.aspif.specs.Turns.{rowSize, rowRule, rowWords, Sorted, TurnTaken};
 use crate::Kind;
-use words::MOST_LITERALS;
+use crate::tables;
 use words::MOST_RULES;
 
 // What a line makes of the reading: it is refused, it ends the text, or a rule is added.
@@ -46,35 +46,21 @@ fn is_at(row: &[i32], count: usize, i: usize, n: i32) -> bool
 }
 
 // Number i of the line is there, and 0 to 64.
-fn is_count(row: &[i32], count: usize, i: usize) -> bool
-    ensures { λ r. ⌜ r ≡ isCount (now (row .entry)) count i ⌝ }
+fn is_count_at(row: &[i32], count: usize, i: usize) -> bool
+    ensures { λ r. ⌜ r ≡ isCountAt (now (row .entry)) count i ⌝ }
 {
-    if count <= i {
-        return false;
+    if i < count {
+        return tables::is_count(row, i);
     }
-    let word = words::word_at(row, i);
-    if 0 <= word {
-        words::variable_of(word) <= MOST_LITERALS
-    } else {
-        false
-    }
+    false
 }
 
 // Question 7.
 fn suited_shape(kind: Kind, heads: usize, body: usize) -> Shape
     ensures { λ r. ⌜ r ≡ suited kind heads body ⌝ }
 {
-    match kind {
-        Kind::Normal => {
-            if heads <= 1 {
-                return Shape::Shaped { kind, heads, body };
-            }
-        }
-        Kind::Choice => {
-            if 1 <= heads {
-                return Shape::Shaped { kind, heads, body };
-            }
-        }
+    if tables::suits_kind(kind, heads) {
+        return Shape::Shaped { kind, heads, body };
     }
     Shape::Wrong(7)
 }
@@ -85,7 +71,7 @@ fn body_shape(row: &[i32], count: usize, kind: Kind, heads: usize) -> Shape
     ensures { λ r. ⌜ r ≡ bodyShape (now (row .entry)) count kind heads ⌝ }
 {
     if is_at(row, count, 3 + heads, 0) {
-        if is_count(row, count, 4 + heads) {
+        if is_count_at(row, count, 4 + heads) {
             let body = words::variable_of(words::word_at(row, 4 + heads));
             if 5 + heads + body == count {
                 return suited_shape(kind, heads, body);
@@ -100,7 +86,7 @@ fn body_shape(row: &[i32], count: usize, kind: Kind, heads: usize) -> Shape
 fn head_shape(row: &[i32], count: usize, kind: Kind) -> Shape
     ensures { λ r. ⌜ r ≡ headShape (now (row .entry)) count kind ⌝ }
 {
-    if is_count(row, count, 2) {
+    if is_count_at(row, count, 2) {
         let heads = words::variable_of(words::word_at(row, 2));
         if 3 + heads <= count {
             return body_shape(row, count, kind, heads);

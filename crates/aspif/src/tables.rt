@@ -2,14 +2,14 @@
 ghost use mathlib.Core.Path.{_≡_};
 ghost use mathlib.Core.Bool.{true};
 ghost use mathlib.Core.List.{map};
-ghost use Prim.Native.Nat.{_≤_};
+ghost use Prim.Native.Nat.{_+_, _≤_};
 ghost use lib.IntN.{pos};
-ghost use lib.ListN.{length, getD};
+ghost use lib.ListN.{length, drop, getD};
 ghost use Rattle.words.specs.Limits.{largest};
 ghost use Rattle.words.specs.Lists.{all, ascends};
 ghost use Rattle.words.specs.Literals.{variable, same};
-ghost use Rattle.aspif.specs.Rules.{ruleTop, atoms};
-ghost use Rattle.aspif.specs.Tables.{kindOf, suits, isCount, sizeAt, headsAt, bodyAt, ruleAt, shapeSound, soundAt, rulesAt, soundRules, soundTable};
+ghost use Rattle.aspif.specs.Rules.{suits, isCount, ruleTop, atoms};
+ghost use Rattle.aspif.specs.Tables.{kindOf, isKind, isHeaded, sizeAt, headsAt, bodyAt, ruleAt, shapeSound, soundAt, rulesAt, soundRules, soundTable};
 use crate::Kind;
 
 // The number that word i holds, its sign aside.
@@ -20,7 +20,7 @@ fn size_at(words: &[i32], i: usize) -> usize
 }
 
 // Word i is 0 to 64.
-fn is_count(words: &[i32], i: usize) -> bool
+pub fn is_count(words: &[i32], i: usize) -> bool
     ensures { λ r. ⌜ r ≡ isCount (getD (now (words .entry)) i (pos 0)) ⌝ }
 {
     let word = words::word_at(words, i);
@@ -31,33 +31,21 @@ fn is_count(words: &[i32], i: usize) -> bool
     }
 }
 
-// The word is a head kind, and suits the head count.
-fn suits_kind(word: i32, heads: usize) -> bool
-    ensures { λ r. ⌜ r ≡ suits word heads ⌝ }
+// Question 7: the head count suits the kind.
+pub fn suits_kind(kind: Kind, heads: usize) -> bool
+    ensures { λ r. ⌜ r ≡ suits kind heads ⌝ }
 {
-    if words::is_same(word, 0) {
-        return heads <= 1;
+    match kind {
+        Kind::Normal => heads <= 1,
+        Kind::Choice => 1 <= heads,
     }
-    if words::is_same(word, 1) {
-        return 1 <= heads;
-    }
-    false
 }
 
-// A rule's counts and its kind stand at the front, with as many words after them.
-fn is_shaped(words: &[i32]) -> bool
-    ensures { λ r. ⌜ r ≡ shapeSound (now (words .entry)) ⌝ }
+// The word is a head kind.
+fn is_kind(word: i32) -> bool
+    ensures { λ r. ⌜ r ≡ isKind word ⌝ }
 {
-    if is_count(words, 1) {
-        if is_count(words, 2) {
-            let heads = size_at(words, 1);
-            let size = 3 + heads + size_at(words, 2);
-            if suits_kind(words::word_at(words, 0), heads) {
-                return size <= words.len();
-            }
-        }
-    }
-    false
+    words::is_same(word, 0) | words::is_same(word, 1)
 }
 
 // The kind of the rule at the front.
@@ -70,12 +58,45 @@ pub fn kind_of(words: &[i32]) -> Kind
     Kind::Normal
 }
 
+// A head kind stands at the front, and the head count suits it.
+fn is_headed(words: &[i32]) -> bool
+    ensures { λ r. ⌜ r ≡ isHeaded (now (words .entry)) ⌝ }
+{
+    if is_kind(words::word_at(words, 0)) {
+        return suits_kind(kind_of(words), size_at(words, 1));
+    }
+    false
+}
+
+// A rule's counts and its kind stand at the front, with as many words after them.
+fn is_shaped(words: &[i32]) -> bool
+    ensures { λ r. ⌜ r ≡ shapeSound (now (words .entry)) ⌝ }
+{
+    if is_count(words, 1) {
+        if is_count(words, 2) {
+            let size = 3 + size_at(words, 1) + size_at(words, 2);
+            if is_headed(words) {
+                return size <= words.len();
+            }
+        }
+    }
+    false
+}
+
 // How many words the rule at the front takes.
 pub fn rule_size(words: &[i32]) -> usize
     requires { ⌜ shapeSound (now words) ≡ true ⌝ }
     ensures { λ r. ⌜ (r ≡ sizeAt (now (words .entry))) × (r ≤ length (now (words .entry))) ⌝ }
 {
     3 + size_at(words, 1) + size_at(words, 2)
+}
+
+// Where the rule after the one at i begins: how a loop over the table goes on.
+pub fn next_rule(table: &[i32], i: usize) -> usize
+    requires { ⌜ (i ≤ length (now table)) × (shapeSound (drop i (now table)) ≡ true) ⌝ }
+    ensures { λ r. ⌜ (r ≡ i + sizeAt (drop i (now (table .entry)))) × (r ≤ length (now (table .entry))) ⌝ }
+{
+    i + rule_size(&table[i..])
 }
 
 // The heads of the rule at the front.
@@ -161,7 +182,7 @@ pub fn is_readable(table: &[i32], rules: usize) -> bool
         if !is_sound(rest) {
             return false;
         }
-        i += rule_size(rest);
+        i = next_rule(table, i);
         left -= 1;
     }
     all_zero(&table[i..])
@@ -187,7 +208,7 @@ pub fn largest_atom(table: &[i32], rules: usize) -> usize
     while 0 < left {
         let rest = &table[i..];
         most = words::larger(most, rule_top(rest));
-        i += rule_size(rest);
+        i = next_rule(table, i);
         left -= 1;
     }
     most

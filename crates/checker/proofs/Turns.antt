@@ -15,13 +15,13 @@ use Rattle.words.specs.Lists.{_∈_}
 use Rattle.words.specs.Literals.{has, distinct}
 use Rattle.words.proofs.Literals.{has-decides, variable-positive}
 use Rattle.text.specs.declared.Letter.{Letter}
-use Rattle.text.specs.PassedLine.{anyOutside}
+use Rattle.text.specs.Line.{anyOutside}
 use Rattle.aspif.specs.Rules.{Rule}
 use Rattle.aspif.proofs.Readable.{inside}
 use Rattle.words.specs.Limits.{mostNumbers}
 use Rattle.drupe.specs.Lines.{signsOf, signed, lineRefusal, LineAt, end, line, lineAt, lineAnswer, numbersOf, ProofLineRead}
 use Rattle.drupe.specs.Lines as Lines
-use Rattle.drupe.specs.declared.LineAnswer.the-variants.{PassedLine as Answered, End, Refused}
+use Rattle.drupe.specs.declared.LineAnswer.the-variants.{Line as Answered, End, Refused}
 use Rattle.drupe.specs.declared.LineReading.{LineReading}
 use Rattle.drupe.proofs.Lines.{few}
 use Rattle.derivation.specs.States.{State}

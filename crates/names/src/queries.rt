@@ -128,7 +128,7 @@ pub fn names_of(
     while k < rules {
         let rest = &table[i..];
         mark_asked(rest, query, literals, inside, names[k], &mut found);
-        i += tables::rule_size(rest);
+        i = tables::next_rule(table, i);
         k += 1;
     }
     found
@@ -155,7 +155,7 @@ pub fn enter(table: &[i32], rules: usize, body: &[i32], name: u16, names: &mut [
     while k < rules {
         let rest = &table[i..];
         names[k] = name_for(rest, body, name, names[k]);
-        i += tables::rule_size(rest);
+        i = tables::next_rule(table, i);
         k += 1;
     }
 }

@@ -3,8 +3,8 @@ use native.Mathlib.Omega.{arith}
 use borrow.Author.Needs.{needs}
 use lib.ListN.{length}
 use mathlib.Core.Logic.{⊎-elim}
-use Rattle.set_cases.proofs.ones.Statement.{statement}
-use Rattle.set_cases.proofs.ones.Tie as tie
+use Rattle.answer_set_cases.proofs.ones.Statement.{statement}
+use Rattle.answer_set_cases.proofs.ones.Tie as tie
 
 abbrev Inv-loop : tie.InvT-loop
 Inv-loop marks n₀ i₀ n i = (i ≤ length marks) × (n ≤ i)

@@ -5,7 +5,7 @@ use Prim.Native.Nat.{ℕ, _≤_, _-_}
 use native.Mathlib.Omega.{arith}
 use borrow.Author.Tests.{le-leb, lt-leb, not-true, not-false}
 use lib.IntN.{ℤ}
-use lib.ListN.{length, drop, length-drop}
+use lib.ListN.{length, drop}
 use lib.Seq.{drop-drop}
 use Rattle.words.proofs.Parts.{tail-of}
 use Rattle.aspif.specs.Tables.{sizeAt, soundAt, soundRules, soundTable}
@@ -37,14 +37,6 @@ module _ (c : tie.After-is-sound Inv-loop μ-loop) where
   whole : soundRules (c .before .before .before .before .before .args .rules) t ≡ (soundAt (drop i t) && soundRules (left - 1) (drop (sizeAt (drop i t)) (drop i t)))
   whole = c .before .before .before .loop .inv .1 ∙ sound-on left (drop i t) (c .before .before .loop-test .taken)
 
--- the rule at i, and its size
-module _ (c : tie.After-rule-size Inv-loop μ-loop) where
-  abbrev at : tie.After-is-sound Inv-loop μ-loop
-  at = c .before .before
-
-  size : (c .rule-size .result ≡ sizeAt (drop (i at) (t at))) × (c .rule-size .result ≤ length (drop (i at) (t at)))
-  size = rw (tail-of (i at) (t at)) at (c .rule-size .ensures)
-
 returns : tie.Need-returns Inv-loop μ-loop
 unfolding soundTable
 returns c = rw (lt-leb _ _ (c .if1 .taken))
@@ -53,22 +45,17 @@ returns-2 : tie.Need-returns-2 Inv-loop μ-loop
 unfolding soundTable
 returns-2 c = rw (le-leb _ _ (c .before .before .before .before .before .if1 .left), whole (c .before), tells (c .before) ∙ not-true _ (c .if2 .taken))
 
-rule-size-requires : tie.Need-rule-size-requires Inv-loop μ-loop
-rule-size-requires c κs = let d = c .before in rw (tail-of (i d) (t d)) (shape-of _ (tells d ∙ not-false _ (c .if2 .left)))
-
-add-i : tie.Need-add-i Inv-loop μ-loop
-add-i c = record { fits = omega (arith, size c .1, length-drop (i (at c)) (t (at c))) }
+next-rule-requires : tie.Need-next-rule-requires Inv-loop μ-loop
+next-rule-requires c κs = let d = c .before in (d .before .before .before .loop .inv .0, shape-of _ (tells d ∙ not-false _ (c .if2 .left)))
 
 loop-less : tie.Need-loop-less Inv-loop μ-loop
 loop-less c = omega arith
 
 loop-again : tie.Need-loop-again Inv-loop μ-loop
 loop-again c =
-    let d = at c in
-    let s = size c in (
-      omega (arith, length-drop (i d) (t d)),
-      whole d ∙ rw (tells d ∙ not-false _ (c .before .if2 .left), ← s .0, drop-drop (c .rule-size .result) (i d) (t d)),
-    )
+    let d = c .before .before in
+    let n = c .next-rule .ensures in
+    (n .1, whole d ∙ rw (tells d ∙ not-false _ (c .before .if2 .left), n .0, drop-drop (sizeAt (drop (i d) (t d))) (i d) (t d)))
 
 returns-3 : tie.Need-returns-3 Inv-loop μ-loop
 unfolding soundTable
@@ -92,8 +79,7 @@ is-readable-spec =
     (λ c. search needs)
     (λ c κs. search needs)
     returns-2
-    rule-size-requires
-    add-i
+    next-rule-requires
     (λ c. search needs)
     loop-less
     loop-again

@@ -2,14 +2,12 @@ use mathlib.Core.Path.{_≡_, _∙_, sym}
 use mathlib.Core.Bool.{true}
 use mathlib.Core.List.{List}
 use native.Mathlib.Omega.{arith}
-use borrow.Author.Needs.{sfits-of, needs}
+use borrow.Author.Needs.{needs}
 use lib.IntN.{ℤ, pos}
 use lib.ListN.{getD}
-use mir.Syntax.{w32}
-use mir.Val.{toZ, ofZ}
-use mir.Facts.{toZ-ofZ}
-use Rattle.aspif.specs.Tables.{isCount, suits, headCount, sizeAt, shapeSound}
-use Rattle.aspif.proofs.Cursors.{count-small}
+use Rattle.aspif.specs.Rules.{isCount}
+use Rattle.aspif.specs.Tables.{sizeAt, shapeSound}
+use Rattle.aspif.proofs.Counts.{count-small}
 use Rattle.aspif.proofs.tables.is_shaped.Statement.{statement}
 use Rattle.aspif.proofs.tables.is_shaped.Tie as tie
 
@@ -24,30 +22,25 @@ module _ (c : tie.Then2) where
   second : isCount (getD ws 2 (pos 0)) ≡ true
   second = sym (c .before .is-count2 .ensures) ∙ c .if2 .taken
 
--- the head kind's test
-kind : (c : tie.After-suits-kind) → (let s = c .before .before .before .before in c .suits-kind .result ≡ suits (getD (ws s) 0 (pos 0)) (headCount (ws s)))
-kind c =
-    let w = c .before .word-at in
-    let e : toZ w32 (ofZ w32 (w .result)) ≡ getD (ws (c .before .before .before .before)) 0 (pos 0) = toZ-ofZ (sfits-of {z = w .result} (w .ok)) ∙ w .ensures in
-    c .suits-kind .ensures ∙ rw (e, c .before .before .before .size-at .ensures)
-
 add-size : tie.Need-add-size
-add-size c = record { fits = omega (arith, count-small (getD (ws (c .before)) 1 (pos 0)) (first (c .before))) }
+add-size c = record { fits = omega (arith, c .size-at .ensures, count-small (getD (ws (c .before)) 1 (pos 0)) (first (c .before))) }
 
 add-size-2 : tie.Need-add-size-2
-add-size-2 c = record { fits = omega (arith, count-small (getD (ws (c .before .before)) 1 (pos 0)) (first (c .before .before)), count-small (getD (ws (c .before .before)) 2 (pos 0)) (second (c .before .before))) }
+add-size-2 c =
+    let s = c .before .before in
+    record { fits = omega (arith, c .size-at2 .ensures, c .before .size-at .ensures, count-small (getD (ws s) 1 (pos 0)) (first s), count-small (getD (ws s) 2 (pos 0)) (second s)) }
 
 returns : tie.Need-returns
 unfolding shapeSound sizeAt
 returns c =
-    let s = c .before .before .before .before .before in
-    rw (first s, second s, sym (kind (c .before)) ∙ c .if3 .taken, c .before .before .before .size-at2 .ensures, c .before .before .before .before .size-at .ensures)
+    let s = c .before .before .before .before in
+    rw (first s, second s, sym (c .before .is-headed .ensures) ∙ c .if3 .taken, c .before .before .size-at2 .ensures, c .before .before .before .size-at .ensures)
 
 returns-2 : tie.Need-returns-2
 unfolding shapeSound
 returns-2 c =
-    let s = c .before .before .before .before .before in
-    rw (first s, second s, sym (kind (c .before)) ∙ c .if3 .left)
+    let s = c .before .before .before .before in
+    rw (first s, second s, sym (c .before .is-headed .ensures) ∙ c .if3 .left)
 
 returns-3 : tie.Need-returns-3
 unfolding shapeSound
@@ -69,7 +62,6 @@ is-shaped-spec =
     add-size
     (λ c κs. search needs)
     add-size-2
-    (λ c κs. search needs)
     (λ c κs. search needs)
     returns
     returns-2

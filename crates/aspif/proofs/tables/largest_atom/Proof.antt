@@ -6,8 +6,8 @@ use lib.IntN.{ℤ}
 use lib.ListN.{drop}
 use Rattle.aspif.specs.Rules.{Rule, atoms}
 use Rattle.words.proofs.Parts.{tail-of}
-use Rattle.aspif.specs.Tables.{sizeAt, rulesAt}
-use Rattle.aspif.proofs.Cursors.{Cursor, AtRule, at-rule, shape-of, no-rules}
+use Rattle.aspif.specs.Tables.{rulesAt}
+use Rattle.aspif.proofs.Cursors.{Cursor, AtRule, at-rule, no-rules}
 use borrow.Author.Needs.{needs}
 use Rattle.aspif.proofs.tables.largest_atom.Statement.{statement}
 use Rattle.aspif.proofs.tables.largest_atom.Tie as tie
@@ -29,9 +29,6 @@ module _ (c : tie.After-rest Inv-loop μ-loop) where
   at : AtRule t (c .before .before .loop .left) i
   at = at-rule (c .before .loop-test .taken) (c .before .before .loop .inv .0)
 
-size : (c : tie.After-rule-size Inv-loop μ-loop) → (let d = c .before .before .before in c .rule-size .result ≡ sizeAt (drop (i d) (t d)))
-size c = let d = c .before .before .before in (rw (tail-of (i d) (t d)) at (c .rule-size .ensures)) .0
-
 loop-holds : tie.Need-loop-holds Inv-loop μ-loop
 loop-holds c = (record { within = omega arith; sound = c .pre }, omega arith)
 
@@ -39,13 +36,10 @@ mul-rest : tie.Need-mul-rest Inv-loop μ-loop
 mul-rest c = let w = c .before .loop .inv .0 .within in search needs
 
 rule-top-requires : tie.Need-rule-top-requires Inv-loop μ-loop
-rule-top-requires c κs = rw (tail-of (i c) (t c)) (shape-of _ (at c .sound))
+rule-top-requires c κs = rw (tail-of (i c) (t c)) (at c .here .1)
 
-rule-size-requires : tie.Need-rule-size-requires Inv-loop μ-loop
-rule-size-requires c κs = let d = c .before .before in rw (tail-of (i d) (t d)) (shape-of _ (at d .sound))
-
-add-i : tie.Need-add-i Inv-loop μ-loop
-add-i c = let n = at (c .before .before .before) .next .within in record { fits = omega (arith, size c) }
+next-rule-requires : tie.Need-next-rule-requires Inv-loop μ-loop
+next-rule-requires c κs = at (c .before .before) .here
 
 loop-less : tie.Need-loop-less Inv-loop μ-loop
 loop-less c = omega arith
@@ -56,7 +50,7 @@ loop-again c =
     let l = d .before .before .loop in
     let v = rw (tail-of (i d) (t d)) at (c .before .before .rule-top .ensures) in
     let m = c .before .larger .ensures in
-    rw (size c) (at d .next, l .inv .1 ∙ ap (λ (rs : List Rule). max (l .most) (atoms rs)) (at d .rules) ∙ omega arith)
+    rw (c .next-rule .ensures .0) (at d .next, l .inv .1 ∙ ap (λ (rs : List Rule). max (l .most) (atoms rs)) (at d .rules) ∙ omega arith)
 
 returns : tie.Need-returns Inv-loop μ-loop
 returns c =
@@ -77,8 +71,7 @@ largest-atom-spec =
     (λ c. search needs)
     rule-top-requires
     (λ c κs. search needs)
-    rule-size-requires
-    add-i
+    next-rule-requires
     (λ c. search needs)
     loop-less
     loop-again

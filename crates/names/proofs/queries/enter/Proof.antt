@@ -9,7 +9,7 @@ use Rattle.words.specs.Literals.{sameList}
 use Rattle.words.proofs.Parts.{tail-of}
 use Rattle.aspif.specs.Rules.{Rule}
 use Rattle.aspif.specs.Tables.{sizeAt, ruleAt, rulesAt}
-use Rattle.aspif.proofs.Cursors.{Cursor, AtRule, at-rule, shape-of, no-rules}
+use Rattle.aspif.proofs.Cursors.{Cursor, AtRule, at-rule, no-rules}
 use Rattle.names.specs.Queries.{renamed}
 use Rattle.names.proofs.Picks.{renamed-on}
 use borrow.Author.Needs.{needs}
@@ -62,9 +62,6 @@ told : (c : tie.After-name-for Inv-loop μ-loop)
     → (let d = c .before .before in c .name-for .result ≡ cond (f d (ruleAt (drop (i d) (t d)))) (s d .args .name) (getD (ns d) (k d) 0))
 told c = let d = c .before .before in rw (tail-of (i d) (t d)) at (c .name-for .ensures)
 
-size : (c : tie.After-rule-size Inv-loop μ-loop) → (let d = c .before .before .before in c .rule-size .result ≡ sizeAt (drop (i d) (t d)))
-size c = let d = c .before .before .before in (rw (tail-of (i d) (t d)) at (c .rule-size .ensures)) .0
-
 loop-holds : tie.Need-loop-holds Inv-loop μ-loop
 loop-holds c = let s = c .before in (s .args .rules, omega arith, record { within = omega arith; sound = s .pre .0 }, refl, refl)
 
@@ -72,20 +69,17 @@ mul-rest : tie.Need-mul-rest Inv-loop μ-loop
 mul-rest c = let w = c .before .loop .inv .2 .within in search needs
 
 name-for-requires : tie.Need-name-for-requires Inv-loop μ-loop
-name-for-requires c κs = let d = c .before in rw (tail-of (i d) (t d)) (shape-of _ (at d .sound))
+name-for-requires c κs = let d = c .before in rw (tail-of (i d) (t d)) (at d .here .1)
 
-rule-size-requires : tie.Need-rule-size-requires Inv-loop μ-loop
-rule-size-requires c κs = let d = c .before .before in rw (tail-of (i d) (t d)) (shape-of _ (at d .sound))
-
-add-i : tie.Need-add-i Inv-loop μ-loop
-add-i c = let n = at (c .before .before .before) .next .within in record { fits = omega (arith, size c) }
+next-rule-requires : tie.Need-next-rule-requires Inv-loop μ-loop
+next-rule-requires c κs = at (c .before .before) .here
 
 loop-again : tie.Need-loop-again Inv-loop μ-loop
 loop-again c =
     let d = c .before .before .before in
     let l = d .before .before .loop in
     let rest = rulesAt (l .inv .0 - 1) (drop (i d + sizeAt (drop (i d) (t d))) (t d)) in
-    rw (size c) (
+    rw (c .next-rule .ensures .0) (
       l .inv .0 - 1,
       omega (arith, d .before .loop-test .taken, l .inv .1),
       at d .next,
@@ -118,8 +112,7 @@ enter-spec =
     name-for-requires
     (λ c. search needs)
     (λ c. room (c .before .before))
-    rule-size-requires
-    add-i
+    next-rule-requires
     (λ c. search needs)
     (λ c. omega arith)
     loop-again

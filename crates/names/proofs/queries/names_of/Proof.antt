@@ -8,7 +8,7 @@ use lib.ListN.{drop, getD, set}
 use Rattle.words.proofs.Parts.{tail-of}
 use Rattle.aspif.specs.Rules.{Rule}
 use Rattle.aspif.specs.Tables.{sizeAt, ruleAt, rulesAt}
-use Rattle.aspif.proofs.Cursors.{Cursor, AtRule, at-rule, shape-of, no-rules}
+use Rattle.aspif.proofs.Cursors.{Cursor, AtRule, at-rule, no-rules}
 use Rattle.names.specs.Queries.{asks, picks}
 use Rattle.marks.proofs.Sets.{MarkedSoFar, found-none, found-all}
 use Rattle.names.proofs.Picks.{found-pick}
@@ -53,9 +53,6 @@ told : (c : tie.After-mark-asked Inv-loop μ-loop)
     c .mark-asked .last .1 .1 .1 .1 .1 .0 ≡ cond (f d (ruleAt (drop (i d) (t d)))) (set (l .found) (getD (s d .args .names .now) (k d) 0) 1) (l .found))
 told c = let d = c .before .before .before in rw (tail-of (i d) (t d)) at (c .mark-asked .ensures)
 
-size : (c : tie.After-rule-size Inv-loop μ-loop) → (let d = c .before .before .before .before .before in c .rule-size .result ≡ sizeAt (drop (i d) (t d)))
-size c = let d = c .before .before .before .before .before in (rw (tail-of (i d) (t d)) at (c .rule-size .ensures)) .0
-
 loop-holds : tie.Need-loop-holds Inv-loop μ-loop
 loop-holds c = let s = c .before .before in (s .args .rules, omega arith, record { within = omega arith; sound = s .pre .0 }, found-none _)
 
@@ -69,20 +66,17 @@ slice-aggregate-mark-asked : tie.Need-slice-aggregate-mark-asked Inv-loop μ-loo
 slice-aggregate-mark-asked c = sym (c .before .before .before .before .loop .inv .3 .long)
 
 mark-asked-requires : tie.Need-mark-asked-requires Inv-loop μ-loop
-mark-asked-requires c κs = let d = c .before .before in rw (tail-of (i d) (t d)) (shape-of _ (at d .sound))
+mark-asked-requires c κs = let d = c .before .before in rw (tail-of (i d) (t d)) (at d .here .1)
 
-rule-size-requires : tie.Need-rule-size-requires Inv-loop μ-loop
-rule-size-requires c κs = let d = c .before .before .before .before in rw (tail-of (i d) (t d)) (shape-of _ (at d .sound))
-
-add-i : tie.Need-add-i Inv-loop μ-loop
-add-i c = let n = at (c .before .before .before .before .before) .next .within in record { fits = omega (arith, size c) }
+next-rule-requires : tie.Need-next-rule-requires Inv-loop μ-loop
+next-rule-requires c κs = at (c .before .before .before .before) .here
 
 loop-again : tie.Need-loop-again Inv-loop μ-loop
 loop-again c =
     let m = c .before .before in
     let d = m .before .before .before in
     let l = d .before .before .loop in
-    rw (size c) (
+    rw (c .next-rule .ensures .0) (
       l .inv .0 - 1,
       omega (arith, d .before .loop-test .taken, l .inv .1),
       at d .next,
@@ -109,8 +103,7 @@ names-of-spec =
     shared-slice-read-mark-asked
     slice-aggregate-mark-asked
     mark-asked-requires
-    rule-size-requires
-    add-i
+    next-rule-requires
     (λ c. search needs)
     (λ c. omega arith)
     loop-again
