@@ -10,3 +10,4 @@ pub mod Written
 pub mod RuleTests
 pub mod Cursors
 pub mod Readable
+pub mod InTurn

@@ -50,7 +50,7 @@ told-adds (adds r n) e = record { rule = r; is = cc; size = cc; most = cc }
 -- A rule is added only from a line of numbers, where there is room
 
 module _ (rules free left : ℕ) where
-  abbrev Room : Line → Turn → Type 0
+  abbrev pub Room : Line → Turn → Type 0
   Room l (refuses k) = Unit {0}
   Room l ends = Unit {0}
   Room l (adds r n) = ((zs : List ℤ) × (l ≡ numbers zs n)) × (rules < mostRules) × (length (ruleWords r) ≤ free)
@@ -68,7 +68,7 @@ module _ (rules free left : ℕ) where
       (λ u. ((zs, refl), ltb-true rules mostRules t, leb-true (length (ruleWords r)) free u)) tt)
       tt
 
-  turn-room : (l : Line) → Room l (turnOf rules free left l)
+  pub turn-room : (l : Line) → Room l (turnOf rules free left l)
   turn-room broken = tt
   turn-room (numbers zs n) =
       by (numbers zs n) (anyOutside zs) (refuses 4) _ (λ t. tt)
