@@ -203,6 +203,6 @@ module _ (size : ℕ) where
   unfolding readLines
   read-fits text rs e = by (startsWith header text) e
     where
-      by : (b : Bool) → cond b (linesFrom size (suc (length text)) (drop 10 text) 2 []) (refused 2 1) ≡ program rs → FitsTable size rs
-      by true p = lines-fit (suc (length text)) (drop 10 text) 2 [] rs (record { formed = λ r i. elim i [ ]; few = omega arith; room = omega arith }) p
+      by : (b : Bool) → cond b (linesFrom size (suc (length text)) (drop (length header) text) 2 []) (refused 2 1) ≡ program rs → FitsTable size rs
+      by true p = lines-fit (suc (length text)) (drop (length header) text) 2 [] rs (record { formed = λ r i. elim i [ ]; few = omega arith; room = omega arith }) p
       by false p = absurd (let z : _≡_ {A = ℕ} 0 1 = cc in omega arith)

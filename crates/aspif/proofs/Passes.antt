@@ -17,7 +17,7 @@ use Rattle.text.specs.Line.{Line, broken, numbers, lineOf, anyOutside}
 use Rattle.text.proofs.Lines.{bounds-of}
 use Rattle.aspif.specs.Rules.{Rule, ruleTop, atoms, ruleWords, programWords}
 use Rattle.words.specs.Limits.{mostRules}
-use Rattle.aspif.specs.Reading.{RuleRead, fails, reads, Turn, refuses, ends, adds, isLast, shapeOf, ruleOf, room, turnOf, linesFrom, Reading, refused, program}
+use Rattle.aspif.specs.Reading.{RuleRead, fails, reads, Turn, refuses, ends, adds, isLast, shapeOf, ruleOf, room, turnOf, linesFrom, Reading, refused, program, header}
 use Rattle.aspif.proofs.Formed.{onward, lines-on}
 use Rattle.aspif.specs.Turns.{turnTold, freeAfter, TurnTaken, LinesRead}
 use Rattle.aspif.specs.declared.rules.LineTurn.{LineTurn}
@@ -93,7 +93,7 @@ pub record Standing (text : List ℕ) (table₀ table : List ℤ) (at line used 
   pub so-far : List Rule
   pub turns : ℕ
   pub enough : length text < at + turns
-  pub reading : linesFrom (length table₀) (suc (length text)) (drop 10 text) 2 [] ≡ linesFrom (length table₀) turns (drop at text) line so-far
+  pub reading : linesFrom (length table₀) (suc (length text)) (drop (length header) text) 2 [] ≡ linesFrom (length table₀) turns (drop at text) line so-far
   pub count : rules ≡ length so-far
   pub words : used ≡ length (programWords so-far)
   pub front : take used table ≡ programWords so-far
@@ -129,16 +129,16 @@ module _ {text : List ℕ} {table₀ table : List ℤ} {at line used rules top :
       go (suc t) h = (t, refl)
 
   -- one turn of the reading
-  turned : linesFrom (length table₀) (suc (length text)) (drop 10 text) 2 [] ≡ onward (λ n. linesFrom (length table₀) (turn-left .0) (drop n rest) (line + 1)) (S .so-far) line turn
+  turned : linesFrom (length table₀) (suc (length text)) (drop (length header) text) 2 [] ≡ onward (λ n. linesFrom (length table₀) (turn-left .0) (drop n rest) (line + 1)) (S .so-far) line turn
   turned =
       S .reading ∙ ap (λ n. linesFrom (length table₀) n rest line (S .so-far)) (turn-left .1)
       ∙ lines-on (length table₀) (turn-left .0) rest line (S .so-far)
       ∙ ap (λ t. onward (λ n. linesFrom (length table₀) (turn-left .0) (drop n rest) (line + 1)) (S .so-far) line t) (sym turn-is)
 
-  stands-refuses : (k : ℕ) → turn ≡ refuses k → linesFrom (length table₀) (suc (length text)) (drop 10 text) 2 [] ≡ refused k line
+  stands-refuses : (k : ℕ) → turn ≡ refuses k → linesFrom (length table₀) (suc (length text)) (drop (length header) text) 2 [] ≡ refused k line
   stands-refuses k e = turned ∙ rw e
 
-  stands-ends : turn ≡ ends → linesFrom (length table₀) (suc (length text)) (drop 10 text) 2 [] ≡ program (S .so-far)
+  stands-ends : turn ≡ ends → linesFrom (length table₀) (suc (length text)) (drop (length header) text) 2 [] ≡ program (S .so-far)
   stands-ends e = turned ∙ rw e
 
   -- a turn that adds no rule leaves the table
@@ -202,7 +202,7 @@ module _ {text : List ℕ} {table₀ table : List ℤ} {at line used rules top :
   after = putMid used (length table - used) table ys
 
   abbrev whole : Reading
-  whole = linesFrom (length table₀) (suc (length text)) (drop 10 text) 2 []
+  whole = linesFrom (length table₀) (suc (length text)) (drop (length header) text) 2 []
 
   -- where no rule is added the table is as it was
   same-table : (t : Turn) → turn S ≡ t → freeAfter t (free S) ≡ free S → after ≡ table
@@ -245,7 +245,7 @@ module _ {text : List ℕ} {table₀ table : List ℤ} {at line used rules top :
             stands = rw (size, top-is, y) (stands-adds S x next is);
           }
 
-pub stands-start : (text : List ℕ) (table : List ℤ) → 10 ≤ length text → Standing text table table 10 2 0 0 0
+pub stands-start : (text : List ℕ) (table : List ℤ) → length header ≤ length text → Standing text table table (length header) 2 0 0 0
 stands-start text table h =
     record {
       so-far = [];

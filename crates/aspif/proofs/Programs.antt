@@ -38,9 +38,9 @@ module _ (text : List ℕ) (table : List ℤ) where
 
     -- the lines after the first
     module _ (e : startsWith header text ≡ true) {after : List ℤ} {r : Lines}
-        (R : LinesRead (linesFrom (length table) (suc (length text)) (drop 10 text) 2 []) table after r) where
+        (R : LinesRead (linesFrom (length table) (suc (length text)) (drop (length header) text) 2 []) table after r) where
       abbrev lines : Reading
-      lines = linesFrom (length table) (suc (length text)) (drop 10 text) 2 []
+      lines = linesFrom (length table) (suc (length text)) (drop (length header) text) 2 []
 
       reading : readText (length table) text ≡ lines
       unfolding readText readLines

@@ -130,7 +130,7 @@ startsWith (x ∷ front) (b ∷ s) = eqb b x && startsWith front s
 -- "Is line 1 as said? 2." and the questions after it, with a table of `size` words: all but question 1
 unfoldable pub readLines : ℕ → List ℕ → Reading
 readLines size text =
-    cond (startsWith header text) (linesFrom size (suc (length text)) (drop 10 text) 2 []) (refused 2 1)
+    cond (startsWith header text) (linesFrom size (suc (length text)) (drop (length header) text) 2 []) (refused 2 1)
 
 -- "Has the text at most 65,535 bytes? No: 1." The whole text is at fault, so the line is 0.
 unfoldable pub readText : ℕ → List ℕ → Reading

@@ -9,13 +9,13 @@ use lib.ListN.{length}
 use lib.Seq.{sets}
 use Rattle.text.specs.Writing.{Put}
 use Rattle.checker.specs.Check.{Checked, check, CheckedTexts}
-use Rattle.checker.specs.Report.{verdictLine, lent, printed}
+use Rattle.checker.specs.Report.{verdictLine, longestLine, lent, printed}
 use Rattle.checker.specs.declared.Verdict.{Verdict}
 
 -- a verdict's line from the front on
 pub line-put : {v w : Verdict} {before after : List ℕ} {next : ℕ}
-    → v ≡ w → Put (verdictLine w) before after 0 next → next ≤ 97
-    → (next ≡ length (verdictLine v)) × ((after ≡ sets before 0 (verdictLine v)) × (next ≤ 97))
+    → v ≡ w → Put (verdictLine w) before after 0 next → next ≤ longestLine
+    → (next ≡ length (verdictLine v)) × ((after ≡ sets before 0 (verdictLine v)) × (next ≤ longestLine))
 line-put e p h = rw e (omega (arith, p .ends), (p .stands, h))
 
 -- The line of two texts

@@ -26,6 +26,10 @@ verdictLine (Open c) = bytes "open" ++ countsText c
 verdictLine (RefusedProgram r) = bytes "refused program" ++ numbered (r .number ∷ r .line ∷ [])
 verdictLine (RefusedProof r) = bytes "refused proof" ++ numbered (r .number ∷ r .step ∷ [])
 
+-- the bytes of the longest line: `inconsistent`, four numbers of 20 digits, each after a space, and the newline
+abbrev pub longestLine : ℕ
+longestLine = 97
+
 -- "with a table and a store of 16,384 words"
 abbrev pub lent : ℕ
 lent = 16384

@@ -1,4 +1,4 @@
-// The line that `verdict` prints, written to a lent buffer: specs/Report.antt. A line has 97 bytes at most; the bounds on
+// The line that `verdict` prints, written to a lent buffer: specs/Report.antt. The bounds on
 // positions that are asked below are wider, and only keep sums from wrapping.
 ghost use mathlib.Core.Path.{_≡_};
 ghost use mathlib.Core.List.{[], _∷_};
@@ -7,11 +7,14 @@ ghost use lib.ListN.{length};
 ghost use lib.Seq.{sets};
 ghost use Rattle.text.specs.Decimals.{decimal};
 ghost use Rattle.text.specs.Writing.{Put};
-ghost use Rattle.checker.specs.Report.{numbered, countsText, verdictLine, printed};
+ghost use Rattle.checker.specs.Report.{numbered, countsText, verdictLine, longestLine, printed};
 use crate::Counts;
 use crate::Verdict;
 use crate::check_texts;
 use text::writing;
+
+// The bytes of the longest line.
+pub const LONGEST_LINE: usize = 97;
 
 // "with a table and a store of 16,384 words".
 const LENT: usize = 16384;
@@ -51,11 +54,11 @@ fn put_counts(buffer: &mut [u8], at: usize, counts: Counts) -> usize
 }
 
 // The verdict's line, its newline included, at the front of the buffer, as many bytes as fit; the answer is the line's length. A
-// buffer of 97 bytes holds every line.
+// buffer of LONGEST_LINE bytes holds every line.
 pub fn write_line(verdict: Verdict, buffer: &mut [u8]) -> usize
     ensures { λ r. ⌜ r ≡ length (verdictLine verdict) ⌝ }
     ensures { λ r. ⌜ now (buffer .exit) ≡ sets (now (buffer .entry)) 0 (verdictLine verdict) ⌝ }
-    ensures { λ r. ⌜ r ≤ 97 ⌝ }
+    ensures { λ r. ⌜ r ≤ longestLine ⌝ }
 {
     match verdict {
         Verdict::Inconsistent(counts) => {
@@ -82,7 +85,7 @@ pub fn write_line(verdict: Verdict, buffer: &mut [u8]) -> usize
 pub fn check_line(program: &[u8], proof: &[u8], buffer: &mut [u8]) -> usize
     ensures { λ r. ⌜ r ≡ length (printed (now (program .entry)) (now (proof .entry))) ⌝ }
     ensures { λ r. ⌜ now (buffer .exit) ≡ sets (now (buffer .entry)) 0 (printed (now (program .entry)) (now (proof .entry))) ⌝ }
-    ensures { λ r. ⌜ r ≤ 97 ⌝ }
+    ensures { λ r. ⌜ r ≤ longestLine ⌝ }
 {
     let mut table = [0i32; LENT];
     let mut store = [0i32; LENT];

@@ -66,7 +66,7 @@ struct Seen {
 }
 
 // One past the largest variable. It stands for every larger size, so that no size wraps.
-const CAP: u16 = 4096;
+const CAP: u16 = words::ENTRIES as u16;
 
 fn letter_or(b: u8) -> Class
     ensures { λ r. ⌜ r ≡ letterOr b ⌝ }

@@ -2,6 +2,7 @@ use mathlib.Core.Path.{_≡_, sym, _∙_, ap}
 use mathlib.Core.Bool.{true}
 use native.Mathlib.Omega.{arith}
 use borrow.Author.Tests.{not-true, not-false}
+use Rattle.words.specs.Limits.{entries}
 use Rattle.aspif.specs.Rules.{atoms}
 use Rattle.words.specs.Lists.{ascends}
 use Rattle.aspif.specs.Tables.{rulesAt, soundTable}
@@ -60,7 +61,7 @@ returns-4 c =
     let s = sound (d .before .before) in
     let w = sym (told d) ∙ not-false _ (g .if2 .left) in
     let h = atoms-small (a .rules) (a .table .now) (sound-rules _ _ s) in
-    let e : marked (m .mark-all .last .1 .0) ≡ listed (a .set .now) = ap marked (m .mark-all .ensures) ∙ marks-listed (atoms (rulesAt (a .rules) (a .table .now))) 4096 (a .set .now) w (omega arith) in
+    let e : marked (m .mark-all .last .1 .0) ≡ listed (a .set .now) = ap marked (m .mark-all .ensures) ∙ marks-listed (atoms (rulesAt (a .rules) (a .table .now))) entries (a .set .now) w (omega arith) in
     tested (a .table .now) (a .rules) (a .set .now) (a .marks .now) (k .close .last .1 .1 .1 .1 .0) s w (sym (z .marks .given) ∙ m .before .before .if3 .left) e (d .before .largest-atom .ensures) (z .before .zero-marks .ensures) (k .close .ensures) (c .judge .ensures)
 
 pub test-set-spec : {M : Type 1} → statement M
