@@ -2,15 +2,19 @@
 -- proofs/Examples.antt proves it. Each field quotes its example.
 -- Assumes nothing.
 use mathlib.Core.Path.{_≡_}
-use mathlib.Core.Logic.{_⊎_}
 use mathlib.Core.List.{List, [], _∷_, _++_}
 use Prim.Native.Nat.{ℕ}
 use Prim.Native.String.{String}
 use lib.IntN.{ℤ, pos, negℤ}
-use lib.ListN.{replicate}
-use Rattle.aspif.specs.Rules.{Rule}
+use lib.ListN.{length, replicate}
+use Rattle.words.specs.Limits.{entries}
+use Rattle.aspif.specs.Rules.{Rule, programWords}
 use Rattle.aspif.specs.Reading.{program, readText}
 use Rattle.aspif.specs.AnswerSets.{AnswerSet}
+use Rattle.answer_set.specs.SetTest.{asked, Answers}
+use Rattle.answer_set.specs.Claims.{Listed}
+use Rattle.answer_set.specs.declared.SetAnswer.{SetAnswer}
+use Rattle.answer_set.specs.declared.SetAnswer.the-variants.{Yes, Differs}
 use Rattle.checker.specs.Check.{check}
 use Rattle.checker.specs.Report.{verdictLine, lent, printed}
 use Rattle.text.specs.Strings.{lines}
@@ -87,22 +91,19 @@ store1 =
     ∷ pos 1 ∷ pos 1
     ∷ pos 0 ∷ []
 
--- the set M is an answer set of the program that a text holds, or is not; by `ServiceYes` of crates/answer_set the set test says so
-abbrev pub SetPasses : List ℕ → (ℕ → Type 0) → Type 0
-SetPasses text M = (P : List Rule) × (readText lent text ≡ program P) × AnswerSet M P
+-- A set listed, and the program that a text holds: what the set test answers on the table of its words and 4,096 marks, and whether the
+-- set is an answer set.
+pub record SetPasses (text l : List ℕ) : Type 0 where
+  pub P : List Rule
+  pub read : readText lent text ≡ program P
+  pub answer : Answers l (asked (programWords P) (length P) l entries) Yes
+  pub answerSet : AnswerSet (Listed l) P
 
-abbrev pub SetFails : List ℕ → (ℕ → Type 0) → Type 0
-SetFails text M = (P : List Rule) × (readText lent text ≡ program P) × ¬ AnswerSet M P
-
--- {}, {1} and {1, 2}
-abbrev pub Nothing : ℕ → Type 0
-Nothing v = ⊥
-
-abbrev pub One : ℕ → Type 0
-One v = v ≡ 1
-
-abbrev pub OneTwo : ℕ → Type 0
-OneTwo v = (v ≡ 1) ⊎ (v ≡ 2)
+pub record SetFails (text l : List ℕ) (r : SetAnswer) : Type 0 where
+  pub P : List Rule
+  pub read : readText lent text ≡ program P
+  pub answer : Answers l (asked (programWords P) (length P) l entries) r
+  pub none : ¬ AnswerSet (Listed l) P
 
 pub record Starred : Type 0 where
   -- 1: "Prints `inconsistent 1 1 5 6`", with its store; "These are 15 words; a store of 14 gives 34 at step 5."
@@ -120,20 +121,20 @@ pub record Starred : Type 0 where
   pub threePrints : printed program1 proof3 ≡ lines ("refused proof 27 2" ∷ [])
   -- 4: "no rules, empty proof: `open 0 0 0 0`; the empty set passes. Proof `a 0`: 33, step 1."
   pub four : verdict (rules []) [] ≡ undecided 0 0 0 0
-  pub fourEmpty : SetPasses (rules []) Nothing
+  pub fourEmpty : SetPasses (rules []) []
   pub fourAdds : verdict (rules []) (lines ("a 0" ∷ [])) ≡ refusedProof 33 1
   -- 5: "`inconsistent 2 3 4 5`. Without the `l` line: 33, step 3."
   pub five : verdict program5 (lines ("b 3 -1 0" ∷ "c 3 0" ∷ "l 1 2 0" ∷ "a 0" ∷ [])) ≡ inconsistent 2 3 4 5
   pub fiveWithout : verdict program5 (lines ("b 3 -1 0" ∷ "c 3 0" ∷ "a 0" ∷ [])) ≡ refusedProof 33 3
   -- 6: "the empty set passes, {1, 2} does not"
-  pub sixEmpty : SetPasses program6 Nothing
-  pub sixOneTwo : SetFails program6 OneTwo
+  pub sixEmpty : SetPasses program6 []
+  pub sixOneTwo : SetFails program6 (1 ∷ 2 ∷ []) (Differs 1)
   -- 7: "both {} and {1} pass; proof `b 2 0`, `c 2 1 0`: 29, step 2"
-  pub sevenEmpty : SetPasses program7 Nothing
-  pub sevenOne : SetPasses program7 One
+  pub sevenEmpty : SetPasses program7 []
+  pub sevenOne : SetPasses program7 (1 ∷ [])
   pub seven : verdict program7 (lines ("b 2 0" ∷ "c 2 1 0" ∷ [])) ≡ refusedProof 29 2
   -- 8: "{1} passes"
-  pub eightOne : SetPasses program8 One
+  pub eightOne : SetPasses program8 (1 ∷ [])
   -- "literal `-0`: 3"
   pub minusZero : verdict (rules ("1 0 1 1 0 1 -0" ∷ [])) [] ≡ refusedProgram 3 2
   pub minusZeroPrints : printed (rules ("1 0 1 1 0 1 -0" ∷ [])) [] ≡ lines ("refused program 3 2" ∷ [])
