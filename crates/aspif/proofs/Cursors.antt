@@ -1,6 +1,6 @@
 -- What is known of a rule that stands at the front of some words, and of the words that a loop over the table has yet to read.
 -- Assumes nothing.
-use mathlib.Core.Path.{_≡_, refl, sym, _∙_}
+use mathlib.Core.Path.{_≡_, refl, sym, _∙_, ap}
 use mathlib.Core.Bool.{true, _&&_, Bool, cond, false}
 use mathlib.Core.List.{List, [], _∷_}
 use Prim.Native.Nat.{ℕ, zero, suc, _+_, _-_, _≤_, _<_}
@@ -18,7 +18,7 @@ use Rattle.words.specs.Literals.{variable, same}
 use Rattle.aspif.specs.Rules.{Rule, isCount, ruleTop, atoms}
 use Rattle.aspif.proofs.Counts.{count-small}
 use Rattle.words.specs.Limits.{mostLiterals, mostRules, largest}
-use Rattle.words.proofs.Lists.{and-left, and-right}
+use Rattle.words.proofs.Lists.{and-left, and-right, one-less, none-left}
 use Rattle.aspif.specs.Tables.{isHeaded, headsSound, bodySound, headCount, bodyCount, sizeAt, headsAt, bodyAt, ruleAt, shapeSound, soundAt, rulesAt, soundRules, soundTable, rulesOf}
 
 -- the counts are small, and the words are there
@@ -47,21 +47,17 @@ shape-of ws e = and-left (shapeSound ws) (headsSound (headsAt ws) && bodySound (
 
 -- one rule off the front
 pub sound-on : (n : ℕ) (ws : List ℤ) → 0 < n → soundRules n ws ≡ (soundAt ws && soundRules (n - 1) (drop (sizeAt ws) ws))
-sound-on zero ws h = absurd (omega arith)
-sound-on (suc n) ws h = let e : suc n - 1 ≡ n = omega arith in rw e
+sound-on n ws h = ap (λ k. soundRules k ws) (one-less n h)
 
 pub rules-on : (n : ℕ) (ws : List ℤ) → 0 < n → rulesAt n ws ≡ ruleAt ws ∷ rulesAt (n - 1) (drop (sizeAt ws) ws)
-rules-on zero ws h = absurd (omega arith)
-rules-on (suc n) ws h = let e : suc n - 1 ≡ n = omega arith in rw e
+rules-on n ws h = ap (λ k. rulesAt k ws) (one-less n h)
 
 -- no rule is left
 pub sound-end : (n : ℕ) (ws : List ℤ) → n ≤ 0 → soundRules n ws ≡ all (same (pos 0)) ws
-sound-end zero ws h = refl
-sound-end (suc n) ws h = absurd (omega arith)
+sound-end n ws h = ap (λ k. soundRules k ws) (none-left n h)
 
 pub no-rules : (n : ℕ) (ws : List ℤ) → n ≤ 0 → rulesAt n ws ≡ []
-no-rules zero ws h = refl
-no-rules (suc n) ws h = absurd (omega arith)
+no-rules n ws h = ap (λ k. rulesAt k ws) (none-left n h)
 
 -- a table that is let pass has few rules, and they are sound
 pub few-rules : (t : List ℤ) (n : ℕ) → soundTable t n ≡ true → n ≤ mostRules

@@ -11,7 +11,7 @@ use lib.IntN.{ℤ, pos, negℤ}
 use lib.ListN.{length}
 use Rattle.words.specs.Lists.{_∈_, all}
 use Rattle.words.specs.Literals.{variable, complement, distinct, ascending}
-use Rattle.words.proofs.Lists.{Decides, itself, passed, and-decides, if-decides, any-decides, all-decides, keep→, dropFirst→}
+use Rattle.words.proofs.Lists.{Decides, itself, passed, and-decides, if-decides, any-decides, all-decides, keep→, dropFirst→, each-cons}
 use Rattle.words.proofs.Literals.{sameList-decides, has-decides, variable-complement, ascending←}
 use Rattle.text.specs.Line.{anyOutside}
 use Rattle.text.specs.declared.Letter.{Letter}
@@ -82,12 +82,8 @@ module _ (P : List Rule) (M : ℕ → Type 0) (S : AnswerSet M P) where
     known-decides : (L : List ℤ) → Decides (allKnown P z L) (AllKnown P z L)
     known-decides L = all-decides (λ x. itself (isKnown P z (variable x))) L
 
-    with-known : {x : ℤ} {L : List ℤ} → T (isKnown P z (variable x)) → AllKnown P z L → AllKnown P z (x ∷ L)
-    with-known t a y (List·Memᴰ·head p) = rw p t
-    with-known t a y (List·Memᴰ·tail m) = a y m
-
     with-complements-known : (x : ℤ) (L : List ℤ) → AllKnown P z (x ∷ L) → AllKnown P z (x ∷ map complement L)
-    with-complements-known x L a = with-known (a x (List·Memᴰ·head refl)) (λ y m. complemented y (Memᴰ·of-map complement L m))
+    with-complements-known x L a = each-cons (a x (List·Memᴰ·head refl)) (λ y m. complemented y (Memᴰ·of-map complement L m))
       where
         complemented : (y : ℤ) → (v : ℤ) × (v ∈ L) × (complement v ≡ y) → T (isKnown P z (variable y))
         complemented y r = rw (← r .2, variable-complement (r .0)) (a (r .0) (List·Memᴰ·tail (r .1)))
@@ -146,7 +142,7 @@ module _ (P : List Rule) (M : ℕ → Type 0) (S : AnswerSet M P) where
         (λ known. if-yes (all-decides (λ x. itself (isAtom P (variable x))) (h ∷ hs)) _ 31
         (λ a. if-yes question _ 32
         (λ e. add-kept P M z k (h ∷ map (λ n. negℤ (pos n)) (externalNames P z (h ∷ hs)))
-        (with-known (known h (List·Memᴰ·head refl)) (externals-known (h ∷ hs)))
+        (each-cons (known h (List·Memᴰ·head refl)) (externals-known (h ∷ hs)))
         (loop-fails P M S z k (h ∷ hs) q e h (List·Memᴰ·head refl) (a h (List·Memᴰ·head refl))))))
 
     addition-fine : (L : List ℤ) → ¬ (pos 0 ∈ L) → Fine (citing P z L (addition P z L))

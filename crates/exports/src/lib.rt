@@ -41,7 +41,7 @@ pub extern "C" fn aspdrupe_read_line(
 {
     let reading = drupe::read_line(text, position as usize);
     let row = reading.numbers;
-    answers::put_words(numbers, &row);
+    words::put_words(numbers, &row);
     let line = reading.answer;
     answers::tell_line(line, answer)
 }

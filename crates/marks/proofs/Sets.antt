@@ -1,6 +1,6 @@
 -- Sets of numbers as marks: one more mark, marks made number by number, and two sets compared.
 -- Assumes nothing.
-use mathlib.Core.Path.{_≡_, refl, sym, _∙_, fun-ext}
+use mathlib.Core.Path.{_≡_, refl, sym, _∙_, fun-ext, ap}
 use mathlib.Core.Bool.{Bool, true, false, true≢false, Bool·beq, _||_, or-assoc, or-comm, or-false}
 use mathlib.Core.List.{List, [], _∷_}
 use mathlib.Core.Logic.{_⊎_, inl, inr}
@@ -12,7 +12,7 @@ use lib.ListN.{length, set, replicate, length-set, length-replicate, getD-replic
 use lib.Seq.{getD-set-same, getD-set-other, drop-cons}
 use native.Mathlib.Numerals.{add-one}
 use Rattle.words.specs.Limits.{largest, entries}
-use Rattle.words.proofs.Lists.{Decides, passed, reworded, and-decides, and-right, and-left}
+use Rattle.words.proofs.Lists.{Decides, passed, reworded, and-decides, and-right, and-left, or-swap, one-less, none-left}
 use Rattle.words.proofs.Places.{equal?}
 use Rattle.marks.specs.Marks.{listed, marked, Marks, upTo, agree, sameMarks, markAll}
 use Rattle.words.specs.Lists.{ascends}
@@ -30,11 +30,7 @@ marked-all low high (x ∷ l) m v e h =
     let f = and-right (ltb low x) _ e in
     let p = leb-true x high (and-left (leb x high) _ f) in
     marked-all x high l (set m x 1) v (and-right (leb x high) _ f) (rw (length-set m x 1) h)
-    ∙ rw (marked-set m x v (λ k. omega arith)) (or-swap (listed l v) (eqb v x) (marked m v))
-  where
-    or-swap : (a b c : Bool) → (a || (b || c)) ≡ (b || a || c)
-    or-swap true b c = rw (or-comm b true)
-    or-swap false b c = rw (or-false b)
+    ∙ rw (marked-set m x v (λ k. omega arith)) (or-swap (listed l v) (eqb v x) (marked m v) ∙ sym (or-assoc (eqb v x) (listed l v) (marked m v)))
 
 pub none-marked : (n v : ℕ) → marked (replicate n 0) v ≡ false
 none-marked zero v = refl
@@ -79,12 +75,10 @@ found-all {m} f = record { long = f .long; has = λ v h. sym (or-false (marked m
 
 -- the loop of `marks_to`
 pub upTo-on : (n : ℕ) → 0 < n → upTo n ≡ n ∷ upTo (n - 1)
-upTo-on zero h = absurd (omega arith)
-upTo-on (suc n) h = let p : suc n - 1 ≡ n = omega arith in rw p
+upTo-on n h = ap upTo (one-less n h) ∙ ap (λ k. k ∷ upTo (n - 1)) (sym (one-less n h))
 
 pub upTo-end : (n : ℕ) → n ≤ 0 → upTo n ≡ []
-upTo-end zero h = refl
-upTo-end (suc n) h = absurd (omega arith)
+upTo-end n h = ap upTo (none-left n h)
 
 -- The same sets
 
@@ -112,15 +106,12 @@ same-marks (suc n) a b = reworded every (λ g. (g n (omega arith), λ v h. g v (
 module _ (a b : List ℕ) where
   pub same-on : (n : ℕ) → 0 < n → agree (marked a (n - 1)) (marked b (n - 1)) ≡ true → sameMarks n a b ≡ sameMarks (n - 1) a b
   unfolding sameMarks
-  same-on zero h e = absurd (omega arith)
-  same-on (suc n) h e = let p : suc n - 1 ≡ n = omega arith in rw (p, rw p at e)
+  same-on n h e = ap (λ k. sameMarks k a b) (one-less n h) ∙ rw e
 
   pub same-here : (n : ℕ) → 0 < n → agree (marked a (n - 1)) (marked b (n - 1)) ≡ false → sameMarks n a b ≡ false
   unfolding sameMarks
-  same-here zero h e = absurd (omega arith)
-  same-here (suc n) h e = let p : suc n - 1 ≡ n = omega arith in rw (rw p at e)
+  same-here n h e = ap (λ k. sameMarks k a b) (one-less n h) ∙ rw e
 
   pub same-end : (n : ℕ) → n ≤ 0 → sameMarks n a b ≡ true
   unfolding sameMarks
-  same-end zero h = refl
-  same-end (suc n) h = absurd (omega arith)
+  same-end n h = ap (λ k. sameMarks k a b) (none-left n h)

@@ -15,7 +15,8 @@ use Rattle.derivation.specs.Propagation.{Closure, given, unit, Conflict}
 use Rattle.words.proofs.Places.{same?}
 use Rattle.nogoods.specs.Store.{Literals}
 use Rattle.words.specs.Limits.{entries}
-use Rattle.nogoods.specs.Propagate.{entry, Assigns, Valued, free, Settled, AllTrue, Derives, nogoodAt, Stands, InClosure, Grows, Clashes, Ends}
+use Rattle.nogoods.specs.Records.{nogoodAt, Stands}
+use Rattle.nogoods.specs.Propagate.{entry, Assigns, Valued, free, Settled, AllTrue, Derives, InClosure, Grows, Clashes, Ends}
 use Rattle.nogoods.specs.declared.units.Value.the-variants.{Free}
 use Rattle.nogoods.specs.declared.units.Derived.the-variants.{Assigned}
 use Rattle.nogoods.proofs.Assignments.{positive-complement, not-both, assigned→, assigned-kept, assigned-fewer}

@@ -1,4 +1,4 @@
--- What the functions of src/propagation.rt, src/units.rt and src/occurrences.rt promise of the assignment and of the nogoods that they look at. Only private
+-- What the functions of src/propagation.rt, src/units.rt and src/occurrences.rt promise of the assignment. Only private
 -- functions cite this file; the contract of `refutes` names the derivation's `refuted` alone.
 -- Assumes nothing.
 use mathlib.Core.Path.{_≡_}
@@ -6,13 +6,12 @@ use mathlib.Core.Logic.{_⊎_}
 use mathlib.Core.Bool.{Bool, true, false}
 use mathlib.Core.List.{List, [], _∷_}
 use Prim.Native.Nat.{ℕ, zero, suc, _+_, _≤_, _<_}
-use lib.IntN.{ℤ, pos, negsuc, natAbs}
-use lib.ListN.{length, take, drop, getD, set}
-use Rattle.words.specs.Limits.{largest}
+use lib.IntN.{ℤ, pos, negsuc}
+use lib.ListN.{length, getD, set}
 use Rattle.words.specs.Lists.{_∈_}
 use Rattle.words.specs.Literals.{variable, complement}
 use Rattle.derivation.specs.Propagation.{Closure, Conflict}
-use Rattle.nogoods.specs.Store.{Literals, liveWords}
+use Rattle.nogoods.specs.Records.{Encodes}
 use Rattle.nogoods.specs.declared.units.Value.{Value}
 use Rattle.nogoods.specs.declared.units.Value.the-variants.{True, False, Free}
 use Rattle.nogoods.specs.declared.units.Look.{Look}
@@ -76,30 +75,6 @@ abbrev pub Derives : List ℤ → List ℕ → List ℕ → Derived → Type 0
 Derives g m m′ Conflicting = AllTrue m g
 Derives g m m′ (Assigned v) = (z : ℤ) × (Last m g z) × (variable z ≡ v) × (m′ ≡ set m v (entry (complement z)))
 Derives g m m′ Nothing = (m′ ≡ m) × Settled m g
-
--- The words of the nogoods, one nogood after another
-
--- the words are those of the nogoods
-pub record Encodes (s : List ℤ) (live : List (List ℤ)) : Type 0 where
-  pub words : s ≡ liveWords live
-  pub literals : (g : List ℤ) → g ∈ live → Literals g
-
--- the literal count at r
-abbrev pub countAt : List ℤ → ℕ → ℕ
-countAt s r = natAbs (getD s r (pos 0))
-
--- the literals after the count at r
-abbrev pub nogoodAt : List ℤ → ℕ → List ℤ
-nogoodAt s r = take (countAt s r) (drop (r + 1) s)
-
--- a nogood's literals can be read at r
-pub record Readable (s : List ℤ) (r : ℕ) : Type 0 where
-  pub room : r + 1 + countAt s r ≤ length s
-  pub literals : Literals (nogoodAt s r)
-
--- one of the nogoods stands at r
-abbrev pub Stands : List ℤ → ℕ → Type 0
-Stands s r = (live : List (List ℤ)) → Encodes s live → (nogoodAt s r ∈ live) × (r + 1 + countAt s r ≤ length s)
 
 -- Propagation
 

@@ -6,7 +6,8 @@ use Prim.Native.Nat.{ℕ, _+_, _≤_, _<_}
 use lib.IntN.{ℤ}
 use lib.ListN.{getD}
 use Rattle.words.specs.Limits.{entries}
-use Rattle.nogoods.specs.Propagate.{free, Stands, Grows, Clashes}
+use Rattle.nogoods.specs.Records.{Stands}
+use Rattle.nogoods.specs.Propagate.{free, Grows, Clashes}
 use Rattle.nogoods.specs.declared.occurrences.Walk.{Walk}
 use Rattle.nogoods.specs.declared.occurrences.Walk.the-variants.{Clash, Queued}
 

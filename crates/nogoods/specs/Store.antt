@@ -3,23 +3,39 @@
 -- Assumes nothing.
 use mathlib.Core.Path.{_≡_}
 use mathlib.Core.Bool.{true}
-use mathlib.Core.List.{List, _∷_, _++_, map}
-use Prim.Native.Nat.{ℕ, _-_, _≤_, _<_}
+use mathlib.Core.List.{List, [], _∷_, _++_, map}
+use Prim.Native.Nat.{ℕ, _+_, _-_, _≤_, _<_}
 use lib.IntN.{ℤ, pos}
-use lib.ListN.{length, replicate}
+use lib.ListN.{length, drop, replicate}
 use Rattle.words.specs.Limits.{largest}
 use Rattle.words.specs.Lists.{_∈_, concat}
 use Rattle.words.specs.Literals.{variable, distinct}
 use Rattle.nogoods.specs.declared.store.Added.{Added}
 use Rattle.nogoods.specs.declared.store.Added.the-variants.{Uses, Full}
 
+-- A nogood's record: a header, then its literals. The header is the literal count.
+abbrev pub header : List ℤ → List ℤ
+header g = pos (length g) ∷ []
+
+-- how many words a header has
+abbrev pub headerSize : ℕ
+headerSize = 1
+
 -- "the literal count, then literals ascending by variable"
 abbrev pub nogoodWords : List ℤ → List ℤ
-nogoodWords g = pos (length g) ∷ g
+nogoodWords g = header g ++ g
+
+-- how many words a nogood's record has
+abbrev pub recordSize : List ℤ → ℕ
+recordSize g = headerSize + length g
 
 -- "keeps live nogoods oldest first, in signed 32-bit words"
 abbrev pub liveWords : List (List ℤ) → List ℤ
 liveWords live = concat (map nogoodWords live)
+
+-- from before to after the words were written at the front, and the rest is as it was
+abbrev pub Written : List ℤ → List ℤ → List ℤ → Type 0
+Written words before after = after ≡ words ++ drop (length words) before
 
 -- a store of the length given: "All later words are 0."
 abbrev pub storeWords : ℕ → List (List ℤ) → List ℤ

@@ -13,6 +13,7 @@ use lib.Dec.{ltb}
 use lib.IntN.{ℤ, pos, negsuc}
 use lib.ListN.{length, length-append, length-map}
 use Rattle.words.specs.Lists.{_∈_}
+use Rattle.words.proofs.Lists.{each-cons}
 use Rattle.text.specs.Bytes.{classOf}
 use Rattle.text.specs.Decimals.{decimals, digitsOf, digitByte, decimal, numberBytes, spaced}
 use Rattle.text.specs.Line.{digits, natural, nonNegative, negative, number, numbersIn, Words, unended, words, joined, cut, span, numbers, ofWords, lineOf}
@@ -44,19 +45,15 @@ natural-digits (suc turns) m ds p h = by (ltb m 10) refl (λ a b. natural-digits
 abbrev Small : List ℕ → Type 0
 Small ds = (d : ℕ) → d ∈ ds → d < 10
 
-one-more : {m : ℕ} {ds : List ℕ} → m < 10 → Small ds → Small (m ∷ ds)
-one-more h s d (List·Memᴰ·head p) = rw p h
-one-more h s d (List·Memᴰ·tail i) = s d i
-
 small-digits : (turns m : ℕ) (ds : List ℕ) → m ≤ turns → Small ds → Small (decimals turns m ds)
 unfolding decimals
-small-digits zero m ds h s = one-more (omega arith) s
+small-digits zero m ds h s = each-cons (omega arith) s
 small-digits (suc turns) m ds h s =
-    by (ltb m 10) refl (λ b. small-digits turns (m / 10) (m % 10 ∷ ds) b (one-more (mod-lt m {m = 10} (omega arith)) s))
+    by (ltb m 10) refl (λ b. small-digits turns (m / 10) (m % 10 ∷ ds) b (each-cons (mod-lt m {m = 10} (omega arith)) s))
   where
     by : (b : Bool) → ltb m 10 ≡ b → (m / 10 ≤ turns → Small (decimals turns (m / 10) (m % 10 ∷ ds)))
         → Small (cond b (m ∷ ds) (decimals turns (m / 10) (m % 10 ∷ ds)))
-    by true e f = one-more (ltb-true m 10 e) s
+    by true e f = each-cons (ltb-true m 10 e) s
     by false e f = f (let t = tenth m (ltb-false m 10 e) in omega arith)
 
 digits-read : (m : ℕ) → natural (map Digit (digitsOf m)) ≡ some m
@@ -66,7 +63,7 @@ digits-read (suc m) = natural-digits (suc m) (suc m) [] (omega arith) (omega ari
 
 digits-small : (m : ℕ) → Small (digitsOf m)
 unfolding decimals
-digits-small zero = one-more (omega arith) (λ d i. elim i [ ])
+digits-small zero = each-cons (omega arith) (λ d i. elim i [ ])
 digits-small (suc m) = small-digits (suc m) (suc m) [] (omega arith) (λ d i. elim i [ ])
 
 -- Bytes

@@ -194,9 +194,7 @@ impl Seen {
 fn store(row: &mut [i32], n: usize, neg: bool, m: u16)
     ensures { λ _. ⌜ now (row .exit) ≡ set (now (row .entry)) n (valueOf neg m) ⌝ }
 {
-    if n < row.len() {
-        row[n] = value(neg, m);
-    }
+    words::put_word(row, n, value(neg, m));
 }
 
 // The numbers of the line that the text begins with, into the row, as many as fit.

@@ -4,7 +4,7 @@ use mathlib.Core.Path.{_≡_, refl, sym, subst}
 use mathlib.Core.Logic.{_⊎_, inl, inr}
 use mathlib.Core.Bool.{Bool, true, false, not, cond, _&&_, _||_, and-eq-true-iff, true≢false}
 use mathlib.Core.List.{List, [], _∷_, List·Memᴰ·head, List·Memᴰ·tail, List·Memᴰ·append-cases, Memᴰ·append-left, Memᴰ·append-right}
-use Prim.Native.Nat.{ℕ, suc, _≤_, _<_}
+use Prim.Native.Nat.{ℕ, suc, _≤_, _<_, _-_}
 use native.Mathlib.Omega.{arith}
 use lib.Dec.{T, T-not, not-T, eqb, leb, eqb→eq, eqb-refl, leb→le, le→leb}
 use lib.ListN.{length}
@@ -56,6 +56,12 @@ pub or-false-right : (a b : Bool) → (a || b) ≡ false → b ≡ false
 or-false-right true b e = absurd (true≢false e)
 or-false-right false b e = e
 
+-- a disjunction's parts in another order
+pub or-swap : (a b c : Bool) → (a || (b || c)) ≡ (b || (a || c))
+or-swap true true c = refl
+or-swap true false c = refl
+or-swap false b c = refl
+
 -- what holds of both answers to a test
 pub by-test : {A : Type 0} (P : A → Type 0) (t : Bool) {x y : A} → (t ≡ true → P x) → (t ≡ false → P y) → P (cond t x y)
 by-test P true f g = f refl
@@ -100,6 +106,11 @@ leb-decides m n = record { to = leb→le m n; from = le→leb m n }
 
 -- Tests of every element
 
+-- what holds of the first and of the others holds of each
+pub each-cons : {A : Type 0} {P : A → Type 0} {x : A} {l : List A} → P x → ((y : A) → y ∈ l → P y) → (y : A) → y ∈ x ∷ l → P y
+each-cons h k y (List·Memᴰ·head p) = rw p h
+each-cons h k y (List·Memᴰ·tail m) = k y m
+
 module _ {A : Type 0} {f : A → Bool} {F : A → Type 0} (i : (x : A) → Decides (f x) (F x)) where
   pub any-decides : (l : List A) → Decides (any f l) ((x : A) × (x ∈ l) × F x)
   any-decides [] = record { to = λ t. absurd t; from = λ r. elim r.1 [ ] }
@@ -118,14 +129,8 @@ module _ {A : Type 0} {f : A → Bool} {F : A → Type 0} (i : (x : A) → Decid
 
   pub all-decides : (l : List A) → Decides (all f l) ((x : A) → x ∈ l → F x)
   all-decides [] = record { to = λ t x m. elim m [ ]; from = λ g. tt }
-  all-decides (y ∷ l) = reworded every (λ g. (g y (List·Memᴰ·head refl), λ x m. g x (List·Memᴰ·tail m))) (and-decides (i y) (all-decides l))
-    where
-      at : F y → ((x : A) → x ∈ l → F x) → {x : A} → x ∈ y ∷ l → F x
-      at u g (List·Memᴰ·head p) = rw p u
-      at u g {x} (List·Memᴰ·tail m) = g x m
-
-      every : F y × ((x : A) → x ∈ l → F x) → (x : A) → x ∈ y ∷ l → F x
-      every p x m = at (p .0) (p .1) m
+  all-decides (y ∷ l) =
+      reworded (λ p. each-cons (p .0) (p .1)) (λ g. (g y (List·Memᴰ·head refl), λ x m. g x (List·Memᴰ·tail m))) (and-decides (i y) (all-decides l))
 
 -- What is kept
 
@@ -217,3 +222,13 @@ module _ {A : Type 0} where
   pub none-in : {x : A} {l : List A} → length l ≤ 0 → ¬ (x ∈ l)
   none-in h (List·Memᴰ·head {xs = l} p) = omega arith
   none-in h (List·Memᴰ·tail {xs = l} m) = omega arith
+
+-- Counting down
+
+-- a number above 0 is one more than the number before it, which opens a definition by `zero` and `suc` at a loop's number
+pub one-less : (n : ℕ) → 0 < n → n ≡ suc (n - 1)
+one-less n h = omega arith
+
+-- a loop's number that is not above 0 is 0
+pub none-left : (n : ℕ) → n ≤ 0 → n ≡ 0
+none-left n h = omega arith

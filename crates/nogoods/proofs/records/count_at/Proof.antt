@@ -3,8 +3,8 @@ use mathlib.Core.Path.{ap, _∙_}
 use lib.IntN.{natAbs}
 use mir.Facts.{toZ-ofZ}
 use borrow.Author.Needs.{needs, sfits-of}
-use Rattle.nogoods.proofs.units.count_at.Statement.{statement}
-use Rattle.nogoods.proofs.units.count_at.Tie as tie
+use Rattle.nogoods.proofs.records.count_at.Statement.{statement}
+use Rattle.nogoods.proofs.records.count_at.Tie as tie
 
 returns : tie.Need-returns
 returns c =
