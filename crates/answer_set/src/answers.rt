@@ -66,7 +66,8 @@ fn is_broken(words: &[i32], inside: &[u8]) -> bool
 // The lowest broken constraint, or yes.
 fn first_broken(table: &[i32], rules: usize, inside: &[u8]) -> SetAnswer
     requires { ⌜ soundTable (now table) rules ≡ true ⌝ }
-    ensures { λ r. ⌜ ((just : ℕ → Bool) → Says just (brokenFrom (marked (now (inside .entry))) 1 (rulesAt rules (now (table .entry)))) r) ⌝ }
+    ensures { λ r. ⌜ ((just : ℕ → Bool) → Says just (brokenFrom (marked (now (inside .entry))) 1
+        (rulesAt rules (now (table .entry)))) r) ⌝ }
 {
     let mut number = 1;
     let mut left = rules;

@@ -45,7 +45,8 @@ fn gives_head(kind: Kind, inside: &[u8], v: usize) -> bool
 
 // A head that its rule gives is marked; whether it was not.
 fn give_head(head: i32, kind: Kind, inside: &[u8], marks: &mut [u8]) -> bool
-    ensures { λ r. ⌜ Marking (giveHead (marked (now (inside .entry))) kind head (now (marks .entry))) (now (marks .entry)) (now (marks .exit)) r ⌝ }
+    ensures { λ r. ⌜ Marking (giveHead (marked (now (inside .entry))) kind head (now (marks .entry))) (now (marks .entry))
+        (now (marks .exit)) r ⌝ }
 {
     let v = words::variable_of(head);
     if gives_head(kind, inside, v) {
@@ -56,7 +57,8 @@ fn give_head(head: i32, kind: Kind, inside: &[u8], marks: &mut [u8]) -> bool
 
 // So for every head of a rule; whether a mark is new.
 fn give_heads(heads: &[i32], kind: Kind, inside: &[u8], marks: &mut [u8]) -> bool
-    ensures { λ r. ⌜ Marking (giveHeads (marked (now (inside .entry))) kind (now (heads .entry)) (now (marks .entry))) (now (marks .entry)) (now (marks .exit)) r ⌝ }
+    ensures { λ r. ⌜ Marking (giveHeads (marked (now (inside .entry))) kind (now (heads .entry)) (now (marks .entry)))
+        (now (marks .entry)) (now (marks .exit)) r ⌝ }
 {
     let mut new = false;
     let mut i = 0;
@@ -72,7 +74,8 @@ fn give_heads(heads: &[i32], kind: Kind, inside: &[u8], marks: &mut [u8]) -> boo
 // The rule at the front marks what it gives; whether a mark is new.
 fn give_rule(words: &[i32], inside: &[u8], marks: &mut [u8]) -> bool
     requires { ⌜ shapeSound (now words) ≡ true ⌝ }
-    ensures { λ r. ⌜ Marking (giveRule (marked (now (inside .entry))) (ruleAt (now (words .entry))) (now (marks .entry))) (now (marks .entry)) (now (marks .exit)) r ⌝ }
+    ensures { λ r. ⌜ Marking (giveRule (marked (now (inside .entry))) (ruleAt (now (words .entry))) (now (marks .entry)))
+        (now (marks .entry)) (now (marks .exit)) r ⌝ }
 {
     if body_holds(tables::body_of(words), inside, marks) {
         let kind = tables::kind_of(words);
@@ -84,7 +87,8 @@ fn give_rule(words: &[i32], inside: &[u8], marks: &mut [u8]) -> bool
 // One round over the rules; whether a mark is new.
 fn give_all(table: &[i32], rules: usize, inside: &[u8], marks: &mut [u8]) -> bool
     requires { ⌜ soundRules rules (now table) ≡ true ⌝ }
-    ensures { λ r. ⌜ Marking (round (marked (now (inside .entry))) (rulesAt rules (now (table .entry))) (now (marks .entry))) (now (marks .entry)) (now (marks .exit)) r ⌝ }
+    ensures { λ r. ⌜ Marking (round (marked (now (inside .entry))) (rulesAt rules (now (table .entry))) (now (marks .entry)))
+        (now (marks .entry)) (now (marks .exit)) r ⌝ }
 {
     let mut new = false;
     let mut left = rules;
@@ -103,7 +107,8 @@ fn give_all(table: &[i32], rules: usize, inside: &[u8], marks: &mut [u8]) -> boo
 // Rounds until no mark is new, and at most so many.
 pub fn close(table: &[i32], rules: usize, most: usize, inside: &[u8], marks: &mut [u8])
     requires { ⌜ soundRules rules (now table) ≡ true ⌝ }
-    ensures { λ _. ⌜ now (marks .exit) ≡ rounds (marked (now (inside .entry))) most (rulesAt rules (now (table .entry))) (now (marks .entry)) ⌝ }
+    ensures { λ _. ⌜ now (marks .exit) ≡ rounds (marked (now (inside .entry))) most (rulesAt rules (now (table .entry)))
+        (now (marks .entry)) ⌝ }
 {
     let mut left = most;
     while 0 < left {

@@ -99,13 +99,13 @@ module _ (zs : List ℤ) (n : ℕ) where
       (λ e. by-test Suits (isAt zs n 1 (pos 0)) (λ f. head-suits Normal) (λ f. by-test Suits (isAt zs n 1 (pos 1)) (λ g. head-suits Choice) (λ g. tt)))
       (λ e. tt)
 
-abbrev Reads : RuleRead → Type 0
-Reads (fails k) = Unit {0}
-Reads (reads r) = Formed r
+abbrev ReadFormed : RuleRead → Type 0
+ReadFormed (fails k) = Unit {0}
+ReadFormed (reads r) = Formed r
 
-rule-formed : (zs : List ℤ) → anyOutside zs ≡ false → (x : Shape) → Counted (length zs) x → Suits x → Reads (ruleOf zs x)
+rule-formed : (zs : List ℤ) → anyOutside zs ≡ false → (x : Shape) → Counted (length zs) x → Suits x → ReadFormed (ruleOf zs x)
 rule-formed zs o (Wrong k) c s = tt
-rule-formed zs o (Shaped k h b) c s = by-test Reads (headsGood hs && bodyGood ls) formed (λ e. tt)
+rule-formed zs o (Shaped k h b) c s = by-test ReadFormed (headsGood hs && bodyGood ls) formed (λ e. tt)
   where
     hs : List ℤ
     hs = take h (drop 3 zs)
@@ -142,7 +142,7 @@ Added rules free (refuses k) = Unit {0}
 Added rules free ends = Unit {0}
 Added rules free (adds r n) = Formed r × (rules < mostRules) × (length (ruleWords r) ≤ free)
 
-room-added : (rules free : ℕ) (x : RuleRead) (n : ℕ) → Reads x → Added rules free (room rules free x n)
+room-added : (rules free : ℕ) (x : RuleRead) (n : ℕ) → ReadFormed x → Added rules free (room rules free x n)
 room-added rules free (fails k) n f = tt
 room-added rules free (reads r) n f =
     by-test (Added rules free) (ltb rules mostRules)

@@ -45,7 +45,8 @@ fn is_last(row: &[i32], count: usize) -> bool
 
 // Questions 3 to 11 of the line that the rest of the text begins with; a rule then stands at the front of the free words.
 fn read_rule(rest: &[u8], free: &mut [i32], rules: usize) -> LineTurn
-    ensures { λ r. ⌜ TurnTaken (turnOf rules (length (now (free .entry))) (length (now (rest .entry))) (lineOf (now (rest .entry)))) (now (free .entry)) (now (free .exit)) r ⌝ }
+    ensures { λ r. ⌜ TurnTaken (turnOf rules (length (now (free .entry))) (length (now (rest .entry)))
+        (lineOf (now (rest .entry)))) (now (free .entry)) (now (free .exit)) r ⌝ }
 {
     let mut row = [0i32; ROW];
     let read = text::read_line(rest, &mut row);
@@ -91,7 +92,8 @@ pub fn starts_with(text: &[u8], front: &[u8]) -> bool
 // The lines after the first, up to the line `0` or the first that is refused.
 pub fn read_lines(text: &[u8], table: &mut [i32]) -> Lines
     requires { ⌜ length header ≤ length (now text) ⌝ }
-    ensures { λ r. ⌜ LinesRead (linesFrom (length (now (table .entry))) (suc (length (now (text .entry)))) (drop (length header) (now (text .entry))) 2 []) (now (table .entry)) (now (table .exit)) r ⌝ }
+    ensures { λ r. ⌜ LinesRead (linesFrom (length (now (table .entry))) (suc (length (now (text .entry))))
+        (drop (length header) (now (text .entry))) 2 []) (now (table .entry)) (now (table .exit)) r ⌝ }
 {
     let mut at = HEADER;
     let mut line = 2;

@@ -166,8 +166,10 @@ fn write_counts(free: &mut [i32], kind: Kind, heads: usize, body: usize)
 
 // The words of a rule at the front of the free words: its heads and body stand in the row as in the line.
 fn write_rule(free: &mut [i32], row: &[i32], kind: Kind, heads: usize, body: usize)
-    requires { ⌜ (heads ≤ mostLiterals) × (body ≤ mostLiterals) × (5 + heads + body ≤ length (now row)) × (3 + heads + body ≤ length (now free)) ⌝ }
-    ensures { λ _. ⌜ now (free .exit) ≡ rowWords (now (row .entry)) kind heads body ++ drop (3 + heads + body) (now (free .entry)) ⌝ }
+    requires { ⌜ (heads ≤ mostLiterals) × (body ≤ mostLiterals) × (5 + heads + body ≤ length (now row))
+        × (3 + heads + body ≤ length (now free)) ⌝ }
+    ensures { λ _. ⌜ now (free .exit) ≡ rowWords (now (row .entry)) kind heads body
+        ++ drop (3 + heads + body) (now (free .entry)) ⌝ }
 {
     write_counts(free, kind, heads, body);
     let after = 3 + heads;
@@ -188,7 +190,8 @@ fn add_rule(
     rules: usize,
 ) -> LineTurn
     requires { ⌜ (heads ≤ mostLiterals) × (body ≤ mostLiterals) × (5 + heads + body ≤ length (now row)) ⌝ }
-    ensures { λ r. ⌜ TurnTaken (room rules (length (now (free .entry))) (reads (rowRule (now (row .entry)) kind heads body)) next) (now (free .entry)) (now (free .exit)) r ⌝ }
+    ensures { λ r. ⌜ TurnTaken (room rules (length (now (free .entry)))
+        (reads (rowRule (now (row .entry)) kind heads body)) next) (now (free .entry)) (now (free .exit)) r ⌝ }
 {
     if MOST_RULES <= rules {
         return LineTurn::Refuses(9);
@@ -219,7 +222,8 @@ pub fn take_rule(
     rules: usize,
 ) -> LineTurn
     requires { ⌜ length (now row) ≡ rowSize ⌝ }
-    ensures { λ r. ⌜ TurnTaken (room rules (length (now (free .entry))) (ruleOf (now (row .entry)) (shapeOf (now (row .entry)) count)) next) (now (free .entry)) (now (free .exit)) r ⌝ }
+    ensures { λ r. ⌜ TurnTaken (room rules (length (now (free .entry)))
+        (ruleOf (now (row .entry)) (shapeOf (now (row .entry)) count)) next) (now (free .entry)) (now (free .exit)) r ⌝ }
 {
     match rule_shape(row, count) {
         Shape::Wrong(k) => LineTurn::Refuses(k),

@@ -162,10 +162,10 @@ module _ {P : List Rule} {known names : List ℕ} (z : State) (tracks : Tracks P
         to q = let r = Memᴰ·of-map variable ns (q .1) in (r .0, r .1, (sizes (r .0) (r .1) .0, q .2 ∙ sym (r .2)))
 
     -- a name of a body with h in the head
-    abbrev Found : ℕ → Type 0
-    Found v = Some (λ r. has h (r .heads)) nameIn P v
+    abbrev FoundAt : ℕ → Type 0
+    FoundAt v = Some (λ r. has h (r .heads)) nameIn P v
 
-    headed-decides : (v : ℕ) → v ≤ largest → Decides (marked m v) (Found v)
+    headed-decides : (v : ℕ) → v ≤ largest → Decides (marked m v) (FoundAt v)
     headed-decides = found-decides (λ r. has h (r .heads)) found
 
     covered : (r : Rule) → Decides (not (has h (r .heads)) || any (λ n. isName z (variable n) (r .body)) ns) (T (has h (r .heads)) → Given (nameIn r))
@@ -195,8 +195,8 @@ module _ {P : List Rule} {known names : List ℕ} (z : State) (tracks : Tracks P
             let q = headed-decides (variable n) k .to (rw (sym (f (variable n) (omega arith))) (given-decides (variable n) k .from (n, i, (s .0, refl)))) in
             (q .0, q .1, (q .2 .0, (s .0, q .2 .1)))
 
-        to : {v : ℕ} → ((n : ℤ) → n ∈ ns → (r : Rule) × (r ∈ P) × (T (has h (r .heads)) × ((1 ≤ variable n) × (nameIn r ≡ variable n)))) → Given v → Found v
+        to : {v : ℕ} → ((n : ℤ) → n ∈ ns → (r : Rule) × (r ∈ P) × (T (has h (r .heads)) × ((1 ≤ variable n) × (nameIn r ≡ variable n)))) → Given v → FoundAt v
         to f g = let q = f (g .0) (g .1) in (q .0, q .1, (q .2 .0, q .2 .1 .1 ∙ sym (g .2 .1)))
 
-        from : {v : ℕ} → ((r : Rule) → r ∈ P → T (has h (r .heads)) → Given (nameIn r)) → Found v → Given v
+        from : {v : ℕ} → ((r : Rule) → r ∈ P → T (has h (r .heads)) → Given (nameIn r)) → FoundAt v → Given v
         from f q = let g = f (q .0) (q .1) (q .2 .0) in (g .0, g .1, (g .2 .0, sym (q .2 .1) ∙ g .2 .1))

@@ -16,11 +16,12 @@ use Rattle.words.proofs.Lists.{Decides, itself, reworded, and-decides, or-decid
 use Rattle.words.proofs.Literals.{sameList-decides}
 use Rattle.words.proofs.Places.{equal?}
 use Rattle.aspif.specs.Rules.{Rule, atoms}
+use Rattle.aspif.proofs.Readable.{rules-count}
 use Rattle.marks.specs.Marks.{listed, marked, Marks, upTo}
 use Rattle.derivation.specs.States.{Named, State, isAtom, isKnown}
 use Rattle.derivation.specs.Steps.{allKnown}
 use Rattle.derivation.proofs.Questions.{known-decides}
-use Rattle.names.specs.Queries.{renamed}
+use Rattle.names.specs.Queries.{HoldsRules, renamed}
 use Rattle.names.proofs.Picks.{renamed-map, length-renamed}
 use Rattle.marks.proofs.Sets.{marked-set}
 use Rattle.checker.specs.Held.{nameOf, Proper, Tracks}
@@ -32,6 +33,14 @@ pub all-known : {P : List Rule} {known names : List ℕ} (z : State) → Tracks 
     → (L : List ℤ) → ((x : ℤ) → x ∈ L → variable x ≤ largest) → all (λ x. marked known (variable x)) L ≡ allKnown P z L
 all-known z tracks [] high = refl
 all-known z tracks (x ∷ L) high = ap₂ (λ a b. a && b) (tracks .knows (variable x) (high x (List·Memᴰ·head refl))) (all-known z tracks L (λ y i. high y (List·Memᴰ·tail i)))
+
+-- The rules in the table
+
+pub same-rules : {table : List ℤ} {rules : ℕ} {P Q : List Rule} → HoldsRules table rules P → HoldsRules table rules Q → P ≡ Q
+same-rules h k = sym (h .are) ∙ k .are
+
+pub rules-held : {table : List ℤ} {rules : ℕ} {P : List Rule} → HoldsRules table rules P → length P ≡ rules
+rules-held {table} {rules} h = rw (← h .are) (rules-count rules table)
 
 -- The start
 

@@ -3,14 +3,14 @@
 use mathlib.Core.Path.{_≡_, refl, sym, _∙_, ap, ap₂}
 use mathlib.Core.Bool.{Bool, true, false, cond}
 use mathlib.Core.List.{List}
-use Prim.Native.Nat.{ℕ, _<_}
+use Prim.Native.Nat.{ℕ, _≤_, _<_}
 use native.Mathlib.Omega.{arith}
 use borrow.Author.Tests.{lt-ltb}
 use lib.Dec.{leb}
 use lib.IntN.{ℤ, pos}
 use lib.ListN.{length, replicate, length-replicate}
 use Rattle.words.proofs.Lists.{zero-one}
-use Rattle.words.specs.Limits.{longest}
+use Rattle.words.specs.Limits.{longest, mostRules}
 use Rattle.words.specs.Lists.{any}
 use Rattle.aspif.specs.Rules.{Rule, isEmpty, atoms, tableWords}
 use Rattle.aspif.specs.Reading.{Reading, program, readText, readLines, programAnswer, tableOf}
@@ -113,11 +113,11 @@ module _ (t s : ℕ) (text proof : List ℕ) {r : ProgramReading} (answer : r �
   check-read p = rw (p .read)
 
   -- the rules can be found in the table again
-  pub held : {N R : ℕ} (p : ReadProgram N R) → length table ≡ t → Program table R N × (rulesAt R table ≡ p .P) × (table ≡ tableWords (length table) (p .P))
+  pub held : {N R : ℕ} (p : ReadProgram N R) → length table ≡ t → Program table R N (p .P) × (R ≤ mostRules) × (table ≡ tableWords (length table) (p .P))
   held {N} {R} p long =
       let w : table ≡ tableWords (length table) (p .P) = rw long (p .rules) in
       let a = table-read table R (p .P) .1 (record { text = text; read = rw long (lines-read t text (p .P) (p .read)); count = p .count; words = w }) in
       let u = rules-of table R (p .P) a in
       let n = sound-rules table R (u .0) in
       let m : N ≡ atoms (rulesAt R table) = p .top ∙ ap atoms (sym (u .1)) in
-      (record { sound = n; few = few-rules table R (u .0); top = m; high = omega (arith, atoms-small R table n, m) }, u .1, w)
+      (record { holds = record { sound = n; are = u .1 }; top = p .top; high = omega (arith, atoms-small R table n, m) }, few-rules table R (u .0), w)

@@ -1,5 +1,5 @@
--- How the code holds a state: known variables as marks, the names of bodies by rule, live nogoods in the store; and what the private
--- functions leave. No reader of the public contract needs it.
+-- What private functions cite, and no reader of a public contract needs: how the code holds a program and a state (known variables
+-- as marks, the names of bodies by rule, live nogoods in the store), and what the steps leave.
 -- Assumes nothing.
 use mathlib.Core.Path.{_≡_}
 use mathlib.Core.Bool.{Bool, true, cond}
@@ -8,12 +8,11 @@ use Prim.Native.Nat.{ℕ, zero, suc, _≤_, _<_}
 use lib.Dec.{T, eqb}
 use lib.IntN.{ℤ, pos, negℤ}
 use lib.ListN.{length, take}
-use Rattle.words.specs.Limits.{largest, mostRules, entries, mostNumbers}
+use Rattle.words.specs.Limits.{largest, entries, mostNumbers}
 use Rattle.words.specs.Lists.{_∈_}
 use Rattle.words.specs.Literals.{variable, distinct, sameList}
 use Rattle.aspif.specs.Rules.{Rule, atoms}
 use Rattle.marks.specs.Marks.{marked}
-use Rattle.aspif.specs.Tables.{rulesAt, soundRules}
 use Rattle.text.specs.declared.Letter.{Letter}
 use Rattle.drupe.specs.Lines.{signsOf, signed, LineAt, end, line}
 use Rattle.drupe.specs.Lines as Lines
@@ -22,6 +21,7 @@ use Rattle.derivation.specs.Steps.{Outcome, refused, next, byLetter, step}
 use Rattle.nogoods.specs.Store.{Literals, liveWords, Holds}
 use Rattle.nogoods.specs.declared.store.Added.{Added}
 use Rattle.nogoods.specs.declared.store.Added.the-variants as Added
+use Rattle.names.specs.Queries.{HoldsRules}
 use Rattle.checker.specs.Check.{Course, stopped, through}
 use Rattle.checker.specs.declared.outcomes.Stepped.{Stepped}
 use Rattle.checker.specs.declared.outcomes.Stepped.the-variants.{Uses, Fails}
@@ -38,11 +38,10 @@ pub record PassedLine (x : Letter) (zs : List ℤ) : Type 0 where
   pub few : length zs ≤ mostNumbers
   pub signs : signed (signsOf x) zs ≡ true
 
--- the table holds so many sound rules, and the largest atom of these is N
-pub record Program (table : List ℤ) (rules N : ℕ) : Type 0 where
-  pub sound : soundRules rules table ≡ true
-  pub few : rules ≤ mostRules
-  pub top : N ≡ atoms (rulesAt rules table)
+-- the table holds the rules of P, and the largest atom of P is N
+pub record Program (table : List ℤ) (rules N : ℕ) (P : List Rule) : Type 0 where
+  pub holds : HoldsRules table rules P
+  pub top : N ≡ atoms P
   pub high : N ≤ largest
 
 -- States

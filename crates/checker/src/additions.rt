@@ -11,11 +11,12 @@ use crate::outcomes::Stepped;
 use nogoods::propagation;
 use nogoods::store;
 
-// `a`
+// `a`: a nogood that unit propagation refutes, or any where the empty nogood is live; adds it.
 pub fn addition(known: &[u8], store: &mut [i32], used: usize, numbers: &mut [i32]) -> Stepped
-    requires { ⌜ ((live : List (List ℤ)) × Holds (now store) used live) ⌝ }
-    requires { ⌜ PassedLine Addition (now numbers) ⌝ }
-    ensures { λ r. ⌜ ((P : List Rule) (names : List ℕ) → Stepping P Addition (now (numbers .entry)) used (now (known .entry)) names (now (store .entry))
+    requires live { ⌜ ((live : List (List ℤ)) × Holds (now store) used live) ⌝ }
+    requires line { ⌜ PassedLine Addition (now numbers) ⌝ }
+    ensures { λ r. ⌜ ((P : List Rule) (names : List ℕ)
+        → Stepping P Addition (now (numbers .entry)) used (now (known .entry)) names (now (store .entry))
         (now (known .entry)) names (now (store .exit)) r) ⌝ }
 {
     if !marks::all_marked(numbers, known) {
@@ -28,11 +29,12 @@ pub fn addition(known: &[u8], store: &mut [i32], used: usize, numbers: &mut [i32
     outcomes::fitted(store::append(store, used, numbers))
 }
 
-// `d`
+// `d`: removes the oldest live nogood that is the same set of literals; where there is none, nothing changes.
 pub fn deletion(known: &[u8], store: &mut [i32], used: usize, numbers: &mut [i32]) -> Stepped
-    requires { ⌜ ((live : List (List ℤ)) × Holds (now store) used live) ⌝ }
-    requires { ⌜ PassedLine Deletion (now numbers) ⌝ }
-    ensures { λ r. ⌜ ((P : List Rule) (names : List ℕ) → Stepping P Deletion (now (numbers .entry)) used (now (known .entry)) names (now (store .entry))
+    requires live { ⌜ ((live : List (List ℤ)) × Holds (now store) used live) ⌝ }
+    requires line { ⌜ PassedLine Deletion (now numbers) ⌝ }
+    ensures { λ r. ⌜ ((P : List Rule) (names : List ℕ)
+        → Stepping P Deletion (now (numbers .entry)) used (now (known .entry)) names (now (store .entry))
         (now (known .entry)) names (now (store .exit)) r) ⌝ }
 {
     if !marks::all_marked(numbers, known) {

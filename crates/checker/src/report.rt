@@ -22,8 +22,8 @@ const LENT: usize = 16384;
 // A space and a number.
 fn put_number(buffer: &mut [u8], at: usize, n: usize) -> usize
     requires { ⌜ at ≤ 100 ⌝ }
-    ensures { λ r. ⌜ Put (32 ∷ decimal n) (now (buffer .entry)) (now (buffer .exit)) at r ⌝ }
-    ensures { λ r. ⌜ r ≤ at + 21 ⌝ }
+    ensures written { λ r. ⌜ Put (32 ∷ decimal n) (now (buffer .entry)) (now (buffer .exit)) at r ⌝ }
+    ensures within { λ r. ⌜ r ≤ at + 21 ⌝ }
 {
     let from = writing::put_bytes(buffer, at, b" ");
     writing::put_digits(buffer, from, n)
@@ -32,8 +32,8 @@ fn put_number(buffer: &mut [u8], at: usize, n: usize) -> usize
 // Two numbers and the newline.
 fn put_two(buffer: &mut [u8], at: usize, a: usize, b: usize) -> usize
     requires { ⌜ at ≤ 20 ⌝ }
-    ensures { λ r. ⌜ Put (numbered (a ∷ b ∷ [])) (now (buffer .entry)) (now (buffer .exit)) at r ⌝ }
-    ensures { λ r. ⌜ r ≤ at + 43 ⌝ }
+    ensures written { λ r. ⌜ Put (numbered (a ∷ b ∷ [])) (now (buffer .entry)) (now (buffer .exit)) at r ⌝ }
+    ensures within { λ r. ⌜ r ≤ at + 43 ⌝ }
 {
     let second = put_number(buffer, at, a);
     let end = put_number(buffer, second, b);
@@ -43,8 +43,8 @@ fn put_two(buffer: &mut [u8], at: usize, a: usize, b: usize) -> usize
 // N, R, S, K and the newline.
 fn put_counts(buffer: &mut [u8], at: usize, counts: Counts) -> usize
     requires { ⌜ at ≤ 20 ⌝ }
-    ensures { λ r. ⌜ Put (countsText counts) (now (buffer .entry)) (now (buffer .exit)) at r ⌝ }
-    ensures { λ r. ⌜ r ≤ at + 85 ⌝ }
+    ensures written { λ r. ⌜ Put (countsText counts) (now (buffer .entry)) (now (buffer .exit)) at r ⌝ }
+    ensures within { λ r. ⌜ r ≤ at + 85 ⌝ }
 {
     let after_atoms = put_number(buffer, at, counts.atoms);
     let after_rules = put_number(buffer, after_atoms, counts.rules);
@@ -56,9 +56,9 @@ fn put_counts(buffer: &mut [u8], at: usize, counts: Counts) -> usize
 // The verdict's line, its newline included, at the front of the buffer, as many bytes as fit; the answer is the line's length. A
 // buffer of LONGEST_LINE bytes holds every line.
 pub fn write_line(verdict: Verdict, buffer: &mut [u8]) -> usize
-    ensures { λ r. ⌜ r ≡ length (verdictLine verdict) ⌝ }
-    ensures { λ r. ⌜ now (buffer .exit) ≡ sets (now (buffer .entry)) 0 (verdictLine verdict) ⌝ }
-    ensures { λ r. ⌜ r ≤ longestLine ⌝ }
+    ensures size { λ r. ⌜ r ≡ length (verdictLine verdict) ⌝ }
+    ensures written { λ r. ⌜ now (buffer .exit) ≡ sets (now (buffer .entry)) 0 (verdictLine verdict) ⌝ }
+    ensures within { λ r. ⌜ r ≤ longestLine ⌝ }
 {
     match verdict {
         Verdict::Inconsistent(counts) => {
@@ -83,9 +83,9 @@ pub fn write_line(verdict: Verdict, buffer: &mut [u8]) -> usize
 // The line that `verdict` prints of two texts, its newline included, at the front of the buffer, as many bytes as fit; the answer
 // is the line's length.
 pub fn check_line(program: &[u8], proof: &[u8], buffer: &mut [u8]) -> usize
-    ensures { λ r. ⌜ r ≡ length (printed (now (program .entry)) (now (proof .entry))) ⌝ }
-    ensures { λ r. ⌜ now (buffer .exit) ≡ sets (now (buffer .entry)) 0 (printed (now (program .entry)) (now (proof .entry))) ⌝ }
-    ensures { λ r. ⌜ r ≤ longestLine ⌝ }
+    ensures size { λ r. ⌜ r ≡ length (printed (now (program .entry)) (now (proof .entry))) ⌝ }
+    ensures written { λ r. ⌜ now (buffer .exit) ≡ sets (now (buffer .entry)) 0 (printed (now (program .entry)) (now (proof .entry))) ⌝ }
+    ensures within { λ r. ⌜ r ≤ longestLine ⌝ }
 {
     let mut table = [0i32; LENT];
     let mut store = [0i32; LENT];

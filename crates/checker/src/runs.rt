@@ -4,8 +4,8 @@ ghost use mathlib.Core.List.{List};
 ghost use Prim.Native.Nat.{_≤_};
 ghost use lib.IntN.{ℤ, pos};
 ghost use lib.ListN.{length, replicate};
-ghost use Rattle.words.specs.Limits.{longest};
-ghost use Rattle.aspif.specs.Tables.{rulesAt};
+ghost use Rattle.words.specs.Limits.{longest, mostRules};
+ghost use Rattle.aspif.specs.Rules.{Rule};
 ghost use Rattle.drupe.specs.Lines.{lineAt};
 ghost use Rattle.derivation.specs.States.{State};
 ghost use Rattle.nogoods.specs.Store.{Holds};
@@ -53,11 +53,12 @@ fn turn_at(
     store: &mut [i32],
     used: usize,
 ) -> ProofTurn
-    requires { ⌜ Program (now table) rules atoms × (rules ≤ length (now names)) ⌝ }
-    requires { ⌜ ((live : List (List ℤ)) × Holds (now store) used live) ⌝ }
-    ensures { λ r. ⌜ ((z : State) → Tracks (rulesAt rules (now (table .entry))) (now (known .entry)) (now (names .entry)) (z .introduced) (z .named)
+    requires program { ⌜ ((P : List Rule) × Program (now table) rules atoms P) × (rules ≤ length (now names)) ⌝ }
+    requires live { ⌜ ((live : List (List ℤ)) × Holds (now store) used live) ⌝ }
+    ensures { λ r. ⌜ ((P : List Rule) → Program (now (table .entry)) rules atoms P
+        → (z : State) → Tracks P (now (known .entry)) (now (names .entry)) (z .introduced) (z .named)
         → Holds (now (store .entry)) used (z .live)
-        → LineLeaves (rulesAt rules (now (table .entry))) (now (known .exit)) (now (names .exit)) (now (store .exit)) used z (lineAt (now (proof .entry)) at) r) ⌝ }
+        → LineLeaves P (now (known .exit)) (now (names .exit)) (now (store .exit)) used z (lineAt (now (proof .entry)) at) r) ⌝ }
 {
     let reading = reader::step_at(proof, at);
     let answer = reading.answer;
@@ -88,9 +89,11 @@ fn turn_at(
 
 // All lines of a proof text, from an empty store. The first refusal ends them.
 pub fn run_lines(proof: &[u8], table: &[i32], rules: usize, atoms: usize, store: &mut [i32]) -> Run
-    requires { ⌜ Program (now table) rules atoms ⌝ }
-    requires { ⌜ (length (now proof) ≤ longest) × (now store ≡ replicate (length (now store)) (pos 0)) ⌝ }
-    ensures { λ r. ⌜ Ran (now (store .exit)) (course (rulesAt rules (now (table .entry))) (length (now (store .entry))) (now (proof .entry))) r ⌝ }
+    requires program { ⌜ ((P : List Rule) × Program (now table) rules atoms P) × (rules ≤ mostRules) ⌝ }
+    requires short { ⌜ length (now proof) ≤ longest ⌝ }
+    requires empty { ⌜ now store ≡ replicate (length (now store)) (pos 0) ⌝ }
+    ensures { λ r. ⌜ ((P : List Rule) → Program (now (table .entry)) rules atoms P
+        → Ran (now (store .exit)) (course P (length (now (store .entry))) (now (proof .entry))) r) ⌝ }
 {
     let start = CheckingState::start(atoms);
     let mut known = start.known;
@@ -111,14 +114,10 @@ pub fn run_lines(proof: &[u8], table: &[i32], rules: usize, atoms: usize, store:
             used,
         );
         match turned {
-            ProofTurn::Ends => {
-                return Run::Through { steps, used };
-            }
+            ProofTurn::Ends => return Run::Through { steps, used },
             ProofTurn::Fails(number) => {
-                return Run::Stopped(ProofRefusal {
-                    number,
-                    step: steps + 1,
-                });
+                let step = steps + 1;
+                return Run::Stopped(ProofRefusal { number, step });
             }
             ProofTurn::Goes { next, used: n } => {
                 at = next;

@@ -17,7 +17,7 @@ impl CheckingState {
     pub const LARGEST: usize = words::LARGEST;
 
     // An entry for each variable, and one for 0.
-    pub const ENTRIES: usize = CheckingState::LARGEST + 1;
+    pub const ENTRIES: usize = words::ENTRIES;
 
     // The most numbers of a line.
     pub const NUMBERS: usize = words::MOST_NUMBERS;

@@ -1,10 +1,10 @@
-// The seven steps, questions 26 to 34, by letter: document 01, 'The proof's seven letters'. What each comes to is derivation's `byLetter`;
-// how arrays and store hold a state is specs/Held.antt.
+// The seven steps, questions 26 to 34, by letter: document 01, 'The proof's seven letters'. What each comes to is derivation's
+// `byLetter`; how table, arrays and store hold a program and a state is specs/Held.antt.
 ghost use mathlib.Core.List.{List};
 ghost use Prim.Native.Nat.{_≤_};
 ghost use lib.IntN.{ℤ};
 ghost use lib.ListN.{length};
-ghost use Rattle.aspif.specs.Tables.{rulesAt};
+ghost use Rattle.aspif.specs.Rules.{Rule};
 ghost use Rattle.nogoods.specs.Store.{Holds};
 ghost use Rattle.checker.specs.Held.{PassedLine, Program, Stepping};
 use crate::additions;
@@ -26,11 +26,12 @@ pub fn step(
     store: &mut [i32],
     used: usize,
 ) -> Stepped
-    requires { ⌜ Program (now table) rules atoms × (rules ≤ length (now names)) ⌝ }
-    requires { ⌜ ((live : List (List ℤ)) × Holds (now store) used live) ⌝ }
-    requires { ⌜ PassedLine letter (now numbers) ⌝ }
-    ensures { λ r. ⌜ Stepping (rulesAt rules (now (table .entry))) letter (now (numbers .entry)) used (now (known .entry)) (now (names .entry)) (now (store .entry))
-        (now (known .exit)) (now (names .exit)) (now (store .exit)) r ⌝ }
+    requires program { ⌜ ((P : List Rule) × Program (now table) rules atoms P) × (rules ≤ length (now names)) ⌝ }
+    requires live { ⌜ ((live : List (List ℤ)) × Holds (now store) used live) ⌝ }
+    requires line { ⌜ PassedLine letter (now numbers) ⌝ }
+    ensures { λ r. ⌜ ((P : List Rule) → Program (now (table .entry)) rules atoms P
+        → Stepping P letter (now (numbers .entry)) used (now (known .entry)) (now (names .entry)) (now (store .entry))
+        (now (known .exit)) (now (names .exit)) (now (store .exit)) r) ⌝ }
 {
     match letter {
         Letter::Addition => additions::addition(known, store, used, numbers),

@@ -1,17 +1,17 @@
 // `c` and `s`: what the rules give and what supports an atom. Document 01, questions 26, 29, 30 and 34.
 ghost use mathlib.Core.Path.{_≡_};
-ghost use mathlib.Core.Bool.{true};
 ghost use mathlib.Core.List.{List, [], _∷_, _++_, map};
 ghost use Prim.Native.Nat.{ℕ, _≤_, _<_};
 ghost use lib.IntN.{ℤ, pos};
 ghost use lib.ListN.{length, drop, getD};
 ghost use Rattle.words.specs.Literals.{complement, ascending};
 ghost use Rattle.words.specs.Limits.{mostNumbers};
-ghost use Rattle.aspif.specs.Tables.{rulesAt, soundRules};
+ghost use Rattle.aspif.specs.Rules.{Rule};
 ghost use Rattle.text.specs.declared.Letter.the-variants.{Completion, Support};
 ghost use Rattle.derivation.specs.States.{State};
 ghost use Rattle.derivation.specs.Steps.{isSupport};
 ghost use Rattle.nogoods.specs.Store.{Literals, Holds};
+ghost use Rattle.names.specs.Queries.{HoldsRules};
 ghost use Rattle.checker.specs.Held.{PassedLine, Program, Tracks, Fitted, Stepping};
 use crate::outcomes;
 use crate::outcomes::Stepped;
@@ -21,17 +21,18 @@ use nogoods::store;
 
 // The first number with the complements of the others is live, after the other nogoods.
 fn join(store: &mut [i32], used: usize, numbers: &mut [i32]) -> Stepped
-    requires { ⌜ ((live : List (List ℤ)) × Holds (now store) used live) ⌝ }
-    requires { ⌜ Literals (now numbers) × (1 ≤ length (now numbers)) × (length (now numbers) ≤ mostNumbers) ⌝ }
+    requires live { ⌜ ((live : List (List ℤ)) × Holds (now store) used live) ⌝ }
+    requires line { ⌜ Literals (now numbers) × (1 ≤ length (now numbers)) × (length (now numbers) ≤ mostNumbers) ⌝ }
     ensures { λ r. ⌜ ((live : List (List ℤ)) → Holds (now (store .entry)) used live
-        → Fitted (live ++ (ascending (getD (now (numbers .entry)) 0 (pos 0) ∷ map complement (drop 1 (now (numbers .entry)))) ∷ [])) (now (store .exit)) r) ⌝ }
+        → (let added = getD (now (numbers .entry)) 0 (pos 0) ∷ map complement (drop 1 (now (numbers .entry))) in
+        Fitted (live ++ (ascending added ∷ [])) (now (store .exit)) r)) ⌝ }
 {
     words::complement_all(&mut numbers[1..]);
     words::sort(numbers);
     outcomes::fitted(store::append(store, used, numbers))
 }
 
-// `c`
+// `c`: the name n of the body of a normal rule, with the rule's head h where it has one; adds n with -h, or n alone.
 pub fn completion(
     table: &[i32],
     rules: usize,
@@ -41,11 +42,12 @@ pub fn completion(
     used: usize,
     numbers: &mut [i32],
 ) -> Stepped
-    requires { ⌜ (soundRules rules (now table) ≡ true) × (rules ≤ length (now names)) ⌝ }
-    requires { ⌜ ((live : List (List ℤ)) × Holds (now store) used live) ⌝ }
-    requires { ⌜ PassedLine Completion (now numbers) ⌝ }
-    ensures { λ r. ⌜ Stepping (rulesAt rules (now (table .entry))) Completion (now (numbers .entry)) used (now (known .entry)) (now (names .entry)) (now (store .entry))
-        (now (known .entry)) (now (names .entry)) (now (store .exit)) r ⌝ }
+    requires program { ⌜ ((P : List Rule) × HoldsRules (now table) rules P) × (rules ≤ length (now names)) ⌝ }
+    requires live { ⌜ ((live : List (List ℤ)) × Holds (now store) used live) ⌝ }
+    requires line { ⌜ PassedLine Completion (now numbers) ⌝ }
+    ensures { λ r. ⌜ ((P : List Rule) → HoldsRules (now (table .entry)) rules P
+        → Stepping P Completion (now (numbers .entry)) used (now (known .entry)) (now (names .entry)) (now (store .entry))
+        (now (known .entry)) (now (names .entry)) (now (store .exit)) r) ⌝ }
 {
     if !marks::all_marked(numbers, known) {
         return Stepped::Fails(26);
@@ -58,12 +60,13 @@ pub fn completion(
     join(store, used, numbers)
 }
 
-// Question 30.
+// Question 30: h, the first number, is an atom, and the others are the names of just the bodies of the rules with h in the head.
 fn is_supported(table: &[i32], rules: usize, atoms: usize, names: &[u16], numbers: &[i32]) -> bool
-    requires { ⌜ Program (now table) rules atoms × (rules ≤ length (now names)) ⌝ }
-    requires { ⌜ PassedLine Support (now numbers) ⌝ }
-    ensures { λ r. ⌜ ((known : List ℕ) (z : State) → Tracks (rulesAt rules (now (table .entry))) known (now (names .entry)) (z .introduced) (z .named)
-        → r ≡ isSupport (rulesAt rules (now (table .entry))) z (getD (now (numbers .entry)) 0 (pos 0)) (drop 1 (now (numbers .entry)))) ⌝ }
+    requires program { ⌜ ((P : List Rule) × Program (now table) rules atoms P) × (rules ≤ length (now names)) ⌝ }
+    requires line { ⌜ PassedLine Support (now numbers) ⌝ }
+    ensures { λ r. ⌜ ((P : List Rule) → Program (now (table .entry)) rules atoms P
+        → (known : List ℕ) (z : State) → Tracks P known (now (names .entry)) (z .introduced) (z .named)
+        → r ≡ isSupport P z (getD (now (numbers .entry)) 0 (pos 0)) (drop 1 (now (numbers .entry)))) ⌝ }
 {
     let h = numbers[0];
     if atoms < words::variable_of(h) {
@@ -75,7 +78,7 @@ fn is_supported(table: &[i32], rules: usize, atoms: usize, names: &[u16], number
     marks::is_same_set(&listed, &found)
 }
 
-// `s`
+// `s`: an atom h and the names of just the bodies of the rules with h in the head; adds h with minus each name.
 pub fn support(
     table: &[i32],
     rules: usize,
@@ -86,11 +89,12 @@ pub fn support(
     used: usize,
     numbers: &mut [i32],
 ) -> Stepped
-    requires { ⌜ Program (now table) rules atoms × (rules ≤ length (now names)) ⌝ }
-    requires { ⌜ ((live : List (List ℤ)) × Holds (now store) used live) ⌝ }
-    requires { ⌜ PassedLine Support (now numbers) ⌝ }
-    ensures { λ r. ⌜ Stepping (rulesAt rules (now (table .entry))) Support (now (numbers .entry)) used (now (known .entry)) (now (names .entry)) (now (store .entry))
-        (now (known .entry)) (now (names .entry)) (now (store .exit)) r ⌝ }
+    requires program { ⌜ ((P : List Rule) × Program (now table) rules atoms P) × (rules ≤ length (now names)) ⌝ }
+    requires live { ⌜ ((live : List (List ℤ)) × Holds (now store) used live) ⌝ }
+    requires line { ⌜ PassedLine Support (now numbers) ⌝ }
+    ensures { λ r. ⌜ ((P : List Rule) → Program (now (table .entry)) rules atoms P
+        → Stepping P Support (now (numbers .entry)) used (now (known .entry)) (now (names .entry)) (now (store .entry))
+        (now (known .entry)) (now (names .entry)) (now (store .exit)) r) ⌝ }
 {
     if !marks::all_marked(numbers, known) {
         return Stepped::Fails(26);

@@ -6,7 +6,7 @@ ghost use lib.IntN.{ℤ};
 ghost use lib.ListN.{length, take};
 ghost use Rattle.words.specs.Limits.{largest, entries};
 ghost use Rattle.marks.specs.Marks.{marked};
-ghost use Rattle.aspif.specs.Tables.{rulesAt};
+ghost use Rattle.aspif.specs.Rules.{Rule};
 ghost use Rattle.text.specs.declared.Letter.the-variants.{Loop};
 ghost use Rattle.nogoods.specs.Store.{Holds};
 ghost use Rattle.checker.specs.Held.{PassedLine, Program, gathered, Stepping};
@@ -20,7 +20,9 @@ use nogoods::store;
 // One number of the nogood of an `l` step: h itself, or minus a name that is marked. How many literals there are then.
 fn gather_one(h: i32, found: &[u8], v: usize, row: &mut [i32], count: usize) -> usize
     requires { ⌜ (1 ≤ v) × (v ≤ largest) × (count < v) × (length (now row) ≡ entries) ⌝ }
-    ensures { λ n. ⌜ (n ≤ v) × (take n (now (row .exit)) ≡ take count (now (row .entry)) ++ gathered (marked (now (found .entry))) h 1 v) ⌝ }
+    ensures within { λ n. ⌜ n ≤ v ⌝ }
+    ensures words { λ n. ⌜ take n (now (row .exit)) ≡ take count (now (row .entry))
+        ++ gathered (marked (now (found .entry))) h 1 v ⌝ }
 {
     if v == words::variable_of(h) {
         row[count] = h;
@@ -36,7 +38,8 @@ fn gather_one(h: i32, found: &[u8], v: usize, row: &mut [i32], count: usize) -> 
 // The nogood of an `l` step, ascending by variable. How many literals it has.
 fn gather(h: i32, found: &[u8], row: &mut [i32]) -> usize
     requires { ⌜ length (now row) ≡ entries ⌝ }
-    ensures { λ n. ⌜ (n ≤ largest) × (take n (now (row .exit)) ≡ gathered (marked (now (found .entry))) h largest 1) ⌝ }
+    ensures within { λ n. ⌜ n ≤ largest ⌝ }
+    ensures words { λ n. ⌜ take n (now (row .exit)) ≡ gathered (marked (now (found .entry))) h largest 1 ⌝ }
 {
     let mut count = 0;
     let mut v = 1;
@@ -47,7 +50,7 @@ fn gather(h: i32, found: &[u8], row: &mut [i32]) -> usize
     count
 }
 
-// `l`
+// `l`: a set U of atoms; adds the first of them with minus the name of each external body.
 pub fn loops(
     table: &[i32],
     rules: usize,
@@ -58,11 +61,12 @@ pub fn loops(
     used: usize,
     numbers: &[i32],
 ) -> Stepped
-    requires { ⌜ Program (now table) rules atoms × (rules ≤ length (now names)) ⌝ }
-    requires { ⌜ ((live : List (List ℤ)) × Holds (now store) used live) ⌝ }
-    requires { ⌜ PassedLine Loop (now numbers) ⌝ }
-    ensures { λ r. ⌜ Stepping (rulesAt rules (now (table .entry))) Loop (now (numbers .entry)) used (now (known .entry)) (now (names .entry)) (now (store .entry))
-        (now (known .entry)) (now (names .entry)) (now (store .exit)) r ⌝ }
+    requires program { ⌜ ((P : List Rule) × Program (now table) rules atoms P) × (rules ≤ length (now names)) ⌝ }
+    requires live { ⌜ ((live : List (List ℤ)) × Holds (now store) used live) ⌝ }
+    requires line { ⌜ PassedLine Loop (now numbers) ⌝ }
+    ensures { λ r. ⌜ ((P : List Rule) → Program (now (table .entry)) rules atoms P
+        → Stepping P Loop (now (numbers .entry)) used (now (known .entry)) (now (names .entry)) (now (store .entry))
+        (now (known .entry)) (now (names .entry)) (now (store .exit)) r) ⌝ }
 {
     if !marks::all_marked(numbers, known) {
         return Stepped::Fails(26);

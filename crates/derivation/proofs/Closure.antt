@@ -81,19 +81,19 @@ module _ (live : List (List ℤ)) where
 -- The computation stays within the closure
 
 module _ (live : List (List ℤ)) (L : List ℤ) where
-  abbrev Within : List ℤ → Type 0
-  Within A = (x : ℤ) → x ∈ A → Closure live L x
+  abbrev AllDerived : List ℤ → Type 0
+  AllDerived A = (x : ℤ) → x ∈ A → Closure live L x
 
-  fresh-within : (A : List ℤ) → Within A → Within (fresh live A)
+  fresh-within : (A : List ℤ) → AllDerived A → AllDerived (fresh live A)
   fresh-within A w x m =
       let d = fresh→ live A m .0 in
       unit (d .0) (d .1) (d .2) (λ k n f. elim (d .3 k n) [ inl p ↦ absurd (f p) | inr u ↦ w k u ])
 
-  saturate-within : (n : ℕ) (A : List ℤ) → Within A → Within (saturate n live A)
+  saturate-within : (n : ℕ) (A : List ℤ) → AllDerived A → AllDerived (saturate n live A)
   saturate-within zero A w = w
   saturate-within (suc n) A w = go (λ B v. saturate-within n B v) (clash A) (fresh live A) (fresh-within A w)
     where
-      go : ((B : List ℤ) → Within B → Within (saturate n live B)) → (b : Bool) (xs : List ℤ) → Within xs → Within (round live n A b xs)
+      go : ((B : List ℤ) → AllDerived B → AllDerived (saturate n live B)) → (b : Bool) (xs : List ℤ) → AllDerived xs → AllDerived (round live n A b xs)
       go below true xs v = w
       go below false [] v = w
       go below false (x ∷ xs) v = below (x ∷ xs ++ A) (λ y m. elim (List·Memᴰ·append-cases (x ∷ xs) m) [ inl u ↦ v y u | inr u ↦ w y u ])

@@ -11,10 +11,10 @@ ghost use Rattle.drupe.specs.Texts.{Step, stepText};
 
 // The numbers, each after a space.
 fn put_numbers(output: &mut [u8], at: usize, numbers: &[i32]) -> usize
-    requires { ⌜ at + 2000 ≤ farthest ⌝ }
-    requires { ⌜ length (now numbers) ≤ mostNumbers ⌝ }
-    ensures { λ r. ⌜ Put (spaced (now (numbers .entry))) (now (output .entry)) (now (output .exit)) at r ⌝ }
-    ensures { λ r. ⌜ r ≤ at + 1430 ⌝ }
+    requires room { ⌜ at + 2000 ≤ farthest ⌝ }
+    requires few { ⌜ length (now numbers) ≤ mostNumbers ⌝ }
+    ensures written { λ r. ⌜ Put (spaced (now (numbers .entry))) (now (output .entry)) (now (output .exit)) at r ⌝ }
+    ensures within { λ r. ⌜ r ≤ at + 1430 ⌝ }
 {
     let mut i = 0;
     let mut end = at;
@@ -27,10 +27,11 @@ fn put_numbers(output: &mut [u8], at: usize, numbers: &[i32]) -> usize
 
 // The line of a step, its newline included, from `at` on, as many bytes as fit, and the position after it.
 pub fn write_step(letter: Letter, numbers: &[i32], output: &mut [u8], at: usize) -> usize
-    requires { ⌜ at + 2001 ≤ farthest ⌝ }
-    requires { ⌜ length (now numbers) ≤ mostNumbers ⌝ }
-    ensures { λ r. ⌜ Put (stepText (record { letter = letter; numbers = now (numbers .entry) })) (now (output .entry)) (now (output .exit)) at r ⌝ }
-    ensures { λ r. ⌜ r ≤ at + 1434 ⌝ }
+    requires room { ⌜ at + 2001 ≤ farthest ⌝ }
+    requires few { ⌜ length (now numbers) ≤ mostNumbers ⌝ }
+    ensures written { λ r. ⌜ Put (stepText (record { letter = letter; numbers = now (numbers .entry) })) (now (output .entry))
+        (now (output .exit)) at r ⌝ }
+    ensures within { λ r. ⌜ r ≤ at + 1434 ⌝ }
 {
     writing::put(output, at, writing::byte_of(letter));
     let end = put_numbers(output, at + 1, numbers);

@@ -1,5 +1,5 @@
--- What the functions of this crate promise. The steps' own definitions are derivation's; crate checker shows that what is found here
--- is what they ask for.
+-- What private functions of the checker cite, and no reader of a public contract needs: which rules a query asks for, and the names
+-- of their bodies. The steps' own definitions are derivation's; crate checker shows that what is found here is what they ask for.
 -- Assumes nothing.
 use mathlib.Core.Path.{_≡_}
 use mathlib.Core.Bool.{Bool, true, cond, not, _&&_}
@@ -12,9 +12,15 @@ use Rattle.words.specs.Limits.{largest, entries}
 use Rattle.words.specs.Lists.{any}
 use Rattle.words.specs.Literals.{variable, sameList, has}
 use Rattle.aspif.specs.Rules.{Rule, isNormal}
+use Rattle.aspif.specs.Tables.{rulesAt, soundRules}
 use Rattle.marks.specs.Marks.{listed, marked}
 use Rattle.names.specs.declared.queries.Query.{Query}
 use Rattle.names.specs.declared.queries.Query.the-variants.{Body, Normal, Head, External}
+
+-- the table holds so many rules, which are sound and are those of P
+pub record HoldsRules (table : List ℤ) (rules : ℕ) (P : List Rule) : Type 0 where
+  pub sound : soundRules rules table ≡ true
+  pub are : rulesAt rules table ≡ P
 
 -- a positive literal whose atom is marked
 abbrev pub isInside : List ℕ → ℤ → Bool

@@ -1,14 +1,15 @@
 // Which rules a step is about, and the names of their bodies. Names are kept by rule, 0 for none.
 ghost use mathlib.Core.Path.{_≡_};
 ghost use mathlib.Core.Bool.{true, cond, _&&_};
+ghost use mathlib.Core.List.{List};
 ghost use Prim.Native.Nat.{_≤_};
 ghost use lib.ListN.{length, set};
 ghost use Rattle.words.specs.Lists.{any};
 ghost use Rattle.words.specs.Literals.{sameList};
-ghost use Rattle.aspif.specs.Rules.{isNormal};
-ghost use Rattle.aspif.specs.Tables.{ruleAt, shapeSound, rulesAt, soundRules};
+ghost use Rattle.aspif.specs.Rules.{Rule, isNormal};
+ghost use Rattle.aspif.specs.Tables.{ruleAt, shapeSound};
 ghost use Rattle.marks.specs.Marks.{Marks};
-ghost use Rattle.names.specs.Queries.{isInside, isExternalBy, asks, picks, renamed};
+ghost use Rattle.names.specs.Queries.{HoldsRules, isInside, isExternalBy, asks, picks, renamed};
 use aspif::Kind;
 use aspif::tables;
 use words::ENTRIES;
@@ -71,7 +72,8 @@ fn is_normal(words: &[i32]) -> bool
 // The rule at the front is normal, with just these heads.
 fn is_normal_with(words: &[i32], heads: &[i32]) -> bool
     requires { ⌜ shapeSound (now words) ≡ true ⌝ }
-    ensures { λ r. ⌜ r ≡ (isNormal (ruleAt (now (words .entry)) .kind) && sameList (ruleAt (now (words .entry)) .heads) (now (heads .entry))) ⌝ }
+    ensures { λ r. ⌜ r ≡ (isNormal (ruleAt (now (words .entry)) .kind)
+        && sameList (ruleAt (now (words .entry)) .heads) (now (heads .entry))) ⌝ }
 {
     if is_normal(words) {
         return words::is_same_list(tables::heads_of(words), heads);
@@ -119,8 +121,9 @@ pub fn names_of(
     literals: &[i32],
     inside: &[u8],
 ) -> [u8; ENTRIES]
-    requires { ⌜ (soundRules rules (now table) ≡ true) × (rules ≤ length (now names)) ⌝ }
-    ensures { λ m. ⌜ Marks m (picks (asks query (now (literals .entry)) (now (inside .entry))) (rulesAt rules (now (table .entry))) (now (names .entry))) ⌝ }
+    requires { ⌜ ((P : List Rule) × HoldsRules (now table) rules P) × (rules ≤ length (now names)) ⌝ }
+    ensures { λ m. ⌜ ((P : List Rule) → HoldsRules (now (table .entry)) rules P
+        → Marks m (picks (asks query (now (literals .entry)) (now (inside .entry))) P (now (names .entry)))) ⌝ }
 {
     let mut found = [0u8; ENTRIES];
     let mut k = 0;
@@ -147,8 +150,9 @@ fn name_for(words: &[i32], body: &[i32], name: u16, other: u16) -> u16
 
 // Every rule with the body gets the name.
 pub fn enter(table: &[i32], rules: usize, body: &[i32], name: u16, names: &mut [u16])
-    requires { ⌜ (soundRules rules (now table) ≡ true) × (rules ≤ length (now names)) ⌝ }
-    ensures { λ _. ⌜ now (names .exit) ≡ renamed (λ r. sameList (r .body) (now (body .entry))) name (rulesAt rules (now (table .entry))) (now (names .entry)) ⌝ }
+    requires { ⌜ ((P : List Rule) × HoldsRules (now table) rules P) × (rules ≤ length (now names)) ⌝ }
+    ensures { λ _. ⌜ ((P : List Rule) → HoldsRules (now (table .entry)) rules P
+        → now (names .exit) ≡ renamed (λ r. sameList (r .body) (now (body .entry))) name P (now (names .entry))) ⌝ }
 {
     let mut k = 0;
     let mut i = 0;

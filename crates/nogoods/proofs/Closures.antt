@@ -77,9 +77,9 @@ module _ (s : List ℤ) (a b : List ℕ) (g : Grows s a b) where
   ends-before c true k = clashes-before k
   ends-before c false k = (grows-on g (k .0), k .1)
 
-module _ (s : List ℤ) (r : ℕ) (here : Stands s r) (lits : Literals (nogoodAt s r)) (m : List ℕ) (size : length m ≡ entries) where
+module _ (s : List ℤ) (r : ℕ) (stands : Stands s r) (lits : Literals (nogoodAt s r)) (m : List ℕ) (size : length m ≡ entries) where
   pub conflicting : AllTrue m (nogoodAt s r) → Clashes s m
-  conflicting f live L h w = all-true live L m w (nogoodAt s r) (here live h .0) f
+  conflicting f live L h w = all-true live L m w (nogoodAt s r) (stands live h .0) f
 
   pub derived : (m′ : List ℕ) (v : ℕ) → Derives (nogoodAt s r) m m′ (Assigned v)
       → Grows s m m′ × (suc (free m′) ≡ free m) × (1 ≤ v) × (v < entries)
@@ -94,7 +94,7 @@ module _ (s : List ℤ) (r : ℕ) (here : Stands s r) (lits : Literals (nogoodAt
       let f : suc (free m′) ≡ free m = rw is (assigned-fewer m x hx lx open-x) in (
         record {
           sound = λ live L h w y a. elim (assigned→ m x hx y lx (rw is at a)) [
-            | inl q ↦ rw q (unit-in live L m w (nogoodAt s r) (here live h .0) z i (last .others))
+            | inl q ↦ rw q (unit-in live L m w (nogoodAt s r) (stands live h .0) z i (last .others))
             | inr b ↦ w y b
           ];
           kept = λ y a. rw is (assigned-kept m x hx (open-x .1) y a);

@@ -56,7 +56,8 @@ module _ (x : ℤ) (l : List ℤ) (h : Literals (x ∷ l)) where
       let v = variable-complement y in
       literals-cons x (complement y ∷ []) (h .low x (List·Memᴰ·head refl)) (h .high x (List·Memᴰ·head refl))
       (each-cons {P = λ z. ¬ (variable x ≡ variable z)} (rw v (literals-apart y m)) (λ z n. absurd (List·Memᴰ·not-nil n)))
-      (literals-cons (complement y) [] (rw v (h .low y (List·Memᴰ·tail m))) (rw v (h .high y (List·Memᴰ·tail m))) (λ z n. absurd (List·Memᴰ·not-nil n)) literals-nil)
+      (literals-cons (complement y) [] (rw v (h .low y (List·Memᴰ·tail m))) (rw v (h .high y (List·Memᴰ·tail m)))
+      (λ z n. absurd (List·Memᴰ·not-nil n)) literals-nil)
 
 -- The variables alone decide
 

@@ -94,10 +94,9 @@ module _ {Q : List (List ℤ) → List (List ℤ) → Type 0} {store : List ℤ}
   pub ahead : ((live : List (List ℤ)) → Q live live) → Ahead Q store used 0
   ahead q live H = record { left = live; seg = at-front nogoodWords store _ used live (H .words) (sym (H .extent)); tied = q live }
 
-  -- the record at i ends within the used words
-  pub ahead-room : {i : ℕ} → Ahead Q store used i → i < used → (live : List (List ℤ)) × Holds store used live
-      → (endAt store i ≤ used) × (used ≤ length store)
-  ahead-room A h some = (rest-at (A (some .0) (some .1)) h .room, some .1 .fits)
+  -- the record at i can be read, in a store that holds some nogoods
+  pub ahead-room : {i : ℕ} → Ahead Q store used i → i < used → (live : List (List ℤ)) × Holds store used live → endAt store i ≤ length store
+  ahead-room A h some = omega (arith, rest-at (A (some .0) (some .1)) h .room, some .1 .fits)
 
 -- The words of nogoods alone, as propagation has them
 

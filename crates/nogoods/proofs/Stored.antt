@@ -52,20 +52,22 @@ module _ {store : List ℤ} {used : ℕ} {live : List (List ℤ)} (H : Holds sto
   more-words : length (liveWords (live ++ gs)) ≡ used + size
   more-words = omega (arith, n, H .extent, ap length (record-append nogoodWords live gs), length-append (liveWords live) (liveWords gs))
 
-  -- the free words are too few for these nogoods
+  -- the free words are too few for the words of gs
   pub full : length store - used < size → length store < length (liveWords (live ++ gs))
   full h = omega (arith, more-words, H .fits)
 
-  -- their words are written at the front of the free tail
+  -- the words of gs are written at the front of the free tail
   pub added : ((g : List ℤ) → g ∈ gs → Literals g) → (ys : List ℤ) → Written (liveWords gs) (take (length store - used) (drop used store)) ys
       → Holds (putMid used (length store - used) store ys) (used + size) (live ++ gs)
   added lits ys e =
       let free = length store - used in
-      let zeros-left = replicate (free - length (liveWords gs)) (pos 0) in
-      holds← {live = live ++ gs} (free - length (liveWords gs)) (put-next (liveWords live) (replicate free (pos 0)) (liveWords gs) store ys used (sym (H .extent)) (holds→ H) e
+      let zeros = replicate (free - length (liveWords gs)) (pos 0) in
+      let w : putMid used free store ys ≡ liveWords (live ++ gs) ++ zeros =
+      put-next (liveWords live) (replicate free (pos 0)) (liveWords gs) store ys used (sym (H .extent)) (holds→ H) e
       ∙ ap (λ (l : List ℤ). liveWords live ++ (liveWords gs ++ l)) (drop-replicate (length (liveWords gs)) free (pos 0))
-      ∙ sym (append-assoc (liveWords live) (liveWords gs) zeros-left) ∙ ap (λ (l : List ℤ). l ++ zeros-left) (sym (record-append nogoodWords live gs)))
-      (sym more-words) (λ g m. elim (List·Memᴰ·append-cases live m) [ inl i ↦ H .literals g i | inr i ↦ lits g i ])
+      ∙ sym (append-assoc (liveWords live) (liveWords gs) zeros) ∙ ap (λ (l : List ℤ). l ++ zeros) (sym (record-append nogoodWords live gs)) in
+      holds← {live = live ++ gs} (free - length (liveWords gs)) w (sym more-words)
+      (λ g m. elim (List·Memᴰ·append-cases live m) [ inl i ↦ H .literals g i | inr i ↦ lits g i ])
 
 -- Deleting
 
@@ -144,16 +146,18 @@ module _ {store : List ℤ} {used : ℕ} {live : List (List ℤ)} (H : Holds sto
   hit-cut k n ys e =
       let all = nogoodWords L ++ newer in
       let before : take j store ≡ older = ap (take j) whole ∙ take-at older (all ++ unused) j (sizes .0) in
-      let here : take (used - j) (drop j store) ≡ all = ap (take (used - j)) from-hit ∙ take-at all unused (used - j) (sizes .1) in
+      let from : take (used - j) (drop j store) ≡ all = ap (take (used - j)) from-hit ∙ take-at all unused (used - j) (sizes .1) in
       let after : drop (used - j) (drop j store) ≡ unused = ap (drop (used - j)) from-hit ∙ drop-at all unused (used - j) (sizes .1) in
       let y : ys ≡ newer ++ replicate k (pos 0) =
-      e ∙ ap (λ (l : List ℤ). drop k l ++ replicate k (pos 0)) here
+      e ∙ ap (λ (l : List ℤ). drop k l ++ replicate k (pos 0)) from
       ∙ ap (λ (l : List ℤ). l ++ replicate k (pos 0)) (drop-at (nogoodWords L) newer k (record-size L ∙ sym n)) in
-      let z = replicate (k + (length store - used)) (pos 0) in
-      rw (h .gone) (holds← (k + (length store - used))
-      (ap₂ (λ a b. a ++ (ys ++ b)) before after ∙ ap (λ (l : List ℤ). older ++ (l ++ unused)) y
-      ∙ ap (λ (l : List ℤ). older ++ l)
-      (append-assoc newer (replicate k (pos 0)) unused ∙ ap (λ (l : List ℤ). newer ++ l) (replicate-append-replicate k (length store - used) (pos 0)))
-      ∙ sym (append-assoc older newer z) ∙ ap (λ (l : List ℤ). l ++ z) (sym (record-append nogoodWords (h .done) (h .rest))))
-      (omega (arith, n, sizes, ap length (record-append nogoodWords (h .done) (h .rest)), length-append older newer))
-      (λ g m. H .literals g (dropFirst→ (λ x. sameList x L) live (rw (h .gone) m))))
+      let n-zeros = k + (length store - used) in
+      let zeros = replicate n-zeros (pos 0) in
+      let w : putMid j (used - j) store ys ≡ liveWords (h .done ++ h .rest) ++ zeros =
+      ap₂ (λ a b. a ++ (ys ++ b)) before after ∙ ap (λ (l : List ℤ). older ++ (l ++ unused)) y
+      ∙ ap (λ (l : List ℤ). older ++ l) (append-assoc newer (replicate k (pos 0)) unused)
+      ∙ ap (λ (l : List ℤ). older ++ (newer ++ l)) (replicate-append-replicate k (length store - used) (pos 0))
+      ∙ sym (append-assoc older newer zeros) ∙ ap (λ (l : List ℤ). l ++ zeros) (sym (record-append nogoodWords (h .done) (h .rest))) in
+      let u : used - k ≡ length (liveWords (h .done ++ h .rest)) =
+      omega (arith, n, sizes, ap length (record-append nogoodWords (h .done) (h .rest)), length-append older newer) in
+      rw (h .gone) (holds← n-zeros w u (λ g m. H .literals g (dropFirst→ (λ x. sameList x L) live (rw (h .gone) m))))

@@ -2,7 +2,7 @@
 // all is not promised. The sweeps after it decide: of its answer only a conflict counts, and of its assignment that it grew.
 //
 // Each literal has a chain of the places where it stands: `head` by the literal, `next` by the place, 0 at the end, since
-// the word at 0 is a count. By the place, `owner` says where its nogood starts. By a nogood's start, `counts` says how
+// a header stands at 0. By the place, `owner` says where its nogood starts. By a nogood's start, `counts` says how
 // many of its literals were not met as true ones; at 1 the nogood is looked at. `queue` has the literals that are true.
 ghost use mathlib.Core.Path.{_≡_};
 ghost use mathlib.Core.Bool.{true};

@@ -34,8 +34,8 @@ pub fn put_bytes(buffer: &mut [u8], at: usize, bytes: &[u8]) -> usize
 
 // One digit.
 fn put_digit(buffer: &mut [u8], at: usize, d: usize) -> usize
-    requires { ⌜ at ≤ farthest + 20 ⌝ }
-    requires { ⌜ d < 10 ⌝ }
+    requires room { ⌜ at ≤ farthest + 20 ⌝ }
+    requires digit { ⌜ d < 10 ⌝ }
     ensures { λ r. ⌜ Put (digitByte d ∷ []) (now (buffer .entry)) (now (buffer .exit)) at r ⌝ }
 {
     put(buffer, at, b'0' + d as u8);
@@ -68,8 +68,8 @@ fn put_sign(buffer: &mut [u8], at: usize, number: i32) -> usize
 // A space and a number.
 pub fn put_number(buffer: &mut [u8], at: usize, number: i32) -> usize
     requires { ⌜ at + 2 ≤ farthest ⌝ }
-    ensures { λ r. ⌜ Put (32 ∷ numberBytes number) (now (buffer .entry)) (now (buffer .exit)) at r ⌝ }
-    ensures { λ r. ⌜ r ≤ at + 22 ⌝ }
+    ensures written { λ r. ⌜ Put (32 ∷ numberBytes number) (now (buffer .entry)) (now (buffer .exit)) at r ⌝ }
+    ensures within { λ r. ⌜ r ≤ at + 22 ⌝ }
 {
     let sign = put_bytes(buffer, at, b" ");
     let from = put_sign(buffer, sign, number);

@@ -59,14 +59,6 @@ module _ {A : Type 0} (f : A → List ℤ) where
         room = omega arith;
       }
 
-  -- A loop over the records, whose answer is F 0 of all of them: F i of those that are left, from i on.
-  module _ {R : Type 0} (F : ℕ → List A → R) (s : List ℤ) (e : ℕ) (live : List A) where
-    -- the invariant at i
-    pub record Left (i : ℕ) : Type 0 where
-      pub left : List A
-      pub seg : Segment s i e left
-      pub same : F i left ≡ F 0 live
-
   -- after the last record
   pub none-left : {s : List ℤ} {i e : ℕ} {left : List A} → ((x : A) → 0 < length (f x)) → Segment s i e left → e ≤ i → left ≡ []
   none-left {left = []} p S h = refl

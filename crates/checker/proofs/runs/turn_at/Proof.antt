@@ -5,7 +5,6 @@ use lib.IntN.{pos}
 use lib.ListN.{take}
 use lib.Seq.{length-take-le}
 use Rattle.words.specs.Literals.{has}
-use Rattle.aspif.specs.Tables.{rulesAt}
 use Rattle.drupe.specs.Lines.{lineRefusal, line, lineAt}
 use Rattle.drupe.proofs.Lines.{passed-line}
 use Rattle.checker.proofs.Turns.{good-line, step-is, read-end, read-refused, read-line, read-count}
@@ -38,20 +37,18 @@ step-requires c κs =
     (s .pre .0, (s .pre .1, good-line _ _ (good d .0) (good d .1)))
 
 returns : tie.Need-returns
-returns c = λ z T H. rw (read-end (c .before .before .before .step-at .ensures) (c .enum-told .given .1)) (refl, H)
+returns c = λ P p z T H. rw (read-end (c .before .before .before .step-at .ensures) (c .enum-told .given .1)) (refl, H)
 
 returns-2 : tie.Need-returns-2
-returns-2 c = λ z T H. rw (read-refused (c .before .before .before .before .step-at .ensures) _ (c .before .answer .given .1)) refl
+returns-2 c = λ P p z T H. rw (read-refused (c .before .before .before .before .step-at .ensures) _ (c .before .answer .given .1)) refl
 
 returns-3 : tie.Need-returns-3
-returns-3 c = λ z T H.
+returns-3 c = λ P p z T H.
     let t = c .before .before .before .before .before .before .before .step in
     let d = c .before .before .before .before .before .before .before .before .before .before .before .before .before in
-    let a = d .before .before .before .before .before .before .before .args in
-    let P = rulesAt (a .rules) (a .table .now) in
     let g = d .answer2 .given .0 in
     let zs = take (g .1 .0) (b d .step-at .result .numbers) in
-    rw (there d, step-is (g .0) zs (good d .0) (good d .1) P z) (t .result, c .turn-of .ensures, t .ensures z T H)
+    rw (there d, step-is (g .0) zs (good d .0) (good d .1) P z) (t .result, c .turn-of .ensures, t .ensures P p z T H)
 
 pub turn-at-spec : {M : Type 1} → statement M
 turn-at-spec =

@@ -63,7 +63,7 @@ told : (c : tie.After-name-for Inv-loop μ-loop)
 told c = let d = c .before .before in rw (tail-of (i d) (t d)) at (c .name-for .ensures)
 
 loop-holds : tie.Need-loop-holds Inv-loop μ-loop
-loop-holds c = let s = c .before in (s .args .rules, omega arith, record { within = omega arith; sound = s .pre .0 }, refl, refl)
+loop-holds c = let s = c .before in (s .args .rules, omega arith, record { within = omega arith; sound = s .pre .0 .1 .sound }, refl, refl)
 
 mul-rest : tie.Need-mul-rest Inv-loop μ-loop
 mul-rest c = let w = c .before .loop .inv .2 .within in search needs
@@ -94,7 +94,7 @@ returns : tie.Need-returns Inv-loop μ-loop
 returns c =
     let l = c .before .loop in
     let none = no-rules (l .inv .0) (drop (l .i) (c .before .before .before .args .table .now)) (omega (arith, c .loop-test .left, l .inv .1)) in
-    sym (rw (none, take-append-drop (l .k) (l .names)) at (l .inv .4))
+    λ P H. rw (← H .are) (sym (rw (none, take-append-drop (l .k) (l .names)) at (l .inv .4)))
 
 pub enter-spec : {M : Type 1} → statement M
 enter-spec =

@@ -54,7 +54,7 @@ told : (c : tie.After-mark-asked Inv-loop μ-loop)
 told c = let d = c .before .before .before in rw (tail-of (i d) (t d)) at (c .mark-asked .ensures)
 
 loop-holds : tie.Need-loop-holds Inv-loop μ-loop
-loop-holds c = let s = c .before .before in (s .args .rules, omega arith, record { within = omega arith; sound = s .pre .0 }, found-none _)
+loop-holds c = let s = c .before .before in (s .args .rules, omega arith, record { within = omega arith; sound = s .pre .0 .1 .sound }, found-none _)
 
 mul-rest : tie.Need-mul-rest Inv-loop μ-loop
 mul-rest c = let w = c .before .loop .inv .2 .within in search needs
@@ -86,7 +86,8 @@ loop-again c =
 returns : tie.Need-returns Inv-loop μ-loop
 returns c =
     let l = c .before .loop in
-    found-all (rw (no-rules (l .inv .0) (drop (l .i) (c .before .before .before .before .args .table .now)) (omega (arith, c .loop-test .left, l .inv .1))) at (l .inv .3))
+    let none = no-rules (l .inv .0) (drop (l .i) (c .before .before .before .before .args .table .now)) (omega (arith, c .loop-test .left, l .inv .1)) in
+    λ P H. rw (← H .are) (found-all (rw none at (l .inv .3)))
 
 pub names-of-spec : {M : Type 1} → statement M
 names-of-spec =

@@ -40,7 +40,10 @@ returns c =
     let l = s .args .numbers .now in
     definition-written (getD l 0 (pos 0)) (drop 1 l) (s .args .free .now) (w .last .0) (c .before .write-pairs .last .0) (headerSize + length l)
     (omega (arith, length-drop 1 l, s .pre .0 .1)) (w .ensures)
-    (rw (others-sorted l (o .sort .last .0) (s .pre .0 .1) (o .sort .ensures), back (getD l 0 (pos 0)) (o .before .before .before .before .before .before .name .given)) at (c .before .write-pairs .ensures))
+    (rw (
+      others-sorted l (o .sort .last .0) (s .pre .0 .1) (o .sort .ensures),
+      back (getD l 0 (pos 0)) (o .before .before .before .before .before .before .name .given),
+    ) at (c .before .write-pairs .ensures))
 
 pub write-definition-spec : {M : Type 1} → statement M
 write-definition-spec =

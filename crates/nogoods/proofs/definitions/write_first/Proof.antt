@@ -24,7 +24,8 @@ same-length c =
     let w = k .before .before .before .write in
     let y = toZ w32 (ofZ w32 (k .complement-of .result)) in
     let a = k .before .before .before .before .before .args in
-    same-len-mid headerSize (headerSize + length (a .numbers .now) - headerSize) (set (w .last .0) headerSize y) (c .before .sort .last .0) (c .before .sort .kept .0)
+    let n = headerSize + length (a .numbers .now) - headerSize in
+    same-len-mid headerSize n (set (w .last .0) headerSize y) (c .before .sort .last .0) (c .before .sort .kept .0)
     ∙ length-set (w .last .0) headerSize y ∙ w .kept .0
 
 returns : tie.Need-returns

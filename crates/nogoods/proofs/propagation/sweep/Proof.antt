@@ -63,7 +63,8 @@ loop-again : tie.Need-loop-again Inv-loop μ-loop
 loop-again c =
     let o = c .before .before .before in
     let k = o .before .before in
-    rw (c .before .before .end-at .ensures) (sweep-assigned _ _ _ _ _ (going k) (k .loop-test .taken) (read k .literals) _ _ (told o _ (c .enum-told2 .given .1)))
+    rw (c .before .before .end-at .ensures)
+    (sweep-assigned _ _ _ _ _ (going k) (k .loop-test .taken) (read k .literals) _ _ (told o _ (c .enum-told2 .given .1)))
 
 loop-less-2 : tie.Need-loop-less-2 Inv-loop μ-loop
 loop-less-2 c = omega (arith, c .before .before .before .before .before .loop-test .taken)

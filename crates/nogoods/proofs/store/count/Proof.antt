@@ -15,19 +15,15 @@ Inv-loop store used n₀ i₀ n i = (n ≤ i) × Ahead (λ live left. n + length
 abbrev μ-loop : tie.MeasureT-loop
 μ-loop store used n₀ i₀ n i = used - i
 
--- the record at i
-module _ (c : tie.In-loop Inv-loop μ-loop) where
-  abbrev s : tie.Start Inv-loop μ-loop
-  s = c .before .before
-
-  room : let a = s .args in (endAt (a .store .now) (c .before .loop .i) ≤ a .used) × (a .used ≤ length (a .store .now))
-  room = ahead-room (c .before .loop .inv .1) (c .loop-test .taken) (s .pre)
+-- the record at i can be read
+room : (c : tie.In-loop Inv-loop μ-loop) → let s = c .before .before .args .store .now in endAt s (c .before .loop .i) ≤ length s
+room c = ahead-room (c .before .loop .inv .1) (c .loop-test .taken) (c .before .before .pre)
 
 loop-holds : tie.Need-loop-holds Inv-loop μ-loop
 loop-holds c = (omega arith, ahead (λ live. omega arith))
 
 end-at-requires : tie.Need-end-at-requires Inv-loop μ-loop
-end-at-requires c κs = omega (arith, room c)
+end-at-requires c κs = room c
 
 add-n : tie.Need-add-n Inv-loop μ-loop
 add-n c = let k = room (c .before) in search needs

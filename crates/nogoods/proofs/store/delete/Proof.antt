@@ -13,8 +13,8 @@ use Rattle.nogoods.proofs.store.delete.Statement.{statement}
 use Rattle.nogoods.proofs.store.delete.Tie as tie
 
 -- the nogood that was found
-found : (c : tie.After-i) (live : List (List ℤ)) → Holds (c .before .before .before .before .args .store .now) (c .before .before .before .before .args .used) live
-    → Hit 0 (c .i .given .0 .0) (c .before .before .before .before .args .literals .now) live
+found : (c : tie.After-i) (live : List (List ℤ)) → let a = c .before .before .before .before .args in
+    Holds (a .store .now) (a .used) live → Hit 0 (c .i .given .0 .0) (a .literals .now) live
 found c live H = hit 0 _ _ live (sym (c .before .before .find .ensures live H) ∙ c .i .given .1)
 
 room : (c : tie.After-i) → (let a = c .before .before .before .before .args in

@@ -28,29 +28,26 @@ Inv-loop store used literals i₀ i = Ahead (λ live left. foundAt i literals le
 abbrev μ-loop : tie.MeasureT-loop
 μ-loop store used literals i₀ i = used - i
 
--- the record at i
-module _ (c : tie.In-loop Inv-loop μ-loop) where
-  abbrev s : tie.Start Inv-loop μ-loop
-  s = c .before .before
+-- the record at i can be read
+room : (c : tie.In-loop Inv-loop μ-loop) → let s = c .before .before .args .store .now in endAt s (c .before .loop .i) ≤ length s
+room c = ahead-room (c .before .loop .inv) (c .loop-test .taken) (c .before .before .pre)
 
-  abbrev g : List ℤ
-  g = nogoodAt (s .args .store .now) (c .before .loop .i)
-
-  room : let a = s .args in (endAt (a .store .now) (c .before .loop .i) ≤ a .used) × (a .used ≤ length (a .store .now))
-  room = ahead-room (c .before .loop .inv) (c .loop-test .taken) (s .pre)
+-- the literals of the record at i
+abbrev g : tie.In-loop Inv-loop μ-loop → List ℤ
+g c = nogoodAt (c .before .before .args .store .now) (c .before .loop .i)
 
 loop-holds : tie.Need-loop-holds Inv-loop μ-loop
 loop-holds c = ahead (λ live. refl)
 
 nogood-at-requires : tie.Need-nogood-at-requires Inv-loop μ-loop
-nogood-at-requires c κs = omega (arith, room c)
+nogood-at-requires c κs = room c
 
 -- whether it is the list, as the call tells
 module _ (c : tie.After-is-same-list Inv-loop μ-loop) where
   abbrev i : tie.In-loop Inv-loop μ-loop
   i = c .before .before
 
-  tells : sameList (g i) (s i .args .literals .now) ≡ c .is-same-list .result
+  tells : sameList (g i) (i .before .before .args .literals .now) ≡ c .is-same-list .result
   tells = sym (rw (c .before .nogood-at .ensures) at (c .is-same-list .ensures))
 
 returns : tie.Need-returns Inv-loop μ-loop
@@ -59,10 +56,10 @@ returns c =
     let k = i (c .before) in
     let w = k .before .loop .inv live H in
     let h = k .loop-test .taken in
-    sym (found-here _ (s k .args .literals .now) (g k) (rest-at w h .gs) (tells (c .before) ∙ c .if1 .taken)) ∙ rest-first w h
+    sym (found-here _ (k .before .before .args .literals .now) (g k) (rest-at w h .gs) (tells (c .before) ∙ c .if1 .taken)) ∙ rest-first w h
 
 end-at-requires : tie.Need-end-at-requires Inv-loop μ-loop
-end-at-requires c κs = omega (arith, room (i (c .before)))
+end-at-requires c κs = room (i (c .before))
 
 loop-less : tie.Need-loop-less Inv-loop μ-loop
 loop-less c = omega (arith, i (c .before .before) .loop-test .taken, c .end-at .ensures)
@@ -71,7 +68,7 @@ loop-again : tie.Need-loop-again Inv-loop μ-loop
 loop-again c =
     let o = c .before .before in
     let k = i o in
-    let L = s k .args .literals .now in
+    let L = k .before .before .args .literals .now in
     rw (c .end-at .ensures) (λ live H.
     let w = k .before .loop .inv live H in
     let h = k .loop-test .taken in

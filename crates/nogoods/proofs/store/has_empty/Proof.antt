@@ -28,16 +28,13 @@ Inv-loop store used i₀ i = Ahead (λ live left. any isEmpty left ≡ any isEmp
 abbrev μ-loop : tie.MeasureT-loop
 μ-loop store used i₀ i = used - i
 
--- the record at i
-module _ (c : tie.In-loop Inv-loop μ-loop) where
-  abbrev s : tie.Start Inv-loop μ-loop
-  s = c .before .before
+-- the record at i can be read
+room : (c : tie.In-loop Inv-loop μ-loop) → let s = c .before .before .args .store .now in endAt s (c .before .loop .i) ≤ length s
+room c = ahead-room (c .before .loop .inv) (c .loop-test .taken) (c .before .before .pre)
 
-  abbrev g : List ℤ
-  g = nogoodAt (s .args .store .now) (c .before .loop .i)
-
-  room : let a = s .args in (endAt (a .store .now) (c .before .loop .i) ≤ a .used) × (a .used ≤ length (a .store .now))
-  room = ahead-room (c .before .loop .inv) (c .loop-test .taken) (s .pre)
+-- the literals of the record at i
+abbrev g : tie.In-loop Inv-loop μ-loop → List ℤ
+g c = nogoodAt (c .before .before .args .store .now) (c .before .loop .i)
 
 loop-holds : tie.Need-loop-holds Inv-loop μ-loop
 loop-holds c = ahead (λ live. refl)
@@ -51,7 +48,7 @@ returns c =
     sym (first-empty (g (d .before)) (rest-at w h .gs) (omega (arith, rest-at w h .count, d .count-at .ensures, c .if1 .taken))) ∙ rest-first w h
 
 end-at-requires : tie.Need-end-at-requires Inv-loop μ-loop
-end-at-requires c κs = omega (arith, room (c .before .before))
+end-at-requires c κs = room (c .before .before)
 
 loop-less : tie.Need-loop-less Inv-loop μ-loop
 loop-less c = omega (arith, c .before .before .before .loop-test .taken, c .end-at .ensures)

@@ -32,14 +32,16 @@ part-copy-start c =
 copy-requires : tie.Need-copy-requires
 copy-requires c κs =
     let a = c .before .args in
-    let w = set (a .free .now) 0 (toZ w32 (length (a .literals .now))) in
-    omega (arith, c .before .pre, length-set (a .free .now) 0 (toZ w32 (length (a .literals .now))), ap length (tail-of headerSize w), length-drop headerSize w)
+    let n = toZ w32 (length (a .literals .now)) in
+    let w = set (a .free .now) 0 n in
+    omega (arith, c .before .pre, length-set (a .free .now) 0 n, ap length (tail-of headerSize w), length-drop headerSize w)
 
 same-length : tie.Need-same-length
 same-length c =
     let a = c .before .before .before .args in
-    let w = set (a .free .now) 0 (toZ w32 (length (a .literals .now))) in
-    same-len-mid headerSize (length w - headerSize) w (c .before .copy .last .0) (c .before .copy .kept .0) ∙ length-set (a .free .now) 0 (toZ w32 (length (a .literals .now)))
+    let n = toZ w32 (length (a .literals .now)) in
+    let w = set (a .free .now) 0 n in
+    same-len-mid headerSize (length w - headerSize) w (c .before .copy .last .0) (c .before .copy .kept .0) ∙ length-set (a .free .now) 0 n
 
 returns : tie.Need-returns
 returns c =
