@@ -1,6 +1,6 @@
 -- Laws on marks: literals and bodies under them, and what the rounds of `close` do to them.
 -- Assumes nothing.
-use mathlib.Core.Path.{_≡_, refl, sym, _∙_}
+use mathlib.Core.Path.{_≡_, refl, sym, _∙_, ap}
 use mathlib.Core.Bool.{Bool, true, false, not, true≢false}
 use mathlib.Core.List.{List}
 use Prim.Native.Nat.{ℕ, zero, suc, _+_, _-_, _<_, _≤_}
@@ -12,6 +12,7 @@ use lib.Signed.{ltZ}
 use lib.ListN.{length, drop, getD, set, drop-of-length-le}
 use lib.Seq.{drop-cons}
 use Rattle.words.specs.Literals.{variable}
+use Rattle.words.proofs.Lists.{one-less, none-left}
 use Rattle.aspif.specs.Rules.{Rule}
 use Rattle.aspif.specs.declared.Kind.{Kind}
 use Rattle.answer_set.specs.SetTest.{literalHolds, giveHead, giveHeads, round, rounds, anyBelow}

@@ -14,7 +14,7 @@ use Rattle.drupe.specs.Lines as Lines
 use Rattle.drupe.proofs.Lines.{passed-line}
 use Rattle.derivation.specs.States.{State, start}
 use Rattle.derivation.specs.Steps.{Outcome, refused, next, step}
-use Rattle.nogoods.specs.Store.{Holds}
+use Rattle.nogoods.specs.Keeps.{Holds}
 use Rattle.checker.specs.Check.{Course, stopped, course}
 use Rattle.checker.specs.Claims.{Runs, ends, unread, unaccepted, full, good}
 use Rattle.checker.specs.Held.{Tracks, Leaves, proofTurn, LineLeaves, Ran}

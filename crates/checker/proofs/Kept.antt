@@ -10,7 +10,7 @@ use borrow.Rule.Slice.PartMut.{putMid}
 use Rattle.words.specs.Literals.{complement, ascending}
 use Rattle.words.proofs.Parts.{tail-of, put-tail}
 use Rattle.words.proofs.Sorting.{length-ascending}
-use Rattle.nogoods.specs.Store.{Literals, Fits}
+use Rattle.nogoods.specs.Keeps.{Literals, Fits}
 use Rattle.nogoods.specs.declared.store.Added.{Added}
 use Rattle.nogoods.specs.declared.store.Added.the-variants as Added
 use Rattle.nogoods.proofs.Literals.{literals-ascending, literals-complement-others}

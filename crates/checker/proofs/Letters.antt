@@ -23,7 +23,7 @@ use Rattle.aspif.specs.Rules.{Rule, atoms, isNormal}
 use Rattle.marks.specs.Marks.{marked, Marks, sameMarks}
 use Rattle.derivation.specs.States.{State, isAtom, isKnown}
 use Rattle.derivation.specs.Steps.{Outcome, refused, addition, body, completion, deletion, extension, loop, support, citing, naming, byLetter, isUnnamedBody, isCompletion, isSupport}
-use Rattle.nogoods.specs.Store.{Literals}
+use Rattle.nogoods.specs.Keeps.{Literals}
 use Rattle.nogoods.proofs.Literals.{literals-tail}
 use Rattle.nogoods.proofs.Defined.{name-and-literals}
 use Rattle.names.specs.Queries.{picks, renamed}
@@ -36,11 +36,11 @@ use Rattle.checker.proofs.Names.{unnamed-test, unnamed-body, completes,
 abbrev pub first : List ℤ → ℤ
 first zs = getD zs 0 (pos 0)
 
--- as they are lent, as a part of the line
+-- the numbers after the first, as a part of the line
 abbrev others : List ℤ → List ℤ
 others zs = take (length zs - 1) (drop 1 zs)
 
--- or as a part of a copy
+-- the numbers after the first, as a part of a copy of the line
 pub copied : (zs rest row : List ℤ) → 1 ≤ length zs → row ≡ zs ++ rest → take (length zs - 1) (drop 1 row) ≡ drop 1 zs
 copied [] rest row h e = absurd (omega arith)
 copied (n ∷ L) rest row h e = rw e (take-at L rest (length (n ∷ L) - 1) (omega arith))
@@ -106,7 +106,7 @@ module _ {P : List Rule} {known names : List ℕ} (z : State) (tracks : Tracks P
   pub cited : introduces x ≡ false → {b : Bool} → all (λ y. marked known (variable y)) zs ≡ b → byLetter P z x zs ≡ cond b (own P z x zs) (refused 26)
   cited none e = by-letter P z x zs line ∙ rw (none, ← all-known z tracks zs (line .literals .high), e)
 
-  -- a line that introduces one
+  -- a line that introduces a name
   module _ (needed : signsOf x .needed ≡ true) where
     pub introduced : introduces x ≡ true → {b c : Bool} → all (λ y. marked known (variable y)) (others zs) ≡ b → marked known (variable (first zs)) ≡ c
         → byLetter P z x zs ≡ cond b (cond c (refused 27) (own P z x zs)) (refused 26)
@@ -114,7 +114,7 @@ module _ {P : List Rule} {known names : List ℕ} (z : State) (tracks : Tracks P
         by-letter P z x zs line
         ∙ rw (one, ← all-known z tracks (drop 1 zs) (others-literals x needed line .high), ← tail-of 1 zs, e, ← tracks .knows (variable (first zs)) (first-high x needed line), f)
 
-    -- and which is accepted
+    -- a line that introduces a name and is accepted: the name was unknown
     module _ (new : marked known (variable (first zs)) ≡ false) where
       unknown : isKnown P z (variable (first zs)) ≡ false
       unknown = sym (tracks .knows (variable (first zs)) (first-high x needed line)) ∙ new

@@ -23,7 +23,8 @@ use Rattle.aspif.proofs.Cursors.{few-rules, sound-rules, atoms-small, rules-of}
 use Rattle.aspif.proofs.Readable.{table-read}
 use Rattle.drupe.specs.Texts.{stepsOf}
 use Rattle.derivation.specs.States.{State}
-use Rattle.nogoods.specs.Store.{storeWords, Holds}
+use Rattle.nogoods.specs.Store.{storeWords}
+use Rattle.nogoods.specs.Keeps.{Holds}
 use Rattle.checker.specs.Check.{Course, stopped, through, course, saying, judged, judgedReading, check}
 use Rattle.checker.specs.Held.{Program, Ran}
 use Rattle.checker.specs.declared.ProofRefusal.{ProofRefusal}
@@ -64,7 +65,7 @@ module _ (t s : ℕ) (P : List Rule) (o : Course) {v : Verdict} {table store : L
       → record { verdict = v; table = table; store = store } ≡ judged t s P o
   judged-through n used N R z p q a b c H l = let w : store ≡ storeWords s (z .live) = rw l at (H .words) in rw (p, q, a, b, c, w)
 
--- with the lengths that the caller knows
+-- the verdict of a course, with the lengths that the caller knows
 pub judged-lengths : (P : List Rule) (proof : List ℕ) {t t′ s s′ : ℕ} → t ≡ t′ → s ≡ s′ → judged t s P (course P s proof) ≡ judged t′ s′ P (course P s′ proof)
 judged-lengths P proof a b = ap₂ (λ t s. judged t s P (course P s proof)) a b
 

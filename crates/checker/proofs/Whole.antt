@@ -41,7 +41,7 @@ module _ (P : List Rule) (size : ℕ) where
   stepThen on n (Steps.refused k) = stopped k (n + 1)
   stepThen on n (next z) = cond (leb (length (liveWords (z .live))) size) (on z) (stopped 34 (n + 1))
 
-  -- a step before those that were read
+  -- the course of a step and of those that were read after it
   run-after : (n : ℕ) (z : State) (t : Step) (o : StepsRead)
       → runRead P size n z (after t o) ≡ stepThen (λ z′. runRead P size (n + 1) z′ o) n (step P z t)
   run-after n z t (steps ts) = by (step P z t)
@@ -113,7 +113,7 @@ module _ (P : List Rule) (size : ℕ) (text : List ℕ) where
       ap (runRead P size n z) (read-as turns at n e) ∙ run-after P size n z (record { letter = x; numbers = zs }) (stepsAt text turns at′ (n + 1))
       ∙ ap (stepThen P size (λ z′. runRead P size (n + 1) z′ (stepsAt text turns at′ (n + 1))) n) s
 
-  -- and the lines come to nothing else
+  -- what `Runs` says that the lines come to is the course
   only : (turns : ℕ) {at n : ℕ} {z : State} {c : Course} → at ≤ length text → length text < turns + at
       → Runs P size text at n z c → runRead P size n z (stepsAt text turns at n) ≡ c
   only zero h l r = absurd (omega arith)
@@ -198,14 +198,11 @@ pub steps-pass : (P : List Rule) (z w : State) (ts : List Step) → Steps.steps 
 steps-pass P z w [] e t m = elim m [ ]
 steps-pass P z w (u ∷ us) e t m = by (λ z′ f i. steps-pass P z′ w us f t i) (step P z u) refl e m
   where
-    at : LinePasses u → (t ∈ us → LinePasses t) → t ∈ u ∷ us → LinePasses t
-    at p f (List·Memᴰ·head q) = rw q p
-    at p f (List·Memᴰ·tail i) = f i
-
     by : ((z′ : State) → Steps.steps P z′ us ≡ next w → t ∈ us → LinePasses t) → (o : Outcome) → step P z u ≡ o
         → elim o as (λ x. Outcome) [ Steps.refused k ↦ Steps.refused k | next z′ ↦ Steps.steps P z′ us ] ≡ next w → t ∈ u ∷ us → LinePasses t
     by later (Steps.refused k) q e m = absurd (zero-one (cc))
-    by later (next z′) q e m = at (accepted-passes P z z′ u q) (later z′ e) m
+    by later (next z′) q e (List·Memᴰ·head p) = rw p (accepted-passes P z z′ u q)
+    by later (next z′) q e (List·Memᴰ·tail i) = later z′ e i
 
 pub ended-written : EndedWritten
 ended-written P size proof b c = (to, from)
@@ -225,7 +222,7 @@ same-saying true false c d e = absurd (zero-one (cc))
 same-saying false true c d e = absurd (zero-one (cc))
 same-saying false false c d e = (refl, cc)
 
--- no refusal says so
+-- a refusal of the proof is none of the two verdicts of a course that went through
 refusal-apart : (b : Bool) (c : Counts) (x : ProofRefusal) → RefusedProof x ≡ saying b c → ⊥
 refusal-apart true c x e = zero-one (cc)
 refusal-apart false c x e = zero-one (cc)

@@ -52,7 +52,7 @@ Ended P size proof empty c =
     (ts : List Step) × (z : State) × (stepsOf proof ≡ steps ts) × (runSteps P size 0 start ts ≡ through (length ts) z)
     × (emptyLive z ≡ empty) × (c ≡ countsOf P (length ts) z)
 
--- The same in the words of a writer: the proof is the text of steps that run through, and no reader is spoken of. That each passes
+-- What `Ended` says, in the words of a writer: the proof is the text of the steps ts, and no reader is spoken of. That each step passes
 -- 22 to 25 need not be said, since a step that is accepted does.
 abbrev pub Written : List Rule → ℕ → List ℕ → Bool → Counts → Type 0
 Written P size proof empty c =
@@ -79,16 +79,17 @@ SoundWhole =
     → check text proof t s .verdict ≡ Inconsistent c
     → (P : List Rule) × (readText t text ≡ program P) × NoAnswerSet P
 
--- Both of the function `check_texts`, by its contract, whatever the two texts, the table and the store that it is lent.
--- Demand 2: once the program is read, it answers "inconsistent" and "open" exactly when.
+-- Demand 2 of the function `check_texts`, by its contract, whatever the two texts, the table and the store that it is lent: once the
+-- program is read, it answers "inconsistent" exactly when the steps form such a proof, and "open" exactly when every step is good but
+-- the empty nogood does not stand after the last.
 abbrev pub ServiceExact : Type 0
 ServiceExact =
     (text proof : List ℕ) (table store table′ store′ : List ℤ) (r : Verdict) → CheckedTexts text proof table store table′ store′ r
     → (P : List Rule) → readText (length table) text ≡ program P → (c : Counts)
     → ((r ≡ Inconsistent c) ↔ Ended P (length store) proof true c) × ((r ≡ Open c) ↔ Ended P (length store) proof false c)
 
--- Demand 3: where it answers "inconsistent", no set is an answer set of the program that it read, nor of that program with any
--- further constraints.
+-- Demand 3 of the function `check_texts`, by its contract, whatever the two texts, the table and the store that it is lent: where it
+-- answers "inconsistent", no set is an answer set of the program that it read, nor of that program with any further constraints.
 abbrev pub ServiceSound : Type 1
 ServiceSound =
     (text proof : List ℕ) (table store table′ store′ : List ℤ) (c : Counts)

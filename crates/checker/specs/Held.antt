@@ -18,7 +18,8 @@ use Rattle.drupe.specs.Lines.{signsOf, signed, LineAt, end, line}
 use Rattle.drupe.specs.Lines as Lines
 use Rattle.derivation.specs.States.{Named, State, isAtom, isKnown}
 use Rattle.derivation.specs.Steps.{Outcome, refused, next, byLetter, step}
-use Rattle.nogoods.specs.Store.{Literals, liveWords, Holds}
+use Rattle.nogoods.specs.Keeps.{Literals, Holds}
+use Rattle.nogoods.specs.Store.{liveWords}
 use Rattle.nogoods.specs.declared.store.Added.{Added}
 use Rattle.nogoods.specs.declared.store.Added.the-variants as Added
 use Rattle.names.specs.Queries.{HoldsRules}
@@ -30,19 +31,19 @@ use Rattle.checker.specs.declared.runs.ProofTurn.the-variants as Turn
 use Rattle.checker.specs.declared.runs.Run.{Run}
 use Rattle.checker.specs.declared.runs.Run.the-variants as Run
 
--- Lines
-
--- what a line's numbers are once questions 22 to 25 are passed
-pub record PassedLine (x : Letter) (zs : List ℤ) : Type 0 where
-  pub literals : Literals zs
-  pub few : length zs ≤ mostNumbers
-  pub signs : signed (signsOf x) zs ≡ true
+-- The program and a line
 
 -- the table holds the rules of P, and the largest atom of P is N
 pub record Program (table : List ℤ) (rules N : ℕ) (P : List Rule) : Type 0 where
   pub holds : HoldsRules table rules P
   pub top : N ≡ atoms P
   pub high : N ≤ largest
+
+-- what a line's numbers are once questions 22 to 25 are passed
+pub record PassedLine (x : Letter) (zs : List ℤ) : Type 0 where
+  pub literals : Literals zs
+  pub few : length zs ≤ mostNumbers
+  pub signs : signed (signsOf x) zs ≡ true
 
 -- States
 

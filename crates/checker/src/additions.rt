@@ -4,14 +4,14 @@ ghost use Prim.Native.Nat.{ℕ};
 ghost use lib.IntN.{ℤ};
 ghost use Rattle.aspif.specs.Rules.{Rule};
 ghost use Rattle.text.specs.declared.Letter.the-variants.{Addition, Deletion};
-ghost use Rattle.nogoods.specs.Store.{Holds};
+ghost use Rattle.nogoods.specs.Keeps.{Holds};
 ghost use Rattle.checker.specs.Held.{PassedLine, Stepping};
 use crate::outcomes;
 use crate::outcomes::Stepped;
 use nogoods::propagation;
 use nogoods::store;
 
-// `a`: a nogood that unit propagation refutes, or any where the empty nogood is live; adds it.
+// `a`: literals that unit propagation refutes, or any where the empty nogood is live. Adds them as a nogood.
 pub fn addition(known: &[u8], store: &mut [i32], used: usize, numbers: &mut [i32]) -> Stepped
     requires live { ⌜ ((live : List (List ℤ)) × Holds (now store) used live) ⌝ }
     requires line { ⌜ PassedLine Addition (now numbers) ⌝ }
@@ -29,7 +29,7 @@ pub fn addition(known: &[u8], store: &mut [i32], used: usize, numbers: &mut [i32
     outcomes::fitted(store::append(store, used, numbers))
 }
 
-// `d`: removes the oldest live nogood that is the same set of literals; where there is none, nothing changes.
+// `d`: literals. Removes the oldest live nogood that has just them; where there is none, nothing changes.
 pub fn deletion(known: &[u8], store: &mut [i32], used: usize, numbers: &mut [i32]) -> Stepped
     requires live { ⌜ ((live : List (List ℤ)) × Holds (now store) used live) ⌝ }
     requires line { ⌜ PassedLine Deletion (now numbers) ⌝ }

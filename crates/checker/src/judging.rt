@@ -8,7 +8,7 @@ ghost use Rattle.words.specs.Limits.{mostRules};
 ghost use Rattle.words.specs.Lists.{any};
 ghost use Rattle.aspif.specs.Rules.{Rule, isEmpty, tableWords};
 ghost use Rattle.aspif.specs.Reading.{program};
-ghost use Rattle.nogoods.specs.Store.{Holds};
+ghost use Rattle.nogoods.specs.Keeps.{Holds};
 ghost use Rattle.checker.specs.Check.{saying, judgedReading};
 ghost use Rattle.checker.specs.Held.{Program};
 ghost use Rattle.checker.specs.declared.Verdict.the-variants.{RefusedProof};

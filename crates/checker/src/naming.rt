@@ -11,7 +11,7 @@ ghost use Rattle.aspif.specs.Rules.{Rule};
 ghost use Rattle.text.specs.declared.Letter.the-variants.{Body, Extension};
 ghost use Rattle.derivation.specs.States.{State};
 ghost use Rattle.derivation.specs.Steps.{definition, isUnnamedBody};
-ghost use Rattle.nogoods.specs.Store.{Literals, Holds};
+ghost use Rattle.nogoods.specs.Keeps.{Literals, Holds};
 ghost use Rattle.names.specs.Queries.{HoldsRules, renamed};
 ghost use Rattle.checker.specs.Held.{PassedLine, Tracks, Fitted, Stepping};
 use crate::outcomes;
@@ -35,7 +35,7 @@ fn define(known: &mut [u8], store: &mut [i32], used: usize, numbers: &mut [i32])
     outcomes::fitted(definitions::append(store, used, numbers))
 }
 
-// `e`: a fresh name n and literals L; adds -n with L, and n with the complement of each literal of L.
+// `e`: a fresh name n and any literals L. Adds -n with L, and n with the complement of each literal of L.
 pub fn extension(known: &mut [u8], store: &mut [i32], used: usize, numbers: &mut [i32]) -> Stepped
     requires live { ⌜ ((live : List (List ℤ)) × Holds (now store) used live) ⌝ }
     requires line { ⌜ PassedLine Extension (now numbers) ⌝ }
@@ -52,7 +52,7 @@ pub fn extension(known: &mut [u8], store: &mut [i32], used: usize, numbers: &mut
     define(known, store, used, numbers)
 }
 
-// Question 28 of a body, which ascends afterwards; its rules get the name.
+// Question 28: the literals are the body of a rule, which has no name yet. Its rules then get the name, and the literals ascend.
 fn name_body(table: &[i32], rules: usize, names: &mut [u16], body: &mut [i32], name: usize) -> bool
     requires program { ⌜ ((P : List Rule) × HoldsRules (now table) rules P) × (rules ≤ length (now names)) ⌝ }
     requires name { ⌜ name ≤ largest ⌝ }
@@ -73,7 +73,8 @@ fn name_body(table: &[i32], rules: usize, names: &mut [u16], body: &mut [i32], n
     true
 }
 
-// `b`: a fresh name n and literals L, the body of a rule that has no name yet; n names it, and the nogoods are those of `e`.
+// `b`: a fresh name n and literals L, the body of a rule, which has no name yet; n names it. Adds -n with L, and n with the
+// complement of each literal of L.
 pub fn body(
     table: &[i32],
     rules: usize,

@@ -9,7 +9,7 @@ pub enum Stepped {
     Fails(u8),
 }
 
-// Question 34.
+// Question 34: what does not fit the store is refused.
 pub fn fitted(added: Added) -> Stepped
     ensures { λ r. ⌜ r ≡ fitted added ⌝ }
 {

@@ -1,5 +1,5 @@
-// The line that `verdict` prints, written to a lent buffer: specs/Report.antt. The bounds on
-// positions that are asked below are wider, and only keep sums from wrapping.
+// The line that `verdict` prints, written to a lent buffer: specs/Report.antt. The bounds that private functions ask of positions
+// keep sums from wrapping, and are wider than any line needs.
 ghost use mathlib.Core.Path.{_≡_};
 ghost use mathlib.Core.List.{[], _∷_};
 ghost use Prim.Native.Nat.{_+_, _≤_};

@@ -8,7 +8,7 @@ ghost use Rattle.words.specs.Limits.{longest, mostRules};
 ghost use Rattle.aspif.specs.Rules.{Rule};
 ghost use Rattle.drupe.specs.Lines.{lineAt};
 ghost use Rattle.derivation.specs.States.{State};
-ghost use Rattle.nogoods.specs.Store.{Holds};
+ghost use Rattle.nogoods.specs.Keeps.{Holds};
 ghost use Rattle.checker.specs.Check.{course};
 ghost use Rattle.checker.specs.Held.{Program, Tracks, proofTurn, LineLeaves, Ran};
 use crate::ProofRefusal;
@@ -71,17 +71,8 @@ fn turn_at(
             count,
             next,
         } => {
-            let stepped = steps::step(
-                table,
-                rules,
-                atoms,
-                letter,
-                &mut numbers[..count],
-                known,
-                names,
-                store,
-                used,
-            );
+            let line = &mut numbers[..count];
+            let stepped = steps::step(table, rules, atoms, letter, line, known, names, store, used);
             turn_of(next, stepped)
         }
     }

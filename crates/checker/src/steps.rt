@@ -5,7 +5,7 @@ ghost use Prim.Native.Nat.{_≤_};
 ghost use lib.IntN.{ℤ};
 ghost use lib.ListN.{length};
 ghost use Rattle.aspif.specs.Rules.{Rule};
-ghost use Rattle.nogoods.specs.Store.{Holds};
+ghost use Rattle.nogoods.specs.Keeps.{Holds};
 ghost use Rattle.checker.specs.Held.{PassedLine, Program, Stepping};
 use crate::additions;
 use crate::naming;
@@ -20,7 +20,7 @@ pub fn step(
     rules: usize,
     atoms: usize,
     letter: Letter,
-    numbers: &mut [i32],
+    line: &mut [i32],
     known: &mut [u8],
     names: &mut [u16],
     store: &mut [i32],
@@ -28,35 +28,18 @@ pub fn step(
 ) -> Stepped
     requires program { ⌜ ((P : List Rule) × Program (now table) rules atoms P) × (rules ≤ length (now names)) ⌝ }
     requires live { ⌜ ((live : List (List ℤ)) × Holds (now store) used live) ⌝ }
-    requires line { ⌜ PassedLine letter (now numbers) ⌝ }
+    requires line { ⌜ PassedLine letter (now line) ⌝ }
     ensures { λ r. ⌜ ((P : List Rule) → Program (now (table .entry)) rules atoms P
-        → Stepping P letter (now (numbers .entry)) used (now (known .entry)) (now (names .entry)) (now (store .entry))
+        → Stepping P letter (now (line .entry)) used (now (known .entry)) (now (names .entry)) (now (store .entry))
         (now (known .exit)) (now (names .exit)) (now (store .exit)) r) ⌝ }
 {
     match letter {
-        Letter::Addition => additions::addition(known, store, used, numbers),
-        Letter::Body => naming::body(table, rules, known, names, store, used, numbers),
-        Letter::Completion => supports::completion(
-            table,
-            rules,
-            known,
-            names,
-            store,
-            used,
-            numbers,
-        ),
-        Letter::Deletion => additions::deletion(known, store, used, numbers),
-        Letter::Extension => naming::extension(known, store, used, numbers),
-        Letter::Loop => unfounded::loops(table, rules, atoms, known, names, store, used, numbers),
-        Letter::Support => supports::support(
-            table,
-            rules,
-            atoms,
-            known,
-            names,
-            store,
-            used,
-            numbers,
-        ),
+        Letter::Addition => additions::addition(known, store, used, line),
+        Letter::Body => naming::body(table, rules, known, names, store, used, line),
+        Letter::Completion => supports::completion(table, rules, known, names, store, used, line),
+        Letter::Deletion => additions::deletion(known, store, used, line),
+        Letter::Extension => naming::extension(known, store, used, line),
+        Letter::Loop => unfounded::loops(table, rules, atoms, known, names, store, used, line),
+        Letter::Support => supports::support(table, rules, atoms, known, names, store, used, line),
     }
 }

@@ -1,7 +1,7 @@
 // `c` and `s`: what the rules give and what supports an atom. Document 01, questions 26, 29, 30 and 34.
 ghost use mathlib.Core.Path.{_≡_};
 ghost use mathlib.Core.List.{List, [], _∷_, _++_, map};
-ghost use Prim.Native.Nat.{ℕ, _≤_, _<_};
+ghost use Prim.Native.Nat.{ℕ, _≤_};
 ghost use lib.IntN.{ℤ, pos};
 ghost use lib.ListN.{length, drop, getD};
 ghost use Rattle.words.specs.Literals.{complement, ascending};
@@ -10,7 +10,7 @@ ghost use Rattle.aspif.specs.Rules.{Rule};
 ghost use Rattle.text.specs.declared.Letter.the-variants.{Completion, Support};
 ghost use Rattle.derivation.specs.States.{State};
 ghost use Rattle.derivation.specs.Steps.{isSupport};
-ghost use Rattle.nogoods.specs.Store.{Literals, Holds};
+ghost use Rattle.nogoods.specs.Keeps.{Literals, Holds};
 ghost use Rattle.names.specs.Queries.{HoldsRules};
 ghost use Rattle.checker.specs.Held.{PassedLine, Program, Tracks, Fitted, Stepping};
 use crate::outcomes;
@@ -32,7 +32,7 @@ fn join(store: &mut [i32], used: usize, numbers: &mut [i32]) -> Stepped
     outcomes::fitted(store::append(store, used, numbers))
 }
 
-// `c`: the name n of the body of a normal rule, with the rule's head h where it has one; adds n with -h, or n alone.
+// `c`: the name n of the body of a normal rule, and the rule's head h where it has one. Adds n with -h, or n alone.
 pub fn completion(
     table: &[i32],
     rules: usize,
@@ -78,7 +78,7 @@ fn is_supported(table: &[i32], rules: usize, atoms: usize, names: &[u16], number
     marks::is_same_set(&listed, &found)
 }
 
-// `s`: an atom h and the names of just the bodies of the rules with h in the head; adds h with minus each name.
+// `s`: an atom h and the names of just the bodies of the rules with h in the head. Adds h with minus each name.
 pub fn support(
     table: &[i32],
     rules: usize,

@@ -8,7 +8,7 @@ ghost use Rattle.words.specs.Limits.{largest, entries};
 ghost use Rattle.marks.specs.Marks.{marked};
 ghost use Rattle.aspif.specs.Rules.{Rule};
 ghost use Rattle.text.specs.declared.Letter.the-variants.{Loop};
-ghost use Rattle.nogoods.specs.Store.{Holds};
+ghost use Rattle.nogoods.specs.Keeps.{Holds};
 ghost use Rattle.checker.specs.Held.{PassedLine, Program, gathered, Stepping};
 use crate::outcomes;
 use crate::outcomes::Stepped;
@@ -21,8 +21,8 @@ use nogoods::store;
 fn gather_one(h: i32, found: &[u8], v: usize, row: &mut [i32], count: usize) -> usize
     requires { ⌜ (1 ≤ v) × (v ≤ largest) × (count < v) × (length (now row) ≡ entries) ⌝ }
     ensures within { λ n. ⌜ n ≤ v ⌝ }
-    ensures words { λ n. ⌜ take n (now (row .exit)) ≡ take count (now (row .entry))
-        ++ gathered (marked (now (found .entry))) h 1 v ⌝ }
+    ensures words { λ n. ⌜ take n (now (row .exit))
+        ≡ take count (now (row .entry)) ++ gathered (marked (now (found .entry))) h 1 v ⌝ }
 {
     if v == words::variable_of(h) {
         row[count] = h;
@@ -50,7 +50,8 @@ fn gather(h: i32, found: &[u8], row: &mut [i32]) -> usize
     count
 }
 
-// `l`: a set U of atoms; adds the first of them with minus the name of each external body.
+// `l`: a set U of atoms. Adds the first of them with minus the name of each external body, that is of a rule with a head in U and no
+// positive atom in U.
 pub fn loops(
     table: &[i32],
     rules: usize,

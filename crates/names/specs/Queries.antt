@@ -4,16 +4,15 @@
 use mathlib.Core.Path.{_≡_}
 use mathlib.Core.Bool.{Bool, true, cond, not, _&&_}
 use mathlib.Core.List.{List, [], _∷_}
-use Prim.Native.Nat.{ℕ, zero, suc, _≤_}
+use Prim.Native.Nat.{ℕ}
 use lib.IntN.{ℤ, pos}
 use lib.Signed.{ltZ}
-use lib.ListN.{length, getD, drop}
-use Rattle.words.specs.Limits.{largest, entries}
+use lib.ListN.{getD, drop}
 use Rattle.words.specs.Lists.{any}
 use Rattle.words.specs.Literals.{variable, sameList, has}
 use Rattle.aspif.specs.Rules.{Rule, isNormal}
 use Rattle.aspif.specs.Tables.{rulesAt, soundRules}
-use Rattle.marks.specs.Marks.{listed, marked}
+use Rattle.marks.specs.Marks.{marked}
 use Rattle.names.specs.declared.queries.Query.{Query}
 use Rattle.names.specs.declared.queries.Query.the-variants.{Body, Normal, Head, External}
 

@@ -14,8 +14,9 @@ use aspif::Kind;
 use aspif::tables;
 use words::ENTRIES;
 
-// The rules that a step is about: those with a body; the normal ones with just some heads; those with a head; those with a head in
-// a set of atoms and no positive atom in it. Only Body and Normal read the literals that go with a query, and only External the set.
+// The rules that a step is about: those with a body; the normal ones with just some heads; those with a head; those with a head
+// in a set of atoms and no positive atom in it. Only Body and Normal read the literals that go with a query, and only External
+// the set.
 pub enum Query {
     Body,
     Normal,
@@ -72,8 +73,8 @@ fn is_normal(words: &[i32]) -> bool
 // The rule at the front is normal, with just these heads.
 fn is_normal_with(words: &[i32], heads: &[i32]) -> bool
     requires { ⌜ shapeSound (now words) ≡ true ⌝ }
-    ensures { λ r. ⌜ r ≡ (isNormal (ruleAt (now (words .entry)) .kind)
-        && sameList (ruleAt (now (words .entry)) .heads) (now (heads .entry))) ⌝ }
+    ensures { λ r. ⌜ (let rule = ruleAt (now (words .entry)) in
+        r ≡ (isNormal (rule .kind) && sameList (rule .heads) (now (heads .entry)))) ⌝ }
 {
     if is_normal(words) {
         return words::is_same_list(tables::heads_of(words), heads);
@@ -137,7 +138,7 @@ pub fn names_of(
     found
 }
 
-// The name where the rule at the front has the body, else the other.
+// The name, where the rule at the front has the body; else the other name.
 fn name_for(words: &[i32], body: &[i32], name: u16, other: u16) -> u16
     requires { ⌜ shapeSound (now words) ≡ true ⌝ }
     ensures { λ r. ⌜ r ≡ cond (sameList (ruleAt (now (words .entry)) .body) (now (body .entry))) name other ⌝ }
@@ -148,7 +149,7 @@ fn name_for(words: &[i32], body: &[i32], name: u16, other: u16) -> u16
     other
 }
 
-// Every rule with the body gets the name.
+// Every rule with the body gets the name; the names of other rules stay.
 pub fn enter(table: &[i32], rules: usize, body: &[i32], name: u16, names: &mut [u16])
     requires { ⌜ ((P : List Rule) × HoldsRules (now table) rules P) × (rules ≤ length (now names)) ⌝ }
     ensures { λ _. ⌜ ((P : List Rule) → HoldsRules (now (table .entry)) rules P

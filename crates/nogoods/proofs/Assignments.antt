@@ -13,7 +13,7 @@ use Rattle.words.specs.Literals.{variable, complement}
 use Rattle.words.proofs.Literals.{variable-complement}
 use Rattle.words.proofs.Places.{equal?, in-at, place-of, variables-differ}
 use Rattle.words.proofs.Laws.{padded}
-use Rattle.nogoods.specs.Store.{Literals}
+use Rattle.nogoods.specs.Keeps.{Literals}
 use Rattle.nogoods.specs.Propagate.{entry, Assigns, Valued, free}
 use Rattle.nogoods.specs.declared.units.Value.the-variants.{Free}
 

@@ -13,7 +13,7 @@ use Rattle.words.specs.Literals.{variable, complement}
 use Rattle.words.proofs.Literals.{complement-twice, variable-complement}
 use Rattle.derivation.specs.Propagation.{Closure, given, unit, Conflict}
 use Rattle.words.proofs.Places.{same?}
-use Rattle.nogoods.specs.Store.{Literals}
+use Rattle.nogoods.specs.Keeps.{Literals}
 use Rattle.words.specs.Limits.{entries}
 use Rattle.nogoods.specs.Records.{nogoodAt, Stands}
 use Rattle.nogoods.specs.Propagate.{entry, Assigns, Valued, free, Settled, AllTrue, Derives, InClosure, Grows, Clashes, Ends}

@@ -17,7 +17,8 @@ use Rattle.words.proofs.Sorting.{length-ascending}
 use Rattle.words.proofs.Parts.{tail-of, mid-put, length-put}
 use Rattle.words.proofs.Segments.{record-append}
 use Rattle.derivation.specs.Steps.{definition}
-use Rattle.nogoods.specs.Store.{header, headerSize, Literals, nogoodWords, recordSize, liveWords, Written}
+use Rattle.nogoods.specs.Store.{header, headerSize, nogoodWords, recordSize, liveWords}
+use Rattle.nogoods.specs.Keeps.{Literals, Written}
 use Rattle.nogoods.specs.Definitions.{pair, pairSize, defined, definedSize}
 use Rattle.nogoods.proofs.Recorded.{header-same, record-size}
 use Rattle.nogoods.proofs.Stored.{written-next}

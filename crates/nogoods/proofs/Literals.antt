@@ -13,7 +13,7 @@ use Rattle.words.proofs.Lists.{if-true, is-true, each-cons}
 use Rattle.words.proofs.Literals.{variable-complement, ascending→}
 use Rattle.words.proofs.Sorting.{none-twice-ascending}
 use Rattle.words.proofs.Places.{once-decides}
-use Rattle.nogoods.specs.Store.{Literals}
+use Rattle.nogoods.specs.Keeps.{Literals}
 
 pub literals-ascending : (l : List ℤ) → Literals l → Literals (ascending l)
 literals-ascending l h =

@@ -10,7 +10,7 @@ use lib.IntN.{ℤ, pos}
 use lib.ListN.{length, getD}
 use Rattle.words.specs.Literals.{variable, complement}
 use Rattle.words.proofs.Places.{in-at, place-of, variables-differ}
-use Rattle.nogoods.specs.Store.{Literals}
+use Rattle.nogoods.specs.Keeps.{Literals}
 use Rattle.nogoods.specs.Propagate.{Assigns, Valued, Settled, AllTrue, Looked}
 use Rattle.nogoods.specs.declared.units.Value.the-variants.{Free}
 use Rattle.nogoods.specs.declared.units.Look.the-variants.{Unit}

@@ -12,7 +12,8 @@ use Rattle.words.specs.Limits.{largest}
 use Rattle.words.specs.Literals.{variable}
 use Rattle.words.proofs.Places.{in-at}
 use Rattle.words.proofs.Segments.{Segment, at-front, next, none-left}
-use Rattle.nogoods.specs.Store.{header, headerSize, nogoodWords, recordSize, liveWords, Holds}
+use Rattle.nogoods.specs.Store.{header, headerSize, nogoodWords, recordSize, liveWords}
+use Rattle.nogoods.specs.Keeps.{Holds}
 use Rattle.nogoods.specs.Records.{Encodes, countAt, endAt, nogoodAt, Readable, Stands}
 
 -- The sizes

@@ -17,7 +17,8 @@ use Rattle.words.proofs.Literals.{sameList-decides}
 use Rattle.words.proofs.Parts.{put-next}
 use Rattle.words.proofs.Segments.{record-append}
 use Rattle.drupe.proofs.Lines.{drop-replicate}
-use Rattle.nogoods.specs.Store.{nogoodWords, recordSize, liveWords, Written, Literals, Holds}
+use Rattle.nogoods.specs.Store.{nogoodWords, recordSize, liveWords}
+use Rattle.nogoods.specs.Keeps.{Written, Literals, Holds}
 use Rattle.nogoods.specs.Finds.{foundAt}
 use Rattle.nogoods.specs.declared.store.Found.the-variants.{At, Nothing}
 use Rattle.nogoods.proofs.Recorded.{record-size}

@@ -10,7 +10,7 @@ use lib.IntN.{ℤ}
 use lib.ListN.{length}
 use Rattle.words.specs.Lists.{_∈_}
 use Rattle.words.specs.Limits.{entries}
-use Rattle.nogoods.specs.Store.{Literals}
+use Rattle.nogoods.specs.Keeps.{Literals}
 use Rattle.nogoods.specs.Records.{Encodes, endAt, nogoodAt, Stands}
 use Rattle.nogoods.specs.Propagate.{free, Settled, Derives, Grows, AllSettled}
 use Rattle.nogoods.specs.declared.units.Derived.the-variants.{Assigned}

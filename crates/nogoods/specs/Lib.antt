@@ -1,5 +1,6 @@
 -- The store: the words that hold the live nogoods; and what the private functions of propagation and of the store cite.
 pub mod Store
+pub mod Keeps
 pub mod Records
 pub mod Propagate
 pub mod PropagateChains

@@ -6,7 +6,8 @@ use Prim.Native.Nat.{ℕ, _+_, _≤_}
 use lib.IntN.{ℤ, pos, natAbs}
 use lib.ListN.{length, take, drop, getD}
 use Rattle.words.specs.Lists.{_∈_}
-use Rattle.nogoods.specs.Store.{headerSize, Literals, liveWords}
+use Rattle.nogoods.specs.Store.{headerSize, liveWords}
+use Rattle.nogoods.specs.Keeps.{Literals}
 
 -- the words are those of the nogoods
 pub record Encodes (s : List ℤ) (live : List (List ℤ)) : Type 0 where

@@ -7,7 +7,7 @@ ghost use lib.IntN.{ℤ};
 ghost use lib.ListN.{length};
 ghost use Rattle.words.specs.Lists.{_∈_};
 ghost use Rattle.derivation.specs.Propagation.{refuted};
-ghost use Rattle.nogoods.specs.Store.{Literals, Holds};
+ghost use Rattle.nogoods.specs.Keeps.{Literals, Holds};
 ghost use Rattle.words.specs.Limits.{entries};
 ghost use Rattle.nogoods.specs.Records.{Encodes};
 ghost use Rattle.nogoods.specs.Propagate.{Assigns, Sweeps, Settles, Ends};

@@ -4,7 +4,7 @@ ghost use Prim.Native.Nat.{_≤_};
 ghost use lib.ListN.{length, set};
 ghost use Rattle.words.specs.Limits.{largest, entries};
 ghost use Rattle.words.specs.Literals.{variable};
-ghost use Rattle.nogoods.specs.Store.{Literals};
+ghost use Rattle.nogoods.specs.Keeps.{Literals};
 ghost use Rattle.nogoods.specs.Records.{nogoodAt, Readable};
 ghost use Rattle.nogoods.specs.Propagate.{entry, Valued, Looked, Derives};
 use crate::records;

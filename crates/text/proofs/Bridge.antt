@@ -16,7 +16,8 @@ use borrow.Author.Tests.{ltb-true, ltb-false, lt-ltb, le-ltb, ne-eqb}
 use Rattle.words.specs.Limits.{largest}
 use Rattle.words.specs.Literals.{same}
 use Rattle.text.specs.Bytes.{classOf}
-use Rattle.text.specs.Line.{digits, natural, nonNegative, negative, number, also, numbersIn, Words, unended, words, newWord, joined, cut, span, Line, broken, numbers, spanned, ofWords, lineOf, outside, anyOutside, isClosed, capped, LineTold, LineBounds, LineScanned}
+use Rattle.text.specs.Line.{digits, natural, nonNegative, negative, number, also, numbersIn, Words, unended, words, newWord, joined, cut, span, Line, broken, numbers, spanned, ofWords, lineOf, outside, anyOutside, isClosed}
+use Rattle.text.specs.Scanned.{capped, LineTold, LineBounds, LineScanned}
 use Rattle.text.specs.Scan.{moreOf, newlineOf, spaceOf, actionOf, valueOf, unseen, Scanned, turn, scan}
 use Rattle.text.specs.declared.Letter.{Letter}
 use Rattle.text.specs.declared.Class.{Class}

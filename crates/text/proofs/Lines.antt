@@ -12,7 +12,8 @@ use borrow.Author.Tests.{ltb-false}
 use Rattle.words.specs.Limits.{largest}
 use Rattle.words.proofs.Lists.{or-false-left, or-false-right}
 use Rattle.text.specs.Bytes.{classOf}
-use Rattle.text.specs.Line.{number, also, numbersIn, Words, unended, words, newWord, joined, cut, span, Line, broken, numbers, spanned, ofWords, lineOf, outside, anyOutside, isClosed, capped, LineTold, LineScanned}
+use Rattle.text.specs.Line.{number, also, numbersIn, Words, unended, words, newWord, joined, cut, span, Line, broken, numbers, spanned, ofWords, lineOf, outside, anyOutside, isClosed}
+use Rattle.text.specs.Scanned.{capped, LineTold, LineScanned}
 use Rattle.text.specs.declared.Class.{Class}
 use Rattle.text.specs.declared.Class.the-variants.{Newline, Space, Minus, Digit, Step, Other}
 use Rattle.text.specs.declared.LineRead.{LineRead}

@@ -1,4 +1,4 @@
--- What the writers leave in a lent buffer.
+-- What the writers leave in a lent buffer. It serves the functions that write; the claims on what they write name the bytes alone.
 -- Assumes nothing.
 use mathlib.Core.Path.{_≡_}
 use mathlib.Core.List.{List, [], _∷_}

@@ -5,7 +5,7 @@ pub mod writing;
 ghost use mathlib.Core.Path.{_≡_};
 ghost use lib.ListN.{set};
 ghost use Rattle.text.specs.Bytes.{classOf, letterOr};
-ghost use Rattle.text.specs.Line.{LineScanned};
+ghost use Rattle.text.specs.Scanned.{LineScanned};
 ghost use Rattle.text.specs.Scan.{actionOf, digitOf, endOf, firstOf, moreOf, seeing, valueOf};
 
 // The proof's seven letters, by the names of source document 000.

@@ -27,8 +27,8 @@ module _ (c : tie.After-answer2) where
 array-borrow-prefix-numbers : tie.Need-array-borrow-prefix-numbers
 array-borrow-prefix-numbers c = let d = c .before in read-count (b d .step-at .ensures) _ _ _ (d .answer2 .given .1)
 
-slice-aggregate-step : tie.Need-slice-aggregate-step
-slice-aggregate-step c = let d = c .before .before in sym (length-take-le _ _ (read-count (b d .step-at .ensures) _ _ _ (d .answer2 .given .1)))
+slice-aggregate-line : tie.Need-slice-aggregate-line
+slice-aggregate-line c = let d = c .before .before in sym (length-take-le _ _ (read-count (b d .step-at .ensures) _ _ _ (d .answer2 .given .1)))
 
 step-requires : tie.Need-step-requires
 step-requires c κs =
@@ -59,7 +59,7 @@ turn-at-spec =
     (λ c. search needs)
     (λ c. search needs)
     array-borrow-prefix-numbers
-    slice-aggregate-step
+    slice-aggregate-line
     step-requires
     (λ c κs. search needs)
     returns

@@ -10,11 +10,11 @@ use borrow.Author.Needs.{needs}
 use Rattle.checker.proofs.steps.step.Statement.{statement}
 use Rattle.checker.proofs.steps.step.Tie as tie
 
--- the numbers are those of the letter that was told
-line : (s : tie.Start) {x : Letter} → s .args .letter ≡ x → PassedLine x (s .args .numbers .now)
-line s e = subst (λ x. PassedLine x (s .args .numbers .now)) e (s .pre .1 .1)
+-- the line passed 22 to 25 for the letter that was told
+line : (s : tie.Start) {x : Letter} → s .args .letter ≡ x → PassedLine x (s .args .line .now)
+line s e = subst (λ x. PassedLine x (s .args .line .now)) e (s .pre .1 .1)
 
--- the rules alone
+-- what `body` and `completion` ask of the table: the rules alone
 rules : (s : tie.Start) → ((P : List Rule) × HoldsRules (s .args .table .now) (s .args .rules) P) × (s .args .rules ≤ length (s .args .names .now))
 rules s = let p = s .pre .0 in ((p .0 .0, p .0 .1 .holds), p .1)
 

@@ -13,7 +13,7 @@ use Rattle.words.specs.Literals.{variable, top}
 use Rattle.words.proofs.Words.{back}
 use Rattle.marks.specs.Marks.{marked}
 use Rattle.text.specs.declared.Letter.the-variants.{Loop}
-use Rattle.nogoods.specs.Store.{Literals}
+use Rattle.nogoods.specs.Keeps.{Literals}
 use Rattle.checker.specs.Held.{PassedLine, gathered}
 use Rattle.checker.proofs.Letters.{some-number, cited}
 use Rattle.checker.proofs.Kept.{kept-added}

@@ -1,6 +1,7 @@
 use mathlib.Core.Path.{_≡_, subst, _∙_}
 use mir.Facts.{toZ-ofZ}
-use Rattle.nogoods.specs.Store.{nogoodWords, Written}
+use Rattle.nogoods.specs.Store.{nogoodWords}
+use Rattle.nogoods.specs.Keeps.{Written}
 use Rattle.nogoods.specs.Definitions.{pair}
 use borrow.Author.Needs.{needs, sfits-of}
 use Rattle.nogoods.proofs.definitions.write_pair.Statement.{statement}

@@ -12,7 +12,8 @@ use borrow.Rule.Slice.PartMut.{same-len-mid}
 use Rattle.words.proofs.Parts.{tail-of}
 use Rattle.words.proofs.Places.{in-at}
 use Rattle.words.proofs.Words.{back}
-use Rattle.nogoods.specs.Store.{liveWords, Written}
+use Rattle.nogoods.specs.Store.{liveWords}
+use Rattle.nogoods.specs.Keeps.{Written}
 use Rattle.nogoods.specs.Definitions.{pair, pairSize}
 use Rattle.nogoods.proofs.Defined.{pair-next}
 use borrow.Author.Needs.{needs}

@@ -9,7 +9,7 @@ use Rattle.words.proofs.Lists.{passed, failed, not-decides}
 use Rattle.words.specs.Lists.{_∈_}
 use Rattle.derivation.specs.Propagation.{given, refuted}
 use Rattle.derivation.proofs.Closure.{refuted-decides}
-use Rattle.nogoods.specs.Store.{Literals}
+use Rattle.nogoods.specs.Keeps.{Literals}
 use Rattle.nogoods.specs.Records.{Encodes}
 use Rattle.nogoods.specs.Propagate.{Assigns, Ends}
 use Rattle.nogoods.proofs.Recorded.{used-words}

@@ -6,7 +6,8 @@ use Prim.Native.Nat.{_+_, _≤_}
 use native.Mathlib.Omega.{arith}
 use lib.IntN.{ℤ}
 use lib.ListN.{length}
-use Rattle.nogoods.specs.Store.{recordSize, Holds}
+use Rattle.nogoods.specs.Store.{recordSize}
+use Rattle.nogoods.specs.Keeps.{Holds}
 use Rattle.nogoods.proofs.Stored.{Hit, hit, miss, hit-room, hit-cut}
 use borrow.Author.Needs.{needs}
 use Rattle.nogoods.proofs.store.delete.Statement.{statement}

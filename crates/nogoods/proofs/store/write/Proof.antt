@@ -9,7 +9,8 @@ use mir.Val.{toZ}
 use mir.Facts.{toZ-pos}
 use borrow.Rule.Slice.PartMut.{same-len-mid}
 use Rattle.words.proofs.Parts.{tail-of}
-use Rattle.nogoods.specs.Store.{header, headerSize, Written}
+use Rattle.nogoods.specs.Store.{header, headerSize}
+use Rattle.nogoods.specs.Keeps.{Written}
 use Rattle.nogoods.proofs.Recorded.{header-size}
 use Rattle.nogoods.proofs.Stored.{written-next}
 use borrow.Author.Needs.{needs}
