@@ -6,13 +6,12 @@
 
 #![forbid(unsafe_code)]
 
-mod inputs;
+mod cases;
 mod measure;
-mod random;
 mod report;
 mod unverified;
 
-use inputs::Input;
+use cases::Input;
 use measure::Measured;
 use std::process::ExitCode;
 
@@ -31,7 +30,7 @@ fn main() -> ExitCode {
             }
         },
     };
-    let inputs = inputs::all();
+    let inputs = cases::all();
     let measured = measure::measure(&inputs, repetitions);
     report::heading(repetitions);
     let failed = report_all(&inputs, &measured);

@@ -1,10 +1,14 @@
 //! Measuring: both checkers on each input, in turn, and the median and the least of the times.
 
-use crate::inputs::{Input, STORE_WORDS, TABLE_WORDS};
+use crate::cases::Input;
 use crate::unverified;
-use aspdrupe::Verdict;
+use aspdrupe::{UnknownAnswer, Verdict};
+use inputs::ROOM;
 use std::hint::black_box;
 use std::time::{Duration, Instant};
+
+/// What a checker says of an input.
+pub type Answer = Result<Verdict, UnknownAnswer>;
 
 /// A table and a store, lent to each check through the library. The check itself zeroes them.
 struct Buffers {
@@ -14,22 +18,22 @@ struct Buffers {
 
 impl Buffers {
     fn new() -> Self {
-        Buffers { table: vec![0; TABLE_WORDS], store: vec![0; STORE_WORDS] }
+        Buffers { table: vec![0; ROOM], store: vec![0; ROOM] }
     }
 
-    fn verified(&mut self, input: &Input) -> Verdict {
-        aspdrupe::check_texts(black_box(&input.program), black_box(&input.proof), &mut self.table, &mut self.store)
+    fn verified(&mut self, input: &Input) -> Answer {
+        aspdrupe::check_texts(black_box(&input.texts.program), black_box(&input.texts.proof), &mut self.table, &mut self.store)
     }
 }
 
-fn unverified(input: &Input) -> Verdict {
-    unverified::check(black_box(&input.program), black_box(&input.proof), TABLE_WORDS, STORE_WORDS)
+fn unverified(input: &Input) -> Answer {
+    unverified::check(black_box(&input.texts.program), black_box(&input.texts.proof), ROOM, ROOM)
 }
 
 /// What both checkers say of an input, and their times.
 pub struct Measured {
-    pub verified: Verdict,
-    pub unverified: Verdict,
+    pub verified: Answer,
+    pub unverified: Answer,
     pub verified_times: Times,
     pub unverified_times: Times,
 }
@@ -42,8 +46,8 @@ pub struct Times {
 
 /// One run of both checkers on an input.
 struct Run {
-    verified: (Verdict, Duration),
-    unverified: (Verdict, Duration),
+    verified: (Answer, Duration),
+    unverified: (Answer, Duration),
 }
 
 /// Goes so many times through all inputs and runs both checkers on each, so that a busy moment of the machine touches all alike.
@@ -72,10 +76,10 @@ fn summed_up(runs: &[Run]) -> Measured {
     }
 }
 
-fn timed(check: impl FnOnce() -> Verdict) -> (Verdict, Duration) {
+fn timed(check: impl FnOnce() -> Answer) -> (Answer, Duration) {
     let start = Instant::now();
-    let verdict = black_box(check());
-    (verdict, start.elapsed())
+    let answer = black_box(check());
+    (answer, start.elapsed())
 }
 
 fn times_of(mut times: Vec<Duration>) -> Times {

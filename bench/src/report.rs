@@ -1,8 +1,8 @@
 //! What is printed: a row for each input.
 
-use crate::inputs::Input;
-use crate::measure::Measured;
-use aspdrupe::{Counts, Verdict};
+use crate::cases::Input;
+use crate::measure::{Answer, Measured};
+use aspdrupe::Verdict;
 use std::time::Duration;
 
 pub fn heading(repetitions: usize) {
@@ -19,12 +19,12 @@ pub fn heading(repetitions: usize) {
 
 pub fn row(input: &Input, measured: &Measured) {
     let (verified, unverified) = (&measured.verified_times, &measured.unverified_times);
-    let steps = counts_of(&measured.verified).map_or(1, |counts| counts.steps);
+    let steps = steps_of(&measured.verified).unwrap_or(1);
     println!(
         "{:<12} {:>7} {:>7} {:>29} {:>8.3} {:>8.3} {:>8.3} {:>8.3} {:>6.1} {:>8.2} {:>10.2}",
         input.name,
-        input.program.len(),
-        input.proof.len(),
+        input.texts.program.len(),
+        input.texts.proof.len(),
         line_of(&measured.verified),
         milliseconds(verified.median),
         milliseconds(verified.least),
@@ -41,21 +41,19 @@ pub fn difference(input: &Input, measured: &Measured) {
     println!("FAILED: {}: verified '{verified}', unverified '{unverified}'", input.name);
 }
 
-fn counts_of(verdict: &Verdict) -> Option<Counts> {
-    match *verdict {
-        Verdict::Inconsistent(counts) | Verdict::Open(counts) => Some(counts),
+/// The steps of a proof that was gone through.
+fn steps_of(answer: &Answer) -> Option<usize> {
+    match answer {
+        Ok(Verdict::Inconsistent(counts) | Verdict::Open(counts)) => Some(counts.steps),
         _ => None,
     }
 }
 
-/// The line that `verdict` prints.
-fn line_of(verdict: &Verdict) -> String {
-    let joined = |c: &Counts| format!("{} {} {} {}", c.atoms, c.rules, c.steps, c.nogoods);
-    match verdict {
-        Verdict::Inconsistent(counts) => format!("inconsistent {}", joined(counts)),
-        Verdict::Open(counts) => format!("open {}", joined(counts)),
-        Verdict::RefusedProgram { number, line } => format!("refused program {number} {line}"),
-        Verdict::RefusedProof { number, step } => format!("refused proof {number} {step}"),
+/// The line that `verdict` prints, or that there is none.
+fn line_of(answer: &Answer) -> String {
+    match answer {
+        Ok(verdict) => verdict.to_string(),
+        Err(unknown) => unknown.to_string(),
     }
 }
 

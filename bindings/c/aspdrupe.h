@@ -5,7 +5,8 @@
  * number and no length is asked to be good. What the caller must see to is what C cannot say:
  *   - each pointer is valid for its length, counted in elements: readable where it is const, readable and writable where not;
  *     where the length is 0 it is not followed, and any pointer that is not null and is aligned for its type will do;
- *   - a buffer that is written overlaps no other argument.
+ *   - a buffer that is written overlaps no other argument;
+ *   - the thread has ASPDRUPE_STACK bytes of stack for the call.
  * Nothing else: no function allocates, keeps a pointer, has a state of its own, or fails to return. Calls with buffers of their
  * own may run at the same time.
  *
@@ -20,6 +21,11 @@
 #ifdef __cplusplus
 extern "C" {
 #endif
+
+/* A thread with a stack of so many bytes has enough for any call, with what the C library takes of a thread's stack for itself. What your
+ * own code and its thread-local variables take comes on top. The need does not grow with the texts: the whole check was measured at
+ * 153 KB, the other services at 12 KB or less (bindings/c/stack.c). Some C libraries give a thread less by default: musl 128 KB. */
+#define ASPDRUPE_STACK 196608
 
 /* The most numbers that an answer has. */
 #define ASPDRUPE_ANSWER 4

@@ -7,10 +7,7 @@ fn main() {
     let library = folder.join("libexports.a");
     println!("cargo:rerun-if-changed={}", library.display());
     if !library.is_file() {
-        eprintln!(
-            "{} is missing: run `rt staticlib exports` in the repository's root first.",
-            library.display()
-        );
+        eprintln!("{} is missing: run `rt staticlib exports` in the repository's root first.", library.display());
         std::process::exit(1);
     }
     println!("cargo:rustc-link-search=native={}", folder.display());

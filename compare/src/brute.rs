@@ -1,7 +1,7 @@
 //! Every set of atoms of a small program, and programs with further constraints.
 
-use crate::inputs::programs::constraint;
-use crate::inputs::random::Random;
+use inputs::random::Random;
+
 use crate::reference::by_variable;
 use crate::reference::models::{answer_set_over, Set};
 use crate::reference::program::{Program, Rule};
@@ -23,12 +23,11 @@ pub fn with_further_constraints(program: &Program, random: &mut Random) -> Vec<R
     let mut rules = program.rules.clone();
     for _ in 0..random.between(1, 3) {
         let length = random.below(4);
-        let mut body = random.different(length, program.atoms + 3);
+        let mut body = random.literals(length, program.atoms + 3);
         if random.percent(20) {
-            body.push(5_000);
+            body.push(random.signed(5_000));
         }
-        let signed: Vec<i32> = body.into_iter().map(|atom| random.signed(atom)).collect();
-        rules.push(constraint(&by_variable(&signed)));
+        rules.push(Rule { choice: false, heads: Vec::new(), body: by_variable(&body) });
     }
     rules
 }

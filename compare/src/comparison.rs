@@ -2,14 +2,14 @@
 
 use std::collections::HashSet;
 
+use inputs::random::Random;
+use inputs::{Pair, ROOM};
+
 use crate::binary::Binary;
 use crate::brute;
-use crate::inputs::fixed::ROOM;
-use crate::inputs::random::Random;
-use crate::inputs::Pair;
 use crate::reference::check::{check, verdict_line, Counts, Verdict};
 use crate::reference::program::{read, table_words, Rule};
-use crate::reference::{filled, lines, models};
+use crate::reference::{filled, lines, models, LINE_LIMIT};
 use crate::shrink::{cut, shrunk};
 use crate::tally::Tally;
 
@@ -65,10 +65,10 @@ impl Comparison {
         let expected = check(&pair.program, &pair.proof, table_room, store_room);
         let (mut table, mut store) = (self.pattern(table_room), self.pattern(store_room));
         let answered = aspdrupe::check_texts(&pair.program, &pair.proof, &mut table, &mut store);
-        let good = answered == in_library_form(&expected.verdict) && table == expected.table && store == expected.store;
+        let good = says(&answered, &expected.verdict) && table == expected.table && store == expected.store;
         self.settle(good, || told_check(pair, table_room, store_room));
         self.tally.verdict("check_texts", &expected.verdict);
-        if matches!(answered, aspdrupe::Verdict::Inconsistent(_)) {
+        if matches!(answered, Ok(aspdrupe::Verdict::Inconsistent(_))) {
             self.count_letters(&pair.proof);
             self.no_answer_set(&pair.program, table_room);
         }
@@ -124,40 +124,31 @@ impl Comparison {
         let (expected, words) = match read(text, room) {
             Ok(program) => {
                 self.tally.count(String::from("read_program: read"));
-                let form = aspdrupe::ProgramReading::Read { atoms: program.atoms as usize, rules: program.rules.len() };
-                (form, filled(table_words(&program.rules), room))
+                (Ok((program.atoms as usize, program.rules.len())), filled(table_words(&program.rules), room))
             }
             Err((number, line)) => {
                 self.tally.count(format!("read_program: refused {number:02}"));
-                (aspdrupe::ProgramReading::Refused { number, line }, vec![0; room])
+                (Err((number, line)), vec![0; room])
             }
         };
         let mut table = self.pattern(room);
         let answered = aspdrupe::read_program(text, &mut table);
-        self.settle(answered == expected && table == words, || {
+        self.settle(answered.as_ref().map(reading_as_numbers) == Ok(expected) && table == words, || {
             format!("read_program, table {room}: {answered:?}, not {expected:?}{}: {}", difference(&table, &words), cut(text))
         });
     }
 
     /// The proof-line reader at a position; answers the position after the line.
     pub fn read_line(&mut self, text: &[u8], position: usize) -> Option<usize> {
-        let mut numbers = [0; 65];
-        let mut after = None;
-        let expected = match lines::read_line(text, position) {
-            lines::Answer::End => aspdrupe::LineAnswer::End,
-            lines::Answer::Refused(number) => aspdrupe::LineAnswer::Refused(number),
-            lines::Answer::Line(line) => {
-                numbers[..line.numbers.len()].copy_from_slice(&line.numbers);
-                after = Some(line.next);
-                aspdrupe::LineAnswer::Line { letter: line.letter, count: line.numbers.len(), next: line.next }
-            }
-        };
+        let expected = lines::read_line(text, position);
         self.tally.count(format!("read_line: {}", line_kind(&expected)));
-        let (answered, given) = aspdrupe::read_line(text, position);
-        self.settle(answered == expected && given == numbers, || {
-            format!("read_line at {position}: {answered:?}, not {expected:?}{}: {}", difference(&given, &numbers), cut(text))
-        });
-        after
+        let answered = aspdrupe::read_line(text, position);
+        let good = matches!(&answered, Ok((answer, numbers)) if line_answer_fits(answer, numbers, &expected));
+        self.settle(good, || format!("read_line at {position}: {answered:?}, not {expected:?}: {}", cut(text)));
+        match expected {
+            lines::Answer::Line(line) => Some(line.next),
+            _ => None,
+        }
     }
 
     /// The set test with so many marks.
@@ -165,7 +156,7 @@ impl Comparison {
         let (expected, expected_marks) = models::test_set(table, rules, set, marks_room);
         let mut marks = vec![self.random.below(256) as u8; marks_room];
         let answered = aspdrupe::test_set(table, rules, set, &mut marks);
-        let good = marks == expected_marks && set_answer_fits(&answered, &expected, set);
+        let good = marks == expected_marks && answered.is_ok_and(|answer| set_answer_fits(&answer, &expected, set));
         self.tally.count(format!("test_set: {}", set_kind(&expected)));
         self.settle(good, || {
             let told = if marks == expected_marks { "" } else { ", and the marks differ" };
@@ -195,7 +186,7 @@ fn check_differs(pair: &Pair, table_room: usize, store_room: usize) -> Option<(S
     let expected = check(&pair.program, &pair.proof, table_room, store_room);
     let (mut table, mut store) = (vec![0x5A5A_5A5A; table_room], vec![0x5A5A_5A5A; store_room]);
     let answered = aspdrupe::check_texts(&pair.program, &pair.proof, &mut table, &mut store);
-    if answered == in_library_form(&expected.verdict) && table == expected.table && store == expected.store {
+    if says(&answered, &expected.verdict) && table == expected.table && store == expected.store {
         return None;
     }
     let words = format!("; table{}; store{}", difference(&table, &expected.table), difference(&store, &expected.store));
@@ -210,15 +201,41 @@ fn difference(found: &[i32], expected: &[i32]) -> String {
     }
 }
 
-/// The reference's verdict as the library would say it.
-fn in_library_form(verdict: &Verdict) -> aspdrupe::Verdict {
-    let counted = |c: &Counts| aspdrupe::Counts { atoms: c.atoms, rules: c.rules, steps: c.steps, nogoods: c.nogoods };
+/// Whether the library's verdict is the reference's, and is displayed as the line that `verdict` must print.
+fn says(answered: &Result<aspdrupe::Verdict, aspdrupe::UnknownAnswer>, expected: &Verdict) -> bool {
+    answered.is_ok_and(|verdict| in_reference_form(&verdict) == *expected && verdict.to_string() == verdict_line(expected))
+}
+
+/// The library's verdict as the reference would say it.
+fn in_reference_form(verdict: &aspdrupe::Verdict) -> Verdict {
+    let counted = |c: &aspdrupe::Counts| Counts { atoms: c.atoms, rules: c.rules, steps: c.steps, nogoods: c.nogoods };
     match verdict {
-        Verdict::Inconsistent(counts) => aspdrupe::Verdict::Inconsistent(counted(counts)),
-        Verdict::Open(counts) => aspdrupe::Verdict::Open(counted(counts)),
-        Verdict::RefusedProgram { number, line } => aspdrupe::Verdict::RefusedProgram { number: *number, line: *line },
-        Verdict::RefusedProof { number, step } => aspdrupe::Verdict::RefusedProof { number: *number, step: *step },
+        aspdrupe::Verdict::Inconsistent(counts) => Verdict::Inconsistent(counted(counts)),
+        aspdrupe::Verdict::Open(counts) => Verdict::Open(counted(counts)),
+        aspdrupe::Verdict::RefusedProgram(refusal) => Verdict::RefusedProgram { number: refusal.question.number(), line: refusal.line },
+        aspdrupe::Verdict::RefusedProof(refusal) => Verdict::RefusedProof { number: refusal.question.number(), step: refusal.step },
     }
+}
+
+/// The largest atom and the number of rules, or a refusal's number and line.
+fn reading_as_numbers(reading: &aspdrupe::ProgramReading) -> Result<(usize, usize), (u8, usize)> {
+    match *reading {
+        aspdrupe::ProgramReading::Read { atoms, rules } => Ok((atoms, rules)),
+        aspdrupe::ProgramReading::Refused(refusal) => Err((refusal.question.number(), refusal.line)),
+    }
+}
+
+/// Whether the answer is the expected one, with the line's numbers and 0 after them; 0 throughout where there is no line.
+fn line_answer_fits(answer: &aspdrupe::LineAnswer, numbers: &[i32], expected: &lines::Answer) -> bool {
+    let (good, listed): (bool, &[i32]) = match (answer, expected) {
+        (aspdrupe::LineAnswer::End, lines::Answer::End) => (true, &[]),
+        (aspdrupe::LineAnswer::Refused(question), lines::Answer::Refused(number)) => (question.number() == *number, &[]),
+        (aspdrupe::LineAnswer::Line { letter, count, next }, lines::Answer::Line(line)) => {
+            ((letter.number(), *count, *next) == (line.letter, line.numbers.len(), line.next), &line.numbers)
+        }
+        _ => (false, &[]),
+    };
+    good && numbers == filled(listed.to_vec(), LINE_LIMIT)
 }
 
 /// Whether the answer is the expected one; the atom shown has to lie in just one of the two sets.
@@ -227,7 +244,7 @@ fn set_answer_fits(answered: &aspdrupe::SetAnswer, expected: &models::Answer, se
         (aspdrupe::SetAnswer::Yes, models::Answer::Yes) => true,
         (aspdrupe::SetAnswer::Differs(atom), models::Answer::Differs { least }) => least.contains(&i32::from(*atom)) != set.contains(atom),
         (aspdrupe::SetAnswer::Broken(rule), models::Answer::Broken(number)) => rule == number,
-        (aspdrupe::SetAnswer::Refused(one), models::Answer::Refused(other)) => one == other,
+        (aspdrupe::SetAnswer::Refused(question), models::Answer::Refused(number)) => question.number() == *number,
         _ => false,
     }
 }
@@ -241,10 +258,71 @@ fn set_kind(answer: &models::Answer) -> String {
     }
 }
 
-fn line_kind(answer: &aspdrupe::LineAnswer) -> String {
+fn line_kind(answer: &lines::Answer) -> String {
     match answer {
-        aspdrupe::LineAnswer::End => String::from("end"),
-        aspdrupe::LineAnswer::Refused(number) => format!("refused {number}"),
-        aspdrupe::LineAnswer::Line { letter, .. } => String::from(*letter as char),
+        lines::Answer::End => String::from("end"),
+        lines::Answer::Refused(number) => format!("refused {number}"),
+        lines::Answer::Line(line) => String::from(line.letter as char),
+    }
+}
+
+#[cfg(test)]
+mod tests {
+    use super::*;
+    use aspdrupe::{LineAnswer, ProgramQuestion, ProgramRefusal, ProofQuestion, SetAnswer, SetQuestion};
+
+    const COUNTS: Counts = Counts { atoms: 1, rules: 2, steps: 3, nogoods: 4 };
+
+    #[test]
+    fn verdicts_that_differ() {
+        let refusal = ProgramRefusal { question: ProgramQuestion::Kinds, line: 7 };
+        let answered = Ok(aspdrupe::Verdict::RefusedProgram(refusal));
+        assert!(says(&answered, &Verdict::RefusedProgram { number: 5, line: 7 }));
+        for other in [
+            Verdict::RefusedProgram { number: 6, line: 7 },
+            Verdict::RefusedProgram { number: 5, line: 8 },
+            Verdict::RefusedProof { number: 5, step: 7 },
+            Verdict::Open(COUNTS),
+        ] {
+            assert!(!says(&answered, &other), "{other:?}");
+        }
+        let counts = aspdrupe::Counts { atoms: 1, rules: 2, steps: 3, nogoods: 4 };
+        assert!(says(&Ok(aspdrupe::Verdict::Open(counts)), &Verdict::Open(COUNTS)));
+        assert!(!says(&Ok(aspdrupe::Verdict::Inconsistent(counts)), &Verdict::Open(COUNTS)));
+        assert!(!says(&Ok(aspdrupe::Verdict::Open(counts)), &Verdict::Open(Counts { nogoods: 5, ..COUNTS })));
+        assert!(!says(&Err(aspdrupe::UnknownAnswer { wanted: "code", number: 9 }), &Verdict::Open(COUNTS)));
+    }
+
+    #[test]
+    fn lines_that_differ() {
+        let expected = lines::read_line(b"b 3 -1 0\n", 0);
+        let line = LineAnswer::Line { letter: aspdrupe::Letter::Body, count: 2, next: 9 };
+        let mut numbers = [0; LINE_LIMIT];
+        assert!(!line_answer_fits(&line, &numbers, &expected));
+        numbers[..2].copy_from_slice(&[3, -1]);
+        assert!(line_answer_fits(&line, &numbers, &expected));
+        assert!(!line_answer_fits(&LineAnswer::End, &numbers, &expected));
+        assert!(!line_answer_fits(&LineAnswer::Line { letter: aspdrupe::Letter::Body, count: 2, next: 8 }, &numbers, &expected));
+        let refused = LineAnswer::Refused(ProofQuestion::Signs);
+        assert!(line_answer_fits(&refused, &[0; LINE_LIMIT], &lines::Answer::Refused(24)));
+        assert!(!line_answer_fits(&refused, &[0; LINE_LIMIT], &lines::Answer::Refused(25)));
+        assert!(!line_answer_fits(&refused, &numbers, &lines::Answer::Refused(24)));
+    }
+
+    #[test]
+    fn atoms_that_may_be_shown() {
+        let expected = models::Answer::Differs { least: [2, 3].into() };
+        let fits = |answer| set_answer_fits(&answer, &expected, &[1, 2]);
+        assert_eq!([1, 2, 3, 4].map(|atom| fits(SetAnswer::Differs(atom))), [true, false, true, false]);
+        assert!(!fits(SetAnswer::Yes) && !fits(SetAnswer::Broken(1)));
+        assert!(!set_answer_fits(&SetAnswer::Refused(SetQuestion::Set), &models::Answer::Refused(41), &[]));
+    }
+
+    #[test]
+    fn failures_are_counted() {
+        let mut comparison = Comparison::of(None);
+        comparison.settle(true, || panic!("nothing is to be told"));
+        comparison.settle(false, || String::from("meant to fail"));
+        assert_eq!((comparison.passed, comparison.failed), (1, 1));
     }
 }

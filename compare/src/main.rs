@@ -1,6 +1,6 @@
 //! Holds the static library and the program `verdict` against a slow and plain reference written from document 01.
 //! From the repository's root, after `rt staticlib exports` and `rt check verdict`:
-//! cargo run --release --manifest-path compare/Cargo.toml
+//! cargo run --release --offline --package compare
 //! Usage: compare [--seed N] [--count N] [--verdict PATH|none] [--only FAMILY/INDEX]
 //! --count says how many programs are refuted; the other random families grow with it. --verdict names the program `verdict`,
 //! which is target/bin/verdict otherwise, or leaves it out. --only runs one input again, as a failure names it.
@@ -10,9 +10,9 @@
 
 mod binary;
 mod brute;
+mod cases;
 mod comparison;
 mod families;
-mod inputs;
 mod reference;
 mod shrink;
 mod tables;

@@ -2,7 +2,7 @@
 
 use std::time::{Duration, Instant};
 
-use crate::inputs::Pair;
+use inputs::Pair;
 
 /// How long smaller inputs are tried.
 const PATIENCE: Duration = Duration::from_secs(2);
@@ -46,4 +46,23 @@ pub fn cut(text: &[u8]) -> String {
         return format!("b\"{}\"", text.escape_ascii());
     }
     format!("b\"{}\" .. {} bytes .. b\"{}\"", text[..500].escape_ascii(), text.len() - 1_000, text[text.len() - 500..].escape_ascii())
+}
+
+#[cfg(test)]
+mod tests {
+    use super::*;
+
+    #[test]
+    fn only_what_fails_is_left() {
+        let pair = Pair::of("1\n2\n3\n", "a\nb\nc\nb\n");
+        let fails = |pair: &Pair| pair.program.contains(&b'2') && pair.proof.contains(&b'b');
+        let small = shrunk(&pair, fails);
+        assert_eq!((small.program.as_slice(), small.proof.as_slice()), (b"2\n".as_slice(), b"b\n".as_slice()));
+    }
+
+    #[test]
+    fn long_texts_are_cut() {
+        assert_eq!(cut(b"a 0\n"), "b\"a 0\\n\"");
+        assert!(cut(&[b'x'; 5_000]).contains(" .. 4000 bytes .. "));
+    }
 }

@@ -1,6 +1,7 @@
 //! Tables and sets for the set test: changed tables, tables at the limits, and sets of every kind.
 
-use crate::inputs::random::Random;
+use inputs::random::Random;
+
 use crate::reference::filled;
 
 /// Words that matter in a table.

@@ -64,3 +64,21 @@ fn wanted(with_binary: bool) -> Vec<String> {
     wanted.extend(["program", "program with further constraints"].map(|what| format!("no answer set: {what}")));
     wanted
 }
+
+#[cfg(test)]
+mod tests {
+    use super::*;
+
+    #[test]
+    fn what_was_not_seen() {
+        let mut tally = Tally::default();
+        let all = tally.missing(false);
+        tally.verdict("check_texts", &Verdict::RefusedProgram { number: 3, line: 2 });
+        tally.verdict("verdict", &Verdict::RefusedProof { number: 33, step: 1 });
+        let left = tally.missing(false);
+        assert_eq!(left.len() + 1, all.len());
+        assert!(!left.contains(&String::from("check_texts: refused program 03")));
+        assert!(left.contains(&String::from("check_texts: refused program 11")));
+        assert_eq!(tally.missing(true).len(), left.len() + 27 - 1);
+    }
+}

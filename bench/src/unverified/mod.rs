@@ -8,7 +8,7 @@ pub mod nogoods;
 mod program;
 mod steps;
 
-use aspdrupe::{Counts, Verdict};
+use aspdrupe::{Counts, ProgramRefusal, ProofRefusal, UnknownAnswer, Verdict};
 use steps::Checking;
 
 /// The longest text, in bytes.
@@ -18,26 +18,32 @@ const LONGEST: usize = 65_535;
 const LARGEST: usize = 4_095;
 
 /// The verdict on a proof text against a program text, for a table and a store of so many words.
-pub fn check(program: &[u8], proof: &[u8], table_words: usize, store_words: usize) -> Verdict {
+pub fn check(program: &[u8], proof: &[u8], table_words: usize, store_words: usize) -> Result<Verdict, UnknownAnswer> {
     let rules = match program::read(program, table_words) {
         Ok(rules) => rules,
-        Err((number, line)) => return Verdict::RefusedProgram { number, line },
+        Err((number, line)) => return refused_program(number, line),
     };
     if proof.len() > LONGEST {
-        return Verdict::RefusedProof { number: 21, step: 0 };
+        return refused_proof(21, 0);
     }
     let (atoms, count) = (rules.atoms, rules.count);
     let mut checking = Checking::start(rules, store_words);
     let steps = match run(&mut checking, proof) {
         Ok(steps) => steps,
-        Err((number, step)) => return Verdict::RefusedProof { number, step },
+        Err((number, step)) => return refused_proof(number, step),
     };
     let counts = Counts { atoms, rules: count, steps, nogoods: checking.live() };
-    if checking.has_empty() {
-        Verdict::Inconsistent(counts)
-    } else {
-        Verdict::Open(counts)
-    }
+    Ok(if checking.has_empty() { Verdict::Inconsistent(counts) } else { Verdict::Open(counts) })
+}
+
+fn refused_program(number: u8, line: usize) -> Result<Verdict, UnknownAnswer> {
+    let question = u64::from(number).try_into()?;
+    Ok(Verdict::RefusedProgram(ProgramRefusal { question, line }))
+}
+
+fn refused_proof(number: u8, step: usize) -> Result<Verdict, UnknownAnswer> {
+    let question = u64::from(number).try_into()?;
+    Ok(Verdict::RefusedProof(ProofRefusal { question, step }))
 }
 
 /// Every line's step in order: how many there were, or the refusal's number and the step.
@@ -52,5 +58,45 @@ fn run(checking: &mut Checking, proof: &[u8]) -> Result<usize, (u8, usize)> {
         };
         steps += 1;
         checking.step(letter, reader.numbers()).map_err(|number| (number, steps))?;
+    }
+}
+
+#[cfg(test)]
+mod tests {
+    use super::*;
+
+    const RULE: &str = "1 0 1 1 0 1 -1\n";
+    const PROOF: &str = "b 2 -1 0\nc 2 1 0\ns 1 2 0\na 1 0\na 0\n";
+
+    /// The line that a table and a store of so many words lead to.
+    fn line(rules: &str, proof: &str, table: usize, store: usize) -> String {
+        let program = format!("asp 1 0 0\n{rules}0\n");
+        check(program.as_bytes(), proof.as_bytes(), table, store).unwrap().to_string()
+    }
+
+    #[test]
+    fn starred_1_to_3() {
+        assert_eq!(line(RULE, PROOF, 5, 15), "inconsistent 1 1 5 6");
+        assert_eq!(line(RULE, PROOF, 5, 14), "refused proof 34 5");
+        assert_eq!(line(RULE, PROOF, 4, 15), "refused program 10 2");
+        assert_eq!(line(RULE, &format!("{PROOF}d 0\n"), 5, 15), "open 1 1 6 5");
+        assert_eq!(line(RULE, &PROOF.replace("c 2 1 0", "e 1 2 0"), 5, 15), "refused proof 27 2");
+    }
+
+    #[test]
+    fn starred_4_to_8() {
+        let loops = "1 0 1 1 0 1 2\n1 0 1 2 0 1 1\n1 0 0 0 1 -1\n";
+        assert_eq!(line("", "", 0, 0), "open 0 0 0 0");
+        assert_eq!(line("", "a 0\n", 0, 1), "refused proof 33 1");
+        assert_eq!(line(loops, "b 3 -1 0\nc 3 0\nl 1 2 0\na 0\n", 99, 99), "inconsistent 2 3 4 5");
+        assert_eq!(line(loops, "b 3 -1 0\nc 3 0\na 0\n", 99, 99), "refused proof 33 3");
+        assert_eq!(line("1 1 1 1 0 0\n", "b 2 0\nc 2 1 0\n", 99, 99), "refused proof 29 2");
+        assert_eq!(line(&format!("{RULE}1 0 1 1 0 0\n"), PROOF, 99, 99), "refused proof 30 3");
+    }
+
+    #[test]
+    fn texts_that_are_too_long() {
+        assert_eq!(line(&"1 0 0 0 0\n".repeat(7_000), "", 99, 99), "refused program 1 0");
+        assert_eq!(line(RULE, &"d 0\n".repeat(17_000), 99, 99), "refused proof 21 0");
     }
 }

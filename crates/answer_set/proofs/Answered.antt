@@ -12,36 +12,27 @@ use lib.Dec.{T, eqb, ltb}
 use lib.IntN.{ℤ, pos, negsuc}
 use lib.Signed.{ltZ}
 use lib.ListN.{length, drop, replicate, length-replicate}
-use Rattle.words.specs.Limits.{largest}
+use Rattle.words.specs.Limits.{largest, entries}
 use Rattle.words.specs.Lists.{_∈_, all}
 use Rattle.words.specs.Literals.{variable, top}
-use Rattle.words.proofs.Lists.{Decides, itself, passed, failed, reworded, and-decides, not-decides, eqb-decides, any-decides, all-decides, same-test}
+use Rattle.words.proofs.Lists.{Decides, itself, passed, failed, reworded, and-decides, not-decides, eqb-decides, any-decides, all-decides, same-test, and-left, and-right, or-false-left, or-false-right}
 use Rattle.aspif.specs.Rules.{Rule, isNormal, isEmpty, ruleTop, atoms}
 use Rattle.aspif.specs.declared.Kind.{Kind}
 use Rattle.aspif.specs.declared.Kind.the-variants.{Normal, Choice}
-use Rattle.words.proofs.Lists.{and-left, and-right}
-use Rattle.answer_set.specs.AnswerSets.{Constraint, LeastModel, derive, Met, AnswerSet}
-use Rattle.answer_set.specs.SetTest.{headsSound, sizeAt, headsAt, shapeSound, soundAt, rulesAt, soundRules, soundTable, rulesOf, listed, marksLent, marked, rounds, least, isBroken, anyBelow, justOne, yes, differs, broken, brokenFrom, apart, verdictOf}
+use Rattle.words.proofs.Tops.{top-le}
+use Rattle.aspif.specs.AnswerSets.{Constraint, LeastModel, derive, Met, AnswerSet}
+use Rattle.aspif.specs.Tables.{headsSound, sizeAt, headsAt, shapeSound, soundAt, rulesAt, soundRules, soundTable, rulesOf}
+use Rattle.marks.specs.Marks.{listed, marked}
+use Rattle.answer_set.specs.SetTest.{rounds, least, isBroken, anyBelow, justOne, yes, differs, breaks, brokenFrom, differsAt, verdictOf}
 use Rattle.answer_set.specs.Claims.{Listed, Ready, MarksLeast, YesAnswerSet}
-use Rattle.answer_set.proofs.Ascending.{ascends-in}
-use Rattle.answer_set.proofs.Fronts.{sound-rules}
-use Rattle.answer_set.proofs.Tested.{atoms-small, none-marked}
+use Rattle.words.proofs.Ascending.{ascends-in}
+use Rattle.aspif.proofs.Cursors.{sound-rules, atoms-small, rules-of}
+use Rattle.marks.proofs.Sets.{none-marked}
 use Rattle.answer_set.proofs.LeastModels.{Bits, Head, met-decides, rounds-decide, rounds-bits, rounds-length}
+use Rattle.words.proofs.Literals.{positive}
+use Rattle.aspif.proofs.RuleTests.{normal-decides, in-atoms, empty-decides}
 
 -- Heads of the rules of a table
-
-in-top : {z : ℤ} {l : List ℤ} → z ∈ l → variable z ≤ top l
-in-top (List·Memᴰ·head {xs = l} p) = rw p (omega arith)
-in-top (List·Memᴰ·tail {xs = l} i) = let h = in-top i in omega arith
-
-in-atoms : {r : Rule} {rs : List Rule} → r ∈ rs → ruleTop r ≤ atoms rs
-in-atoms (List·Memᴰ·head {xs = rs} p) = rw p (omega arith)
-in-atoms (List·Memᴰ·tail {xs = rs} i) = let h = in-atoms i in omega arith
-
--- a word above 0 is its variable
-pub positive : (z : ℤ) → T (ltZ (pos 0) z) → (z ≡ pos (variable z)) × (1 ≤ variable z)
-positive (pos n) t = (refl, ltb-true 0 n (passed (ltb 0 n) .to t))
-positive (negsuc n) t = absurd t
 
 -- every rule of sound words has such heads
 sound-heads : (n : ℕ) (ws : List ℤ) → soundRules n ws ≡ true → {r : Rule} → r ∈ rulesAt n ws → headsSound (r .heads) ≡ true
@@ -53,19 +44,12 @@ sound-heads (suc n) ws e (List·Memᴰ·tail i) = sound-heads n (drop (sizeAt ws
 head-of : (rs : List Rule) (r : Rule) → r ∈ rs → headsSound (r .heads) ≡ true → (z : ℤ) → z ∈ r .heads → Head (atoms rs) z
 head-of rs r i e z j =
     let p = positive z (all-decides (λ h. itself (ltZ (pos 0) h)) (r .heads) .to (passed _ .from (and-left (all (λ h. ltZ (pos 0) h) (r .heads)) _ e)) z j) in
-    record { is = p .0; low = p .1; high = omega (arith, in-atoms i, in-top j) }
+    record { is = p .0; low = p .1; high = omega (arith, in-atoms i, top-le j) }
 
 -- The set as listed, and the marks
 
 pub listed-decides : (l : List ℕ) (v : ℕ) → Decides (listed l v) (Listed l v)
 listed-decides l v = reworded (λ r. Memᴰ·cast (r .2) (r .1)) (λ m. (v, m, refl)) (any-decides (eqb-decides v) l)
-
-pub rules-of : (table : List ℤ) (rules : ℕ) (rs : List Rule) → rulesOf table rules ≡ some rs → (soundTable table rules ≡ true) × (rulesAt rules table ≡ rs)
-rules-of table rules rs = by (soundTable table rules) refl
-  where
-    by : (b : Bool) → soundTable table rules ≡ b → cond b (some (rulesAt rules table)) none ≡ some rs → (soundTable table rules ≡ true) × (rulesAt rules table ≡ rs)
-    by true e p = (e, Option·some-injective _ _ p)
-    by false e p = absurd (Option·none-ne-some rs p)
 
 no-bits : (n : ℕ) → Bits (replicate n 0)
 no-bits zero v = inl refl
@@ -100,33 +84,25 @@ module _ (table : List ℤ) (rules : ℕ) (l : List ℕ) (rs : List Rule) (ready
     bits-of : Bits m
     bits-of = rounds-bits (listed l) (Listed l) (listed-decides l) rs (atoms rs) heads (atoms rs) (replicate n 0) (no-bits n)
 
-  fits : atoms rs < marksLent
+  fits : atoms rs < entries
   fits = let h = few in omega arith
 
   model : (v : ℕ) → Decides (marked (least (listed l) rs) v) (LeastModel (Listed l) rs v)
   unfolding least
-  model = in-model marksLent fits
+  model = in-model entries fits
 
 pub marks-least : MarksLeast
 unfolding least
 marks-least table rules l rs h =
     record {
-      count = marks-of table rules l rs h marksLent (fits table rules l rs h);
-      bytes = bits-of table rules l rs h marksLent (fits table rules l rs h);
+      count = marks-of table rules l rs h entries (fits table rules l rs h);
+      bytes = bits-of table rules l rs h entries (fits table rules l rs h);
       ones = λ v.
           let d = model table rules l rs h v in
           (λ e. d .to (eqb-decides _ 1 .from e), λ k. eqb-decides _ 1 .to (d .from k));
     }
 
 -- The answer
-
-or-false-left : (a b : Bool) → (a || b) ≡ false → a ≡ false
-or-false-left true b e = e
-or-false-left false b e = refl
-
-or-false-right : (a b : Bool) → (a || b) ≡ false → b ≡ false
-or-false-right true b e = absurd (true≢false e)
-or-false-right false b e = e
 
 below-all : (f : ℕ → Bool) (n : ℕ) → anyBelow f n ≡ false → (v : ℕ) → v < n → f v ≡ false
 below-all f zero e v h = absurd (omega arith)
@@ -154,7 +130,7 @@ module _ (M : ℕ → Bool) where
   no-broken k [] e i = elim i [ ]
   no-broken k (s ∷ rs) e {r} i = by (isBroken M s) refl e (λ f j. no-broken (k + 1) rs f j) i
     where
-      by : (b : Bool) → isBroken M s ≡ b → cond b (broken k) (brokenFrom M (k + 1) rs) ≡ yes → (brokenFrom M (k + 1) rs ≡ yes → r ∈ rs → isBroken M r ≡ false) → r ∈ s ∷ rs → isBroken M r ≡ false
+      by : (b : Bool) → isBroken M s ≡ b → cond b (breaks k) (brokenFrom M (k + 1) rs) ≡ yes → (brokenFrom M (k + 1) rs ≡ yes → r ∈ rs → isBroken M r ≡ false) → r ∈ s ∷ rs → isBroken M r ≡ false
       by true p q f j = absurd (let z : _≡_ {A = ℕ} 0 1 = cc in omega arith)
       by false p q f (List·Memᴰ·head t) = rw t p
       by false p q f (List·Memᴰ·tail j) = f q j
@@ -163,14 +139,6 @@ module _ (M : ℕ → Bool) where
   none-broken k [] g = refl
   none-broken k (s ∷ rs) g = rw (g s (List·Memᴰ·head refl)) (none-broken (k + 1) rs (λ r i. g r (List·Memᴰ·tail i)))
 
-pub normal-decides : (k : Kind) → Decides (isNormal k) (k ≡ Normal)
-normal-decides Normal = record { to = λ t. refl; from = λ p. tt }
-normal-decides Choice = record { to = λ t. absurd t; from = λ p. absurd (let z : _≡_ {A = ℕ} 0 1 = cc in omega arith) }
-
-empty-decides : (g : List ℤ) → Decides (isEmpty g) (g ≡ [])
-empty-decides [] = record { to = λ t. refl; from = λ p. tt }
-empty-decides (x ∷ g) = record { to = λ t. absurd t; from = λ p. nil≢cons (sym p) }
-
 broken-decides : (l : List ℕ) (r : Rule) → Decides (isBroken (listed l) r) (Constraint r × Met (Listed l) r)
 broken-decides l r =
     and-decides (and-decides (normal-decides (r .kind)) (empty-decides (r .heads)))
@@ -178,7 +146,7 @@ broken-decides l r =
 
 module _ (table : List ℤ) (rules : ℕ) (l : List ℕ) (rs : List Rule) (ready : Ready table rules l rs) where
   abbrev f : ℕ → Bool
-  f = apart (listed l) (least (listed l) rs)
+  f = differsAt (listed l) (least (listed l) rs)
 
   least-small : {v : ℕ} → LeastModel (Listed l) rs v → v ≤ atoms rs
   least-small (derive {h = h} r i taken g below) = heads table rules l rs ready r i (pos h) (g .0) .high

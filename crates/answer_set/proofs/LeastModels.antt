@@ -11,14 +11,15 @@ use lib.Dec.{T, eqb, ltb, leb}
 use lib.IntN.{ℤ, pos, negsuc}
 use lib.ListN.{length, getD, set, length-set}
 use lib.Seq.{getD-set-same, getD-set-other, set-out, set-getD}
-use Rattle.words.specs.Lists.{_∈_, keep}
+use Rattle.words.specs.Lists.{_∈_, filter}
 use Rattle.words.specs.Literals.{variable}
 use Rattle.words.proofs.Lists.{Decides, itself, passed, answered, reworded, not-decides, all-decides, keep←, length-keep, keep-lt, none-in}
 use Rattle.aspif.specs.Rules.{Rule}
 use Rattle.aspif.specs.declared.Kind.{Kind}
 use Rattle.aspif.specs.declared.Kind.the-variants.{Normal, Choice}
-use Rattle.answer_set.specs.AnswerSets.{Taken, Chosen, LeastModel, derive}
-use Rattle.answer_set.specs.SetTest.{marked, literalHolds, bodyHolds, gives, giveHead, giveHeads, giveRule, round, rounds}
+use Rattle.aspif.specs.AnswerSets.{Taken, Chosen, LeastModel, derive}
+use Rattle.marks.specs.Marks.{marked}
+use Rattle.answer_set.specs.SetTest.{literalHolds, bodyHolds, gives, giveHead, giveHeads, giveRule, round, rounds}
 use Rattle.answer_set.proofs.Marking.{rounds-still}
 
 -- Marks only grow
@@ -66,25 +67,25 @@ later-trans p q = record { grows = λ v t. q .grows v (p .grows v t); size = q .
 
 module _ (M : ℕ → Bool) (W : ℕ → Type 0) (dec : (v : ℕ) → Decides (M v) (W v)) where
   -- a literal under marks
-  Holds : (ℕ → Type 0) → ℤ → Type 0
-  Holds S (pos a) = S a
-  Holds S (negsuc n) = ¬ W (suc n)
+  HoldsUnder : (ℕ → Type 0) → ℤ → Type 0
+  HoldsUnder S (pos a) = S a
+  HoldsUnder S (negsuc n) = ¬ W (suc n)
 
   module _ (S : ℕ → Bool) (A : ℕ → Type 0) (in-S : (v : ℕ) → Decides (S v) (A v)) where
-    literal-decides : (z : ℤ) → Decides (literalHolds M S z) (Holds A z)
-    unfolding Holds
+    literal-decides : (z : ℤ) → Decides (literalHolds M S z) (HoldsUnder A z)
+    unfolding HoldsUnder
     literal-decides (pos a) = in-S a
     literal-decides (negsuc n) = not-decides (dec (suc n))
 
-    body-holds : (ls : List ℤ) → Decides (bodyHolds M S ls) ((z : ℤ) → z ∈ ls → Holds A z)
+    body-holds : (ls : List ℤ) → Decides (bodyHolds M S ls) ((z : ℤ) → z ∈ ls → HoldsUnder A z)
     body-holds ls = all-decides literal-decides ls
 
     -- a body, as the inductive definition has it
     pub met-decides : (ls : List ℤ) → Decides (bodyHolds M S ls) (((a : ℕ) → pos a ∈ ls → A a) × ((n : ℕ) → negsuc n ∈ ls → ¬ W (suc n)))
-    unfolding Holds
+    unfolding HoldsUnder
     met-decides ls = reworded (λ f. (λ a i. f (pos a) i, λ n i. f (negsuc n) i)) (λ p z i. either p z i) (body-holds ls)
       where
-        either : ((a : ℕ) → pos a ∈ ls → A a) × ((n : ℕ) → negsuc n ∈ ls → ¬ W (suc n)) → (z : ℤ) → z ∈ ls → Holds A z
+        either : ((a : ℕ) → pos a ∈ ls → A a) × ((n : ℕ) → negsuc n ∈ ls → ¬ W (suc n)) → (z : ℤ) → z ∈ ls → HoldsUnder A z
         either p (pos a) i = p .0 a i
         either p (negsuc n) i = p .1 n i
 
@@ -179,42 +180,42 @@ module _ (M : ℕ → Bool) (W : ℕ → Type 0) (dec : (v : ℕ) → Decides (M
     (heads : (r : Rule) → r ∈ P → (z : ℤ) → z ∈ r .heads → Head N z) where
   -- What is marked is in the least model
 
-  Within : List ℕ → Type 0
-  Within m = (v : ℕ) → T (marked m v) → LeastModel W P v
+  BelowModel : List ℕ → Type 0
+  BelowModel m = (v : ℕ) → T (marked m v) → LeastModel W P v
 
   module _ (r : Rule) (i : r ∈ P) (taken : Taken W r) (below : (a : ℕ) → pos a ∈ r .body → LeastModel W P a) where
-    head-within : (h : ℤ) → h ∈ r .heads → (m : List ℕ) → Within m → Within (giveHead M (r .kind) h m)
-    unfolding giveHead Within
+    head-within : (h : ℤ) → h ∈ r .heads → (m : List ℕ) → BelowModel m → BelowModel (giveHead M (r .kind) h m)
+    unfolding giveHead BelowModel
     head-within h j m w = by (gives M (r .kind) (variable h)) refl
       where
-        by : (b : Bool) → gives M (r .kind) (variable h) ≡ b → Within (cond b (set m (variable h) 1) m)
+        by : (b : Bool) → gives M (r .kind) (variable h) ≡ b → BelowModel (cond b (set m (variable h) 1) m)
         by true e = λ v t. elim (set-cases m (variable h) v t) [
           | inl p ↦ derive r i taken (Memᴰ·cast (ap pos p ∙ sym (heads r i h j .is)) j, gives-decides M W dec (r .kind) v .to (rw p (passed _ .from e))) below
           | inr u ↦ w v u
         ]
         by false e = w
 
-    heads-within : (hs : List ℤ) → ((z : ℤ) → z ∈ hs → z ∈ r .heads) → (m : List ℕ) → Within m → Within (giveHeads M (r .kind) hs m)
+    heads-within : (hs : List ℤ) → ((z : ℤ) → z ∈ hs → z ∈ r .heads) → (m : List ℕ) → BelowModel m → BelowModel (giveHeads M (r .kind) hs m)
     heads-within [] sub m w = w
     heads-within (h ∷ hs) sub m w =
         heads-within hs (λ z j. sub z (List·Memᴰ·tail j)) (giveHead M (r .kind) h m) (head-within h (sub h (List·Memᴰ·head refl)) m w)
 
-  rule-within : (r : Rule) → r ∈ P → (m : List ℕ) → Within m → Within (giveRule M r m)
-  unfolding giveRule Within
+  rule-within : (r : Rule) → r ∈ P → (m : List ℕ) → BelowModel m → BelowModel (giveRule M r m)
+  unfolding giveRule BelowModel
   rule-within r i m w = by (bodyHolds M (marked m) (r .body)) refl
     where
-      by : (b : Bool) → bodyHolds M (marked m) (r .body) ≡ b → Within (cond b (giveHeads M (r .kind) (r .heads) m) m)
+      by : (b : Bool) → bodyHolds M (marked m) (r .body) ≡ b → BelowModel (cond b (giveHeads M (r .kind) (r .heads) m) m)
       by true e =
           let f = body-decides M W dec m (r .body) .to (passed _ .from e) in
           heads-within r i (f .1) (λ a j. w a (f .0 a j)) (r .heads) (λ z j. j) m w
       by false e = w
 
-  round-within : (rs : List Rule) → ((r : Rule) → r ∈ rs → r ∈ P) → (m : List ℕ) → Within m → Within (round M rs m)
+  round-within : (rs : List Rule) → ((r : Rule) → r ∈ rs → r ∈ P) → (m : List ℕ) → BelowModel m → BelowModel (round M rs m)
   round-within [] sub m w = w
   round-within (r ∷ rs) sub m w =
       round-within rs (λ s j. sub s (List·Memᴰ·tail j)) (giveRule M r m) (rule-within r (sub r (List·Memᴰ·head refl)) m w)
 
-  rounds-within : (n : ℕ) (m : List ℕ) → Within m → Within (rounds M n P m)
+  rounds-within : (n : ℕ) (m : List ℕ) → BelowModel m → BelowModel (rounds M n P m)
   rounds-within zero m w = w
   rounds-within (suc n) m w = rounds-within n (round M P m) (round-within P (λ r j. j) m w)
 
@@ -257,7 +258,7 @@ module _ (M : ℕ → Bool) (W : ℕ → Type 0) (dec : (v : ℕ) → Decides (M
 
   -- how many atoms are still to be marked
   missing : List ℕ → ℕ
-  missing m = length (keep (lacks m) (upTo N))
+  missing m = length (filter (lacks m) (upTo N))
 
   module _ (m : List ℕ) (l : N < length m) where
     fewer : {z : ℤ} → Head N z → T (not (marked m (variable z))) → T (marked (round M P m) (variable z)) → missing (round M P m) < missing m
@@ -301,7 +302,7 @@ module _ (M : ℕ → Bool) (W : ℕ → Type 0) (dec : (v : ℕ) → Decides (M
 
   -- from no marks, N rounds mark the least model
   pub rounds-decide : (m : List ℕ) → N < length m → ((v : ℕ) → ¬ T (marked m v)) → (v : ℕ) → Decides (marked (rounds M N P m) v) (LeastModel W P v)
-  unfolding Within lacks missing
+  unfolding BelowModel lacks missing
   rounds-decide m l none v =
       record {
         to = rounds-within N m (λ u t. absurd (none u t)) v;

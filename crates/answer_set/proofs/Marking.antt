@@ -1,6 +1,6 @@
 -- Laws on marks: literals and bodies under them, and what the rounds of `close` do to them.
 -- Assumes nothing.
-use mathlib.Core.Path.{_≡_, refl, sym, _∙_}
+use mathlib.Core.Path.{_≡_, refl, sym, _∙_, ap}
 use mathlib.Core.Bool.{Bool, true, false, not, true≢false}
 use mathlib.Core.List.{List}
 use Prim.Native.Nat.{ℕ, zero, suc, _+_, _-_, _<_, _≤_}
@@ -12,10 +12,11 @@ use lib.Signed.{ltZ}
 use lib.ListN.{length, drop, getD, set, drop-of-length-le}
 use lib.Seq.{drop-cons}
 use Rattle.words.specs.Literals.{variable}
+use Rattle.words.proofs.Lists.{one-less, none-left}
 use Rattle.aspif.specs.Rules.{Rule}
 use Rattle.aspif.specs.declared.Kind.{Kind}
 use Rattle.answer_set.specs.SetTest.{literalHolds, giveHead, giveHeads, round, rounds, anyBelow}
-use Rattle.answer_set.specs.Private.{Marking, markAll}
+use Rattle.marks.specs.Marks.{Marking, markAll}
 
 module _ (M S : ℕ → Bool) where
   -- a literal by its sign
@@ -40,12 +41,10 @@ module _ (M : ℕ → Bool) (k : Kind) (hs : List ℤ) (m : List ℕ) where
 
 module _ (M : ℕ → Bool) where
   pub rounds-on : (n : ℕ) (rs : List Rule) (m : List ℕ) → 0 < n → rounds M n rs m ≡ rounds M (n - 1) rs (round M rs m)
-  rounds-on zero rs m h = absurd (omega arith)
-  rounds-on (suc n) rs m h = let e : suc n - 1 ≡ n = omega arith in rw e
+  rounds-on n rs m h = ap (λ k. rounds M k rs m) (one-less n h)
 
   pub rounds-end : (n : ℕ) (rs : List Rule) (m : List ℕ) → n ≤ 0 → rounds M n rs m ≡ m
-  rounds-end zero rs m h = refl
-  rounds-end (suc n) rs m h = absurd (omega arith)
+  rounds-end n rs m h = ap (λ k. rounds M k rs m) (none-left n h)
 
   -- a round that changes nothing is the last
   pub rounds-still : (n : ℕ) (rs : List Rule) (m : List ℕ) → round M rs m ≡ m → rounds M n rs m ≡ m
@@ -60,22 +59,10 @@ module _ (M : ℕ → Bool) where
 
 module _ (f : ℕ → Bool) where
   pub below-on : (n : ℕ) → 0 < n → f (n - 1) ≡ false → anyBelow f n ≡ anyBelow f (n - 1)
-  below-on zero h e = absurd (omega arith)
-  below-on (suc n) h e = let p : suc n - 1 ≡ n = omega arith in rw (p, rw p at e)
+  below-on n h e = ap (anyBelow f) (one-less n h) ∙ rw e
 
   pub below-here : (n : ℕ) → 0 < n → f (n - 1) ≡ true → anyBelow f n ≡ true
-  below-here zero h e = absurd (omega arith)
-  below-here (suc n) h e = let p : suc n - 1 ≡ n = omega arith in rw (rw p at e)
+  below-here n h e = ap (anyBelow f) (one-less n h) ∙ rw e
 
   pub below-end : (n : ℕ) → n ≤ 0 → anyBelow f n ≡ false
-  below-end zero h = refl
-  below-end (suc n) h = absurd (omega arith)
-
--- The loop of `mark_all`
-
-module _ (l m : List ℕ) where
-  pub mark-on : (i : ℕ) → i < length l → markAll (drop i l) m ≡ markAll (drop (i + 1) l) (set m (getD l i 0) 1)
-  mark-on i h = rw (add-one, drop-cons l i 0 h)
-
-  pub mark-end : {i : ℕ} → length l ≤ i → markAll (drop i l) m ≡ m
-  mark-end h = rw (drop-of-length-le l h)
+  below-end n h = ap (anyBelow f) (none-left n h)

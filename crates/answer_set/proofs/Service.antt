@@ -10,17 +10,21 @@ use borrow.Author.Tests.{eqb-true, eq-eqb}
 use lib.Dec.{eqb}
 use lib.ListN.{length}
 use Rattle.aspif.specs.Rules.{Rule, atoms}
-use Rattle.answer_set.specs.AnswerSets.{AnswerSet}
-use Rattle.answer_set.specs.SetTest.{ReadAs, ReadTable, ascends, rulesOf, listed, marksLent, least, Verdict, yes, differs, broken, apart, verdictOf, Asked, refused, passed, askedOf, asked, Says, Answers}
+use Rattle.aspif.specs.AnswerSets.{AnswerSet}
+use Rattle.aspif.specs.Tables.{ReadAs, ReadTable, rulesOf}
+use Rattle.words.specs.Lists.{ascends}
+use Rattle.marks.specs.Marks.{listed}
+use Rattle.words.specs.Limits.{entries}
+use Rattle.answer_set.specs.SetTest.{least, SetVerdict, yes, differs, breaks, differsAt, verdictOf, Asked, refused, passed, askedOf, asked, Says, Answers}
 use Rattle.answer_set.specs.Claims.{TableRefused, Listed, ServiceYes}
 use Rattle.answer_set.specs.declared.SetAnswer.the-variants.{Yes}
 use Rattle.answer_set.proofs.Answered.{yes-answer-set}
-use Rattle.answer_set.proofs.Readable.{table-read}
+use Rattle.aspif.proofs.Readable.{table-read}
 
 -- Refusal 41
 
 no-41 : (rs : List Rule) (l : List ℕ) (n : ℕ) → askedOf (some rs) l n ≡ refused 41 → ⊥
-no-41 rs l n = by (ascends 0 (atoms rs) l) (eqb n marksLent)
+no-41 rs l n = by (ascends 0 (atoms rs) l) (eqb n entries)
   where
     by : (b c : Bool) → cond b (cond c (passed rs) (refused 43)) (refused 42) ≡ refused 41 → ⊥
     by true true e = let z : _≡_ {A = ℕ} 0 1 = cc in omega arith
@@ -40,10 +44,10 @@ table-refused table rules l n = (there, back (rulesOf table rules) refl)
 
 -- The answer yes
 
-says-yes : (just : ℕ → Bool) (v : Verdict) → Says just v Yes → v ≡ yes
+says-yes : (just : ℕ → Bool) (v : SetVerdict) → Says just v Yes → v ≡ yes
 says-yes just yes e = refl
 says-yes just differs e = absurd (let f = e .1 in let z : _≡_ {A = ℕ} 0 1 = cc in omega arith)
-says-yes just (broken k) e = absurd (let z : _≡_ {A = ℕ} 0 1 = cc in omega arith)
+says-yes just (breaks k) e = absurd (let z : _≡_ {A = ℕ} 0 1 = cc in omega arith)
 
 -- no refusal is yes
 not-yes : (l : List ℕ) (k : ℕ) → Answers l (refused k) Yes → ⊥
@@ -53,15 +57,15 @@ record Passes (o : Option (List Rule)) (l : List ℕ) (n : ℕ) : Type 0 where
   rs : List Rule
   is : o ≡ some rs
   ascending : ascends 0 (atoms rs) l ≡ true
-  marks : n ≡ marksLent
+  marks : n ≡ entries
   verdict : verdictOf (listed l) rs ≡ yes
 
 yes-passes : (o : Option (List Rule)) (l : List ℕ) (n : ℕ) → Answers l (askedOf o l n) Yes → Passes o l n
 yes-passes none l n a = absurd (not-yes l 41 a)
-yes-passes (some rs) l n a = by (ascends 0 (atoms rs) l) refl (eqb n marksLent) refl a
+yes-passes (some rs) l n a = by (ascends 0 (atoms rs) l) refl (eqb n entries) refl a
   where
-    by : (b : Bool) → ascends 0 (atoms rs) l ≡ b → (c : Bool) → eqb n marksLent ≡ c → Answers l (cond b (cond c (passed rs) (refused 43)) (refused 42)) Yes → Passes (some rs) l n
-    by true p true q a = record { rs = rs; is = refl; ascending = p; marks = eqb-true n marksLent q; verdict = says-yes _ _ a }
+    by : (b : Bool) → ascends 0 (atoms rs) l ≡ b → (c : Bool) → eqb n entries ≡ c → Answers l (cond b (cond c (passed rs) (refused 43)) (refused 42)) Yes → Passes (some rs) l n
+    by true p true q a = record { rs = rs; is = refl; ascending = p; marks = eqb-true n entries q; verdict = says-yes _ _ a }
     by true p false q a = absurd (not-yes l 43 a)
     by false p c q a = absurd (not-yes l 42 a)
 
@@ -69,15 +73,15 @@ pub service-yes : ServiceYes
 unfolding asked
 service-yes table rules l before after r t = (there, back)
   where
-    there : r ≡ Yes → (rs : List Rule) × ReadAs table rules rs × (ascends 0 (atoms rs) l ≡ true) × (length before ≡ marksLent) × AnswerSet (Listed l) rs
+    there : r ≡ Yes → (rs : List Rule) × ReadAs table rules rs × (ascends 0 (atoms rs) l ≡ true) × (length before ≡ entries) × AnswerSet (Listed l) rs
     there e =
         let p = yes-passes (rulesOf table rules) l (length before) (rw e at (t .answer)) in
         (p .rs, table-read table rules (p .rs) .0 (p .is), p .ascending, p .marks, yes-answer-set table rules l (p .rs) (record { readable = p .is; ascending = p .ascending }) .0 (p .verdict))
 
-    back : (rs : List Rule) × ReadAs table rules rs × (ascends 0 (atoms rs) l ≡ true) × (length before ≡ marksLent) × AnswerSet (Listed l) rs → r ≡ Yes
+    back : (rs : List Rule) × ReadAs table rules rs × (ascends 0 (atoms rs) l ≡ true) × (length before ≡ entries) × AnswerSet (Listed l) rs → r ≡ Yes
     back p =
         let rs = p .0 in
         let h = table-read table rules rs .1 (p .1) in
-        let e : askedOf (rulesOf table rules) l (length before) ≡ passed rs = rw (h, p .2, eq-eqb (length before) marksLent (p .3)) in
+        let e : askedOf (rulesOf table rules) l (length before) ≡ passed rs = rw (h, p .2, eq-eqb (length before) entries (p .3)) in
         let v = yes-answer-set table rules l rs (record { readable = h; ascending = p .2 }) .1 (p .4) in
-        subst (λ (v : Verdict). Says (apart (listed l) (least (listed l) rs)) v r) v (subst (λ (q : Asked). Answers l q r) e (t .answer))
+        subst (λ (v : SetVerdict). Says (differsAt (listed l) (least (listed l) rs)) v r) v (subst (λ (q : Asked). Answers l q r) e (t .answer))

@@ -10,18 +10,17 @@ use mathlib.Core.List.{List}
 use Prim.Native.Nat.{ℕ}
 use lib.IntN.{ℤ}
 use lib.ListN.{length, getD}
-use Rattle.words.specs.Lists.{_∈_}
+use Rattle.words.specs.Lists.{_∈_, ascends}
 use Rattle.aspif.specs.Rules.{Rule, atoms}
-use Rattle.answer_set.specs.AnswerSets.{LeastModel, AnswerSet}
-use Rattle.answer_set.specs.SetTest.{ReadAs, ReadTable, ascends, rulesOf, marksLent, listed, least, verdictOf, yes, refused, asked, SetTested}
+use Rattle.aspif.specs.AnswerSets.{LeastModel, AnswerSet}
+use Rattle.aspif.specs.Tables.{ReadAs, ReadTable, rulesOf}
+use Rattle.words.specs.Limits.{entries}
+use Rattle.marks.specs.Marks.{listed}
+use Rattle.answer_set.specs.SetTest.{least, verdictOf, yes, refused, asked, SetTested}
 use Rattle.answer_set.specs.declared.SetAnswer.{SetAnswer}
 use Rattle.answer_set.specs.declared.SetAnswer.the-variants.{Yes}
 
--- question 41: the rules computed from a table are those of a program that the reader reads so
-abbrev pub TableRead : Type 0
-TableRead = (table : List ℤ) (rules : ℕ) (rs : List Rule) → (rulesOf table rules ≡ some rs) ↔ ReadAs table rules rs
-
--- and question 41 is answered no exactly where there is no such program
+-- question 41 is answered no exactly where there is no program that the reader reads so
 abbrev pub TableRefused : Type 0
 TableRefused = (table : List ℤ) (rules : ℕ) (l : List ℕ) (marks : ℕ) → (asked table rules l marks ≡ refused 41) ↔ ¬ ReadTable table rules
 
@@ -36,7 +35,7 @@ pub record Ready (table : List ℤ) (rules : ℕ) (l : List ℕ) (rs : List Rule
 
 -- "The marks afterwards hold 1 at each atom of the least model and 0 elsewhere"
 pub record LeastMarks (l : List ℕ) (rs : List Rule) (m : List ℕ) : Type 0 where
-  pub count : length m ≡ marksLent
+  pub count : length m ≡ entries
   pub bytes : (v : ℕ) → (getD m v 0 ≡ 0) ⊎ (getD m v 0 ≡ 1)
   pub ones : (v : ℕ) → (getD m v 0 ≡ 1) ↔ LeastModel (Listed l) rs v
 
@@ -52,4 +51,4 @@ YesAnswerSet =
 abbrev pub ServiceYes : Type 0
 ServiceYes =
     (table : List ℤ) (rules : ℕ) (l before after : List ℕ) (r : SetAnswer) → SetTested table rules l before after r
-    → (r ≡ Yes) ↔ ((rs : List Rule) × ReadAs table rules rs × (ascends 0 (atoms rs) l ≡ true) × (length before ≡ marksLent) × AnswerSet (Listed l) rs)
+    → (r ≡ Yes) ↔ ((rs : List Rule) × ReadAs table rules rs × (ascends 0 (atoms rs) l ≡ true) × (length before ≡ entries) × AnswerSet (Listed l) rs)

@@ -1,5 +1,4 @@
 -- What an answer set is, and what the set test answers.
-pub mod AnswerSets
 pub mod SetTest
 pub mod Private
 pub mod Claims

@@ -2,16 +2,18 @@
 ghost use mathlib.Core.Path.{_≡_};
 ghost use mathlib.Core.Bool.{Bool, true, cond};
 ghost use Prim.Native.Nat.{ℕ, _+_, _≤_};
-ghost use Rattle.answer_set.specs.SetTest.{ruleAt, shapeSound, rulesAt, soundTable, marked, isConstraint, isBroken, anyBelow, justOne, differs, brokenFrom, apart, Says};
+ghost use Rattle.words.specs.Limits.{largest, entries};
+ghost use Rattle.aspif.specs.Tables.{ruleAt, shapeSound, rulesAt, soundTable};
+ghost use Rattle.marks.specs.Marks.{marked};
+ghost use Rattle.answer_set.specs.SetTest.{isConstraint, isBroken, anyBelow, justOne, differs, brokenFrom, differsAt, Says};
 ghost use Rattle.answer_set.specs.Private.{Finds};
 use crate::SetAnswer;
-use crate::marks;
 use crate::models;
-use crate::tables;
 use aspif::Kind;
+use aspif::tables;
 
 // What a search finds.
-pub enum Found {
+pub enum Search {
     At(u16),
     Nothing,
 }
@@ -24,18 +26,18 @@ fn just_one(a: bool, b: bool) -> bool
 }
 
 // A number below n that lies in just one of M and the least model, if there is one.
-fn differing(inside: &[u8], marks: &[u8], n: usize) -> Found
-    requires { ⌜ n ≤ 4096 ⌝ }
-    ensures { λ r. ⌜ Finds (apart (marked (now (inside .entry))) (now (marks .entry))) n r ⌝ }
+fn differing(inside: &[u8], marks: &[u8], n: usize) -> Search
+    requires { ⌜ n ≤ entries ⌝ }
+    ensures { λ r. ⌜ Finds (differsAt (marked (now (inside .entry))) (now (marks .entry))) n r ⌝ }
 {
     let mut i = n;
     while 0 < i {
         i -= 1;
         if just_one(marks::is_marked(inside, i), marks::is_marked(marks, i)) {
-            return Found::At(i as u16);
+            return Search::At(i as u16);
         }
     }
-    Found::Nothing
+    Search::Nothing
 }
 
 // The rule at the front is a constraint.
@@ -64,7 +66,8 @@ fn is_broken(words: &[i32], inside: &[u8]) -> bool
 // The lowest broken constraint, or yes.
 fn first_broken(table: &[i32], rules: usize, inside: &[u8]) -> SetAnswer
     requires { ⌜ soundTable (now table) rules ≡ true ⌝ }
-    ensures { λ r. ⌜ ((just : ℕ → Bool) → Says just (brokenFrom (marked (now (inside .entry))) 1 (rulesAt rules (now (table .entry)))) r) ⌝ }
+    ensures { λ r. ⌜ ((just : ℕ → Bool) → Says just (brokenFrom (marked (now (inside .entry))) 1
+        (rulesAt rules (now (table .entry)))) r) ⌝ }
 {
     let mut number = 1;
     let mut left = rules;
@@ -74,7 +77,7 @@ fn first_broken(table: &[i32], rules: usize, inside: &[u8]) -> SetAnswer
         if is_broken(rest, inside) {
             return SetAnswer::Broken(number);
         }
-        i += tables::rule_size(rest);
+        i = tables::next_rule(table, i);
         number += 1;
         left -= 1;
     }
@@ -83,14 +86,14 @@ fn first_broken(table: &[i32], rules: usize, inside: &[u8]) -> SetAnswer
 
 // The answer for a set M and the marks of the least model, with atoms from 1 to the number given.
 pub fn judge(table: &[i32], rules: usize, atoms: usize, inside: &[u8], marks: &[u8]) -> SetAnswer
-    requires { ⌜ (soundTable (now table) rules ≡ true) × (atoms ≤ 4095) ⌝ }
+    requires { ⌜ (soundTable (now table) rules ≡ true) × (atoms ≤ largest) ⌝ }
     ensures { λ r. ⌜ (let M = marked (now (inside .entry)) in
-        let just = apart M (now (marks .entry)) in
+        let just = differsAt M (now (marks .entry)) in
         Says just (cond (anyBelow just (atoms + 1)) differs (brokenFrom M 1 (rulesAt rules (now (table .entry))))) r) ⌝ }
 {
     let found = differing(inside, marks, atoms + 1);
     match found {
-        Found::At(v) => SetAnswer::Differs(v),
-        Found::Nothing => first_broken(table, rules, inside),
+        Search::At(v) => SetAnswer::Differs(v),
+        Search::Nothing => first_broken(table, rules, inside),
     }
 }

@@ -1,12 +1,10 @@
 // The set test: least model, marks and answer for a set, over a table that the program reader leaves. What it means is
 // specs/SetTest.antt.
 mod answers;
-pub mod marks;
 mod models;
-mod sets;
-pub mod tables;
 
 ghost use Rattle.answer_set.specs.SetTest.{SetTested};
+use aspif::tables;
 
 // What the set test says of a set.
 pub enum SetAnswer {
@@ -24,19 +22,19 @@ pub enum SetAnswer {
 pub fn test_set(table: &[i32], rules: usize, set: &[u16], marks: &mut [u8]) -> SetAnswer
     ensures { λ r. ⌜ SetTested (now (table .entry)) rules (now (set .entry)) (now (marks .entry)) (now (marks .exit)) r ⌝ }
 {
-    sets::zero_marks(marks);
+    marks::zero_marks(marks);
     if !tables::is_readable(table, rules) {
         return SetAnswer::Refused(41);
     }
     let atoms = tables::largest_atom(table, rules);
-    if !sets::ascends_within(set, atoms) {
+    if !marks::ascends_within(set, atoms) {
         return SetAnswer::Refused(42);
     }
     if marks.len() != words::ENTRIES {
         return SetAnswer::Refused(43);
     }
     let mut inside = [0u8; words::ENTRIES];
-    sets::mark_all(set, &mut inside);
+    marks::mark_all(set, &mut inside);
     models::close(table, rules, atoms, &inside, marks);
     answers::judge(table, rules, atoms, &inside, marks)
 }

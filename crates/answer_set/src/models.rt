@@ -1,11 +1,11 @@
 // The least model of a reduct, as marks. The set M is lent as marks too: `inside` holds 1 at each number of M.
 ghost use mathlib.Core.Path.{_≡_};
 ghost use mathlib.Core.Bool.{true};
-ghost use Rattle.answer_set.specs.SetTest.{ruleAt, shapeSound, rulesAt, soundRules, marked, literalHolds, bodyHolds, gives, giveHead, giveHeads, giveRule, round, rounds};
-ghost use Rattle.answer_set.specs.Private.{Marking};
-use crate::marks;
-use crate::tables;
+ghost use Rattle.aspif.specs.Tables.{ruleAt, shapeSound, rulesAt, soundRules};
+ghost use Rattle.marks.specs.Marks.{marked, Marking};
+ghost use Rattle.answer_set.specs.SetTest.{literalHolds, bodyHolds, gives, giveHead, giveHeads, giveRule, round, rounds};
 use aspif::Kind;
+use aspif::tables;
 
 // A positive literal's atom is marked; a negated one's is outside M.
 fn literal_holds(word: i32, inside: &[u8], marks: &[u8]) -> bool
@@ -45,7 +45,8 @@ fn gives_head(kind: Kind, inside: &[u8], v: usize) -> bool
 
 // A head that its rule gives is marked; whether it was not.
 fn give_head(head: i32, kind: Kind, inside: &[u8], marks: &mut [u8]) -> bool
-    ensures { λ r. ⌜ Marking (giveHead (marked (now (inside .entry))) kind head (now (marks .entry))) (now (marks .entry)) (now (marks .exit)) r ⌝ }
+    ensures { λ r. ⌜ Marking (giveHead (marked (now (inside .entry))) kind head (now (marks .entry))) (now (marks .entry))
+        (now (marks .exit)) r ⌝ }
 {
     let v = words::variable_of(head);
     if gives_head(kind, inside, v) {
@@ -56,7 +57,8 @@ fn give_head(head: i32, kind: Kind, inside: &[u8], marks: &mut [u8]) -> bool
 
 // So for every head of a rule; whether a mark is new.
 fn give_heads(heads: &[i32], kind: Kind, inside: &[u8], marks: &mut [u8]) -> bool
-    ensures { λ r. ⌜ Marking (giveHeads (marked (now (inside .entry))) kind (now (heads .entry)) (now (marks .entry))) (now (marks .entry)) (now (marks .exit)) r ⌝ }
+    ensures { λ r. ⌜ Marking (giveHeads (marked (now (inside .entry))) kind (now (heads .entry)) (now (marks .entry)))
+        (now (marks .entry)) (now (marks .exit)) r ⌝ }
 {
     let mut new = false;
     let mut i = 0;
@@ -72,7 +74,8 @@ fn give_heads(heads: &[i32], kind: Kind, inside: &[u8], marks: &mut [u8]) -> boo
 // The rule at the front marks what it gives; whether a mark is new.
 fn give_rule(words: &[i32], inside: &[u8], marks: &mut [u8]) -> bool
     requires { ⌜ shapeSound (now words) ≡ true ⌝ }
-    ensures { λ r. ⌜ Marking (giveRule (marked (now (inside .entry))) (ruleAt (now (words .entry))) (now (marks .entry))) (now (marks .entry)) (now (marks .exit)) r ⌝ }
+    ensures { λ r. ⌜ Marking (giveRule (marked (now (inside .entry))) (ruleAt (now (words .entry))) (now (marks .entry)))
+        (now (marks .entry)) (now (marks .exit)) r ⌝ }
 {
     if body_holds(tables::body_of(words), inside, marks) {
         let kind = tables::kind_of(words);
@@ -84,7 +87,8 @@ fn give_rule(words: &[i32], inside: &[u8], marks: &mut [u8]) -> bool
 // One round over the rules; whether a mark is new.
 fn give_all(table: &[i32], rules: usize, inside: &[u8], marks: &mut [u8]) -> bool
     requires { ⌜ soundRules rules (now table) ≡ true ⌝ }
-    ensures { λ r. ⌜ Marking (round (marked (now (inside .entry))) (rulesAt rules (now (table .entry))) (now (marks .entry))) (now (marks .entry)) (now (marks .exit)) r ⌝ }
+    ensures { λ r. ⌜ Marking (round (marked (now (inside .entry))) (rulesAt rules (now (table .entry))) (now (marks .entry)))
+        (now (marks .entry)) (now (marks .exit)) r ⌝ }
 {
     let mut new = false;
     let mut left = rules;
@@ -94,7 +98,7 @@ fn give_all(table: &[i32], rules: usize, inside: &[u8], marks: &mut [u8]) -> boo
         if give_rule(rest, inside, marks) {
             new = true;
         }
-        i += tables::rule_size(rest);
+        i = tables::next_rule(table, i);
         left -= 1;
     }
     new
@@ -103,7 +107,8 @@ fn give_all(table: &[i32], rules: usize, inside: &[u8], marks: &mut [u8]) -> boo
 // Rounds until no mark is new, and at most so many.
 pub fn close(table: &[i32], rules: usize, most: usize, inside: &[u8], marks: &mut [u8])
     requires { ⌜ soundRules rules (now table) ≡ true ⌝ }
-    ensures { λ _. ⌜ now (marks .exit) ≡ rounds (marked (now (inside .entry))) most (rulesAt rules (now (table .entry))) (now (marks .entry)) ⌝ }
+    ensures { λ _. ⌜ now (marks .exit) ≡ rounds (marked (now (inside .entry))) most (rulesAt rules (now (table .entry)))
+        (now (marks .entry)) ⌝ }
 {
     let mut left = most;
     while 0 < left {

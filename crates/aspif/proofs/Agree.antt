@@ -11,15 +11,16 @@ use lib.Dec.{eqb, leb}
 use lib.IntN.{ℤ, pos}
 use lib.ListN.{length, take, drop, getD, replicate, length-replicate, getD-replicate, length-drop, List·getD-eq-default}
 use lib.Seq.{sets, sets-eq, drop-append-le, take-append-le}
+use Rattle.words.specs.Limits.{mostLiterals}
 use Rattle.words.specs.Literals.{variable, same}
 use Rattle.words.proofs.Laws.{sets-in, sets-after}
-use Rattle.aspif.specs.Reading.{isAt, isCount, bodyShape, headShape, shapeOf, isLast, ruleOf}
+use Rattle.aspif.specs.Reading.{isAt, isCountAt, bodyShape, headShape, shapeOf, isLast, ruleOf}
 use Rattle.aspif.specs.Turns.{rowSize}
 use Rattle.aspif.specs.declared.Kind.{Kind}
 use Rattle.aspif.specs.declared.Kind.the-variants.{Normal, Choice}
 use Rattle.aspif.specs.declared.rules.Shape.{Shape}
 use Rattle.aspif.specs.declared.rules.Shape.the-variants.{Wrong, Shaped}
-use Rattle.aspif.proofs.Counts.{count-small, Counted, shape-counted}
+use Rattle.aspif.proofs.Counts.{count-small-at, Counted, shape-counted}
 use Rattle.words.proofs.Lists.{and-left}
 
 -- the row that holds a line's numbers, as many as it has room for, and 0 after them
@@ -43,20 +44,20 @@ module _ (a b : List ℤ) (n : ℕ) (f : (i : ℕ) → i < rowSize → getD a i 
   at-agree : (i : ℕ) (z : ℤ) → i < rowSize → isAt a n i z ≡ isAt b n i z
   at-agree i z h = rw (f i h)
 
-  count-agree : (i : ℕ) → i < rowSize → isCount a n i ≡ isCount b n i
+  count-agree : (i : ℕ) → i < rowSize → isCountAt a n i ≡ isCountAt b n i
   count-agree i h = rw (f i h)
 
-  body-agree : (k : Kind) (h : ℕ) → h ≤ 64 → bodyShape a n k h ≡ bodyShape b n k h
+  body-agree : (k : Kind) (h : ℕ) → h ≤ mostLiterals → bodyShape a n k h ≡ bodyShape b n k h
   body-agree k h l = rw (at-agree (3 + h) (pos 0) (omega arith), count-agree (4 + h) (omega arith), f (4 + h) (omega arith))
 
   head-agree : (k : Kind) → headShape a n k ≡ headShape b n k
-  head-agree k = rw (count-agree 2 (omega arith), f 2 (omega arith)) (by (isCount b n 2 && leb (3 + h) n) refl)
+  head-agree k = rw (count-agree 2 (omega arith), f 2 (omega arith)) (by (isCountAt b n 2 && leb (3 + h) n) refl)
     where
       h : ℕ
       h = variable (getD b 2 (pos 0))
 
-      by : (t : Bool) → (isCount b n 2 && leb (3 + h) n) ≡ t → cond t (bodyShape a n k h) (Wrong 6) ≡ cond t (bodyShape b n k h) (Wrong 6)
-      by true e = body-agree k h (count-small b n 2 (and-left (isCount b n 2) (leb (3 + h) n) e))
+      by : (t : Bool) → (isCountAt b n 2 && leb (3 + h) n) ≡ t → cond t (bodyShape a n k h) (Wrong 6) ≡ cond t (bodyShape b n k h) (Wrong 6)
+      by true e = body-agree k h (count-small-at b n 2 (and-left (isCountAt b n 2) (leb (3 + h) n) e))
       by false e = refl
 
   pub shape-agree : shapeOf a n ≡ shapeOf b n

@@ -9,49 +9,52 @@ use lib.Dec.{eqb, ltb, leb}
 use lib.IntN.{ℤ, pos}
 use lib.Signed.{leZ}
 use lib.ListN.{getD}
+use Rattle.words.specs.Limits.{mostLiterals}
 use Rattle.words.specs.Literals.{variable}
-use Rattle.words.proofs.Lists.{and-left, and-right}
-use Rattle.aspif.specs.Reading.{isAt, isCount, suited, bodyShape, headShape, shapeOf}
+use Rattle.aspif.specs.Rules.{suits, isCount}
+use Rattle.words.proofs.Lists.{and-left, and-right, by-test}
+use Rattle.aspif.specs.Reading.{isAt, isCountAt, suited, bodyShape, headShape, shapeOf}
 use Rattle.aspif.specs.declared.Kind.{Kind}
 use Rattle.aspif.specs.declared.Kind.the-variants.{Normal, Choice}
 use Rattle.aspif.specs.declared.rules.Shape.{Shape}
 use Rattle.aspif.specs.declared.rules.Shape.the-variants.{Wrong, Shaped}
 
 -- a count is at most 64
-pub count-small : (zs : List ℤ) (count i : ℕ) → isCount zs count i ≡ true → variable (getD zs i (pos 0)) ≤ 64
-count-small zs count i e = leb-true _ _ (and-right (leZ (pos 0) (getD zs i (pos 0))) _ (and-right (ltb i count) _ e))
+pub count-small : (w : ℤ) → isCount w ≡ true → variable w ≤ mostLiterals
+count-small w e = leb-true (variable w) mostLiterals (and-right (leZ (pos 0) w) _ e)
+
+pub count-small-at : (zs : List ℤ) (count i : ℕ) → isCountAt zs count i ≡ true → variable (getD zs i (pos 0)) ≤ mostLiterals
+count-small-at zs count i e = count-small (getD zs i (pos 0)) (and-right (ltb i count) _ e)
 
 -- what a rule line's shape says of its counts
 abbrev pub Counted : ℕ → Shape → Type 0
 Counted n (Wrong k) = Unit {0}
-Counted n (Shaped k h b) = (h ≤ 64) × (b ≤ 64) × (5 + h + b ≡ n)
+Counted n (Shaped k h b) = (h ≤ mostLiterals) × (b ≤ mostLiterals) × (5 + h + b ≡ n)
 
 by : (n : ℕ) (t : Bool) (x y : Shape) → (t ≡ true → Counted n x) → Counted n y → Counted n (cond t x y)
-by n true x y f g = f refl
-by n false x y f g = g
+by n t x y f g = by-test (Counted n) t f (λ e. g)
 
-suited-counted : (n : ℕ) (k : Kind) (h b : ℕ) → h ≤ 64 → b ≤ 64 → 5 + h + b ≡ n → Counted n (suited k h b)
-suited-counted n Normal h b p q e = by n (leb h 1) (Shaped Normal h b) (Wrong 7) (λ t. (p, q, e)) tt
-suited-counted n Choice h b p q e = by n (leb 1 h) (Shaped Choice h b) (Wrong 7) (λ t. (p, q, e)) tt
+suited-counted : (n : ℕ) (k : Kind) (h b : ℕ) → h ≤ mostLiterals → b ≤ mostLiterals → 5 + h + b ≡ n → Counted n (suited k h b)
+suited-counted n k h b p q e = by n (suits k h) (Shaped k h b) (Wrong 7) (λ t. (p, q, e)) tt
 
 module _ (zs : List ℤ) (n : ℕ) where
-  body-counted : (k : Kind) (h : ℕ) → h ≤ 64 → Counted n (bodyShape zs n k h)
+  body-counted : (k : Kind) (h : ℕ) → h ≤ mostLiterals → Counted n (bodyShape zs n k h)
   body-counted k h p =
       let b = variable (getD zs (4 + h) (pos 0)) in
       by n (isAt zs n (3 + h) (pos 0)) _ (Wrong 5)
       (λ t.
-      by n (isCount zs n (4 + h) && eqb (5 + h + b) n) (suited k h b) (Wrong 6)
+      by n (isCountAt zs n (4 + h) && eqb (5 + h + b) n) (suited k h b) (Wrong 6)
       (λ u.
-      suited-counted n k h b p (count-small zs n (4 + h) (and-left (isCount zs n (4 + h)) (eqb (5 + h + b) n) u))
-      (eqb-true (5 + h + b) n (and-right (isCount zs n (4 + h)) (eqb (5 + h + b) n) u)))
+      suited-counted n k h b p (count-small-at zs n (4 + h) (and-left (isCountAt zs n (4 + h)) (eqb (5 + h + b) n) u))
+      (eqb-true (5 + h + b) n (and-right (isCountAt zs n (4 + h)) (eqb (5 + h + b) n) u)))
       tt)
       tt
 
   head-counted : (k : Kind) → Counted n (headShape zs n k)
   head-counted k =
       let h = variable (getD zs 2 (pos 0)) in
-      by n (isCount zs n 2 && leb (3 + h) n) (bodyShape zs n k h) (Wrong 6)
-      (λ t. body-counted k h (count-small zs n 2 (and-left (isCount zs n 2) (leb (3 + h) n) t))) tt
+      by n (isCountAt zs n 2 && leb (3 + h) n) (bodyShape zs n k h) (Wrong 6)
+      (λ t. body-counted k h (count-small-at zs n 2 (and-left (isCountAt zs n 2) (leb (3 + h) n) t))) tt
 
   pub shape-counted : Counted n (shapeOf zs n)
   unfolding shapeOf

@@ -12,26 +12,27 @@ use lib.IntN.{ℤ, pos}
 use lib.Signed.{ltZ}
 use lib.ListN.{length, take, drop, length-append, length-drop}
 use lib.Seq.{length-take-le}
-use Rattle.words.specs.Lists.{_∈_, all, joinAll}
+use Rattle.words.specs.Lists.{_∈_, all, concat}
 use Rattle.words.specs.Literals.{has, rising, ascending}
-use Rattle.words.proofs.Lists.{Decides, itself, passed, failed, not-decides, all-decides}
+use Rattle.words.proofs.Lists.{Decides, itself, passed, failed, not-decides, all-decides, or-false-left, or-false-right, by-test, and-left, and-right}
 use Rattle.words.proofs.Literals.{has-decides, ascending→}
 use Rattle.words.proofs.Sorting.{length-ascending, rising-ascending}
 use Rattle.text.specs.Line.{Line, broken, numbers, lineOf, outside, anyOutside}
-use Rattle.aspif.specs.Rules.{Rule, ruleWords, programWords}
-use Rattle.aspif.specs.Reading.{mostLiterals, mostRules, suited, isAt, isCount, bodyShape, headShape, shapeOf, headsGood, bodyGood, RuleRead, fails, reads, ruleOf, Turn, refuses, ends, adds, isLast, room, turnOf, onward, linesFrom, refused, program, header, startsWith, readLines}
+use Rattle.words.proofs.Segments.{record-append}
+use Rattle.aspif.specs.Rules.{Rule, suits, ruleWords, programWords}
+use Rattle.words.specs.Limits.{mostLiterals, mostRules}
+use Rattle.aspif.specs.Reading.{suited, isAt, isCountAt, bodyShape, headShape, shapeOf, headsGood, bodyGood, RuleRead, fails, reads, ruleOf, Turn, refuses, ends, adds, isLast, room, turnOf, linesFrom, Reading, refused, program, header, startsWith, readLines}
 use Rattle.aspif.specs.declared.Kind.{Kind}
 use Rattle.aspif.specs.declared.Kind.the-variants.{Normal, Choice}
 use Rattle.aspif.specs.declared.rules.Shape.{Shape}
 use Rattle.aspif.specs.declared.rules.Shape.the-variants.{Wrong, Shaped}
 use Rattle.aspif.proofs.Counts.{Counted, shape-counted}
-use Rattle.words.proofs.Lists.{and-left, and-right}
 
 -- A rule that passes questions 4 to 8, its heads and its body ascending
 pub record Formed (r : Rule) : Type 0 where
   pub heads-few : length (r .heads) ≤ mostLiterals
   pub body-few : length (r .body) ≤ mostLiterals
-  pub suits : suited (r .kind) (length (r .heads)) (length (r .body)) ≡ Shaped (r .kind) (length (r .heads)) (length (r .body))
+  pub headed : suits (r .kind) (length (r .heads)) ≡ true
   pub positive : all (λ h. ltZ (pos 0) h) (r .heads) ≡ true
   pub heads-rise : rising (r .heads) ≡ true
   pub nonzero : has (pos 0) (r .body) ≡ false
@@ -40,30 +41,22 @@ pub record Formed (r : Rule) : Type 0 where
   pub body-in : anyOutside (r .body) ≡ false
 
 -- A program that passes questions 9 and 10 too, for a table of `size` words
-pub record Fits (size : ℕ) (rs : List Rule) : Type 0 where
+pub record FitsTable (size : ℕ) (rs : List Rule) : Type 0 where
   pub formed : (r : Rule) → r ∈ rs → Formed r
   pub few : length rs ≤ mostRules
   pub room : length (programWords rs) ≤ size
 
 -- Sizes
 
-or-left : (a b : Bool) → (a || b) ≡ false → a ≡ false
-or-left true b e = e
-or-left false b e = refl
-
-or-right : (a b : Bool) → (a || b) ≡ false → b ≡ false
-or-right true b e = absurd (true≢false e)
-or-right false b e = e
-
 take-in : (n : ℕ) (zs : List ℤ) → anyOutside zs ≡ false → anyOutside (take n zs) ≡ false
 take-in zero zs e = refl
 take-in (suc n) [] e = refl
-take-in (suc n) (z ∷ zs) e = rw (or-left (outside z) _ e) (take-in n zs (or-right (outside z) _ e))
+take-in (suc n) (z ∷ zs) e = rw (or-false-left (outside z) _ e) (take-in n zs (or-false-right (outside z) _ e))
 
 drop-in : (n : ℕ) (zs : List ℤ) → anyOutside zs ≡ false → anyOutside (drop n zs) ≡ false
 drop-in zero zs e = e
 drop-in (suc n) [] e = e
-drop-in (suc n) (z ∷ zs) e = drop-in n zs (or-right (outside z) _ e)
+drop-in (suc n) (z ∷ zs) e = drop-in n zs (or-false-right (outside z) _ e)
 
 -- every word is inside
 pub inside-decides : (zs : List ℤ) → Decides (not (anyOutside zs)) ((z : ℤ) → z ∈ zs → T (not (outside z)))
@@ -86,23 +79,18 @@ ascending-in zs e =
 -- a shape that is no refusal suits its kind
 abbrev Suits : Shape → Type 0
 Suits (Wrong k) = Unit {0}
-Suits (Shaped k h b) = suited k h b ≡ Shaped k h b
-
-by-test : {A : Type 0} (P : A → Type 0) (t : Bool) {x y : A} → (t ≡ true → P x) → (t ≡ false → P y) → P (cond t x y)
-by-test P true f g = f refl
-by-test P false f g = g refl
+Suits (Shaped k h b) = suits k h ≡ true
 
 suited-suits : (k : Kind) (h b : ℕ) → Suits (suited k h b)
-suited-suits Normal h b = by-test Suits (leb h 1) (λ e. rw e) (λ e. tt)
-suited-suits Choice h b = by-test Suits (leb 1 h) (λ e. rw e) (λ e. tt)
+suited-suits k h b = by-test Suits (suits k h) (λ e. e) (λ e. tt)
 
 module _ (zs : List ℤ) (n : ℕ) where
   body-suits : (k : Kind) (h : ℕ) → Suits (bodyShape zs n k h)
   body-suits k h =
-      by-test Suits (isAt zs n (3 + h) (pos 0)) (λ e. by-test Suits (isCount zs n (4 + h) && eqb _ n) (λ f. suited-suits k h _) (λ f. tt)) (λ e. tt)
+      by-test Suits (isAt zs n (3 + h) (pos 0)) (λ e. by-test Suits (isCountAt zs n (4 + h) && eqb _ n) (λ f. suited-suits k h _) (λ f. tt)) (λ e. tt)
 
   head-suits : (k : Kind) → Suits (headShape zs n k)
-  head-suits k = by-test Suits (isCount zs n 2 && leb _ n) (λ e. body-suits k _) (λ e. tt)
+  head-suits k = by-test Suits (isCountAt zs n 2 && leb _ n) (λ e. body-suits k _) (λ e. tt)
 
   shape-suits : Suits (shapeOf zs n)
   unfolding shapeOf
@@ -111,13 +99,13 @@ module _ (zs : List ℤ) (n : ℕ) where
       (λ e. by-test Suits (isAt zs n 1 (pos 0)) (λ f. head-suits Normal) (λ f. by-test Suits (isAt zs n 1 (pos 1)) (λ g. head-suits Choice) (λ g. tt)))
       (λ e. tt)
 
-abbrev Reads : RuleRead → Type 0
-Reads (fails k) = Unit {0}
-Reads (reads r) = Formed r
+abbrev ReadFormed : RuleRead → Type 0
+ReadFormed (fails k) = Unit {0}
+ReadFormed (reads r) = Formed r
 
-rule-formed : (zs : List ℤ) → anyOutside zs ≡ false → (x : Shape) → Counted (length zs) x → Suits x → Reads (ruleOf zs x)
+rule-formed : (zs : List ℤ) → anyOutside zs ≡ false → (x : Shape) → Counted (length zs) x → Suits x → ReadFormed (ruleOf zs x)
 rule-formed zs o (Wrong k) c s = tt
-rule-formed zs o (Shaped k h b) c s = by-test Reads (headsGood hs && bodyGood ls) formed (λ e. tt)
+rule-formed zs o (Shaped k h b) c s = by-test ReadFormed (headsGood hs && bodyGood ls) formed (λ e. tt)
   where
     hs : List ℤ
     hs = take h (drop 3 zs)
@@ -139,7 +127,7 @@ rule-formed zs o (Shaped k h b) c s = by-test Reads (headsGood hs && bodyGood ls
         record {
           heads-few = rw many (c .0);
           body-few = rw long (c .1);
-          suits = rw (many, long) s;
+          headed = rw many s;
           positive = passed _ .to (above (ascending hs) .from (λ z i. above hs .to (passed _ .from (and-left (all (λ h. ltZ (pos 0) h) hs) _ p)) z (ascending→ hs i)));
           heads-rise = rising-ascending hs ∙ and-right (all (λ h. ltZ (pos 0) h) hs) _ p;
           nonzero = failed _ (not-decides (has-decides (pos 0) (ascending ls)) .from (λ i. not-decides (has-decides (pos 0) ls) .to (passed _ .from (and-left (not (has (pos 0) ls)) _ q)) (ascending→ ls i)));
@@ -154,7 +142,7 @@ Added rules free (refuses k) = Unit {0}
 Added rules free ends = Unit {0}
 Added rules free (adds r n) = Formed r × (rules < mostRules) × (length (ruleWords r) ≤ free)
 
-room-added : (rules free : ℕ) (x : RuleRead) (n : ℕ) → Reads x → Added rules free (room rules free x n)
+room-added : (rules free : ℕ) (x : RuleRead) (n : ℕ) → ReadFormed x → Added rules free (room rules free x n)
 room-added rules free (fails k) n f = tt
 room-added rules free (reads r) n f =
     by-test (Added rules free) (ltb rules mostRules)
@@ -170,19 +158,26 @@ turn-added rules free left (numbers zs n) =
 
 -- Line after line
 
-join-append : {A : Type 0} (k l : List (List A)) → joinAll (k ++ l) ≡ joinAll k ++ joinAll l
-join-append [] l = refl
-join-append (x ∷ k) l = rw (join-append k l) (sym (append-assoc x (joinAll k) (joinAll l)))
-
 -- the words of rules one after another
 pub words-append : (rs ss : List Rule) → programWords (rs ++ ss) ≡ programWords rs ++ programWords ss
-words-append rs ss = ap joinAll (map-append ruleWords rs ss) ∙ join-append (map ruleWords rs) (map ruleWords ss)
+words-append = record-append ruleWords
 
 length-more : (rs : List Rule) (r : Rule) → length (programWords (rs ++ (r ∷ []))) ≡ length (programWords rs) + length (ruleWords r)
 length-more rs r = ap length (words-append rs (r ∷ [])) ∙ rw (append-nil (ruleWords r)) (length-append (programWords rs) (ruleWords r))
 
+-- what is made of a turn at a line; `on` reads the text that is left after so many bytes, with the rules so far
+abbrev pub onward : (ℕ → List Rule → Reading) → List Rule → ℕ → Turn → Reading
+onward on rs line t = elim t [ refuses k ↦ refused k line | ends ↦ program rs | adds r n ↦ on n (rs ++ (r ∷ [])) ]
+
+-- one line of the reading
+pub lines-on : (size turns : ℕ) (s : List ℕ) (line : ℕ) (rs : List Rule)
+    → linesFrom size (suc turns) s line rs
+    ≡ onward (λ n. linesFrom size turns (drop n s) (line + 1)) rs line (turnOf (length rs) (size - length (programWords rs)) (length s) (lineOf s))
+unfolding linesFrom
+lines-on size turns s line rs = refl
+
 module _ (size : ℕ) where
-  fits-more : (rs : List Rule) (r : Rule) → Fits size rs → Added (length rs) (size - length (programWords rs)) (adds r 0) → Fits size (rs ++ (r ∷ []))
+  fits-more : (rs : List Rule) (r : Rule) → FitsTable size rs → Added (length rs) (size - length (programWords rs)) (adds r 0) → FitsTable size (rs ++ (r ∷ []))
   fits-more rs r f a =
       record {
         formed = λ s i. elim (List·Memᴰ·append-cases rs i) [ inl j ↦ f .formed s j | inr j ↦ rw (List·Memᴰ·eq-of-singleton j) (a .0) ];
@@ -190,24 +185,24 @@ module _ (size : ℕ) where
         room = omega (arith, length-more rs r, a .2, f .room);
       }
 
-  lines-fit : (turns : ℕ) (s : List ℕ) (line : ℕ) (so-far rs : List Rule) → Fits size so-far → linesFrom size turns s line so-far ≡ program rs → Fits size rs
+  lines-fit : (turns : ℕ) (s : List ℕ) (line : ℕ) (so-far rs : List Rule) → FitsTable size so-far → linesFrom size turns s line so-far ≡ program rs → FitsTable size rs
   unfolding linesFrom
   lines-fit zero s line so-far rs f e = absurd (let z : _≡_ {A = ℕ} 0 1 = cc in omega arith)
   lines-fit (suc turns) s line so-far rs f e =
       by (turnOf (length so-far) (size - length (programWords so-far)) (length s) (lineOf s)) (turn-added _ _ _ (lineOf s)) (λ n ss g. lines-fit turns (drop n s) (line + 1) ss rs g) e
     where
       by : (t : Turn) → Added (length so-far) (size - length (programWords so-far)) t
-          → ((n : ℕ) (ss : List Rule) → Fits size ss → linesFrom size turns (drop n s) (line + 1) ss ≡ program rs → Fits size rs)
-          → onward (λ n. linesFrom size turns (drop n s) (line + 1)) so-far line t ≡ program rs → Fits size rs
+          → ((n : ℕ) (ss : List Rule) → FitsTable size ss → linesFrom size turns (drop n s) (line + 1) ss ≡ program rs → FitsTable size rs)
+          → onward (λ n. linesFrom size turns (drop n s) (line + 1)) so-far line t ≡ program rs → FitsTable size rs
       by (refuses k) a g p = absurd (let z : _≡_ {A = ℕ} 0 1 = cc in omega arith)
       by ends a g p = let q : so-far ≡ rs = cc in rw (← q) f
       by (adds r n) a g p = g n (so-far ++ (r ∷ [])) (fits-more so-far r f a) p
 
   -- a program that is read is formed, and fits
-  pub read-fits : (text : List ℕ) (rs : List Rule) → readLines size text ≡ program rs → Fits size rs
+  pub read-fits : (text : List ℕ) (rs : List Rule) → readLines size text ≡ program rs → FitsTable size rs
   unfolding readLines
   read-fits text rs e = by (startsWith header text) e
     where
-      by : (b : Bool) → cond b (linesFrom size (suc (length text)) (drop 10 text) 2 []) (refused 2 1) ≡ program rs → Fits size rs
-      by true p = lines-fit (suc (length text)) (drop 10 text) 2 [] rs (record { formed = λ r i. elim i [ ]; few = omega arith; room = omega arith }) p
+      by : (b : Bool) → cond b (linesFrom size (suc (length text)) (drop (length header) text) 2 []) (refused 2 1) ≡ program rs → FitsTable size rs
+      by true p = lines-fit (suc (length text)) (drop (length header) text) 2 [] rs (record { formed = λ r i. elim i [ ]; few = omega arith; room = omega arith }) p
       by false p = absurd (let z : _≡_ {A = ℕ} 0 1 = cc in omega arith)

@@ -5,6 +5,9 @@ pub mod Agree
 pub mod Passes
 pub mod Fronts
 pub mod Programs
-pub mod Decimals
 pub mod Formed
 pub mod Written
+pub mod RuleTests
+pub mod Cursors
+pub mod Readable
+pub mod InTurn

@@ -16,10 +16,12 @@ use Rattle.words.proofs.Segments.{record-append}
 use Rattle.text.specs.Line.{Line, broken, numbers, lineOf, anyOutside}
 use Rattle.text.proofs.Lines.{bounds-of}
 use Rattle.aspif.specs.Rules.{Rule, ruleTop, atoms, ruleWords, programWords}
-use Rattle.aspif.specs.Reading.{mostRules, RuleRead, fails, reads, Turn, refuses, ends, adds, isLast, shapeOf, ruleOf, room, turnOf, onward, linesFrom, Reading, refused, program}
+use Rattle.words.specs.Limits.{mostRules}
+use Rattle.aspif.specs.Reading.{RuleRead, fails, reads, Turn, refuses, ends, adds, isLast, shapeOf, ruleOf, room, turnOf, linesFrom, Reading, refused, program, header}
+use Rattle.aspif.proofs.Formed.{onward, lines-on}
 use Rattle.aspif.specs.Turns.{turnTold, freeAfter, TurnTaken, LinesRead}
-use Rattle.aspif.specs.declared.lines.LineTurn.{LineTurn}
-use Rattle.aspif.specs.declared.lines.LineTurn.the-variants.{Refuses, Ends, Adds}
+use Rattle.aspif.specs.declared.rules.LineTurn.{LineTurn}
+use Rattle.aspif.specs.declared.rules.LineTurn.the-variants.{Refuses, Ends, Adds}
 use Rattle.aspif.specs.declared.lines.Lines.the-variants.{Program, Refused}
 
 -- What a turn told says of the turn
@@ -48,7 +50,7 @@ told-adds (adds r n) e = record { rule = r; is = cc; size = cc; most = cc }
 -- A rule is added only from a line of numbers, where there is room
 
 module _ (rules free left : ℕ) where
-  abbrev Room : Line → Turn → Type 0
+  abbrev pub Room : Line → Turn → Type 0
   Room l (refuses k) = Unit {0}
   Room l ends = Unit {0}
   Room l (adds r n) = ((zs : List ℤ) × (l ≡ numbers zs n)) × (rules < mostRules) × (length (ruleWords r) ≤ free)
@@ -66,7 +68,7 @@ module _ (rules free left : ℕ) where
       (λ u. ((zs, refl), ltb-true rules mostRules t, leb-true (length (ruleWords r)) free u)) tt)
       tt
 
-  turn-room : (l : Line) → Room l (turnOf rules free left l)
+  pub turn-room : (l : Line) → Room l (turnOf rules free left l)
   turn-room broken = tt
   turn-room (numbers zs n) =
       by (numbers zs n) (anyOutside zs) (refuses 4) _ (λ t. tt)
@@ -87,11 +89,11 @@ atoms-more (x ∷ rs) r = ap (λ (n : ℕ). max (ruleTop x) n) (atoms-more rs r)
 
 -- Where the loop stands
 
-pub record Stands (text : List ℕ) (table₀ table : List ℤ) (at line used rules top : ℕ) : Type 0 where
+pub record Standing (text : List ℕ) (table₀ table : List ℤ) (at line used rules top : ℕ) : Type 0 where
   pub so-far : List Rule
   pub turns : ℕ
   pub enough : length text < at + turns
-  pub reading : linesFrom (length table₀) (suc (length text)) (drop 10 text) 2 [] ≡ linesFrom (length table₀) turns (drop at text) line so-far
+  pub reading : linesFrom (length table₀) (suc (length text)) (drop (length header) text) 2 [] ≡ linesFrom (length table₀) turns (drop at text) line so-far
   pub count : rules ≡ length so-far
   pub words : used ≡ length (programWords so-far)
   pub front : take used table ≡ programWords so-far
@@ -102,7 +104,7 @@ pub record Stands (text : List ℕ) (table₀ table : List ℤ) (at line used ru
   pub fits : used ≤ length table
   pub long : length table ≡ length table₀
 
-module _ {text : List ℕ} {table₀ table : List ℤ} {at line used rules top : ℕ} (S : Stands text table₀ table at line used rules top) where
+module _ {text : List ℕ} {table₀ table : List ℤ} {at line used rules top : ℕ} (S : Standing text table₀ table at line used rules top) where
   abbrev pub rest : List ℕ
   rest = drop at text
 
@@ -127,16 +129,16 @@ module _ {text : List ℕ} {table₀ table : List ℤ} {at line used rules top :
       go (suc t) h = (t, refl)
 
   -- one turn of the reading
-  turned : linesFrom (length table₀) (suc (length text)) (drop 10 text) 2 [] ≡ onward (λ n. linesFrom (length table₀) (turn-left .0) (drop n rest) (line + 1)) (S .so-far) line turn
-  unfolding linesFrom
+  turned : linesFrom (length table₀) (suc (length text)) (drop (length header) text) 2 [] ≡ onward (λ n. linesFrom (length table₀) (turn-left .0) (drop n rest) (line + 1)) (S .so-far) line turn
   turned =
       S .reading ∙ ap (λ n. linesFrom (length table₀) n rest line (S .so-far)) (turn-left .1)
+      ∙ lines-on (length table₀) (turn-left .0) rest line (S .so-far)
       ∙ ap (λ t. onward (λ n. linesFrom (length table₀) (turn-left .0) (drop n rest) (line + 1)) (S .so-far) line t) (sym turn-is)
 
-  stands-refuses : (k : ℕ) → turn ≡ refuses k → linesFrom (length table₀) (suc (length text)) (drop 10 text) 2 [] ≡ refused k line
+  stands-refuses : (k : ℕ) → turn ≡ refuses k → linesFrom (length table₀) (suc (length text)) (drop (length header) text) 2 [] ≡ refused k line
   stands-refuses k e = turned ∙ rw e
 
-  stands-ends : turn ≡ ends → linesFrom (length table₀) (suc (length text)) (drop 10 text) 2 [] ≡ program (S .so-far)
+  stands-ends : turn ≡ ends → linesFrom (length table₀) (suc (length text)) (drop (length header) text) 2 [] ≡ program (S .so-far)
   stands-ends e = turned ∙ rw e
 
   -- a turn that adds no rule leaves the table
@@ -174,7 +176,7 @@ module _ {text : List ℕ} {table₀ table : List ℤ} {at line used rules top :
         ap (take (used + length w)) e ∙ take-at (take used table ++ w) tail (used + length w) l ∙ ap (λ (x : List ℤ). x ++ w) (S .front)
         ∙ sym (words-more (S .so-far) r)
 
-    stands-adds : Stands text table₀ next-table (at + n) (line + 1) (used + length (ruleWords r)) (rules + 1) (max (ruleTop r) top)
+    stands-adds : Standing text table₀ next-table (at + n) (line + 1) (used + length (ruleWords r)) (rules + 1) (max (ruleTop r) top)
     stands-adds =
         record {
           so-far = S .so-far ++ (r ∷ []);
@@ -194,13 +196,13 @@ module _ {text : List ℕ} {table₀ table : List ℤ} {at line used rules top :
 
 -- What the loop does with a turn
 
-module _ {text : List ℕ} {table₀ table : List ℤ} {at line used rules top : ℕ} (S : Stands text table₀ table at line used rules top)
+module _ {text : List ℕ} {table₀ table : List ℤ} {at line used rules top : ℕ} (S : Standing text table₀ table at line used rules top)
     {ys : List ℤ} {r : LineTurn} (T : TurnTaken (turn S) (free S) ys r) where
   abbrev after : List ℤ
   after = putMid used (length table - used) table ys
 
   abbrev whole : Reading
-  whole = linesFrom (length table₀) (suc (length text)) (drop 10 text) 2 []
+  whole = linesFrom (length table₀) (suc (length text)) (drop (length header) text) 2 []
 
   -- where no rule is added the table is as it was
   same-table : (t : Turn) → turn S ≡ t → freeAfter t (free S) ≡ free S → after ≡ table
@@ -226,7 +228,7 @@ module _ {text : List ℕ} {table₀ table : List ℤ} {at line used rules top :
     pub text-left : at + next ≤ length text
     pub words-left : used + words ≤ length table
     pub rules-left : rules < mostRules
-    pub stands : Stands text table₀ after (at + next) (line + 1) (used + words) (rules + 1) (max most top)
+    pub stands : Standing text table₀ after (at + next) (line + 1) (used + words) (rules + 1) (max most top)
 
   pub lines-added : {next words most : ℕ} → r ≡ Adds next words most → Onward next words most
   lines-added {next} {words} {most} e =
@@ -243,7 +245,7 @@ module _ {text : List ℕ} {table₀ table : List ℤ} {at line used rules top :
             stands = rw (size, top-is, y) (stands-adds S x next is);
           }
 
-pub stands-start : (text : List ℕ) (table : List ℤ) → 10 ≤ length text → Stands text table table 10 2 0 0 0
+pub stands-start : (text : List ℕ) (table : List ℤ) → length header ≤ length text → Standing text table table (length header) 2 0 0 0
 stands-start text table h =
     record {
       so-far = [];

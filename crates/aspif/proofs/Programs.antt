@@ -12,7 +12,7 @@ use borrow.Rule.Slice.PartMut.{putMid}
 use Rattle.words.specs.Limits.{longest}
 use Rattle.words.proofs.Parts.{put-tail, tail-of}
 use Rattle.aspif.specs.Rules.{programWords}
-use Rattle.aspif.specs.Reading.{header, startsWith, linesFrom, readLines, readText, Reading, refused, program, answerOf, tableOf, ProgramRead}
+use Rattle.aspif.specs.Reading.{header, startsWith, linesFrom, readLines, readText, Reading, refused, program, programAnswer, tableOf, ProgramRead}
 use Rattle.aspif.specs.Turns.{linesTold, Front, LinesRead}
 use Rattle.aspif.specs.declared.ProgramRefusal.{ProgramRefusal}
 use Rattle.aspif.specs.declared.ProgramReading.{ProgramReading}
@@ -21,9 +21,9 @@ use Rattle.aspif.specs.declared.lines.Lines.{Lines}
 use Rattle.aspif.specs.declared.lines.Lines as L
 
 module _ (text : List ℕ) (table : List ℤ) where
-  told : (x : Reading) → readText (length table) text ≡ x → {after : List ℤ} {r : ProgramReading} → r ≡ answerOf x → after ≡ tableOf (length table) x
+  told : (x : Reading) → readText (length table) text ≡ x → {after : List ℤ} {r : ProgramReading} → r ≡ programAnswer x → after ≡ tableOf (length table) x
       → ProgramRead text table after r
-  told x e p q = record { answer = p ∙ ap answerOf (sym e); table = q ∙ ap (tableOf (length table)) (sym e) }
+  told x e p q = record { answer = p ∙ ap programAnswer (sym e); table = q ∙ ap (tableOf (length table)) (sym e) }
 
   -- question 1
   pub read-long : longest < length text → ProgramRead text table (replicate (length table) (pos 0)) (Refused (record { number = 1; line = 0 }))
@@ -38,9 +38,9 @@ module _ (text : List ℕ) (table : List ℤ) where
 
     -- the lines after the first
     module _ (e : startsWith header text ≡ true) {after : List ℤ} {r : Lines}
-        (R : LinesRead (linesFrom (length table) (suc (length text)) (drop 10 text) 2 []) table after r) where
+        (R : LinesRead (linesFrom (length table) (suc (length text)) (drop (length header) text) 2 []) table after r) where
       abbrev lines : Reading
-      lines = linesFrom (length table) (suc (length text)) (drop 10 text) 2 []
+      lines = linesFrom (length table) (suc (length text)) (drop (length header) text) 2 []
 
       reading : readText (length table) text ≡ lines
       unfolding readText readLines

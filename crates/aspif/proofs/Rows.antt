@@ -12,11 +12,12 @@ use lib.Seq.{length-take-le, drop-drop}
 use borrow.Rule.Slice.PartMut.{putMid}
 use Rattle.words.proofs.Parts.{mid-put, after-put, before-put, length-put, mid-front, put-next}
 use Rattle.aspif.specs.Rules.{ruleWords, ruleTop}
-use Rattle.aspif.specs.Reading.{mostRules, fails, reads, ruleOf, Turn, room}
+use Rattle.words.specs.Limits.{mostRules}
+use Rattle.aspif.specs.Reading.{fails, reads, ruleOf, Turn, room}
 use Rattle.aspif.specs.Turns.{rowHeads, rowBody, rowRule, rowWords, Sorted, TurnTaken}
 use Rattle.aspif.specs.declared.Kind.{Kind}
 use Rattle.aspif.specs.declared.rules.Shape.the-variants.{Shaped}
-use Rattle.aspif.specs.declared.lines.LineTurn.the-variants.{Refuses, Adds}
+use Rattle.aspif.specs.declared.rules.LineTurn.the-variants.{Refuses, Adds}
 
 module _ (row : List ℤ) (h b : ℕ) (fits : 5 + h + b ≤ length row) where
   pub heads-long : length (rowHeads row h) ≡ h

@@ -1,7 +1,7 @@
 -- The text of a program, and that a program whose rules are formed is read back from it: `written-read`. The rules are kept as
 -- they are, since their heads and bodies ascend already. Assumes nothing.
 use mathlib.Core.Path.{_≡_, refl, sym, _∙_, ap}
-use mathlib.Core.Bool.{Bool, true, false, _||_}
+use mathlib.Core.Bool.{Bool, true, false, cond, _||_}
 use mathlib.Core.List.{List, [], _∷_, _++_, append-nil, List·Memᴰ·head, List·Memᴰ·tail, List·Memᴰ·append-cases, List·Memᴰ·eq-of-singleton, Memᴰ·append-right}
 use mathlib.Core.Logic.{inl, inr}
 use Prim.Native.Nat.{ℕ, zero, suc, _+_, _-_, _≤_, _<_}
@@ -11,19 +11,20 @@ use lib.Dec.{ltb}
 use lib.IntN.{ℤ, pos}
 use lib.ListN.{length, take, drop, getD, length-append}
 use lib.Seq.{take-append-seam, drop-append-seam, drop-append-add, getD-append-add, take-length, append-snoc}
-use Rattle.words.specs.Limits.{largest}
+use Rattle.words.specs.Limits.{largest, mostLiterals, mostRules}
 use Rattle.words.specs.Lists.{_∈_}
-use Rattle.words.specs.Literals.{variable, noneTwice, rising, insert, insertAll, ascending}
+use Rattle.words.specs.Literals.{variable, distinct, rising, insert, insertAll, ascending}
 use Rattle.words.proofs.Sorting.{rising-ascending}
 use Rattle.text.specs.Line.{numbers, lineOf, outside, anyOutside}
 use Rattle.text.proofs.Lines.{bounds-of}
 use Rattle.aspif.specs.Rules.{Rule, kindWord, ruleWords, programWords}
-use Rattle.aspif.specs.Reading.{mostLiterals, mostRules, suited, bodyShape, headShape, shapeOf, headsGood, bodyGood, reads, ruleOf, adds, isLast, room, turnOf, linesFrom, program, header, readLines}
+use Rattle.aspif.specs.Reading.{suited, bodyShape, headShape, shapeOf, headsGood, bodyGood, reads, ruleOf, adds, isLast, room, turnOf, linesFrom, program, header, readLines}
 use Rattle.aspif.specs.declared.Kind.{Kind}
 use Rattle.aspif.specs.declared.Kind.the-variants.{Normal, Choice}
+use Rattle.aspif.specs.declared.rules.Shape.the-variants.{Wrong, Shaped}
 use Rattle.words.proofs.Lists.{and-left, and-right}
-use Rattle.aspif.proofs.Decimals.{lineBytes, line-read}
-use Rattle.aspif.proofs.Formed.{Formed, Fits, words-append}
+use Rattle.text.proofs.Decimals.{lineBytes, line-read}
+use Rattle.aspif.proofs.Formed.{Formed, FitsTable, words-append, lines-on}
 
 -- Words that rise are in order
 
@@ -55,7 +56,7 @@ unfolding insertAll
 in-order [] e = refl
 in-order (x ∷ l) e = insert-rising [] x l (λ y i. elim i [ ]) e
 
-rising-once : (l : List ℤ) → rising l ≡ true → noneTwice l ≡ true
+rising-once : (l : List ℤ) → rising l ≡ true → distinct l ≡ true
 rising-once l e = sym (rising-ascending l) ∙ ap rising (in-order l e) ∙ e
 
 -- A rule's line
@@ -143,7 +144,7 @@ module _ (r : Rule) (f : Formed r) where
 
   rule-is : ruleOf line (shapeOf line (length line)) ≡ reads r
   rule-is =
-      rw (shape-is (r .kind) (r .heads) (r .body) (f .heads-few) (f .body-few) ∙ f .suits, the-heads (r .kind) (r .heads) (r .body), the-body (r .kind) (r .heads) (r .body), heads-good, body-good, in-order (r .heads) (f .heads-rise), in-order (r .body) (f .body-rise))
+      rw (shape-is (r .kind) (r .heads) (r .body) (f .heads-few) (f .body-few) ∙ ap (λ b. cond b (Shaped (r .kind) (length (r .heads)) (length (r .body))) (Wrong 7)) (f .headed), the-heads (r .kind) (r .heads) (r .body), the-body (r .kind) (r .heads) (r .body), heads-good, body-good, in-order (r .heads) (f .heads-rise), in-order (r .body) (f .body-rise))
 
   turn-is : (rules free left n : ℕ) → rules < mostRules → length (ruleWords r) ≤ free → turnOf rules free left (numbers line n) ≡ adds r n
   turn-is rules free left n p q = rw (line-in, not-last, rule-is, lt-ltb rules mostRules p, le-leb (length (ruleWords r)) free q)
@@ -175,11 +176,12 @@ last-line : lineOf (lineBytes (pos 0) []) ≡ numbers (pos 0 ∷ []) (length (li
 last-line = rw (append-nil (lineBytes (pos 0) [])) at (line-read (pos 0) [] [])
 
 module _ (size : ℕ) where
-  lines-read : (rs so-far : List Rule) (turns line : ℕ) → Fits size (so-far ++ rs) → length rs < turns → linesFrom size turns (programBytes rs) line so-far ≡ program (so-far ++ rs)
+  lines-read : (rs so-far : List Rule) (turns line : ℕ) → FitsTable size (so-far ++ rs) → length rs < turns → linesFrom size turns (programBytes rs) line so-far ≡ program (so-far ++ rs)
   unfolding linesFrom programBytes ruleBytes
   lines-read rs so-far zero line f h = absurd (omega arith)
   lines-read [] so-far (suc turns) line f h =
-      let n = length (lineBytes (pos 0) []) in rw (append-nil so-far, last-line, eq-eqb n n refl)
+      let n = length (lineBytes (pos 0) []) in
+      lines-on size turns (lineBytes (pos 0) []) line so-far ∙ rw (append-nil so-far, last-line, eq-eqb n n refl)
   lines-read (r ∷ rs) so-far (suc turns) line f h =
       let free = size - length (programWords so-far) in
       let left = length (ruleBytes r ++ programBytes rs) in
@@ -188,11 +190,12 @@ module _ (size : ℕ) where
       let q : length (ruleWords r) ≤ free = omega (arith, f .room, ap length (words-append so-far (r ∷ rs)), length-append (programWords so-far) (programWords (r ∷ rs)), length-append (ruleWords r) (programWords rs)) in
       let t : turnOf (length so-far) free left (lineOf (ruleBytes r ++ programBytes rs)) ≡ adds r (length (ruleBytes r)) =
       ap (turnOf (length so-far) free left) (line-read (pos 1) (after (r .kind) (r .heads) (r .body)) (programBytes rs)) ∙ turn-is r g (length so-far) free left (length (ruleBytes r)) p q in
-      rw (t, drop-append-seam (ruleBytes r) (programBytes rs))
+      lines-on size turns (ruleBytes r ++ programBytes rs) line so-far
+      ∙ rw (t, drop-append-seam (ruleBytes r) (programBytes rs))
       (lines-read rs (so-far ++ (r ∷ [])) turns (line + 1) (rw (append-snoc so-far r rs) f) (omega arith) ∙ ap program (append-snoc so-far r rs))
 
   -- a program that is formed and fits is read from its text
-  pub written-read : (rs : List Rule) → Fits size rs → readLines size (textOf rs) ≡ program rs
+  pub written-read : (rs : List Rule) → FitsTable size rs → readLines size (textOf rs) ≡ program rs
   unfolding readLines textOf
   written-read rs f =
       lines-read rs [] (suc (length (textOf rs))) 2 f (omega (arith, more-bytes rs, length-append header (programBytes rs)))

@@ -2,3 +2,6 @@
 pub mod Rules
 pub mod Reading
 pub mod Turns
+pub mod Tables
+pub mod AnswerSets
+pub mod Claims

@@ -8,10 +8,11 @@ use lib.IntN.{ℤ, pos}
 use lib.ListN.{length, take, drop}
 use Rattle.words.specs.Literals.{ascending}
 use Rattle.aspif.specs.Rules.{Rule, atoms, ruleTop, kindWord, ruleWords, programWords}
-use Rattle.aspif.specs.Reading.{mostLiterals, headsGood, bodyGood, Turn, refuses, ends, adds, Reading, refused, program}
+use Rattle.words.specs.Limits.{mostLiterals}
+use Rattle.aspif.specs.Reading.{headsGood, bodyGood, Turn, refuses, ends, adds, Reading, refused, program}
 use Rattle.aspif.specs.declared.Kind.{Kind}
-use Rattle.aspif.specs.declared.lines.LineTurn.{LineTurn}
-use Rattle.aspif.specs.declared.lines.LineTurn.the-variants.{Refuses, Ends, Adds}
+use Rattle.aspif.specs.declared.rules.LineTurn.{LineTurn}
+use Rattle.aspif.specs.declared.rules.LineTurn.the-variants.{Refuses, Ends, Adds}
 use Rattle.aspif.specs.declared.lines.Lines.{Lines}
 use Rattle.aspif.specs.declared.lines.Lines.the-variants.{Program, Refused}
 

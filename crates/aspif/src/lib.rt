@@ -2,6 +2,7 @@
 // The public service is `read_program`; what it means is specs/Reading.antt.
 mod lines;
 mod rules;
+pub mod tables;
 
 ghost use mathlib.Core.Path.{_≡_};
 ghost use lib.IntN.{pos};
@@ -9,11 +10,6 @@ ghost use lib.ListN.{length, replicate};
 ghost use Rattle.aspif.specs.Reading.{ProgramRead};
 ghost use Rattle.aspif.specs.declared.ProgramReading.the-variants.{Refused};
 use lines::Lines;
-
-// The most rules of a program, and the most heads and body literals of a rule.
-pub const MOST_RULES: usize = 1024;
-
-pub const MOST_LITERALS: usize = 64;
 
 // "head kind (0 normal, 1 choice)".
 pub enum Kind {

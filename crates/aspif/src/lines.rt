@@ -8,22 +8,19 @@ ghost use lib.IntN.{pos};
 ghost use lib.ListN.{length, drop, getD};
 ghost use Rattle.words.specs.Literals.{same};
 ghost use Rattle.text.specs.Line.{lineOf};
-ghost use Rattle.aspif.specs.Reading.{turnOf, linesFrom, startsWith};
+ghost use Rattle.aspif.specs.Reading.{turnOf, linesFrom, header, startsWith};
 ghost use Rattle.aspif.specs.Turns.{TurnTaken, LinesRead};
 use crate::ProgramRefusal;
 use crate::rules;
+use crate::rules::LineTurn;
 use text::LineRead;
+use words::MOST_LITERALS;
 
-// What a line makes of the reading: it is refused, it ends the text, or a rule is added.
-pub enum LineTurn {
-    Refuses(u8),
-    Ends,
-    Adds {
-        next: usize,
-        words: usize,
-        top: usize,
-    },
-}
+// The numbers of the longest rule line: three before the heads, two before the body, and both parts.
+const ROW: usize = 5 + MOST_LITERALS + MOST_LITERALS;
+
+// The bytes of line 1, `asp 1 0 0` and its newline.
+const HEADER: usize = 10;
 
 // What the lines after the first make: the largest atom, the rules and the words that they take in the table; or a refusal.
 pub enum Lines {
@@ -48,9 +45,10 @@ fn is_last(row: &[i32], count: usize) -> bool
 
 // Questions 3 to 11 of the line that the rest of the text begins with; a rule then stands at the front of the free words.
 fn read_rule(rest: &[u8], free: &mut [i32], rules: usize) -> LineTurn
-    ensures { λ r. ⌜ TurnTaken (turnOf rules (length (now (free .entry))) (length (now (rest .entry))) (lineOf (now (rest .entry)))) (now (free .entry)) (now (free .exit)) r ⌝ }
+    ensures { λ r. ⌜ TurnTaken (turnOf rules (length (now (free .entry))) (length (now (rest .entry)))
+        (lineOf (now (rest .entry)))) (now (free .entry)) (now (free .exit)) r ⌝ }
 {
-    let mut row = [0i32; 133];
+    let mut row = [0i32; ROW];
     let read = text::read_line(rest, &mut row);
     match read {
         LineRead::Broken => LineTurn::Refuses(3),
@@ -93,10 +91,11 @@ pub fn starts_with(text: &[u8], front: &[u8]) -> bool
 
 // The lines after the first, up to the line `0` or the first that is refused.
 pub fn read_lines(text: &[u8], table: &mut [i32]) -> Lines
-    requires { ⌜ 10 ≤ length (now text) ⌝ }
-    ensures { λ r. ⌜ LinesRead (linesFrom (length (now (table .entry))) (suc (length (now (text .entry)))) (drop 10 (now (text .entry))) 2 []) (now (table .entry)) (now (table .exit)) r ⌝ }
+    requires { ⌜ length header ≤ length (now text) ⌝ }
+    ensures { λ r. ⌜ LinesRead (linesFrom (length (now (table .entry))) (suc (length (now (text .entry))))
+        (drop (length header) (now (text .entry))) 2 []) (now (table .entry)) (now (table .exit)) r ⌝ }
 {
-    let mut at = 10;
+    let mut at = HEADER;
     let mut line = 2;
     let mut used = 0;
     let mut rules = 0;

@@ -6,12 +6,23 @@ ghost use lib.IntN.{pos};
 ghost use lib.ListN.{length, drop};
 ghost use Rattle.words.specs.Literals.{ascending};
 ghost use Rattle.aspif.specs.Rules.{kindWord};
-ghost use Rattle.aspif.specs.Reading.{isAt, isCount, suited, bodyShape, headShape, shapeOf, headsGood, bodyGood, reads, ruleOf, room};
+ghost use Rattle.words.specs.Limits.{mostLiterals};
+ghost use Rattle.aspif.specs.Reading.{isAt, isCountAt, suited, bodyShape, headShape, shapeOf, headsGood, bodyGood, reads, ruleOf, room};
 ghost use Rattle.aspif.specs.Turns.{rowSize, rowRule, rowWords, Sorted, TurnTaken};
 use crate::Kind;
-use crate::MOST_LITERALS;
-use crate::MOST_RULES;
-use crate::lines::LineTurn;
+use crate::tables;
+use words::MOST_RULES;
+
+// What a line makes of the reading: it is refused, it ends the text, or a rule is added.
+pub enum LineTurn {
+    Refuses(u8),
+    Ends,
+    Adds {
+        next: usize,
+        words: usize,
+        top: usize,
+    },
+}
 
 // The first of questions 5 to 7 that a line fails, or a rule line's head kind, head count and body count.
 pub enum Shape {
@@ -35,46 +46,32 @@ fn is_at(row: &[i32], count: usize, i: usize, n: i32) -> bool
 }
 
 // Number i of the line is there, and 0 to 64.
-fn is_count(row: &[i32], count: usize, i: usize) -> bool
-    ensures { λ r. ⌜ r ≡ isCount (now (row .entry)) count i ⌝ }
+fn is_count_at(row: &[i32], count: usize, i: usize) -> bool
+    ensures { λ r. ⌜ r ≡ isCountAt (now (row .entry)) count i ⌝ }
 {
-    if count <= i {
-        return false;
+    if i < count {
+        return tables::is_count(row, i);
     }
-    let word = words::word_at(row, i);
-    if 0 <= word {
-        words::variable_of(word) <= MOST_LITERALS
-    } else {
-        false
-    }
+    false
 }
 
 // Question 7.
 fn suited_shape(kind: Kind, heads: usize, body: usize) -> Shape
     ensures { λ r. ⌜ r ≡ suited kind heads body ⌝ }
 {
-    match kind {
-        Kind::Normal => {
-            if heads <= 1 {
-                return Shape::Shaped { kind, heads, body };
-            }
-        }
-        Kind::Choice => {
-            if 1 <= heads {
-                return Shape::Shaped { kind, heads, body };
-            }
-        }
+    if tables::suits_kind(kind, heads) {
+        return Shape::Shaped { kind, heads, body };
     }
     Shape::Wrong(7)
 }
 
 // The body kind and the body count, after the heads.
 fn body_shape(row: &[i32], count: usize, kind: Kind, heads: usize) -> Shape
-    requires { ⌜ heads ≤ 64 ⌝ }
+    requires { ⌜ heads ≤ mostLiterals ⌝ }
     ensures { λ r. ⌜ r ≡ bodyShape (now (row .entry)) count kind heads ⌝ }
 {
     if is_at(row, count, 3 + heads, 0) {
-        if is_count(row, count, 4 + heads) {
+        if is_count_at(row, count, 4 + heads) {
             let body = words::variable_of(words::word_at(row, 4 + heads));
             if 5 + heads + body == count {
                 return suited_shape(kind, heads, body);
@@ -89,7 +86,7 @@ fn body_shape(row: &[i32], count: usize, kind: Kind, heads: usize) -> Shape
 fn head_shape(row: &[i32], count: usize, kind: Kind) -> Shape
     ensures { λ r. ⌜ r ≡ headShape (now (row .entry)) count kind ⌝ }
 {
-    if is_count(row, count, 2) {
+    if is_count_at(row, count, 2) {
         let heads = words::variable_of(words::word_at(row, 2));
         if 3 + heads <= count {
             return body_shape(row, count, kind, heads);
@@ -133,7 +130,7 @@ fn sort_body(part: &mut [i32]) -> bool
 
 // Question 8 of a rule line, whose heads and body ascend afterwards.
 fn sort_parts(row: &mut [i32], heads: usize, body: usize) -> bool
-    requires { ⌜ (heads ≤ 64) × (body ≤ 64) × (5 + heads + body ≤ length (now row)) ⌝ }
+    requires { ⌜ (heads ≤ mostLiterals) × (body ≤ mostLiterals) × (5 + heads + body ≤ length (now row)) ⌝ }
     ensures { λ r. ⌜ Sorted (now (row .entry)) (now (row .exit)) heads body r ⌝ }
 {
     let after = 3 + heads;
@@ -159,7 +156,7 @@ fn kind_word(kind: Kind) -> i32
 
 // A rule's head kind, head count and body count at the front of the free words.
 fn write_counts(free: &mut [i32], kind: Kind, heads: usize, body: usize)
-    requires { ⌜ (heads ≤ 64) × (body ≤ 64) × (3 ≤ length (now free)) ⌝ }
+    requires { ⌜ (heads ≤ mostLiterals) × (body ≤ mostLiterals) × (3 ≤ length (now free)) ⌝ }
     ensures { λ _. ⌜ now (free .exit) ≡ (kindWord kind ∷ pos heads ∷ pos body ∷ []) ++ drop 3 (now (free .entry)) ⌝ }
 {
     free[0] = kind_word(kind);
@@ -169,8 +166,10 @@ fn write_counts(free: &mut [i32], kind: Kind, heads: usize, body: usize)
 
 // The words of a rule at the front of the free words: its heads and body stand in the row as in the line.
 fn write_rule(free: &mut [i32], row: &[i32], kind: Kind, heads: usize, body: usize)
-    requires { ⌜ (heads ≤ 64) × (body ≤ 64) × (5 + heads + body ≤ length (now row)) × (3 + heads + body ≤ length (now free)) ⌝ }
-    ensures { λ _. ⌜ now (free .exit) ≡ rowWords (now (row .entry)) kind heads body ++ drop (3 + heads + body) (now (free .entry)) ⌝ }
+    requires { ⌜ (heads ≤ mostLiterals) × (body ≤ mostLiterals) × (5 + heads + body ≤ length (now row))
+        × (3 + heads + body ≤ length (now free)) ⌝ }
+    ensures { λ _. ⌜ now (free .exit) ≡ rowWords (now (row .entry)) kind heads body
+        ++ drop (3 + heads + body) (now (free .entry)) ⌝ }
 {
     write_counts(free, kind, heads, body);
     let after = 3 + heads;
@@ -190,8 +189,9 @@ fn add_rule(
     next: usize,
     rules: usize,
 ) -> LineTurn
-    requires { ⌜ (heads ≤ 64) × (body ≤ 64) × (5 + heads + body ≤ length (now row)) ⌝ }
-    ensures { λ r. ⌜ TurnTaken (room rules (length (now (free .entry))) (reads (rowRule (now (row .entry)) kind heads body)) next) (now (free .entry)) (now (free .exit)) r ⌝ }
+    requires { ⌜ (heads ≤ mostLiterals) × (body ≤ mostLiterals) × (5 + heads + body ≤ length (now row)) ⌝ }
+    ensures { λ r. ⌜ TurnTaken (room rules (length (now (free .entry)))
+        (reads (rowRule (now (row .entry)) kind heads body)) next) (now (free .entry)) (now (free .exit)) r ⌝ }
 {
     if MOST_RULES <= rules {
         return LineTurn::Refuses(9);
@@ -222,7 +222,8 @@ pub fn take_rule(
     rules: usize,
 ) -> LineTurn
     requires { ⌜ length (now row) ≡ rowSize ⌝ }
-    ensures { λ r. ⌜ TurnTaken (room rules (length (now (free .entry))) (ruleOf (now (row .entry)) (shapeOf (now (row .entry)) count)) next) (now (free .entry)) (now (free .exit)) r ⌝ }
+    ensures { λ r. ⌜ TurnTaken (room rules (length (now (free .entry)))
+        (ruleOf (now (row .entry)) (shapeOf (now (row .entry)) count)) next) (now (free .entry)) (now (free .exit)) r ⌝ }
 {
     match rule_shape(row, count) {
         Shape::Wrong(k) => LineTurn::Refuses(k),

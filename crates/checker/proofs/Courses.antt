@@ -7,22 +7,21 @@ use native.Mathlib.Omega.{arith}
 use lib.IntN.{ℤ, pos}
 use lib.ListN.{length, replicate}
 use Rattle.words.proofs.Lists.{zero-one}
-use Rattle.words.specs.Limits.{longest}
+use Rattle.words.specs.Limits.{longest, mostRules}
 use Rattle.aspif.specs.Rules.{Rule}
-use Rattle.aspif.specs.Reading.{mostRules}
 use Rattle.drupe.specs.Lines.{LineAt, end, line, lineAt}
 use Rattle.drupe.specs.Lines as Lines
 use Rattle.drupe.proofs.Lines.{passed-line}
 use Rattle.derivation.specs.States.{State, start}
 use Rattle.derivation.specs.Steps.{Outcome, refused, next, step}
-use Rattle.nogoods.specs.Store.{Holds}
+use Rattle.nogoods.specs.Keeps.{Holds}
 use Rattle.checker.specs.Check.{Course, stopped, course}
 use Rattle.checker.specs.Claims.{Runs, ends, unread, unaccepted, full, good}
-use Rattle.checker.specs.Held.{Tracks, Left, turnOf, LineTurn, Ran}
-use Rattle.checker.specs.declared.steps.Stepped.{Stepped}
-use Rattle.checker.specs.declared.steps.Stepped.the-variants.{Uses, Fails}
-use Rattle.checker.specs.declared.runs.Turn.{Turn}
-use Rattle.checker.specs.declared.runs.Turn.the-variants as Turn
+use Rattle.checker.specs.Held.{Tracks, Leaves, proofTurn, LineLeaves, Ran}
+use Rattle.checker.specs.declared.outcomes.Stepped.{Stepped}
+use Rattle.checker.specs.declared.outcomes.Stepped.the-variants.{Uses, Fails}
+use Rattle.checker.specs.declared.runs.ProofTurn.{ProofTurn}
+use Rattle.checker.specs.declared.runs.ProofTurn.the-variants as Turn
 use Rattle.checker.specs.declared.runs.Run.the-variants as Run
 use Rattle.checker.proofs.Whole.{step-by-step}
 
@@ -56,13 +55,13 @@ module _ (P : List Rule) (size : ℕ) (text : List ℕ) where
 
     module _ (after : List ℤ) (known′ names′ : List ℕ) (same : length after ≡ length store) (same′ : length names′ ≡ length names) where
       -- what the turn at the position leaves
-      abbrev Turned : LineAt → Turn → Type 0
-      Turned = LineTurn P known′ names′ after used (G .z)
+      abbrev Turned : LineAt → ProofTurn → Type 0
+      Turned = LineLeaves P known′ names′ after used (G .z)
 
-      pub going-ends : {r : Turn} → r ≡ Turn.Ends → Turned (lineAt text at) r → Ran after (course P size text) (Run.Through steps used)
+      pub going-ends : {r : ProofTurn} → r ≡ Turn.Ends → Turned (lineAt text at) r → Ran after (course P size text) (Run.Through steps used)
       going-ends e t = by (lineAt text at) refl (subst (Turned (lineAt text at)) e t)
         where
-          never : (n : ℕ) (s : Stepped) → Turn.Ends ≡ turnOf n s → ⊥
+          never : (n : ℕ) (s : Stepped) → Turn.Ends ≡ proofTurn n s → ⊥
           never n (Uses m) e = zero-one (cc)
           never n (Fails k) e = zero-one (cc)
 
@@ -71,7 +70,7 @@ module _ (P : List Rule) (size : ℕ) (text : List ℕ) where
           by (Lines.refused k) q t = absurd (zero-one (cc))
           by (line x zs n) q t = absurd (never n (t .0) (t .1))
 
-      pub going-fails : {r : Turn} (k : ℕ) → r ≡ Turn.Fails k → Turned (lineAt text at) r → Ran after (course P size text) (Run.Stopped (record { number = k; step = steps + 1 }))
+      pub going-fails : {r : ProofTurn} (k : ℕ) → r ≡ Turn.Fails k → Turned (lineAt text at) r → Ran after (course P size text) (Run.Stopped (record { number = k; step = steps + 1 }))
       going-fails k e t = by (lineAt text at) refl (subst (Turned (lineAt text at)) e t)
         where
           Stops : Type 0
@@ -85,12 +84,12 @@ module _ (P : List Rule) (size : ℕ) (text : List ℕ) where
           by (Lines.refused j) q t = stops j (cc) (comes _ (unread q))
           by (line x zs n) q t = outcome (step P (G .z) (record { letter = x; numbers = zs })) refl (t .0) (t .1) (t .2)
             where
-              outcome : (o : Outcome) → step P (G .z) (record { letter = x; numbers = zs }) ≡ o → (s : Stepped) → Turn.Fails k ≡ turnOf n s → Left P known′ names′ after o s → Stops
+              outcome : (o : Outcome) → step P (G .z) (record { letter = x; numbers = zs }) ≡ o → (s : Stepped) → Turn.Fails k ≡ proofTurn n s → Leaves P known′ names′ after o s → Stops
               outcome o p (Uses m) e l = absurd (zero-one (cc))
               outcome (refused j) p (Fails i) e l = stops j (cc) (comes _ (unaccepted q p))
               outcome (next z) p (Fails i) e l = let a = l .0 .0 in stops 34 (cc) (comes _ (full q p (omega (arith, l .0 .1, same, G .long))))
 
-      pub going-on : {r : Turn} (n m : ℕ) → r ≡ Turn.Goes n m → Turned (lineAt text at) r → Going after known′ names′ m n (steps + 1) × (at < n)
+      pub going-on : {r : ProofTurn} (n m : ℕ) → r ≡ Turn.Goes n m → Turned (lineAt text at) r → Going after known′ names′ m n (steps + 1) × (at < n)
       going-on n m e t = by (lineAt text at) refl (subst (Turned (lineAt text at)) e t)
         where
           Goes : Type 0
@@ -101,7 +100,7 @@ module _ (P : List Rule) (size : ℕ) (text : List ℕ) where
           by (Lines.refused j) q t = absurd (zero-one (cc))
           by (line x zs k) q t = outcome (step P (G .z) (record { letter = x; numbers = zs })) refl (t .0) (t .1) (t .2)
             where
-              outcome : (o : Outcome) → step P (G .z) (record { letter = x; numbers = zs }) ≡ o → (s : Stepped) → Turn.Goes n m ≡ turnOf k s → Left P known′ names′ after o s → Goes
+              outcome : (o : Outcome) → step P (G .z) (record { letter = x; numbers = zs }) ≡ o → (s : Stepped) → Turn.Goes n m ≡ proofTurn k s → Leaves P known′ names′ after o s → Goes
               outcome o p (Fails i) e l = absurd (zero-one (cc))
               outcome (refused j) p (Uses i) e l = absurd (zero-one (cc))
               outcome (next z) p (Uses i) e l =

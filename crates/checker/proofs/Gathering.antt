@@ -14,7 +14,7 @@ use lib.Seq.{take-suc-set}
 use Rattle.words.specs.Limits.{largest}
 use Rattle.words.specs.Literals.{variable}
 use Rattle.words.proofs.Literals.{variable-complement}
-use Rattle.nogoods.specs.Store.{Literals}
+use Rattle.nogoods.specs.Keeps.{Literals}
 use Rattle.nogoods.proofs.Literals.{literals-nil, literals-cons}
 use Rattle.checker.specs.Held.{gathered}
 use Rattle.checker.proofs.Loops.{gathered-above}

@@ -10,22 +10,22 @@ use borrow.Rule.Slice.PartMut.{putMid}
 use Rattle.words.specs.Literals.{complement, ascending}
 use Rattle.words.proofs.Parts.{tail-of, put-tail}
 use Rattle.words.proofs.Sorting.{length-ascending}
-use Rattle.nogoods.specs.Store.{Literals, Fits}
+use Rattle.nogoods.specs.Keeps.{Literals, Fits}
 use Rattle.nogoods.specs.declared.store.Added.{Added}
 use Rattle.nogoods.specs.declared.store.Added.the-variants as Added
 use Rattle.nogoods.proofs.Literals.{literals-ascending, literals-complement-others}
-use Rattle.nogoods.proofs.Defined.{apart}
-use Rattle.checker.specs.Held.{kept, Kept}
-use Rattle.checker.specs.declared.steps.Stepped.{Stepped}
+use Rattle.nogoods.proofs.Defined.{name-and-literals}
+use Rattle.checker.specs.Held.{fitted, Fitted}
+use Rattle.checker.specs.declared.outcomes.Stepped.{Stepped}
 
 -- what is added fits, or the step is refused
-pub kept-fits : (live : List (List ℤ)) (store : List ℤ) (a : Added) → Fits live store a → Kept live store (kept a)
+pub kept-fits : (live : List (List ℤ)) (store : List ℤ) (a : Added) → Fits live store a → Fitted live store (fitted a)
 kept-fits live store (Added.Uses n) h = h
 kept-fits live store Added.Full h = (refl, h)
 
 -- one nogood more, which is g
-pub kept-added : (live : List (List ℤ)) (store : List ℤ) {l g : List ℤ} (a : Added) {r : Stepped} → r ≡ kept a → l ≡ g → Fits (live ++ (l ∷ [])) store a
-    → Kept (live ++ (g ∷ [])) store r
+pub kept-added : (live : List (List ℤ)) (store : List ℤ) {l g : List ℤ} (a : Added) {r : Stepped} → r ≡ fitted a → l ≡ g → Fits (live ++ (l ∷ [])) store a
+    → Fitted (live ++ (g ∷ [])) store r
 kept-added live store {l} a e p h = rw (e, ← p) (kept-fits (live ++ (l ∷ [])) store a h)
 
 -- `join`: s is the first number with the complements of the others, sorted
@@ -49,6 +49,6 @@ joined numbers t s h some put sorted =
     ∙ ap ascending (put-tail 1 numbers t some ∙ first-kept numbers t some ∙ ap (λ (u : List ℤ). x ∷ u) (put ∙ ap (map complement) (tail-of 1 numbers))) in
     record {
       is = e;
-      literals = rw e (literals-ascending turned (literals-complement-others x (drop 1 numbers) (apart numbers some h)));
+      literals = rw e (literals-ascending turned (literals-complement-others x (drop 1 numbers) (name-and-literals numbers some h)));
       size = ap length e ∙ length-ascending turned ∙ omega (arith, length-map (drop 1 numbers) complement, length-drop 1 numbers);
     }

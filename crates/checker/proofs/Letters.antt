@@ -10,7 +10,7 @@ use lib.Dec.{leb}
 use lib.IntN.{ℤ, pos}
 use lib.ListN.{length, take, drop, getD, set}
 use lib.Seq.{take-at}
-use Rattle.words.specs.Limits.{largest}
+use Rattle.words.specs.Limits.{largest, entries}
 use Rattle.words.specs.Lists.{any, all}
 use Rattle.words.specs.Literals.{variable, sameList, has, ascending}
 use Rattle.words.proofs.Lists.{if-true, and-right}
@@ -20,14 +20,14 @@ use Rattle.text.specs.declared.Letter.{Letter}
 use Rattle.text.specs.declared.Letter.the-variants.{Addition, Body, Completion, Deletion, Extension, Loop, Support}
 use Rattle.drupe.specs.Lines.{signsOf, signed}
 use Rattle.aspif.specs.Rules.{Rule, atoms, isNormal}
-use Rattle.answer_set.specs.SetTest.{marked, marksLent}
+use Rattle.marks.specs.Marks.{marked, Marks, sameMarks}
 use Rattle.derivation.specs.States.{State, isAtom, isKnown}
 use Rattle.derivation.specs.Steps.{Outcome, refused, addition, body, completion, deletion, extension, loop, support, citing, naming, byLetter, isUnnamedBody, isCompletion, isSupport}
-use Rattle.nogoods.specs.Store.{Literals}
+use Rattle.nogoods.specs.Keeps.{Literals}
 use Rattle.nogoods.proofs.Literals.{literals-tail}
-use Rattle.nogoods.proofs.Defined.{apart}
-use Rattle.names.specs.Queries.{Marks, picks, sameMarks, renamed}
-use Rattle.checker.specs.Held.{Line, Tracks}
+use Rattle.nogoods.proofs.Defined.{name-and-literals}
+use Rattle.names.specs.Queries.{picks, renamed}
+use Rattle.checker.specs.Held.{PassedLine, Tracks}
 use Rattle.checker.proofs.Tracking.{all-known, extended, named}
 use Rattle.checker.proofs.Names.{unnamed-test, unnamed-body, completes, supports}
 
@@ -36,17 +36,17 @@ use Rattle.checker.proofs.Names.{unnamed-test, unnamed-body, completes,
 abbrev pub first : List ℤ → ℤ
 first zs = getD zs 0 (pos 0)
 
--- as they are lent, as a part of the line
+-- the numbers after the first, as a part of the line
 abbrev others : List ℤ → List ℤ
 others zs = take (length zs - 1) (drop 1 zs)
 
--- or as a part of a copy
+-- the numbers after the first, as a part of a copy of the line
 pub copied : (zs rest row : List ℤ) → 1 ≤ length zs → row ≡ zs ++ rest → take (length zs - 1) (drop 1 row) ≡ drop 1 zs
 copied [] rest row h e = absurd (omega arith)
 copied (n ∷ L) rest row h e = rw e (take-at L rest (length (n ∷ L) - 1) (omega arith))
 
 -- a line of `b`, `c`, `e`, `l` or `s`
-module _ (x : Letter) {zs : List ℤ} (needed : signsOf x .needed ≡ true) (line : Line x zs) where
+module _ (x : Letter) {zs : List ℤ} (needed : signsOf x .needed ≡ true) (line : PassedLine x zs) where
   pub some-number : 1 ≤ length zs
   some-number = by zs (line .signs)
     where
@@ -61,7 +61,7 @@ module _ (x : Letter) {zs : List ℤ} (needed : signsOf x .needed ≡ true) (lin
   first-high = line .literals .high (first zs) (in-at (pos 0) zs 0 some-number)
 
   pub others-literals : Literals (drop 1 zs)
-  others-literals = literals-tail (first zs) (drop 1 zs) (apart zs some-number (line .literals))
+  others-literals = literals-tail (first zs) (drop 1 zs) (name-and-literals zs some-number (line .literals))
 
 -- A line's questions by letter: 26, for `b` and `e` with 27, and then the letter's own
 
@@ -84,7 +84,7 @@ module _ (P : List Rule) (z : State) where
   own Loop zs = loop P z (first zs) (drop 1 zs)
   own Support zs = support P z (first zs) (drop 1 zs)
 
-  by-letter : (x : Letter) (zs : List ℤ) → Line x zs
+  by-letter : (x : Letter) (zs : List ℤ) → PassedLine x zs
       → byLetter P z x zs ≡ cond (introduces x) (naming P z (first zs) (drop 1 zs) (own x zs)) (citing P z zs (own x zs))
   by-letter Addition zs line = refl
   by-letter Body [] line = absurd (true≢false (sym (line .signs)))
@@ -101,12 +101,12 @@ module _ (P : List Rule) (z : State) where
 
 -- What a line comes to, where the marks of the known variables answer b to question 26 and c to 27
 
-module _ {P : List Rule} {known names : List ℕ} (z : State) (tracks : Tracks P known names (z .introduced) (z .named)) (x : Letter) (zs : List ℤ) (line : Line x zs) where
+module _ {P : List Rule} {known names : List ℕ} (z : State) (tracks : Tracks P known names (z .introduced) (z .named)) (x : Letter) (zs : List ℤ) (line : PassedLine x zs) where
   -- a line that introduces no name
   pub cited : introduces x ≡ false → {b : Bool} → all (λ y. marked known (variable y)) zs ≡ b → byLetter P z x zs ≡ cond b (own P z x zs) (refused 26)
   cited none e = by-letter P z x zs line ∙ rw (none, ← all-known z tracks zs (line .literals .high), e)
 
-  -- a line that introduces one
+  -- a line that introduces a name
   module _ (needed : signsOf x .needed ≡ true) where
     pub introduced : introduces x ≡ true → {b c : Bool} → all (λ y. marked known (variable y)) (others zs) ≡ b → marked known (variable (first zs)) ≡ c
         → byLetter P z x zs ≡ cond b (cond c (refused 27) (own P z x zs)) (refused 26)
@@ -114,7 +114,7 @@ module _ {P : List Rule} {known names : List ℕ} (z : State) (tracks : Tracks P
         by-letter P z x zs line
         ∙ rw (one, ← all-known z tracks (drop 1 zs) (others-literals x needed line .high), ← tail-of 1 zs, e, ← tracks .knows (variable (first zs)) (first-high x needed line), f)
 
-    -- and which is accepted
+    -- a line that introduces a name and is accepted: the name was unknown
     module _ (new : marked known (variable (first zs)) ≡ false) where
       unknown : isKnown P z (variable (first zs)) ≡ false
       unknown = sym (tracks .knows (variable (first zs)) (first-high x needed line)) ∙ new
@@ -135,7 +135,7 @@ module _ {P : List Rule} {known names : List ℕ} (z : State) (tracks : Tracks P
   pub unnamed : (sorted : List ℤ) → sorted ≡ ascending zs → {m : List ℕ} → Marks m (picks (λ r. sameList (r .body) sorted) P names) → marked m 0 ≡ isUnnamedBody P z zs
   unnamed sorted e found = unnamed-body z tracks zs (rw e at found)
 
-  pub completed : Line Completion zs → {m : List ℕ} → Marks m (picks (λ r. isNormal (r .kind) && sameList (r .heads) (others zs)) P names)
+  pub completed : PassedLine Completion zs → {m : List ℕ} → Marks m (picks (λ r. isNormal (r .kind) && sameList (r .heads) (others zs)) P names)
       → marked m (variable (first zs)) ≡ isCompletion P z (first zs) (drop 1 zs)
   completed line found =
       completes z tracks (first zs) (drop 1 zs) (first-low Completion refl line) (first-high Completion refl line) (rw (tail-of 1 zs) at found)
@@ -143,10 +143,10 @@ module _ {P : List Rule} {known names : List ℕ} (z : State) (tracks : Tracks P
   pub no-atom : atoms P < variable (first zs) → isSupport P z (first zs) (drop 1 zs) ≡ false
   no-atom k = rw (lt-leb (variable (first zs)) (atoms P) k, and-false (leb 1 (variable (first zs))))
 
-  pub supported : Line Support zs → variable (first zs) ≤ atoms P → (h : ℤ) → h ≡ first zs → {l m : List ℕ} → Marks l (map variable (others zs))
-      → Marks m (picks (λ r. has h (r .heads)) P names) → sameMarks marksLent l m ≡ isSupport P z (first zs) (drop 1 zs)
+  pub supported : PassedLine Support zs → variable (first zs) ≤ atoms P → (h : ℤ) → h ≡ first zs → {l m : List ℕ} → Marks l (map variable (others zs))
+      → Marks m (picks (λ r. has h (r .heads)) P names) → sameMarks entries l m ≡ isSupport P z (first zs) (drop 1 zs)
   supported line k h e {l} {m} given found =
       let o = others-literals Support refl line in
       let a : isAtom P (variable (first zs)) ≡ true = rw (le-leb 1 (variable (first zs)) (first-low Support refl line), le-leb (variable (first zs)) (atoms P) k) in
-      ap (λ (b : Bool). b && sameMarks marksLent l m) (sym a)
+      ap (λ (b : Bool). b && sameMarks entries l m) (sym a)
       ∙ supports z tracks (first zs) (drop 1 zs) (λ y i. (o .low y i, o .high y i)) (rw (tail-of 1 zs) at given) (rw e at found)

@@ -1,7 +1,6 @@
--- What holds of the whole check: its course line by line, demand 3, and the starred examples; and the laws of the line that says
+-- What holds of the whole check: its course line by line and demand 3; and the laws of the line that says
 -- its verdict.
 pub mod Whole
-pub mod Examples
 pub mod Names
 pub mod Loops
 pub mod Tracking

@@ -13,61 +13,61 @@ use Rattle.words.specs.Lists.{_∈_, all}
 use Rattle.words.specs.Literals.{variable, top}
 use Rattle.words.proofs.Lists.{itself, all-decides, not-decides, if-true, is-true, passed, failed, and-left}
 use Rattle.aspif.specs.Rules.{Rule, atoms}
-use Rattle.answer_set.specs.SetTest.{marked}
+use Rattle.marks.specs.Marks.{marked, Marks}
 use Rattle.text.specs.declared.Letter.the-variants.{Loop}
 use Rattle.drupe.specs.Lines.{isPositive}
 use Rattle.derivation.specs.States.{State, isAtom}
 use Rattle.derivation.specs.Steps.{isExternal, allAtoms, allNamed, byLetter}
-use Rattle.names.specs.Queries.{Marks, picks, isExternalBy}
-use Rattle.checker.specs.Held.{Line, Tracks, Kept, Left, gathered}
-use Rattle.checker.specs.declared.steps.Stepped.{Stepped}
-use Rattle.checker.specs.declared.steps.Stepped.the-variants.{Fails}
+use Rattle.names.specs.Queries.{picks, isExternalBy}
+use Rattle.checker.specs.Held.{PassedLine, Tracks, Fitted, Leaves, gathered}
+use Rattle.checker.specs.declared.outcomes.Stepped.{Stepped}
+use Rattle.checker.specs.declared.outcomes.Stepped.the-variants.{Fails}
 use Rattle.checker.proofs.Names.{all-named}
 use Rattle.checker.proofs.Letters.{cited}
 use Rattle.checker.proofs.Loops.{all-atoms, external-by, loop-nogood}
 
 -- the numbers of an `l` line are positive
-positive : (U : List ℤ) → Line Loop U → (x : ℤ) → x ∈ U → T (isPositive x)
+positive : (U : List ℤ) → PassedLine Loop U → (x : ℤ) → x ∈ U → T (isPositive x)
 positive [] line x i = elim i [ ]
 positive (h ∷ hs) line x i = if-true (all-decides (λ x. itself (isPositive x)) (h ∷ hs)) (line .signs) x i
 
 module _ {P : List Rule} {known names : List ℕ} (z : State) (tracks : Tracks P known names (z .introduced) (z .named)) (store : List ℤ) where
   -- what the step leaves
-  abbrev Leaves : List ℤ → Stepped → Type 0
-  Leaves U r = Left P known names store (byLetter P z Loop U) r
+  abbrev LoopLeaves : List ℤ → Stepped → Type 0
+  LoopLeaves U r = Leaves P known names store (byLetter P z Loop U) r
 
-  module _ (U : List ℤ) (line : Line Loop U) where
+  module _ (U : List ℤ) (line : PassedLine Loop U) where
     atoms-not : atoms P < top U → allAtoms P z U ≡ false
     atoms-not h = failed _ (not-decides (all-atoms P z U (line .literals .low)) .from (λ k. omega arith))
 
     atoms-are : top U ≤ atoms P → allAtoms P z U ≡ true
     atoms-are = is-true (all-atoms P z U (line .literals .low))
 
-  pub loop-atoms : (U : List ℤ) → Line Loop U → all (λ x. marked known (variable x)) U ≡ true → atoms P < top U → Leaves U (Fails 31)
+  pub loop-atoms : (U : List ℤ) → PassedLine Loop U → all (λ x. marked known (variable x)) U ≡ true → atoms P < top U → LoopLeaves U (Fails 31)
   loop-atoms [] line k a = absurd (true≢false (sym (line .signs)))
   loop-atoms (h ∷ hs) line k a = rw (cited z tracks Loop (h ∷ hs) line refl k, atoms-not (h ∷ hs) line a) refl
 
   -- the names of the external bodies, as they are found by marks of the set
   module _ {inside m : List ℕ} (found : Marks m (picks (isExternalBy inside) P names)) where
-    external : (U : List ℤ) → Line Loop U → Marks inside (map variable U) → Marks m (picks (isExternal U) P names)
+    external : (U : List ℤ) → PassedLine Loop U → Marks inside (map variable U) → Marks m (picks (isExternal U) P names)
     external U line set =
         subst (λ (f : Rule → Bool). Marks m (picks f P names)) (external-by U set (λ x i. (positive U line x i, line .literals .high x i))) found
 
-    named-is : (U : List ℤ) → Line Loop U → Marks inside (map variable U) → not (marked m 0) ≡ allNamed P z U
+    named-is : (U : List ℤ) → PassedLine Loop U → Marks inside (map variable U) → not (marked m 0) ≡ allNamed P z U
     named-is U line set = all-named z tracks U (external U line set)
 
-    pub loop-named : (U : List ℤ) → Line Loop U → all (λ x. marked known (variable x)) U ≡ true → top U ≤ atoms P → Marks inside (map variable U)
-        → marked m 0 ≡ true → Leaves U (Fails 32)
+    pub loop-named : (U : List ℤ) → PassedLine Loop U → all (λ x. marked known (variable x)) U ≡ true → top U ≤ atoms P → Marks inside (map variable U)
+        → marked m 0 ≡ true → LoopLeaves U (Fails 32)
     loop-named [] line k a set n = absurd (true≢false (sym (line .signs)))
     loop-named (h ∷ hs) line k a set n =
         rw (cited z tracks Loop (h ∷ hs) line refl k, atoms-are (h ∷ hs) line a, sym (named-is (h ∷ hs) line set) ∙ ap not n) refl
 
-    pub loop-added : (U : List ℤ) → Line Loop U → all (λ x. marked known (variable x)) U ≡ true → top U ≤ atoms P → Marks inside (map variable U)
-        → marked m 0 ≡ false → atoms P ≤ largest → (r : Stepped) → Kept (z .live ++ (gathered (marked m) (getD U 0 (pos 0)) largest 1 ∷ [])) store r → Leaves U r
+    pub loop-added : (U : List ℤ) → PassedLine Loop U → all (λ x. marked known (variable x)) U ≡ true → top U ≤ atoms P → Marks inside (map variable U)
+        → marked m 0 ≡ false → atoms P ≤ largest → (r : Stepped) → Fitted (z .live ++ (gathered (marked m) (getD U 0 (pos 0)) largest 1 ∷ [])) store r → LoopLeaves U r
     loop-added [] line k a set n high r q = absurd (true≢false (sym (line .signs)))
     loop-added (h ∷ hs) line k a set n high r q =
         let U = h ∷ hs in
         let all-atoms = atoms-are U line a in
         let atom : T (isAtom P (variable h)) = passed (isAtom P (variable h)) .from (and-left _ _ all-atoms) in
         rw (cited z tracks Loop U line refl k, all-atoms, sym (named-is U line set) ∙ ap not n)
-        (subst (λ (g : List ℤ). Kept (z .live ++ (g ∷ [])) store r) (loop-nogood z tracks h U atom high (external U line set)) q, tracks)
+        (subst (λ (g : List ℤ). Fitted (z .live ++ (g ∷ [])) store r) (loop-nogood z tracks h U atom high (external U line set)) q, tracks)

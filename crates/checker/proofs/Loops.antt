@@ -11,20 +11,20 @@ use lib.Dec.{T, eqb, ltb}
 use lib.IntN.{ℤ, pos, negℤ}
 use lib.ListN.{length, List·getD-eq-default}
 use Rattle.words.specs.Limits.{largest}
-use Rattle.words.specs.Lists.{_∈_, any, keep}
-use Rattle.words.specs.Literals.{variable, mentions, noneTwice, rising, sameList, has, top, ascending}
+use Rattle.words.specs.Lists.{_∈_, any, filter}
+use Rattle.words.specs.Literals.{variable, mentions, distinct, rising, sameList, has, top, ascending}
 use Rattle.words.proofs.Lists.{Decides, itself, reworded, and-decides, any-decides, all-decides, eqb-decides, leb-decides, keep→, keep←, passed, failed, and-left, and-right, same-test}
 use Rattle.words.proofs.Literals.{sameList-decides, has-decides, variable-complement, ascending→, ascending←}
 use Rattle.words.proofs.Places.{equal?}
 use Rattle.words.proofs.Sorting.{rising-ascending, rising-before, same-members}
 use Rattle.words.proofs.Tops.{top-decides}
 use Rattle.aspif.specs.Rules.{Rule, atoms}
-use Rattle.answer_set.specs.SetTest.{marked}
+use Rattle.marks.specs.Marks.{marked, Marks}
 use Rattle.drupe.specs.Lines.{isPositive}
 use Rattle.derivation.specs.States.{Named, State, isAtom}
 use Rattle.derivation.specs.Steps.{isExternal, externalNames, allAtoms}
 use Rattle.derivation.proofs.Questions.{positive-is}
-use Rattle.names.specs.Queries.{Marks, picks, isInside, isExternalBy}
+use Rattle.names.specs.Queries.{picks, isInside, isExternalBy}
 use Rattle.checker.specs.Held.{nameOf, Proper, Tracks, gathered}
 use Rattle.checker.proofs.Names.{unlisted, name-found, name-of, found-decides}
 
@@ -135,7 +135,7 @@ module _ (f : ℕ → Bool) (h : ℤ) where
 -- distinct names, each with a minus, of those that pass
 module _ (f : Named → Bool) where
   abbrev negated : List Named → List ℤ
-  negated l = map (λ n. negℤ (pos n)) (map (λ x. x .name) (keep f l))
+  negated l = map (λ n. negℤ (pos n)) (map (λ x. x .name) (filter f l))
 
   unmentioned : (v : ℕ) (l : List Named) → mentions v (map (λ x. pos (x .name)) l) ≡ false → mentions v (negated l) ≡ false
   unmentioned v [] e = refl
@@ -143,16 +143,16 @@ module _ (f : Named → Bool) where
     where
       by : (a : Bool) → eqb v (x .name) ≡ a → (b : Bool) → (mentions v (map (λ x. pos (x .name)) l) ≡ false → mentions v (negated l) ≡ false)
           → (a || mentions v (map (λ x. pos (x .name)) l)) ≡ false
-          → mentions v (map (λ n. negℤ (pos n)) (map (λ x. x .name) (cond b (x ∷ keep f l) (keep f l)))) ≡ false
+          → mentions v (map (λ n. negℤ (pos n)) (map (λ x. x .name) (cond b (x ∷ filter f l) (filter f l)))) ≡ false
       by true q b on e = absurd (true≢false e)
       by false q true on e = rw (variable-complement (pos (x .name)), q) (on e)
       by false q false on e = on e
 
-  negated-distinct : (l : List Named) → noneTwice (map (λ x. pos (x .name)) l) ≡ true → noneTwice (negated l) ≡ true
+  negated-distinct : (l : List Named) → distinct (map (λ x. pos (x .name)) l) ≡ true → distinct (negated l) ≡ true
   negated-distinct [] e = refl
   negated-distinct (x ∷ l) e = by (f x) (negated-distinct l (and-right (not (mentions (x .name) (map (λ x. pos (x .name)) l))) _ e))
     where
-      by : (b : Bool) → noneTwice (negated l) ≡ true → noneTwice (map (λ n. negℤ (pos n)) (map (λ x. x .name) (cond b (x ∷ keep f l) (keep f l)))) ≡ true
+      by : (b : Bool) → distinct (negated l) ≡ true → distinct (map (λ n. negℤ (pos n)) (map (λ x. x .name) (cond b (x ∷ filter f l) (filter f l)))) ≡ true
       by true q =
           let u = unmentioned (x .name) l (failed _ (passed (not (mentions (x .name) (map (λ x. pos (x .name)) l))) .from (and-left _ _ e))) in
           rw (variable-complement (pos (x .name)), u, q)
@@ -177,8 +177,8 @@ module _ {P : List Rule} {known names : List ℕ} (z : State) (tracks : Tracks P
   other : (x : Named) → x ∈ z .named → ¬ (x .name ≡ variable h)
   other x i e = proper .new x i (rw e atom)
 
-  nogood-distinct : noneTwice nogood ≡ true
-  nogood-distinct = rw (unmentioned test (variable h) (z .named) (unlisted (variable h) (z .named) other), negated-distinct test (z .named) (proper .distinct))
+  nogood-distinct : distinct nogood ≡ true
+  nogood-distinct = rw (unmentioned test (variable h) (z .named) (unlisted (variable h) (z .named) other), negated-distinct test (z .named) (proper .different))
 
   -- a marked number is the name of an external body
   to : (x : ℤ) → Gathered (marked m) h largest 1 x → x ∈ nogood
@@ -200,7 +200,7 @@ module _ {P : List Rule} {known names : List ℕ} (z : State) (tracks : Tracks P
   from x (List·Memᴰ·head p) = let a = and-decides (leb-decides 1 (variable h)) (leb-decides (variable h) (atoms P)) .to atom in (variable h, a .0, omega (arith, a .1, high), inl (refl, p))
   from x (List·Memᴰ·tail i) =
       let q = Memᴰ·of-map (λ n. negℤ (pos n)) (externalNames P z U) i in
-      let r = Memᴰ·of-map (λ (x : Named). x .name) (keep test (z .named)) (q .1) in
+      let r = Memᴰ·of-map (λ (x : Named). x .name) (filter test (z .named)) (q .1) in
       let k = keep→ test (z .named) (r .1) in
       let y = r .0 in
       let b = test-decides y .to (k .1) in

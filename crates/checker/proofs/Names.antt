@@ -9,20 +9,20 @@ use Prim.Native.Nat.{ℕ, _≤_, _<_}
 use native.Mathlib.Omega.{arith}
 use lib.Dec.{T}
 use lib.IntN.{ℤ, pos}
-use Rattle.words.specs.Limits.{largest}
-use Rattle.words.specs.Lists.{_∈_, any, keep}
+use Rattle.words.specs.Limits.{largest, entries}
+use Rattle.words.specs.Lists.{_∈_, any, filter}
 use Rattle.words.specs.Literals.{variable, mentions, sameList, has, ascending}
 use Rattle.words.proofs.Lists.{Decides, itself, reworded, failed, and-decides, if-decides, not-decides, any-decides, all-decides, eqb-decides, keep→, keep←, same-test}
 use Rattle.words.proofs.Literals.{sameList-decides}
 use Rattle.words.proofs.Places.{equal?}
 use Rattle.aspif.specs.Rules.{Rule, isNormal}
-use Rattle.answer_set.specs.SetTest.{listed, marked, marksLent}
+use Rattle.marks.specs.Marks.{listed, marked, Marks, sameMarks}
 use Rattle.derivation.specs.States.{Named, State, isAtom, isName, hasName}
 use Rattle.derivation.specs.Steps.{isUnnamedBody, isCompletion, isSupport, isExternal, allNamed}
 use Rattle.derivation.proofs.Questions.{name-decides, hasName-decides}
-use Rattle.names.specs.Queries.{Marks, picks, sameMarks}
+use Rattle.names.specs.Queries.{picks}
 use Rattle.names.proofs.Picks.{picks-map}
-use Rattle.names.proofs.Sets.{same-marks}
+use Rattle.marks.proofs.Sets.{same-marks}
 use Rattle.checker.specs.Held.{nameOf, Proper, Tracks}
 
 -- a number that is no name of the list
@@ -97,16 +97,16 @@ module _ {P : List Rule} (z : State) (proper : Proper P (z .introduced) (z .name
 abbrev pub Some : (Rule → Bool) → (Rule → ℕ) → List Rule → ℕ → Type 0
 Some f g P v = (r : Rule) × (r ∈ P) × (T (f r) × (g r ≡ v))
 
-picked-decides : (f : Rule → Bool) (g : Rule → ℕ) (P : List Rule) (v : ℕ) → Decides (listed (map g (keep f P)) v) (Some f g P v)
-picked-decides f g P v = reworded to from (any-decides (eqb-decides v) (map g (keep f P)))
+picked-decides : (f : Rule → Bool) (g : Rule → ℕ) (P : List Rule) (v : ℕ) → Decides (listed (map g (filter f P)) v) (Some f g P v)
+picked-decides f g P v = reworded to from (any-decides (eqb-decides v) (map g (filter f P)))
   where
-    to : (n : ℕ) × (n ∈ map g (keep f P)) × (v ≡ n) → Some f g P v
+    to : (n : ℕ) × (n ∈ map g (filter f P)) × (v ≡ n) → Some f g P v
     to q =
-        let r = Memᴰ·of-map g (keep f P) (q .1) in
+        let r = Memᴰ·of-map g (filter f P) (q .1) in
         let k = keep→ f P (r .1) in
         (r .0, k .0, (k .1, r .2 ∙ sym (q .2)))
 
-    from : Some f g P v → (n : ℕ) × (n ∈ map g (keep f P)) × (v ≡ n)
+    from : Some f g P v → (n : ℕ) × (n ∈ map g (filter f P)) × (v ≡ n)
     from r = (g (r .0), Memᴰ·map g (keep← f (r .1) (r .2 .0)), sym (r .2 .1))
 
 module _ {P : List Rule} {known names : List ℕ} (z : State) (tracks : Tracks P known names (z .introduced) (z .named)) where
@@ -162,10 +162,10 @@ module _ {P : List Rule} {known names : List ℕ} (z : State) (tracks : Tracks P
         to q = let r = Memᴰ·of-map variable ns (q .1) in (r .0, r .1, (sizes (r .0) (r .1) .0, q .2 ∙ sym (r .2)))
 
     -- a name of a body with h in the head
-    abbrev Found : ℕ → Type 0
-    Found v = Some (λ r. has h (r .heads)) nameIn P v
+    abbrev FoundAt : ℕ → Type 0
+    FoundAt v = Some (λ r. has h (r .heads)) nameIn P v
 
-    headed-decides : (v : ℕ) → v ≤ largest → Decides (marked m v) (Found v)
+    headed-decides : (v : ℕ) → v ≤ largest → Decides (marked m v) (FoundAt v)
     headed-decides = found-decides (λ r. has h (r .heads)) found
 
     covered : (r : Rule) → Decides (not (has h (r .heads)) || any (λ n. isName z (variable n) (r .body)) ns) (T (has h (r .heads)) → Given (nameIn r))
@@ -175,19 +175,19 @@ module _ {P : List Rule} {known names : List ℕ} (z : State) (tracks : Tracks P
         ((r : Rule) × (r ∈ P) × (T (has h (r .heads)) × ((1 ≤ variable n) × (nameIn r ≡ variable n))))
     used n = any-decides (λ r. and-decides (itself (has h (r .heads))) (name-test z proper (r .body) (variable n))) P
 
-    pub supports : (isAtom P (variable h) && sameMarks marksLent l m) ≡ isSupport P z h ns
+    pub supports : (isAtom P (variable h) && sameMarks entries l m) ≡ isSupport P z h ns
     supports =
-        same-test (and-decides (itself (isAtom P (variable h))) (same-marks marksLent l m))
+        same-test (and-decides (itself (isAtom P (variable h))) (same-marks entries l m))
         (and-decides (itself (isAtom P (variable h))) (and-decides (all-decides covered P) (all-decides used ns)))
         (λ p. (p .0, (λ r i t. cover (p .1) r i t, λ n i. cite (p .1) n i)))
         (λ p. (p .0, λ v k. same-test (given-decides v (omega arith)) (headed-decides v (omega arith)) (to (p .1 .1)) (from (p .1 .0))))
       where
-        cover : ((v : ℕ) → v < marksLent → marked l v ≡ marked m v) → (r : Rule) → r ∈ P → T (has h (r .heads)) → Given (nameIn r)
+        cover : ((v : ℕ) → v < entries → marked l v ≡ marked m v) → (r : Rule) → r ∈ P → T (has h (r .heads)) → Given (nameIn r)
         cover f r i t =
             let k = name-high proper (r .body) in
             given-decides (nameIn r) k .to (rw (f (nameIn r) (omega arith)) (headed-decides (nameIn r) k .from (r, i, (t, refl))))
 
-        cite : ((v : ℕ) → v < marksLent → marked l v ≡ marked m v) → (n : ℤ) → n ∈ ns
+        cite : ((v : ℕ) → v < entries → marked l v ≡ marked m v) → (n : ℤ) → n ∈ ns
             → (r : Rule) × (r ∈ P) × (T (has h (r .heads)) × ((1 ≤ variable n) × (nameIn r ≡ variable n)))
         cite f n i =
             let s = sizes n i in
@@ -195,8 +195,8 @@ module _ {P : List Rule} {known names : List ℕ} (z : State) (tracks : Tracks P
             let q = headed-decides (variable n) k .to (rw (sym (f (variable n) (omega arith))) (given-decides (variable n) k .from (n, i, (s .0, refl)))) in
             (q .0, q .1, (q .2 .0, (s .0, q .2 .1)))
 
-        to : {v : ℕ} → ((n : ℤ) → n ∈ ns → (r : Rule) × (r ∈ P) × (T (has h (r .heads)) × ((1 ≤ variable n) × (nameIn r ≡ variable n)))) → Given v → Found v
+        to : {v : ℕ} → ((n : ℤ) → n ∈ ns → (r : Rule) × (r ∈ P) × (T (has h (r .heads)) × ((1 ≤ variable n) × (nameIn r ≡ variable n)))) → Given v → FoundAt v
         to f g = let q = f (g .0) (g .1) in (q .0, q .1, (q .2 .0, q .2 .1 .1 ∙ sym (g .2 .1)))
 
-        from : {v : ℕ} → ((r : Rule) → r ∈ P → T (has h (r .heads)) → Given (nameIn r)) → Found v → Given v
+        from : {v : ℕ} → ((r : Rule) → r ∈ P → T (has h (r .heads)) → Given (nameIn r)) → FoundAt v → Given v
         from f q = let g = f (q .0) (q .1) (q .2 .0) in (g .0, g .1, (g .2 .0, sym (q .2 .1) ∙ g .2 .1))

@@ -9,21 +9,21 @@ use native.Mathlib.Omega.{arith}
 use lib.Dec.{T, eqb}
 use lib.IntN.{ℤ}
 use lib.ListN.{length, take, set, replicate, length-set, length-replicate}
-use Rattle.words.specs.Limits.{largest}
+use Rattle.words.specs.Limits.{largest, mostRules}
 use Rattle.words.specs.Lists.{_∈_, any, all}
 use Rattle.words.specs.Literals.{variable, sameList}
-use Rattle.words.proofs.Lists.{Decides, itself, reworded, and-decides, or-decides, eqb-decides, leb-decides, same-test}
+use Rattle.words.proofs.Lists.{Decides, itself, reworded, and-decides, or-decides, eqb-decides, leb-decides, same-test, each-cons, or-swap}
 use Rattle.words.proofs.Literals.{sameList-decides}
 use Rattle.words.proofs.Places.{equal?}
 use Rattle.aspif.specs.Rules.{Rule, atoms}
-use Rattle.aspif.specs.Reading.{mostRules}
-use Rattle.answer_set.specs.SetTest.{listed, marked}
+use Rattle.aspif.proofs.Readable.{rules-count}
+use Rattle.marks.specs.Marks.{listed, marked, Marks, upTo}
 use Rattle.derivation.specs.States.{Named, State, isAtom, isKnown}
 use Rattle.derivation.specs.Steps.{allKnown}
 use Rattle.derivation.proofs.Questions.{known-decides}
-use Rattle.names.specs.Queries.{Marks, upTo, renamed}
+use Rattle.names.specs.Queries.{HoldsRules, renamed}
 use Rattle.names.proofs.Picks.{renamed-map, length-renamed}
-use Rattle.names.proofs.Sets.{marked-set}
+use Rattle.marks.proofs.Sets.{marked-set}
 use Rattle.checker.specs.Held.{nameOf, Proper, Tracks}
 use Rattle.checker.proofs.Names.{unlisted, name-of}
 
@@ -33,6 +33,14 @@ pub all-known : {P : List Rule} {known names : List ℕ} (z : State) → Tracks 
     → (L : List ℤ) → ((x : ℤ) → x ∈ L → variable x ≤ largest) → all (λ x. marked known (variable x)) L ≡ allKnown P z L
 all-known z tracks [] high = refl
 all-known z tracks (x ∷ L) high = ap₂ (λ a b. a && b) (tracks .knows (variable x) (high x (List·Memᴰ·head refl))) (all-known z tracks L (λ y i. high y (List·Memᴰ·tail i)))
+
+-- The rules in the table
+
+pub same-rules : {table : List ℤ} {rules : ℕ} {P Q : List Rule} → HoldsRules table rules P → HoldsRules table rules Q → P ≡ Q
+same-rules h k = sym (h .are) ∙ k .are
+
+pub rules-held : {table : List ℤ} {rules : ℕ} {P : List Rule} → HoldsRules table rules P → length P ≡ rules
+rules-held {table} {rules} h = rw (← h .are) (rules-count rules table)
 
 -- The start
 
@@ -66,7 +74,7 @@ start-tracks {P} {known} marks few =
         new = λ x i. elim i [ ];
         old = λ x i. elim i [ ];
         once = λ x y i. elim i [ ];
-        distinct = refl;
+        different = refl;
       };
     }
 
@@ -80,11 +88,8 @@ module _ {P : List Rule} {known names : List ℕ} (z : State) (tracks : Tracks P
   unknown : ¬ T (isKnown P z n)
   unknown t = rw fresh at t
 
-  swapped : (a b c : Bool) → (a || (b || c)) ≡ (b || (a || c))
-  swapped a b c = sym (or-assoc a b c) ∙ ap (λ (d : Bool). d || c) (or-comm a b) ∙ or-assoc b a c
-
   knows-new : (v : ℕ) → v ≤ largest → marked (set known n 1) v ≡ (isAtom P v || (eqb v n || any (eqb v) (z .introduced)))
-  knows-new v h = marked-set known n v (omega (arith, tracks .entries)) ∙ rw (tracks .knows v h) (swapped (eqb v n) (isAtom P v) (any (eqb v) (z .introduced)))
+  knows-new v h = marked-set known n v (λ k. omega (arith, tracks .entries)) ∙ rw (tracks .knows v h) (or-swap (eqb v n) (isAtom P v) (any (eqb v) (z .introduced)))
 
   -- `e`
   pub extended : Tracks P (set known n 1) names (n ∷ z .introduced) (z .named)
@@ -100,7 +105,7 @@ module _ {P : List Rule} {known names : List ℕ} (z : State) (tracks : Tracks P
           new = proper .new;
           old = λ x i. List·Memᴰ·tail (proper .old x i);
           once = proper .once;
-          distinct = proper .distinct;
+          different = proper .different;
         };
       }
 
@@ -108,7 +113,7 @@ module _ {P : List Rule} {known names : List ℕ} (z : State) (tracks : Tracks P
     abbrev entry : Named
     entry = record { name = n; body = body }
 
-    -- no older body is the same
+    -- no body that has a name already is the new one
     other : (x : Named) → x ∈ z .named → ¬ (x .body ≡ body)
     other x i e = let q : x .name ≡ 0 = sym (name-of proper i) ∙ ap (nameOf (z .named)) e ∙ unnamed in omega (arith, proper .low x i)
 
@@ -117,18 +122,14 @@ module _ {P : List Rule} {known names : List ℕ} (z : State) (tracks : Tracks P
 
     new-proper : Proper P (n ∷ z .introduced) (entry ∷ z .named)
     new-proper = record {
-      low = each low (proper .low);
-      high = each high (proper .high);
-      new = each (λ t. unknown (known-decides P z n .from (inl t))) (proper .new);
-      old = each (List·Memᴰ·head refl) (λ x i. List·Memᴰ·tail (proper .old x i));
+      low = each-cons low (proper .low);
+      high = each-cons high (proper .high);
+      new = each-cons (λ t. unknown (known-decides P z n .from (inl t))) (proper .new);
+      old = each-cons (List·Memᴰ·head refl) (λ x i. List·Memᴰ·tail (proper .old x i));
       once = once;
-      distinct = rw (unlisted n (z .named) not-older, proper .distinct);
+      different = rw (unlisted n (z .named) not-older, proper .different);
     }
       where
-        each : {F : Named → Type 0} → F entry → ((x : Named) → x ∈ z .named → F x) → (x : Named) → x ∈ entry ∷ z .named → F x
-        each {F} f g x (List·Memᴰ·head p) = rw p f
-        each f g x (List·Memᴰ·tail i) = g x i
-
         once : (x y : Named) → x ∈ entry ∷ z .named → y ∈ entry ∷ z .named → x .body ≡ y .body → x .name ≡ y .name
         once x y (List·Memᴰ·head p) (List·Memᴰ·head q) e = rw (p, q)
         once x y (List·Memᴰ·head p) (List·Memᴰ·tail j) e = absurd (other y j (sym e ∙ ap (λ (a : Named). a .body) p))

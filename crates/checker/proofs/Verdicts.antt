@@ -3,28 +3,28 @@
 use mathlib.Core.Path.{_≡_, refl, sym, _∙_, ap, ap₂}
 use mathlib.Core.Bool.{Bool, true, false, cond}
 use mathlib.Core.List.{List}
-use Prim.Native.Nat.{ℕ, _<_}
+use Prim.Native.Nat.{ℕ, _≤_, _<_}
 use native.Mathlib.Omega.{arith}
 use borrow.Author.Tests.{lt-ltb}
 use lib.Dec.{leb}
 use lib.IntN.{ℤ, pos}
 use lib.ListN.{length, replicate, length-replicate}
 use Rattle.words.proofs.Lists.{zero-one}
-use Rattle.words.specs.Limits.{longest}
+use Rattle.words.specs.Limits.{longest, mostRules}
 use Rattle.words.specs.Lists.{any}
 use Rattle.aspif.specs.Rules.{Rule, isEmpty, atoms, tableWords}
-use Rattle.aspif.specs.Reading.{Reading, program, readText, readLines, answerOf, tableOf}
+use Rattle.aspif.specs.Reading.{Reading, program, readText, readLines, programAnswer, tableOf}
 use Rattle.aspif.specs.Reading as Reading
 use Rattle.aspif.specs.declared.ProgramReading.{ProgramReading}
 use Rattle.aspif.specs.declared.ProgramReading.the-variants.{Read, Refused}
 use Rattle.aspif.specs.declared.ProgramRefusal.{ProgramRefusal}
-use Rattle.answer_set.specs.SetTest.{rulesAt}
-use Rattle.answer_set.proofs.Fronts.{few-rules, sound-rules}
-use Rattle.answer_set.proofs.Tested.{atoms-small}
-use Rattle.answer_set.proofs.Answered.{rules-of}
-use Rattle.answer_set.proofs.Readable.{table-read}
+use Rattle.aspif.specs.Tables.{rulesAt}
+use Rattle.aspif.proofs.Cursors.{few-rules, sound-rules, atoms-small, rules-of}
+use Rattle.aspif.proofs.Readable.{table-read}
+use Rattle.drupe.specs.Texts.{stepsOf}
 use Rattle.derivation.specs.States.{State}
-use Rattle.nogoods.specs.Store.{storeWords, Holds}
+use Rattle.nogoods.specs.Store.{storeWords}
+use Rattle.nogoods.specs.Keeps.{Holds}
 use Rattle.checker.specs.Check.{Course, stopped, through, course, saying, judged, judgedReading, check}
 use Rattle.checker.specs.Held.{Program, Ran}
 use Rattle.checker.specs.declared.ProofRefusal.{ProofRefusal}
@@ -36,6 +36,7 @@ use Rattle.checker.specs.declared.runs.Run.the-variants.{Stopped, Throug
 -- The proof's lines
 
 pub too-long : (P : List Rule) (size : ℕ) (text : List ℕ) → longest < length text → course P size text ≡ stopped 21 0
+unfolding course stepsOf
 too-long P size text h = rw (lt-ltb longest (length text) h)
 
 module _ (store : List ℤ) where
@@ -64,7 +65,7 @@ module _ (t s : ℕ) (P : List Rule) (o : Course) {v : Verdict} {table store : L
       → record { verdict = v; table = table; store = store } ≡ judged t s P o
   judged-through n used N R z p q a b c H l = let w : store ≡ storeWords s (z .live) = rw l at (H .words) in rw (p, q, a, b, c, w)
 
--- with the lengths that the caller knows
+-- the verdict of a course, with the lengths that the caller knows
 pub judged-lengths : (P : List Rule) (proof : List ℕ) {t t′ s s′ : ℕ} → t ≡ t′ → s ≡ s′ → judged t s P (course P s proof) ≡ judged t′ s′ P (course P s′ proof)
 judged-lengths P proof a b = ap₂ (λ t s. judged t s P (course P s proof)) a b
 
@@ -82,13 +83,13 @@ lines-read t text P e = by (leb (length text) longest) e
     by true e = e
     by false e = absurd (zero-one (cc))
 
-module _ (t s : ℕ) (text proof : List ℕ) {r : ProgramReading} (answer : r ≡ answerOf (readText t text)) {table : List ℤ} (words : table ≡ tableOf t (readText t text)) where
+module _ (t s : ℕ) (text proof : List ℕ) {r : ProgramReading} (answer : r ≡ programAnswer (readText t text)) {table : List ℤ} (words : table ≡ tableOf t (readText t text)) where
   pub program-refused : (x : ProgramRefusal) {store : List ℤ} → r ≡ Refused x → store ≡ replicate s (pos 0)
       → record { verdict = RefusedProgram x; table = table; store = store } ≡ check text proof t s
   unfolding check
   program-refused x {store} e z = by (readText t text) (sym answer ∙ e) words
     where
-      by : (d : Reading) → answerOf d ≡ Refused x → table ≡ tableOf t d
+      by : (d : Reading) → programAnswer d ≡ Refused x → table ≡ tableOf t d
           → record { verdict = RefusedProgram x; table = table; store = store } ≡ judgedReading t s proof d
       by (Reading.refused k n) e w = let p : x ≡ record { number = k; line = n } = cc in rw (p, w, z)
       by (program P) e w = absurd (zero-one (cc))
@@ -104,7 +105,7 @@ module _ (t s : ℕ) (text proof : List ℕ) {r : ProgramReading} (answer : r �
   pub program-read : (N R : ℕ) → r ≡ Read N R → ReadProgram N R
   program-read N R e = by (readText t text) refl (sym answer ∙ e) words
     where
-      by : (d : Reading) → readText t text ≡ d → answerOf d ≡ Read N R → table ≡ tableOf t d → ReadProgram N R
+      by : (d : Reading) → readText t text ≡ d → programAnswer d ≡ Read N R → table ≡ tableOf t d → ReadProgram N R
       by (Reading.refused k n) q e w = absurd (zero-one (cc))
       by (program P) q e w = record { P = P; read = q; top = cc; count = cc; rules = w }
 
@@ -113,11 +114,11 @@ module _ (t s : ℕ) (text proof : List ℕ) {r : ProgramReading} (answer : r �
   check-read p = rw (p .read)
 
   -- the rules can be found in the table again
-  pub held : {N R : ℕ} (p : ReadProgram N R) → length table ≡ t → Program table R N × (rulesAt R table ≡ p .P) × (table ≡ tableWords (length table) (p .P))
+  pub held : {N R : ℕ} (p : ReadProgram N R) → length table ≡ t → Program table R N (p .P) × (R ≤ mostRules) × (table ≡ tableWords (length table) (p .P))
   held {N} {R} p long =
       let w : table ≡ tableWords (length table) (p .P) = rw long (p .rules) in
       let a = table-read table R (p .P) .1 (record { text = text; read = rw long (lines-read t text (p .P) (p .read)); count = p .count; words = w }) in
       let u = rules-of table R (p .P) a in
       let n = sound-rules table R (u .0) in
       let m : N ≡ atoms (rulesAt R table) = p .top ∙ ap atoms (sym (u .1)) in
-      (record { sound = n; few = few-rules table R (u .0); top = m; high = omega (arith, atoms-small R table n, m) }, u .1, w)
+      (record { holds = record { sound = n; are = u .1 }; top = p .top; high = omega (arith, atoms-small R table n, m) }, few-rules table R (u .0), w)

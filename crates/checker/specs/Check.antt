@@ -2,50 +2,51 @@
 -- Assumes nothing.
 use mathlib.Core.Path.{_≡_}
 use mathlib.Core.Bool.{Bool, cond}
-use mathlib.Core.List.{List}
-use Prim.Native.Nat.{ℕ, zero, suc, _+_}
-use lib.Dec.{ltb, leb}
+use mathlib.Core.List.{List, [], _∷_}
+use Prim.Native.Nat.{ℕ, _+_}
+use lib.Dec.{leb}
 use lib.IntN.{ℤ, pos}
 use lib.ListN.{length, replicate}
-use Rattle.words.specs.Limits.{longest}
 use Rattle.aspif.specs.Rules.{Rule, atoms, tableWords}
 use Rattle.aspif.specs.Reading.{Reading, refused, program, readText}
-use Rattle.drupe.specs.Lines.{LineAt, end, line, lineAt}
-use Rattle.drupe.specs.Lines as Lines
+use Rattle.drupe.specs.Texts.{Step, StepsRead, steps, stepsOf}
+use Rattle.drupe.specs.Texts as Texts
 use Rattle.derivation.specs.States.{State, start}
-use Rattle.derivation.specs.Steps.{Outcome, next, step, emptyLive}
+use Rattle.derivation.specs.Steps.{next, step, emptyLive}
 use Rattle.derivation.specs.Steps as Steps
 use Rattle.nogoods.specs.Store.{liveWords, storeWords}
 use Rattle.checker.specs.declared.Counts.{Counts}
 use Rattle.checker.specs.declared.Verdict.{Verdict}
 use Rattle.checker.specs.declared.Verdict.the-variants.{Inconsistent, Open, RefusedProgram, RefusedProof}
 
--- what the proof's lines come to: a refusal with its number and step, or how many steps there were and what they left
+-- what the proof comes to: a refusal with its number and step, or how many steps there were and what they left
 pub data Course : Type 0 where
-  stopped : ℕ → ℕ → Course
-  through : ℕ → State → Course
+  stopped : (number step : ℕ) → Course
+  through : (done : ℕ) (left : State) → Course
 
-module _ (P : List Rule) (size : ℕ) (text : List ℕ) where
-  -- "Do the live words after the step fit the store? 34." `on` goes on with the state that the step left.
-  abbrev pub fitting : (State → Course) → ℕ → Outcome → Course
-  fitting on n (Steps.refused k) = stopped k n
-  fitting on n (next z) = cond (leb (length (liveWords (z .live))) size) (on z) (stopped 34 n)
+-- "The first "no" decides": a line that is refused stops the check where no step before it did
+abbrev pub thenStopped : (number step : ℕ) → Course → Course
+thenStopped k n (stopped j m) = stopped j m
+thenStopped k n (through m z) = stopped k n
 
-  -- what stands at a position, as step n; `on` goes on from the position after the line
-  abbrev pub lineStep : (ℕ → State → Course) → State → ℕ → LineAt → Course
-  lineStep on z n end = through n z
-  lineStep on z n (Lines.refused k) = stopped k (n + 1)
-  lineStep on z n (line x zs at) = fitting (on at) (n + 1) (step P z (record { letter = x; numbers = zs }))
+module _ (P : List Rule) (size : ℕ) where
+  -- Steps in their turn, after n that left the state z: each is accepted, and then "Do the live words after the step fit the store? 34."
+  abbrev pub runSteps : ℕ → State → List Step → Course
+  runSteps n z [] = through n z
+  runSteps n z (t ∷ ts) =
+      elim (step P z t) [
+        | Steps.refused k ↦ stopped k (n + 1)
+        | next z′ ↦ cond (leb (length (liveWords (z′ .live))) size) (runSteps (n + 1) z′ ts) (stopped 34 (n + 1))
+      ]
 
-  -- The steps from a position on, after n of them. Each line takes a byte at least, so one turn more than there are bytes is
-  -- enough.
-  abbrev pub stepsFrom : ℕ → ℕ → ℕ → State → Course
-  stepsFrom zero at n z = stopped 22 (n + 1)
-  stepsFrom (suc turns) at n z = lineStep (λ at′ z′. stepsFrom turns at′ (n + 1) z′) z n (lineAt text at)
+  -- a text's steps; or those before the line that is refused, and then that refusal
+  abbrev pub runRead : ℕ → State → StepsRead → Course
+  runRead n z (steps ts) = runSteps n z ts
+  runRead n z (Texts.refused before k m) = thenStopped k m (runSteps n z before)
 
--- "At most 65,535 bytes? 21." The whole text is at fault, so the step is 0.
-abbrev pub course : List Rule → ℕ → List ℕ → Course
-course P size text = cond (ltb longest (length text)) (stopped 21 0) (stepsFrom P size text (suc (length text)) 0 0 start)
+-- the proof text's steps, from the start
+unfoldable pub course : List Rule → ℕ → List ℕ → Course
+course P size text = runRead P size 0 start (stepsOf text)
 
 -- the verdict with N, R, S and K, every word of the table and every word of the store
 pub record Checked : Type 0 where

@@ -14,12 +14,13 @@ use Rattle.aspif.specs.Rules.{Rule}
 use Rattle.aspif.specs.Reading.{program, readText}
 use Rattle.drupe.specs.Lines.{end, line, lineAt}
 use Rattle.drupe.specs.Lines as Lines
+use Rattle.drupe.specs.Texts.{Step, textOf, steps, stepsOf}
 use Rattle.derivation.specs.States.{State, start}
 use Rattle.derivation.specs.Steps.{next, step, emptyLive}
 use Rattle.derivation.specs.Steps as Steps
 use Rattle.derivation.specs.Claims.{NoAnswerSet}
 use Rattle.nogoods.specs.Store.{liveWords}
-use Rattle.checker.specs.Check.{Course, stopped, through, course, countsOf, check, CheckedTexts}
+use Rattle.checker.specs.Check.{Course, stopped, through, runSteps, course, countsOf, check, CheckedTexts}
 use Rattle.checker.specs.declared.Counts.{Counts}
 use Rattle.checker.specs.declared.Verdict.{Verdict}
 use Rattle.checker.specs.declared.Verdict.the-variants.{Inconsistent, Open}
@@ -44,17 +45,27 @@ StepByStep =
     (P : List Rule) (size : ℕ) (text : List ℕ) (c : Course) → length text ≤ longest
     → (course P size text ≡ c) ↔ Runs P size text 0 0 start c
 
--- The proof text passes 21, every line of it is a good step that fits the store, and after the last the empty nogood is live, or
--- is not; the counts are those of the program, the steps and the live nogoods.
+-- The proof text's steps are ts, they run through, and after the last the empty nogood is live, or is not; the counts are those of
+-- the program, the steps and the live nogoods.
 abbrev pub Ended : List Rule → ℕ → List ℕ → Bool → Counts → Type 0
 Ended P size proof empty c =
-    (length proof ≤ longest)
-    × ((n : ℕ) × (z : State) × Runs P size proof 0 0 start (through n z) × (emptyLive z ≡ empty) × (c ≡ countsOf P n z))
+    (ts : List Step) × (z : State) × (stepsOf proof ≡ steps ts) × (runSteps P size 0 start ts ≡ through (length ts) z)
+    × (emptyLive z ≡ empty) × (c ≡ countsOf P (length ts) z)
+
+-- What `Ended` says, in the words of a writer: the proof is the text of the steps ts, and no reader is spoken of. That each step passes
+-- 22 to 25 need not be said, since a step that is accepted does.
+abbrev pub Written : List Rule → ℕ → List ℕ → Bool → Counts → Type 0
+Written P size proof empty c =
+    (ts : List Step) × (z : State) × (proof ≡ textOf ts) × (length proof ≤ longest) × (runSteps P size 0 start ts ≡ through (length ts) z)
+    × (emptyLive z ≡ empty) × (c ≡ countsOf P (length ts) z)
+
+abbrev pub EndedWritten : Type 0
+EndedWritten = (P : List Rule) (size : ℕ) (proof : List ℕ) (empty : Bool) (c : Counts) → Ended P size proof empty c ↔ Written P size proof empty c
 
 -- "Once the program is read, the verdict is "inconsistent" exactly when the steps form an ASP-DRUPE proof under document 01 that
 -- fits the lent store, and "open" exactly when every step is good but the empty nogood does not stand after the last."
-abbrev pub Demand2 : Type 0
-Demand2 =
+abbrev pub VerdictExact : Type 0
+VerdictExact =
     (text proof : List ℕ) (t s : ℕ) (P : List Rule) → readText t text ≡ program P → (c : Counts)
     → ((check text proof t s .verdict ≡ Inconsistent c) ↔ Ended P s proof true c)
     × ((check text proof t s .verdict ≡ Open c) ↔ Ended P s proof false c)
@@ -62,24 +73,25 @@ Demand2 =
 -- "So wherever the whole check says "inconsistent", whatever the two texts, the table and the store it was lent, the same is
 -- true of the program it read": "no set of atoms is an answer set of that program. Nor is any set an answer set of that program
 -- with any list of further constraints appended, over old atoms or new."
-abbrev pub Demand3Whole : Type 1
-Demand3Whole =
+abbrev pub SoundWhole : Type 1
+SoundWhole =
     (text proof : List ℕ) (t s : ℕ) (c : Counts)
     → check text proof t s .verdict ≡ Inconsistent c
     → (P : List Rule) × (readText t text ≡ program P) × NoAnswerSet P
 
--- Both of the function `check_texts`, by its contract, whatever the two texts, the table and the store that it is lent.
--- Demand 2: once the program is read, it answers "inconsistent" and "open" exactly when.
-abbrev pub Demand2Service : Type 0
-Demand2Service =
+-- Demand 2 of the function `check_texts`, by its contract, whatever the two texts, the table and the store that it is lent: once the
+-- program is read, it answers "inconsistent" exactly when the steps form such a proof, and "open" exactly when every step is good but
+-- the empty nogood does not stand after the last.
+abbrev pub ServiceExact : Type 0
+ServiceExact =
     (text proof : List ℕ) (table store table′ store′ : List ℤ) (r : Verdict) → CheckedTexts text proof table store table′ store′ r
     → (P : List Rule) → readText (length table) text ≡ program P → (c : Counts)
     → ((r ≡ Inconsistent c) ↔ Ended P (length store) proof true c) × ((r ≡ Open c) ↔ Ended P (length store) proof false c)
 
--- Demand 3: where it answers "inconsistent", no set is an answer set of the program that it read, nor of that program with any
--- further constraints.
-abbrev pub Demand3Service : Type 1
-Demand3Service =
+-- Demand 3 of the function `check_texts`, by its contract, whatever the two texts, the table and the store that it is lent: where it
+-- answers "inconsistent", no set is an answer set of the program that it read, nor of that program with any further constraints.
+abbrev pub ServiceSound : Type 1
+ServiceSound =
     (text proof : List ℕ) (table store table′ store′ : List ℤ) (c : Counts)
     → CheckedTexts text proof table store table′ store′ (Inconsistent c)
     → (P : List Rule) × (readText (length table) text ≡ program P) × NoAnswerSet P

@@ -1,5 +1,5 @@
--- How the code holds a state: known variables as marks, the names of bodies by rule, live nogoods in the store; and what the private
--- functions leave. No reader of the public contract needs it.
+-- What private functions cite, and no reader of a public contract needs: how the code holds a program and a state (known variables
+-- as marks, the names of bodies by rule, live nogoods in the store), and what the steps leave.
 -- Assumes nothing.
 use mathlib.Core.Path.{_≡_}
 use mathlib.Core.Bool.{Bool, true, cond}
@@ -8,42 +8,42 @@ use Prim.Native.Nat.{ℕ, zero, suc, _≤_, _<_}
 use lib.Dec.{T, eqb}
 use lib.IntN.{ℤ, pos, negℤ}
 use lib.ListN.{length, take}
-use Rattle.words.specs.Limits.{largest}
+use Rattle.words.specs.Limits.{largest, entries, mostNumbers}
 use Rattle.words.specs.Lists.{_∈_}
-use Rattle.words.specs.Literals.{variable, noneTwice, sameList}
+use Rattle.words.specs.Literals.{variable, distinct, sameList}
 use Rattle.aspif.specs.Rules.{Rule, atoms}
-use Rattle.aspif.specs.Reading.{mostRules}
-use Rattle.answer_set.specs.SetTest.{marked, marksLent, rulesAt, soundRules}
+use Rattle.marks.specs.Marks.{marked}
 use Rattle.text.specs.declared.Letter.{Letter}
-use Rattle.drupe.specs.Lines.{mostNumbers, signsOf, signed, LineAt, end, line}
+use Rattle.drupe.specs.Lines.{signsOf, signed, LineAt, end, line}
 use Rattle.drupe.specs.Lines as Lines
 use Rattle.derivation.specs.States.{Named, State, isAtom, isKnown}
 use Rattle.derivation.specs.Steps.{Outcome, refused, next, byLetter, step}
-use Rattle.nogoods.specs.Store.{Literals, liveWords, Holds}
+use Rattle.nogoods.specs.Keeps.{Literals, Holds}
+use Rattle.nogoods.specs.Store.{liveWords}
 use Rattle.nogoods.specs.declared.store.Added.{Added}
 use Rattle.nogoods.specs.declared.store.Added.the-variants as Added
+use Rattle.names.specs.Queries.{HoldsRules}
 use Rattle.checker.specs.Check.{Course, stopped, through}
-use Rattle.checker.specs.declared.steps.Stepped.{Stepped}
-use Rattle.checker.specs.declared.steps.Stepped.the-variants.{Uses, Fails}
-use Rattle.checker.specs.declared.runs.Turn.{Turn}
-use Rattle.checker.specs.declared.runs.Turn.the-variants as Turn
+use Rattle.checker.specs.declared.outcomes.Stepped.{Stepped}
+use Rattle.checker.specs.declared.outcomes.Stepped.the-variants.{Uses, Fails}
+use Rattle.checker.specs.declared.runs.ProofTurn.{ProofTurn}
+use Rattle.checker.specs.declared.runs.ProofTurn.the-variants as Turn
 use Rattle.checker.specs.declared.runs.Run.{Run}
 use Rattle.checker.specs.declared.runs.Run.the-variants as Run
 
--- Lines
+-- The program and a line
+
+-- the table holds the rules of P, and the largest atom of P is N
+pub record Program (table : List ℤ) (rules N : ℕ) (P : List Rule) : Type 0 where
+  pub holds : HoldsRules table rules P
+  pub top : N ≡ atoms P
+  pub high : N ≤ largest
 
 -- what a line's numbers are once questions 22 to 25 are passed
-pub record Line (x : Letter) (zs : List ℤ) : Type 0 where
+pub record PassedLine (x : Letter) (zs : List ℤ) : Type 0 where
   pub literals : Literals zs
   pub few : length zs ≤ mostNumbers
   pub signs : signed (signsOf x) zs ≡ true
-
--- the table holds so many sound rules, and the largest atom of these is N
-pub record Program (table : List ℤ) (rules N : ℕ) : Type 0 where
-  pub sound : soundRules rules table ≡ true
-  pub few : rules ≤ mostRules
-  pub top : N ≡ atoms (rulesAt rules table)
-  pub high : N ≤ largest
 
 -- States
 
@@ -60,11 +60,11 @@ pub record Proper (P : List Rule) (introduced : List ℕ) (named : List Named) :
   pub new : (x : Named) → x ∈ named → ¬ T (isAtom P (x .name))
   pub old : (x : Named) → x ∈ named → x .name ∈ introduced
   pub once : (x y : Named) → x ∈ named → y ∈ named → x .body ≡ y .body → x .name ≡ y .name
-  pub distinct : noneTwice (map (λ x. pos (x .name)) named) ≡ true
+  pub different : distinct (map (λ x. pos (x .name)) named) ≡ true
 
 -- the arrays hold the known variables, and by rule the name of its body
 pub record Tracks (P : List Rule) (known names introduced : List ℕ) (named : List Named) : Type 0 where
-  pub entries : length known ≡ marksLent
+  pub entries : length known ≡ entries
   pub knows : (v : ℕ) → v ≤ largest → marked known v ≡ isKnown P (record { live = []; introduced = introduced; named = named }) v
   pub rules : length P ≤ length names
   pub calls : take (length P) names ≡ map (λ r. nameOf named (r .body)) P
@@ -73,24 +73,24 @@ pub record Tracks (P : List Rule) (known names introduced : List ℕ) (named : L
 -- Steps
 
 -- question 34: a full store is refused
-abbrev pub kept : Added → Stepped
-kept (Added.Uses n) = Uses n
-kept Added.Full = Fails 34
+abbrev pub fitted : Added → Stepped
+fitted (Added.Uses n) = Uses n
+fitted Added.Full = Fails 34
 
 -- the store holds the nogoods, or they do not fit: "Do the live words after the step fit the store? 34."
-abbrev pub Kept : List (List ℤ) → List ℤ → Stepped → Type 0
-Kept live store (Uses n) = Holds store n live
-Kept live store (Fails k) = (k ≡ 34) × (length store < length (liveWords live))
+abbrev pub Fitted : List (List ℤ) → List ℤ → Stepped → Type 0
+Fitted live store (Uses n) = Holds store n live
+Fitted live store (Fails k) = (k ≡ 34) × (length store < length (liveWords live))
 
 -- what a step leaves, by what it comes to: the number of the question, or arrays and store that hold the next state
-abbrev pub Left : List Rule → List ℕ → List ℕ → List ℤ → Outcome → Stepped → Type 0
-Left P known names store (refused k) r = r ≡ Fails k
-Left P known names store (next z) r = Kept (z .live) store r × Tracks P known names (z .introduced) (z .named)
+abbrev pub Leaves : List Rule → List ℕ → List ℕ → List ℤ → Outcome → Stepped → Type 0
+Leaves P known names store (refused k) r = r ≡ Fails k
+Leaves P known names store (next z) r = Fitted (z .live) store r × Tracks P known names (z .introduced) (z .named)
 
 -- the contract of a letter's function: what the step leaves, of whatever state the arrays and the store held before
 abbrev pub Stepping : List Rule → Letter → List ℤ → ℕ → List ℕ → List ℕ → List ℤ → List ℕ → List ℕ → List ℤ → Stepped → Type 0
 Stepping P x zs used known names store known′ names′ store′ r =
-    (z : State) → Tracks P known names (z .introduced) (z .named) → Holds store used (z .live) → Left P known′ names′ store′ (byLetter P z x zs) r
+    (z : State) → Tracks P known names (z .introduced) (z .named) → Holds store used (z .live) → Leaves P known′ names′ store′ (byLetter P z x zs) r
 
 -- the nogood of an `l` step, ascending: of n numbers from v on, h itself and minus each one that passes
 abbrev pub gathered : (ℕ → Bool) → ℤ → ℕ → ℕ → List ℤ
@@ -101,20 +101,20 @@ gathered f h (suc n) v =
 -- Lines as steps, and all of them
 
 -- what a step comes to, with the position after its line
-abbrev pub turnOf : ℕ → Stepped → Turn
-turnOf at (Uses n) = Turn.Goes at n
-turnOf at (Fails k) = Turn.Fails k
+abbrev pub proofTurn : ℕ → Stepped → ProofTurn
+proofTurn at (Uses n) = Turn.Goes at n
+proofTurn at (Fails k) = Turn.Fails k
 
 module _ (P : List Rule) (known names : List ℕ) (store : List ℤ) where
   -- what the step of a line leaves, with the position after the line
-  abbrev pub StepTurn : ℕ → Outcome → Turn → Type 0
-  StepTurn at o r = (s : Stepped) × (r ≡ turnOf at s) × Left P known names store o s
+  abbrev pub StepLeaves : ℕ → Outcome → ProofTurn → Type 0
+  StepLeaves at o r = (s : Stepped) × (r ≡ proofTurn at s) × Leaves P known names store o s
 
   -- what one turn of the check leaves, by what stands at the position; so many words were used
-  abbrev pub LineTurn : ℕ → State → LineAt → Turn → Type 0
-  LineTurn used z end r = (r ≡ Turn.Ends) × Holds store used (z .live)
-  LineTurn used z (Lines.refused k) r = r ≡ Turn.Fails k
-  LineTurn used z (line x zs at) r = StepTurn at (step P z (record { letter = x; numbers = zs })) r
+  abbrev pub LineLeaves : ℕ → State → LineAt → ProofTurn → Type 0
+  LineLeaves used z end r = (r ≡ Turn.Ends) × Holds store used (z .live)
+  LineLeaves used z (Lines.refused k) r = r ≡ Turn.Fails k
+  LineLeaves used z (line x zs at) r = StepLeaves at (step P z (record { letter = x; numbers = zs })) r
 
 -- what the lines leave, by what they come to
 abbrev pub Ran : List ℤ → Course → Run → Type 0

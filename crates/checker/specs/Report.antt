@@ -1,12 +1,9 @@
 -- The line that `verdict` prints: document 01, 'What `verdict` prints'.
 -- Assumes nothing.
-use mathlib.Core.Path.{_≡_}
 use mathlib.Core.List.{List, [], _∷_, _++_}
-use Prim.Native.Nat.{ℕ, _+_}
-use lib.ListN.{length}
-use lib.Seq.{sets}
+use Prim.Native.Nat.{ℕ}
 use Rattle.text.specs.Decimals.{decimal}
-use Rattle.checker.specs.Texts.{bytes}
+use Rattle.text.specs.Strings.{bytes}
 use Rattle.checker.specs.Check.{check}
 use Rattle.checker.specs.declared.Counts.{Counts}
 use Rattle.checker.specs.declared.Verdict.{Verdict}
@@ -23,11 +20,15 @@ countsText c = numbered (c .atoms ∷ c .rules ∷ c .steps ∷ c .nogoods ∷ [
 
 -- "Its one line is `inconsistent N R S K` or `open N R S K` (R rules, S steps, K live nogoods), `refused program NUMBER LINE` or
 -- `refused proof NUMBER STEP`."
-abbrev pub lineOf : Verdict → List ℕ
-lineOf (Inconsistent c) = bytes "inconsistent" ++ countsText c
-lineOf (Open c) = bytes "open" ++ countsText c
-lineOf (RefusedProgram r) = bytes "refused program" ++ numbered (r .number ∷ r .line ∷ [])
-lineOf (RefusedProof r) = bytes "refused proof" ++ numbered (r .number ∷ r .step ∷ [])
+abbrev pub verdictLine : Verdict → List ℕ
+verdictLine (Inconsistent c) = bytes "inconsistent" ++ countsText c
+verdictLine (Open c) = bytes "open" ++ countsText c
+verdictLine (RefusedProgram r) = bytes "refused program" ++ numbered (r .number ∷ r .line ∷ [])
+verdictLine (RefusedProof r) = bytes "refused proof" ++ numbered (r .number ∷ r .step ∷ [])
+
+-- the bytes of the longest line: `inconsistent`, four numbers of 20 digits, each after a space, and the newline
+abbrev pub longestLine : ℕ
+longestLine = 97
 
 -- "with a table and a store of 16,384 words"
 abbrev pub lent : ℕ
@@ -35,9 +36,4 @@ lent = 16384
 
 -- what `verdict` prints of a program text and a proof text
 unfoldable pub printed : List ℕ → List ℕ → List ℕ
-printed text proof = lineOf (check text proof lent lent .verdict)
-
--- The bytes vs stand in a buffer from `at` on, as many as fit, and no other byte has changed; `next` is the position after them.
-pub record Put (vs before after : List ℕ) (at next : ℕ) : Type 0 where
-  pub stands : after ≡ sets before at vs
-  pub ends : next ≡ at + length vs
+printed text proof = verdictLine (check text proof lent lent .verdict)

@@ -4,39 +4,40 @@ ghost use Prim.Native.Nat.{ℕ};
 ghost use lib.IntN.{ℤ};
 ghost use Rattle.aspif.specs.Rules.{Rule};
 ghost use Rattle.text.specs.declared.Letter.the-variants.{Addition, Deletion};
-ghost use Rattle.nogoods.specs.Store.{Holds};
-ghost use Rattle.checker.specs.Held.{Line, Stepping};
-use crate::steps;
-use crate::steps::Stepped;
-use names::variables;
+ghost use Rattle.nogoods.specs.Keeps.{Holds};
+ghost use Rattle.checker.specs.Held.{PassedLine, Stepping};
+use crate::outcomes;
+use crate::outcomes::Stepped;
 use nogoods::propagation;
 use nogoods::store;
 
-// `a`
+// `a`: literals that unit propagation refutes, or any where the empty nogood is live. Adds them as a nogood.
 pub fn addition(known: &[u8], store: &mut [i32], used: usize, numbers: &mut [i32]) -> Stepped
-    requires { ⌜ ((live : List (List ℤ)) × Holds (now store) used live) ⌝ }
-    requires { ⌜ Line Addition (now numbers) ⌝ }
-    ensures { λ r. ⌜ ((P : List Rule) (names : List ℕ) → Stepping P Addition (now (numbers .entry)) used (now (known .entry)) names (now (store .entry))
+    requires live { ⌜ ((live : List (List ℤ)) × Holds (now store) used live) ⌝ }
+    requires line { ⌜ PassedLine Addition (now numbers) ⌝ }
+    ensures { λ r. ⌜ ((P : List Rule) (names : List ℕ)
+        → Stepping P Addition (now (numbers .entry)) used (now (known .entry)) names (now (store .entry))
         (now (known .entry)) names (now (store .exit)) r) ⌝ }
 {
-    if !variables::all_marked(numbers, known) {
+    if !marks::all_marked(numbers, known) {
         return Stepped::Fails(26);
     }
     if !propagation::refutes(store, used, numbers) {
         return Stepped::Fails(33);
     }
     words::sort(numbers);
-    steps::fitted(store::append(store, used, numbers))
+    outcomes::fitted(store::append(store, used, numbers))
 }
 
-// `d`
+// `d`: literals. Removes the oldest live nogood that has just them; where there is none, nothing changes.
 pub fn deletion(known: &[u8], store: &mut [i32], used: usize, numbers: &mut [i32]) -> Stepped
-    requires { ⌜ ((live : List (List ℤ)) × Holds (now store) used live) ⌝ }
-    requires { ⌜ Line Deletion (now numbers) ⌝ }
-    ensures { λ r. ⌜ ((P : List Rule) (names : List ℕ) → Stepping P Deletion (now (numbers .entry)) used (now (known .entry)) names (now (store .entry))
+    requires live { ⌜ ((live : List (List ℤ)) × Holds (now store) used live) ⌝ }
+    requires line { ⌜ PassedLine Deletion (now numbers) ⌝ }
+    ensures { λ r. ⌜ ((P : List Rule) (names : List ℕ)
+        → Stepping P Deletion (now (numbers .entry)) used (now (known .entry)) names (now (store .entry))
         (now (known .entry)) names (now (store .exit)) r) ⌝ }
 {
-    if !variables::all_marked(numbers, known) {
+    if !marks::all_marked(numbers, known) {
         return Stepped::Fails(26);
     }
     words::sort(numbers);

@@ -2,12 +2,14 @@
 ghost use mathlib.Core.Path.{_≡_};
 ghost use mathlib.Core.List.{List};
 ghost use lib.IntN.{ℤ, pos};
+ghost use Prim.Native.Nat.{_≤_};
 ghost use lib.ListN.{length, replicate};
+ghost use Rattle.words.specs.Limits.{mostRules};
 ghost use Rattle.words.specs.Lists.{any};
 ghost use Rattle.aspif.specs.Rules.{Rule, isEmpty, tableWords};
-ghost use Rattle.answer_set.specs.SetTest.{rulesAt};
-ghost use Rattle.nogoods.specs.Store.{Holds};
-ghost use Rattle.checker.specs.Check.{saying, judged, course};
+ghost use Rattle.aspif.specs.Reading.{program};
+ghost use Rattle.nogoods.specs.Keeps.{Holds};
+ghost use Rattle.checker.specs.Check.{saying, judgedReading};
 ghost use Rattle.checker.specs.Held.{Program};
 ghost use Rattle.checker.specs.declared.Verdict.the-variants.{RefusedProof};
 use crate::Counts;
@@ -18,7 +20,9 @@ use crate::runs::Run;
 
 // Nothing of a proof that is refused stays, nor of its program.
 fn refuse(table: &mut [i32], store: &mut [i32], refusal: ProofRefusal) -> Verdict
-    ensures { λ r. ⌜ (r ≡ RefusedProof refusal) × (now (table .exit) ≡ replicate (length (now (table .entry))) (pos 0)) × (now (store .exit) ≡ replicate (length (now (store .entry))) (pos 0)) ⌝ }
+    ensures verdict { λ r. ⌜ r ≡ RefusedProof refusal ⌝ }
+    ensures table { λ r. ⌜ now (table .exit) ≡ replicate (length (now (table .entry))) (pos 0) ⌝ }
+    ensures store { λ r. ⌜ now (store .exit) ≡ replicate (length (now (store .entry))) (pos 0) ⌝ }
 {
     words::zero_all(table);
     words::zero_all(store);
@@ -51,9 +55,12 @@ pub fn check_proof(
     rules: usize,
     store: &mut [i32],
 ) -> Verdict
-    requires { ⌜ Program (now table) rules atoms × (now store ≡ replicate (length (now store)) (pos 0)) ⌝ }
-    ensures { λ r. ⌜ ((P : List Rule) → length P ≡ rules → now (table .entry) ≡ tableWords (length (now (table .entry))) P → rulesAt rules (now (table .entry)) ≡ P
-        → record { verdict = r; table = now (table .exit); store = now (store .exit) } ≡ judged (length (now (table .entry))) (length (now (store .entry))) P (course P (length (now (store .entry))) (now (proof .entry)))) ⌝ }
+    requires program { ⌜ ((P : List Rule) × Program (now table) rules atoms P) × (rules ≤ mostRules) ⌝ }
+    requires empty { ⌜ now store ≡ replicate (length (now store)) (pos 0) ⌝ }
+    ensures { λ r. ⌜ ((P : List Rule) → Program (now (table .entry)) rules atoms P
+        → now (table .entry) ≡ tableWords (length (now (table .entry))) P
+        → record { verdict = r; table = now (table .exit); store = now (store .exit) }
+        ≡ judgedReading (length (now (table .entry))) (length (now (store .entry))) (now (proof .entry)) (program P)) ⌝ }
 {
     if words::LONGEST < proof.len() {
         return refuse(

@@ -3,6 +3,7 @@
 mod additions;
 mod judging;
 mod naming;
+mod outcomes;
 pub mod report;
 mod runs;
 mod states;
@@ -36,10 +37,11 @@ pub enum Verdict {
     RefusedProof(ProofRefusal),
 }
 
-// Checks a proof text against a program text. The table then holds the program's rules and the store the live nogoods, with 0 after
-// them; both are 0 throughout where anything is refused.
+// Checks a proof text against a program text. The table then holds the program's rules and the store the live nogoods, with 0
+// after them; both are 0 throughout where anything is refused.
 pub fn check_texts(program: &[u8], proof: &[u8], table: &mut [i32], store: &mut [i32]) -> Verdict
-    ensures { λ r. ⌜ CheckedTexts (now (program .entry)) (now (proof .entry)) (now (table .entry)) (now (store .entry)) (now (table .exit)) (now (store .exit)) r ⌝ }
+    ensures { λ r. ⌜ CheckedTexts (now (program .entry)) (now (proof .entry)) (now (table .entry)) (now (store .entry))
+        (now (table .exit)) (now (store .exit)) r ⌝ }
 {
     words::zero_all(store);
     let read = aspif::read_program(program, table);

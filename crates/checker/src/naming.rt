@@ -5,47 +5,45 @@ ghost use mathlib.Core.List.{List, _++_};
 ghost use Prim.Native.Nat.{ℕ, _≤_};
 ghost use lib.IntN.{ℤ, pos};
 ghost use lib.ListN.{length, drop, getD, set};
-ghost use Rattle.words.specs.Limits.{largest};
+ghost use Rattle.words.specs.Limits.{largest, mostNumbers};
 ghost use Rattle.words.specs.Literals.{variable, sameList, ascending};
-ghost use Rattle.drupe.specs.Lines.{mostNumbers};
 ghost use Rattle.aspif.specs.Rules.{Rule};
-ghost use Rattle.answer_set.specs.SetTest.{rulesAt, soundRules};
 ghost use Rattle.text.specs.declared.Letter.the-variants.{Body, Extension};
 ghost use Rattle.derivation.specs.States.{State};
 ghost use Rattle.derivation.specs.Steps.{definition, isUnnamedBody};
-ghost use Rattle.nogoods.specs.Store.{Literals, Holds};
-ghost use Rattle.names.specs.Queries.{renamed};
-ghost use Rattle.checker.specs.Held.{Line, Tracks, Kept, Stepping};
+ghost use Rattle.nogoods.specs.Keeps.{Literals, Holds};
+ghost use Rattle.names.specs.Queries.{HoldsRules, renamed};
+ghost use Rattle.checker.specs.Held.{PassedLine, Tracks, Fitted, Stepping};
+use crate::outcomes;
+use crate::outcomes::Stepped;
 use crate::states::CheckingState;
-use crate::steps;
-use crate::steps::Stepped;
-use answer_set::marks;
 use names::queries;
 use names::queries::Query;
-use names::variables;
 use nogoods::definitions;
 use nogoods::store;
 
 // The name is known from now on, and its definition live.
 fn define(known: &mut [u8], store: &mut [i32], used: usize, numbers: &mut [i32]) -> Stepped
-    requires { ⌜ ((live : List (List ℤ)) × Holds (now store) used live) ⌝ }
-    requires { ⌜ Literals (now numbers) × (1 ≤ length (now numbers)) × (length (now numbers) ≤ mostNumbers) ⌝ }
-    ensures { λ r. ⌜ (now (known .exit) ≡ set (now (known .entry)) (variable (getD (now (numbers .entry)) 0 (pos 0))) 1)
-        × ((live : List (List ℤ)) → Holds (now (store .entry)) used live
-        → Kept (live ++ definition (getD (now (numbers .entry)) 0 (pos 0)) (drop 1 (now (numbers .entry)))) (now (store .exit)) r) ⌝ }
+    requires live { ⌜ ((live : List (List ℤ)) × Holds (now store) used live) ⌝ }
+    requires line { ⌜ Literals (now numbers) × (1 ≤ length (now numbers)) × (length (now numbers) ≤ mostNumbers) ⌝ }
+    ensures known { λ r. ⌜ now (known .exit) ≡ set (now (known .entry)) (variable (getD (now (numbers .entry)) 0 (pos 0))) 1 ⌝ }
+    ensures defined { λ r. ⌜ ((live : List (List ℤ)) → Holds (now (store .entry)) used live
+        → (let added = definition (getD (now (numbers .entry)) 0 (pos 0)) (drop 1 (now (numbers .entry))) in
+        Fitted (live ++ added) (now (store .exit)) r)) ⌝ }
 {
     marks::mark(known, words::variable_of(numbers[0]));
-    steps::fitted(definitions::append(store, used, numbers))
+    outcomes::fitted(definitions::append(store, used, numbers))
 }
 
-// `e`
+// `e`: a fresh name n and any literals L. Adds -n with L, and n with the complement of each literal of L.
 pub fn extension(known: &mut [u8], store: &mut [i32], used: usize, numbers: &mut [i32]) -> Stepped
-    requires { ⌜ ((live : List (List ℤ)) × Holds (now store) used live) ⌝ }
-    requires { ⌜ Line Extension (now numbers) ⌝ }
-    ensures { λ r. ⌜ ((P : List Rule) (names : List ℕ) → Stepping P Extension (now (numbers .entry)) used (now (known .entry)) names (now (store .entry))
+    requires live { ⌜ ((live : List (List ℤ)) × Holds (now store) used live) ⌝ }
+    requires line { ⌜ PassedLine Extension (now numbers) ⌝ }
+    ensures { λ r. ⌜ ((P : List Rule) (names : List ℕ)
+        → Stepping P Extension (now (numbers .entry)) used (now (known .entry)) names (now (store .entry))
         (now (known .exit)) names (now (store .exit)) r) ⌝ }
 {
-    if !variables::all_marked(&numbers[1..], known) {
+    if !marks::all_marked(&numbers[1..], known) {
         return Stepped::Fails(26);
     }
     if marks::is_marked(known, words::variable_of(numbers[0])) {
@@ -54,13 +52,15 @@ pub fn extension(known: &mut [u8], store: &mut [i32], used: usize, numbers: &mut
     define(known, store, used, numbers)
 }
 
-// Question 28 of a body, which ascends afterwards; its rules get the name.
+// Question 28: the literals are the body of a rule, which has no name yet. Its rules then get the name, and the literals ascend.
 fn name_body(table: &[i32], rules: usize, names: &mut [u16], body: &mut [i32], name: usize) -> bool
-    requires { ⌜ (soundRules rules (now table) ≡ true) × (rules ≤ length (now names)) ⌝ }
-    requires { ⌜ name ≤ largest ⌝ }
-    ensures { λ r. ⌜ ((known : List ℕ) (z : State) → Tracks (rulesAt rules (now (table .entry))) known (now (names .entry)) (z .introduced) (z .named)
-        → r ≡ isUnnamedBody (rulesAt rules (now (table .entry))) z (now (body .entry))) ⌝ }
-    ensures { λ r. ⌜ (r ≡ true → now (names .exit) ≡ renamed (λ x. sameList (x .body) (ascending (now (body .entry)))) name (rulesAt rules (now (table .entry))) (now (names .entry))) ⌝ }
+    requires program { ⌜ ((P : List Rule) × HoldsRules (now table) rules P) × (rules ≤ length (now names)) ⌝ }
+    requires name { ⌜ name ≤ largest ⌝ }
+    ensures answer { λ r. ⌜ ((P : List Rule) → HoldsRules (now (table .entry)) rules P
+        → (known : List ℕ) (z : State) → Tracks P known (now (names .entry)) (z .introduced) (z .named)
+        → r ≡ isUnnamedBody P z (now (body .entry))) ⌝ }
+    ensures named { λ r. ⌜ ((P : List Rule) → HoldsRules (now (table .entry)) rules P → r ≡ true
+        → now (names .exit) ≡ renamed (λ x. sameList (x .body) (ascending (now (body .entry)))) name P (now (names .entry))) ⌝ }
 {
     words::sort(body);
     // the query reads no set
@@ -73,7 +73,8 @@ fn name_body(table: &[i32], rules: usize, names: &mut [u16], body: &mut [i32], n
     true
 }
 
-// `b`
+// `b`: a fresh name n and literals L, the body of a rule, which has no name yet; n names it. Adds -n with L, and n with the
+// complement of each literal of L.
 pub fn body(
     table: &[i32],
     rules: usize,
@@ -83,13 +84,14 @@ pub fn body(
     used: usize,
     numbers: &mut [i32],
 ) -> Stepped
-    requires { ⌜ (soundRules rules (now table) ≡ true) × (rules ≤ length (now names)) ⌝ }
-    requires { ⌜ ((live : List (List ℤ)) × Holds (now store) used live) ⌝ }
-    requires { ⌜ Line Body (now numbers) ⌝ }
-    ensures { λ r. ⌜ Stepping (rulesAt rules (now (table .entry))) Body (now (numbers .entry)) used (now (known .entry)) (now (names .entry)) (now (store .entry))
-        (now (known .exit)) (now (names .exit)) (now (store .exit)) r ⌝ }
+    requires program { ⌜ ((P : List Rule) × HoldsRules (now table) rules P) × (rules ≤ length (now names)) ⌝ }
+    requires live { ⌜ ((live : List (List ℤ)) × Holds (now store) used live) ⌝ }
+    requires line { ⌜ PassedLine Body (now numbers) ⌝ }
+    ensures { λ r. ⌜ ((P : List Rule) → HoldsRules (now (table .entry)) rules P
+        → Stepping P Body (now (numbers .entry)) used (now (known .entry)) (now (names .entry)) (now (store .entry))
+        (now (known .exit)) (now (names .exit)) (now (store .exit)) r) ⌝ }
 {
-    if !variables::all_marked(&numbers[1..], known) {
+    if !marks::all_marked(&numbers[1..], known) {
         return Stepped::Fails(26);
     }
     let name = words::variable_of(numbers[0]);

@@ -1,119 +1,80 @@
-// The line that `verdict` prints, written to a lent buffer: specs/Report.antt. A line has 97 bytes at most; the bounds on
-// positions that are asked below are wider, and only keep sums from wrapping.
+// The line that `verdict` prints, written to a lent buffer: specs/Report.antt. The bounds that private functions ask of positions
+// keep sums from wrapping, and are wider than any line needs.
 ghost use mathlib.Core.Path.{_≡_};
 ghost use mathlib.Core.List.{[], _∷_};
-ghost use Prim.Native.Nat.{_+_, _<_, _≤_};
-ghost use lib.ListN.{length, set};
+ghost use Prim.Native.Nat.{_+_, _≤_};
+ghost use lib.ListN.{length};
 ghost use lib.Seq.{sets};
-ghost use Rattle.text.specs.Decimals.{digitByte, decimal};
-ghost use Rattle.checker.specs.Report.{numbered, countsText, lineOf, printed, Put};
+ghost use Rattle.text.specs.Decimals.{decimal};
+ghost use Rattle.text.specs.Writing.{Put};
+ghost use Rattle.checker.specs.Report.{numbered, countsText, verdictLine, longestLine, printed};
 use crate::Counts;
 use crate::Verdict;
 use crate::check_texts;
+use text::writing;
+
+// The bytes of the longest line.
+pub const LONGEST_LINE: usize = 97;
 
 // "with a table and a store of 16,384 words".
 const LENT: usize = 16384;
 
-// A byte past the end is not written.
-fn put(buffer: &mut [u8], at: usize, byte: u8)
-    ensures { λ _. ⌜ now (buffer .exit) ≡ set (now (buffer .entry)) at byte ⌝ }
-{
-    if at < buffer.len() {
-        buffer[at] = byte;
-    }
-}
-
-// The bytes from `at` on, and the position after them.
-fn put_bytes(buffer: &mut [u8], at: usize, bytes: &[u8]) -> usize
-    requires { ⌜ at + length (now bytes) ≤ 200 ⌝ }
-    ensures { λ r. ⌜ Put (now (bytes .entry)) (now (buffer .entry)) (now (buffer .exit)) at r ⌝ }
-{
-    let mut i = 0;
-    while i < bytes.len() {
-        put(buffer, at + i, bytes[i]);
-        i += 1;
-    }
-    at + i
-}
-
-// One digit.
-fn put_digit(buffer: &mut [u8], at: usize, d: usize) -> usize
-    requires { ⌜ at ≤ 300 ⌝ }
-    requires { ⌜ d < 10 ⌝ }
-    ensures { λ r. ⌜ Put (digitByte d ∷ []) (now (buffer .entry)) (now (buffer .exit)) at r ⌝ }
-{
-    put(buffer, at, b'0' + d as u8);
-    at + 1
-}
-
-// The decimal digits of a number.
-fn put_digits(buffer: &mut [u8], at: usize, n: usize) -> usize
-    requires { ⌜ at ≤ 200 ⌝ }
-    ensures { λ r. ⌜ Put (decimal n) (now (buffer .entry)) (now (buffer .exit)) at r ⌝ }
-{
-    if n < 10 {
-        return put_digit(buffer, at, n);
-    }
-    let last = put_digits(buffer, at, n / 10);
-    put_digit(buffer, last, n % 10)
-}
-
 // A space and a number.
 fn put_number(buffer: &mut [u8], at: usize, n: usize) -> usize
     requires { ⌜ at ≤ 100 ⌝ }
-    ensures { λ r. ⌜ Put (32 ∷ decimal n) (now (buffer .entry)) (now (buffer .exit)) at r ⌝ }
-    ensures { λ r. ⌜ r ≤ at + 21 ⌝ }
+    ensures written { λ r. ⌜ Put (32 ∷ decimal n) (now (buffer .entry)) (now (buffer .exit)) at r ⌝ }
+    ensures within { λ r. ⌜ r ≤ at + 21 ⌝ }
 {
-    let from = put_bytes(buffer, at, b" ");
-    put_digits(buffer, from, n)
+    let from = writing::put_bytes(buffer, at, b" ");
+    writing::put_digits(buffer, from, n)
 }
 
 // Two numbers and the newline.
 fn put_two(buffer: &mut [u8], at: usize, a: usize, b: usize) -> usize
     requires { ⌜ at ≤ 20 ⌝ }
-    ensures { λ r. ⌜ Put (numbered (a ∷ b ∷ [])) (now (buffer .entry)) (now (buffer .exit)) at r ⌝ }
-    ensures { λ r. ⌜ r ≤ at + 43 ⌝ }
+    ensures written { λ r. ⌜ Put (numbered (a ∷ b ∷ [])) (now (buffer .entry)) (now (buffer .exit)) at r ⌝ }
+    ensures within { λ r. ⌜ r ≤ at + 43 ⌝ }
 {
     let second = put_number(buffer, at, a);
     let end = put_number(buffer, second, b);
-    put_bytes(buffer, end, b"\n")
+    writing::put_bytes(buffer, end, b"\n")
 }
 
 // N, R, S, K and the newline.
 fn put_counts(buffer: &mut [u8], at: usize, counts: Counts) -> usize
     requires { ⌜ at ≤ 20 ⌝ }
-    ensures { λ r. ⌜ Put (countsText counts) (now (buffer .entry)) (now (buffer .exit)) at r ⌝ }
-    ensures { λ r. ⌜ r ≤ at + 85 ⌝ }
+    ensures written { λ r. ⌜ Put (countsText counts) (now (buffer .entry)) (now (buffer .exit)) at r ⌝ }
+    ensures within { λ r. ⌜ r ≤ at + 85 ⌝ }
 {
     let after_atoms = put_number(buffer, at, counts.atoms);
     let after_rules = put_number(buffer, after_atoms, counts.rules);
     let after_steps = put_number(buffer, after_rules, counts.steps);
     let end = put_number(buffer, after_steps, counts.nogoods);
-    put_bytes(buffer, end, b"\n")
+    writing::put_bytes(buffer, end, b"\n")
 }
 
 // The verdict's line, its newline included, at the front of the buffer, as many bytes as fit; the answer is the line's length. A
-// buffer of 97 bytes holds every line.
+// buffer of LONGEST_LINE bytes holds every line.
 pub fn write_line(verdict: Verdict, buffer: &mut [u8]) -> usize
-    ensures { λ r. ⌜ r ≡ length (lineOf verdict) ⌝ }
-    ensures { λ r. ⌜ now (buffer .exit) ≡ sets (now (buffer .entry)) 0 (lineOf verdict) ⌝ }
-    ensures { λ r. ⌜ r ≤ 97 ⌝ }
+    ensures size { λ r. ⌜ r ≡ length (verdictLine verdict) ⌝ }
+    ensures written { λ r. ⌜ now (buffer .exit) ≡ sets (now (buffer .entry)) 0 (verdictLine verdict) ⌝ }
+    ensures within { λ r. ⌜ r ≤ longestLine ⌝ }
 {
     match verdict {
         Verdict::Inconsistent(counts) => {
-            let at = put_bytes(buffer, 0, b"inconsistent");
+            let at = writing::put_bytes(buffer, 0, b"inconsistent");
             put_counts(buffer, at, counts)
         }
         Verdict::Open(counts) => {
-            let at = put_bytes(buffer, 0, b"open");
+            let at = writing::put_bytes(buffer, 0, b"open");
             put_counts(buffer, at, counts)
         }
         Verdict::RefusedProgram(refusal) => {
-            let at = put_bytes(buffer, 0, b"refused program");
+            let at = writing::put_bytes(buffer, 0, b"refused program");
             put_two(buffer, at, refusal.number as usize, refusal.line)
         }
         Verdict::RefusedProof(refusal) => {
-            let at = put_bytes(buffer, 0, b"refused proof");
+            let at = writing::put_bytes(buffer, 0, b"refused proof");
             put_two(buffer, at, refusal.number as usize, refusal.step)
         }
     }
@@ -122,9 +83,9 @@ pub fn write_line(verdict: Verdict, buffer: &mut [u8]) -> usize
 // The line that `verdict` prints of two texts, its newline included, at the front of the buffer, as many bytes as fit; the answer
 // is the line's length.
 pub fn check_line(program: &[u8], proof: &[u8], buffer: &mut [u8]) -> usize
-    ensures { λ r. ⌜ r ≡ length (printed (now (program .entry)) (now (proof .entry))) ⌝ }
-    ensures { λ r. ⌜ now (buffer .exit) ≡ sets (now (buffer .entry)) 0 (printed (now (program .entry)) (now (proof .entry))) ⌝ }
-    ensures { λ r. ⌜ r ≤ 97 ⌝ }
+    ensures size { λ r. ⌜ r ≡ length (printed (now (program .entry)) (now (proof .entry))) ⌝ }
+    ensures written { λ r. ⌜ now (buffer .exit) ≡ sets (now (buffer .entry)) 0 (printed (now (program .entry)) (now (proof .entry))) ⌝ }
+    ensures within { λ r. ⌜ r ≤ longestLine ⌝ }
 {
     let mut table = [0i32; LENT];
     let mut store = [0i32; LENT];

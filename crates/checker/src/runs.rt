@@ -4,22 +4,22 @@ ghost use mathlib.Core.List.{List};
 ghost use Prim.Native.Nat.{_≤_};
 ghost use lib.IntN.{ℤ, pos};
 ghost use lib.ListN.{length, replicate};
-ghost use Rattle.words.specs.Limits.{longest};
-ghost use Rattle.answer_set.specs.SetTest.{rulesAt};
+ghost use Rattle.words.specs.Limits.{longest, mostRules};
+ghost use Rattle.aspif.specs.Rules.{Rule};
 ghost use Rattle.drupe.specs.Lines.{lineAt};
 ghost use Rattle.derivation.specs.States.{State};
-ghost use Rattle.nogoods.specs.Store.{Holds};
+ghost use Rattle.nogoods.specs.Keeps.{Holds};
 ghost use Rattle.checker.specs.Check.{course};
-ghost use Rattle.checker.specs.Held.{Program, Tracks, turnOf, LineTurn, Ran};
+ghost use Rattle.checker.specs.Held.{Program, Tracks, proofTurn, LineLeaves, Ran};
 use crate::ProofRefusal;
+use crate::outcomes::Stepped;
 use crate::states::CheckingState;
 use crate::steps;
-use crate::steps::Stepped;
 use drupe::LineAnswer;
 use drupe::reader;
 
 // What stands at a position comes to: the end, the question that is answered no, or the next position and the words used then.
-pub enum Turn {
+pub enum ProofTurn {
     Ends,
     Fails(u8),
     Goes { next: usize, used: usize },
@@ -32,12 +32,12 @@ pub enum Run {
 }
 
 // What a step comes to, with the position after its line.
-fn turn_of(next: usize, stepped: Stepped) -> Turn
-    ensures { λ r. ⌜ r ≡ turnOf next stepped ⌝ }
+fn turn_of(next: usize, stepped: Stepped) -> ProofTurn
+    ensures { λ r. ⌜ r ≡ proofTurn next stepped ⌝ }
 {
     match stepped {
-        Stepped::Uses(used) => Turn::Goes { next, used },
-        Stepped::Fails(number) => Turn::Fails(number),
+        Stepped::Uses(used) => ProofTurn::Goes { next, used },
+        Stepped::Fails(number) => ProofTurn::Fails(number),
     }
 }
 
@@ -52,35 +52,27 @@ fn turn_at(
     names: &mut [u16],
     store: &mut [i32],
     used: usize,
-) -> Turn
-    requires { ⌜ Program (now table) rules atoms × (rules ≤ length (now names)) ⌝ }
-    requires { ⌜ ((live : List (List ℤ)) × Holds (now store) used live) ⌝ }
-    ensures { λ r. ⌜ ((z : State) → Tracks (rulesAt rules (now (table .entry))) (now (known .entry)) (now (names .entry)) (z .introduced) (z .named)
+) -> ProofTurn
+    requires program { ⌜ ((P : List Rule) × Program (now table) rules atoms P) × (rules ≤ length (now names)) ⌝ }
+    requires live { ⌜ ((live : List (List ℤ)) × Holds (now store) used live) ⌝ }
+    ensures { λ r. ⌜ ((P : List Rule) → Program (now (table .entry)) rules atoms P
+        → (z : State) → Tracks P (now (known .entry)) (now (names .entry)) (z .introduced) (z .named)
         → Holds (now (store .entry)) used (z .live)
-        → LineTurn (rulesAt rules (now (table .entry))) (now (known .exit)) (now (names .exit)) (now (store .exit)) used z (lineAt (now (proof .entry)) at) r) ⌝ }
+        → LineLeaves P (now (known .exit)) (now (names .exit)) (now (store .exit)) used z (lineAt (now (proof .entry)) at) r) ⌝ }
 {
     let reading = reader::step_at(proof, at);
     let answer = reading.answer;
     let mut numbers = reading.numbers;
     match answer {
-        LineAnswer::End => Turn::Ends,
-        LineAnswer::Refused(number) => Turn::Fails(number),
+        LineAnswer::End => ProofTurn::Ends,
+        LineAnswer::Refused(number) => ProofTurn::Fails(number),
         LineAnswer::Line {
             letter,
             count,
             next,
         } => {
-            let stepped = steps::step(
-                table,
-                rules,
-                atoms,
-                letter,
-                &mut numbers[..count],
-                known,
-                names,
-                store,
-                used,
-            );
+            let line = &mut numbers[..count];
+            let stepped = steps::step(table, rules, atoms, letter, line, known, names, store, used);
             turn_of(next, stepped)
         }
     }
@@ -88,9 +80,11 @@ fn turn_at(
 
 // All lines of a proof text, from an empty store. The first refusal ends them.
 pub fn run_lines(proof: &[u8], table: &[i32], rules: usize, atoms: usize, store: &mut [i32]) -> Run
-    requires { ⌜ Program (now table) rules atoms ⌝ }
-    requires { ⌜ (length (now proof) ≤ longest) × (now store ≡ replicate (length (now store)) (pos 0)) ⌝ }
-    ensures { λ r. ⌜ Ran (now (store .exit)) (course (rulesAt rules (now (table .entry))) (length (now (store .entry))) (now (proof .entry))) r ⌝ }
+    requires program { ⌜ ((P : List Rule) × Program (now table) rules atoms P) × (rules ≤ mostRules) ⌝ }
+    requires short { ⌜ length (now proof) ≤ longest ⌝ }
+    requires empty { ⌜ now store ≡ replicate (length (now store)) (pos 0) ⌝ }
+    ensures { λ r. ⌜ ((P : List Rule) → Program (now (table .entry)) rules atoms P
+        → Ran (now (store .exit)) (course P (length (now (store .entry))) (now (proof .entry))) r) ⌝ }
 {
     let start = CheckingState::start(atoms);
     let mut known = start.known;
@@ -111,16 +105,12 @@ pub fn run_lines(proof: &[u8], table: &[i32], rules: usize, atoms: usize, store:
             used,
         );
         match turned {
-            Turn::Ends => {
-                return Run::Through { steps, used };
+            ProofTurn::Ends => return Run::Through { steps, used },
+            ProofTurn::Fails(number) => {
+                let step = steps + 1;
+                return Run::Stopped(ProofRefusal { number, step });
             }
-            Turn::Fails(number) => {
-                return Run::Stopped(ProofRefusal {
-                    number,
-                    step: steps + 1,
-                });
-            }
-            Turn::Goes { next, used: n } => {
+            ProofTurn::Goes { next, used: n } => {
                 at = next;
                 used = n;
                 steps += 1;

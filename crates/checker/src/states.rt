@@ -2,10 +2,8 @@
 ghost use mathlib.Core.Path.{_≡_};
 ghost use Prim.Native.Nat.{_≤_};
 ghost use lib.ListN.{replicate};
-ghost use Rattle.words.specs.Limits.{largest};
-ghost use Rattle.aspif.specs.Reading.{mostRules};
-ghost use Rattle.names.specs.Queries.{Marks, upTo};
-use names::variables;
+ghost use Rattle.words.specs.Limits.{largest, mostRules};
+ghost use Rattle.marks.specs.Marks.{Marks, upTo};
 
 // The known variables as marks; by rule, the name of its body, 0 for none; how many words of the store are used.
 pub struct CheckingState {
@@ -19,13 +17,13 @@ impl CheckingState {
     pub const LARGEST: usize = words::LARGEST;
 
     // An entry for each variable, and one for 0.
-    pub const ENTRIES: usize = CheckingState::LARGEST + 1;
+    pub const ENTRIES: usize = words::ENTRIES;
 
     // The most numbers of a line.
-    pub const NUMBERS: usize = drupe::MOST_NUMBERS;
+    pub const NUMBERS: usize = words::MOST_NUMBERS;
 
     // The most rules of a program.
-    pub const RULES: usize = aspif::MOST_RULES;
+    pub const RULES: usize = words::MOST_RULES;
 
     // "At the start there are no nogoods and no names, and the atoms alone are known."
     pub fn start(atoms: usize) -> CheckingState
@@ -33,7 +31,7 @@ impl CheckingState {
         ensures { λ r. ⌜ Marks (r .known) (upTo atoms) × (r .names ≡ replicate mostRules 0) × (r .used ≡ 0) ⌝ }
     {
         CheckingState {
-            known: variables::marks_to(atoms),
+            known: marks::marks_to(atoms),
             names: [0; CheckingState::RULES],
             used: 0,
         }

@@ -1,35 +1,18 @@
-// The seven steps, questions 26 to 34, by letter: document 01, 'The proof's seven letters'. What each comes to is derivation's `byLetter`;
-// how arrays and store hold a state is specs/Held.antt.
-ghost use mathlib.Core.Path.{_≡_};
+// The seven steps, questions 26 to 34, by letter: document 01, 'The proof's seven letters'. What each comes to is derivation's
+// `byLetter`; how table, arrays and store hold a program and a state is specs/Held.antt.
 ghost use mathlib.Core.List.{List};
 ghost use Prim.Native.Nat.{_≤_};
 ghost use lib.IntN.{ℤ};
 ghost use lib.ListN.{length};
-ghost use Rattle.answer_set.specs.SetTest.{rulesAt};
-ghost use Rattle.nogoods.specs.Store.{Holds};
-ghost use Rattle.checker.specs.Held.{Line, Program, kept, Stepping};
+ghost use Rattle.aspif.specs.Rules.{Rule};
+ghost use Rattle.nogoods.specs.Keeps.{Holds};
+ghost use Rattle.checker.specs.Held.{PassedLine, Program, Stepping};
 use crate::additions;
 use crate::naming;
+use crate::outcomes::Stepped;
 use crate::supports;
 use crate::unfounded;
-use nogoods::store::Added;
 use text::Letter;
-
-// What a step comes to: how many words of the store are used then, or the question that is answered no.
-pub enum Stepped {
-    Uses(usize),
-    Fails(u8),
-}
-
-// Question 34.
-pub fn fitted(added: Added) -> Stepped
-    ensures { λ r. ⌜ r ≡ kept added ⌝ }
-{
-    match added {
-        Added::Uses(used) => Stepped::Uses(used),
-        Added::Full => Stepped::Fails(34),
-    }
-}
 
 // The step of a line that passed questions 22 to 25.
 pub fn step(
@@ -37,42 +20,26 @@ pub fn step(
     rules: usize,
     atoms: usize,
     letter: Letter,
-    numbers: &mut [i32],
+    line: &mut [i32],
     known: &mut [u8],
     names: &mut [u16],
     store: &mut [i32],
     used: usize,
 ) -> Stepped
-    requires { ⌜ Program (now table) rules atoms × (rules ≤ length (now names)) ⌝ }
-    requires { ⌜ ((live : List (List ℤ)) × Holds (now store) used live) ⌝ }
-    requires { ⌜ Line letter (now numbers) ⌝ }
-    ensures { λ r. ⌜ Stepping (rulesAt rules (now (table .entry))) letter (now (numbers .entry)) used (now (known .entry)) (now (names .entry)) (now (store .entry))
-        (now (known .exit)) (now (names .exit)) (now (store .exit)) r ⌝ }
+    requires program { ⌜ ((P : List Rule) × Program (now table) rules atoms P) × (rules ≤ length (now names)) ⌝ }
+    requires live { ⌜ ((live : List (List ℤ)) × Holds (now store) used live) ⌝ }
+    requires line { ⌜ PassedLine letter (now line) ⌝ }
+    ensures { λ r. ⌜ ((P : List Rule) → Program (now (table .entry)) rules atoms P
+        → Stepping P letter (now (line .entry)) used (now (known .entry)) (now (names .entry)) (now (store .entry))
+        (now (known .exit)) (now (names .exit)) (now (store .exit)) r) ⌝ }
 {
     match letter {
-        Letter::Addition => additions::addition(known, store, used, numbers),
-        Letter::Body => naming::body(table, rules, known, names, store, used, numbers),
-        Letter::Completion => supports::completion(
-            table,
-            rules,
-            known,
-            names,
-            store,
-            used,
-            numbers,
-        ),
-        Letter::Deletion => additions::deletion(known, store, used, numbers),
-        Letter::Extension => naming::extension(known, store, used, numbers),
-        Letter::Loop => unfounded::loops(table, rules, atoms, known, names, store, used, numbers),
-        Letter::Support => supports::support(
-            table,
-            rules,
-            atoms,
-            known,
-            names,
-            store,
-            used,
-            numbers,
-        ),
+        Letter::Addition => additions::addition(known, store, used, line),
+        Letter::Body => naming::body(table, rules, known, names, store, used, line),
+        Letter::Completion => supports::completion(table, rules, known, names, store, used, line),
+        Letter::Deletion => additions::deletion(known, store, used, line),
+        Letter::Extension => naming::extension(known, store, used, line),
+        Letter::Loop => unfounded::loops(table, rules, atoms, known, names, store, used, line),
+        Letter::Support => supports::support(table, rules, atoms, known, names, store, used, line),
     }
 }

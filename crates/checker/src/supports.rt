@@ -1,39 +1,38 @@
 // `c` and `s`: what the rules give and what supports an atom. Document 01, questions 26, 29, 30 and 34.
 ghost use mathlib.Core.Path.{_≡_};
-ghost use mathlib.Core.Bool.{true};
 ghost use mathlib.Core.List.{List, [], _∷_, _++_, map};
-ghost use Prim.Native.Nat.{ℕ, _≤_, _<_};
+ghost use Prim.Native.Nat.{ℕ, _≤_};
 ghost use lib.IntN.{ℤ, pos};
 ghost use lib.ListN.{length, drop, getD};
 ghost use Rattle.words.specs.Literals.{complement, ascending};
-ghost use Rattle.drupe.specs.Lines.{mostNumbers};
-ghost use Rattle.answer_set.specs.SetTest.{rulesAt, soundRules};
+ghost use Rattle.words.specs.Limits.{mostNumbers};
+ghost use Rattle.aspif.specs.Rules.{Rule};
 ghost use Rattle.text.specs.declared.Letter.the-variants.{Completion, Support};
 ghost use Rattle.derivation.specs.States.{State};
 ghost use Rattle.derivation.specs.Steps.{isSupport};
-ghost use Rattle.nogoods.specs.Store.{Literals, Holds};
-ghost use Rattle.checker.specs.Held.{Line, Program, Tracks, Kept, Stepping};
-use crate::steps;
-use crate::steps::Stepped;
-use answer_set::marks;
+ghost use Rattle.nogoods.specs.Keeps.{Literals, Holds};
+ghost use Rattle.names.specs.Queries.{HoldsRules};
+ghost use Rattle.checker.specs.Held.{PassedLine, Program, Tracks, Fitted, Stepping};
+use crate::outcomes;
+use crate::outcomes::Stepped;
 use names::queries;
 use names::queries::Query;
-use names::variables;
 use nogoods::store;
 
 // The first number with the complements of the others is live, after the other nogoods.
 fn join(store: &mut [i32], used: usize, numbers: &mut [i32]) -> Stepped
-    requires { ⌜ ((live : List (List ℤ)) × Holds (now store) used live) ⌝ }
-    requires { ⌜ Literals (now numbers) × (1 ≤ length (now numbers)) × (length (now numbers) ≤ mostNumbers) ⌝ }
+    requires live { ⌜ ((live : List (List ℤ)) × Holds (now store) used live) ⌝ }
+    requires line { ⌜ Literals (now numbers) × (1 ≤ length (now numbers)) × (length (now numbers) ≤ mostNumbers) ⌝ }
     ensures { λ r. ⌜ ((live : List (List ℤ)) → Holds (now (store .entry)) used live
-        → Kept (live ++ (ascending (getD (now (numbers .entry)) 0 (pos 0) ∷ map complement (drop 1 (now (numbers .entry)))) ∷ [])) (now (store .exit)) r) ⌝ }
+        → (let added = getD (now (numbers .entry)) 0 (pos 0) ∷ map complement (drop 1 (now (numbers .entry))) in
+        Fitted (live ++ (ascending added ∷ [])) (now (store .exit)) r)) ⌝ }
 {
     words::complement_all(&mut numbers[1..]);
     words::sort(numbers);
-    steps::fitted(store::append(store, used, numbers))
+    outcomes::fitted(store::append(store, used, numbers))
 }
 
-// `c`
+// `c`: the name n of the body of a normal rule, and the rule's head h where it has one. Adds n with -h, or n alone.
 pub fn completion(
     table: &[i32],
     rules: usize,
@@ -43,13 +42,14 @@ pub fn completion(
     used: usize,
     numbers: &mut [i32],
 ) -> Stepped
-    requires { ⌜ (soundRules rules (now table) ≡ true) × (rules ≤ length (now names)) ⌝ }
-    requires { ⌜ ((live : List (List ℤ)) × Holds (now store) used live) ⌝ }
-    requires { ⌜ Line Completion (now numbers) ⌝ }
-    ensures { λ r. ⌜ Stepping (rulesAt rules (now (table .entry))) Completion (now (numbers .entry)) used (now (known .entry)) (now (names .entry)) (now (store .entry))
-        (now (known .entry)) (now (names .entry)) (now (store .exit)) r ⌝ }
+    requires program { ⌜ ((P : List Rule) × HoldsRules (now table) rules P) × (rules ≤ length (now names)) ⌝ }
+    requires live { ⌜ ((live : List (List ℤ)) × Holds (now store) used live) ⌝ }
+    requires line { ⌜ PassedLine Completion (now numbers) ⌝ }
+    ensures { λ r. ⌜ ((P : List Rule) → HoldsRules (now (table .entry)) rules P
+        → Stepping P Completion (now (numbers .entry)) used (now (known .entry)) (now (names .entry)) (now (store .entry))
+        (now (known .entry)) (now (names .entry)) (now (store .exit)) r) ⌝ }
 {
-    if !variables::all_marked(numbers, known) {
+    if !marks::all_marked(numbers, known) {
         return Stepped::Fails(26);
     }
     // the query reads no set
@@ -60,24 +60,25 @@ pub fn completion(
     join(store, used, numbers)
 }
 
-// Question 30.
+// Question 30: h, the first number, is an atom, and the others are the names of just the bodies of the rules with h in the head.
 fn is_supported(table: &[i32], rules: usize, atoms: usize, names: &[u16], numbers: &[i32]) -> bool
-    requires { ⌜ Program (now table) rules atoms × (rules ≤ length (now names)) ⌝ }
-    requires { ⌜ Line Support (now numbers) ⌝ }
-    ensures { λ r. ⌜ ((known : List ℕ) (z : State) → Tracks (rulesAt rules (now (table .entry))) known (now (names .entry)) (z .introduced) (z .named)
-        → r ≡ isSupport (rulesAt rules (now (table .entry))) z (getD (now (numbers .entry)) 0 (pos 0)) (drop 1 (now (numbers .entry)))) ⌝ }
+    requires program { ⌜ ((P : List Rule) × Program (now table) rules atoms P) × (rules ≤ length (now names)) ⌝ }
+    requires line { ⌜ PassedLine Support (now numbers) ⌝ }
+    ensures { λ r. ⌜ ((P : List Rule) → Program (now (table .entry)) rules atoms P
+        → (known : List ℕ) (z : State) → Tracks P known (now (names .entry)) (z .introduced) (z .named)
+        → r ≡ isSupport P z (getD (now (numbers .entry)) 0 (pos 0)) (drop 1 (now (numbers .entry)))) ⌝ }
 {
     let h = numbers[0];
     if atoms < words::variable_of(h) {
         return false;
     }
-    let listed = variables::marks_of(&numbers[1..]);
+    let listed = marks::marks_of(&numbers[1..]);
     // the query reads neither literals nor a set
     let found = queries::names_of(table, rules, names, Query::Head(h), numbers, &listed);
-    variables::is_same_set(&listed, &found)
+    marks::is_same_set(&listed, &found)
 }
 
-// `s`
+// `s`: an atom h and the names of just the bodies of the rules with h in the head. Adds h with minus each name.
 pub fn support(
     table: &[i32],
     rules: usize,
@@ -88,13 +89,14 @@ pub fn support(
     used: usize,
     numbers: &mut [i32],
 ) -> Stepped
-    requires { ⌜ Program (now table) rules atoms × (rules ≤ length (now names)) ⌝ }
-    requires { ⌜ ((live : List (List ℤ)) × Holds (now store) used live) ⌝ }
-    requires { ⌜ Line Support (now numbers) ⌝ }
-    ensures { λ r. ⌜ Stepping (rulesAt rules (now (table .entry))) Support (now (numbers .entry)) used (now (known .entry)) (now (names .entry)) (now (store .entry))
-        (now (known .entry)) (now (names .entry)) (now (store .exit)) r ⌝ }
+    requires program { ⌜ ((P : List Rule) × Program (now table) rules atoms P) × (rules ≤ length (now names)) ⌝ }
+    requires live { ⌜ ((live : List (List ℤ)) × Holds (now store) used live) ⌝ }
+    requires line { ⌜ PassedLine Support (now numbers) ⌝ }
+    ensures { λ r. ⌜ ((P : List Rule) → Program (now (table .entry)) rules atoms P
+        → Stepping P Support (now (numbers .entry)) used (now (known .entry)) (now (names .entry)) (now (store .entry))
+        (now (known .entry)) (now (names .entry)) (now (store .exit)) r) ⌝ }
 {
-    if !variables::all_marked(numbers, known) {
+    if !marks::all_marked(numbers, known) {
         return Stepped::Fails(26);
     }
     if !is_supported(table, rules, atoms, names, numbers) {

@@ -4,24 +4,25 @@ ghost use mathlib.Core.List.{List, _++_};
 ghost use Prim.Native.Nat.{_≤_, _<_};
 ghost use lib.IntN.{ℤ};
 ghost use lib.ListN.{length, take};
-ghost use Rattle.words.specs.Limits.{largest};
-ghost use Rattle.answer_set.specs.SetTest.{marked, marksLent, rulesAt};
+ghost use Rattle.words.specs.Limits.{largest, entries};
+ghost use Rattle.marks.specs.Marks.{marked};
+ghost use Rattle.aspif.specs.Rules.{Rule};
 ghost use Rattle.text.specs.declared.Letter.the-variants.{Loop};
-ghost use Rattle.nogoods.specs.Store.{Holds};
-ghost use Rattle.checker.specs.Held.{Line, Program, gathered, Stepping};
+ghost use Rattle.nogoods.specs.Keeps.{Holds};
+ghost use Rattle.checker.specs.Held.{PassedLine, Program, gathered, Stepping};
+use crate::outcomes;
+use crate::outcomes::Stepped;
 use crate::states::CheckingState;
-use crate::steps;
-use crate::steps::Stepped;
-use answer_set::marks;
 use names::queries;
 use names::queries::Query;
-use names::variables;
 use nogoods::store;
 
 // One number of the nogood of an `l` step: h itself, or minus a name that is marked. How many literals there are then.
 fn gather_one(h: i32, found: &[u8], v: usize, row: &mut [i32], count: usize) -> usize
-    requires { ⌜ (1 ≤ v) × (v ≤ largest) × (count < v) × (length (now row) ≡ marksLent) ⌝ }
-    ensures { λ n. ⌜ (n ≤ v) × (take n (now (row .exit)) ≡ take count (now (row .entry)) ++ gathered (marked (now (found .entry))) h 1 v) ⌝ }
+    requires { ⌜ (1 ≤ v) × (v ≤ largest) × (count < v) × (length (now row) ≡ entries) ⌝ }
+    ensures within { λ n. ⌜ n ≤ v ⌝ }
+    ensures words { λ n. ⌜ take n (now (row .exit))
+        ≡ take count (now (row .entry)) ++ gathered (marked (now (found .entry))) h 1 v ⌝ }
 {
     if v == words::variable_of(h) {
         row[count] = h;
@@ -36,8 +37,9 @@ fn gather_one(h: i32, found: &[u8], v: usize, row: &mut [i32], count: usize) -> 
 
 // The nogood of an `l` step, ascending by variable. How many literals it has.
 fn gather(h: i32, found: &[u8], row: &mut [i32]) -> usize
-    requires { ⌜ length (now row) ≡ marksLent ⌝ }
-    ensures { λ n. ⌜ (n ≤ largest) × (take n (now (row .exit)) ≡ gathered (marked (now (found .entry))) h largest 1) ⌝ }
+    requires { ⌜ length (now row) ≡ entries ⌝ }
+    ensures within { λ n. ⌜ n ≤ largest ⌝ }
+    ensures words { λ n. ⌜ take n (now (row .exit)) ≡ gathered (marked (now (found .entry))) h largest 1 ⌝ }
 {
     let mut count = 0;
     let mut v = 1;
@@ -48,7 +50,8 @@ fn gather(h: i32, found: &[u8], row: &mut [i32]) -> usize
     count
 }
 
-// `l`
+// `l`: a set U of atoms. Adds the first of them with minus the name of each external body, that is of a rule with a head in U and no
+// positive atom in U.
 pub fn loops(
     table: &[i32],
     rules: usize,
@@ -59,24 +62,25 @@ pub fn loops(
     used: usize,
     numbers: &[i32],
 ) -> Stepped
-    requires { ⌜ Program (now table) rules atoms × (rules ≤ length (now names)) ⌝ }
-    requires { ⌜ ((live : List (List ℤ)) × Holds (now store) used live) ⌝ }
-    requires { ⌜ Line Loop (now numbers) ⌝ }
-    ensures { λ r. ⌜ Stepping (rulesAt rules (now (table .entry))) Loop (now (numbers .entry)) used (now (known .entry)) (now (names .entry)) (now (store .entry))
-        (now (known .entry)) (now (names .entry)) (now (store .exit)) r ⌝ }
+    requires program { ⌜ ((P : List Rule) × Program (now table) rules atoms P) × (rules ≤ length (now names)) ⌝ }
+    requires live { ⌜ ((live : List (List ℤ)) × Holds (now store) used live) ⌝ }
+    requires line { ⌜ PassedLine Loop (now numbers) ⌝ }
+    ensures { λ r. ⌜ ((P : List Rule) → Program (now (table .entry)) rules atoms P
+        → Stepping P Loop (now (numbers .entry)) used (now (known .entry)) (now (names .entry)) (now (store .entry))
+        (now (known .entry)) (now (names .entry)) (now (store .exit)) r) ⌝ }
 {
-    if !variables::all_marked(numbers, known) {
+    if !marks::all_marked(numbers, known) {
         return Stepped::Fails(26);
     }
     if atoms < words::largest_variable(numbers) {
         return Stepped::Fails(31);
     }
-    let inside = variables::marks_of(numbers);
+    let inside = marks::marks_of(numbers);
     let found = queries::names_of(table, rules, names, Query::External, numbers, &inside);
     if marks::is_marked(&found, 0) {
         return Stepped::Fails(32);
     }
     let mut row = [0i32; CheckingState::ENTRIES];
     let count = gather(numbers[0], &found, &mut row);
-    steps::fitted(store::append(store, used, &row[..count]))
+    outcomes::fitted(store::append(store, used, &row[..count]))
 }

@@ -10,7 +10,7 @@ use native.Mathlib.Omega.{arith}
 use lib.Dec.{T}
 use lib.IntN.{ℤ}
 use lib.ListN.{length}
-use Rattle.words.specs.Lists.{_∈_, any, keep, joinAll}
+use Rattle.words.specs.Lists.{_∈_, any, filter, concat}
 use Rattle.words.specs.Literals.{complement, same, has}
 use Rattle.words.proofs.Lists.{Decides, passed, answered, reworded, or-decides, not-decides, any-decides, all-decides, keep→, keep←, length-keep, keep-lt, joinAll→, joinAll←, none-in}
 use Rattle.words.proofs.Literals.{same-decides, has-decides, complement-twice}
@@ -41,12 +41,12 @@ module _ (live : List (List ℤ)) (A : List ℤ) where
   Derived x = (g : List ℤ) × (g ∈ live) × (complement x ∈ g) × Others A g x
 
   kept : List ℤ → List ℤ
-  kept g = keep (othersIn A g) g
+  kept g = filter (othersIn A g) g
 
   derivable→ : {x : ℤ} → x ∈ derivable live A → Derived x
   unfolding kept
   derivable→ {x} m =
-      let q = Memᴰ·of-map complement (joinAll (map kept live)) m in
+      let q = Memᴰ·of-map complement (concat (map kept live)) m in
       let r = joinAll→ (map kept live) (q .1) in
       let s = Memᴰ·of-map kept live (r .1) in
       go (q .2) (s .1) (r .2) (s .2)
@@ -81,19 +81,19 @@ module _ (live : List (List ℤ)) where
 -- The computation stays within the closure
 
 module _ (live : List (List ℤ)) (L : List ℤ) where
-  abbrev Within : List ℤ → Type 0
-  Within A = (x : ℤ) → x ∈ A → Closure live L x
+  abbrev AllDerived : List ℤ → Type 0
+  AllDerived A = (x : ℤ) → x ∈ A → Closure live L x
 
-  fresh-within : (A : List ℤ) → Within A → Within (fresh live A)
+  fresh-within : (A : List ℤ) → AllDerived A → AllDerived (fresh live A)
   fresh-within A w x m =
       let d = fresh→ live A m .0 in
       unit (d .0) (d .1) (d .2) (λ k n f. elim (d .3 k n) [ inl p ↦ absurd (f p) | inr u ↦ w k u ])
 
-  saturate-within : (n : ℕ) (A : List ℤ) → Within A → Within (saturate n live A)
+  saturate-within : (n : ℕ) (A : List ℤ) → AllDerived A → AllDerived (saturate n live A)
   saturate-within zero A w = w
   saturate-within (suc n) A w = go (λ B v. saturate-within n B v) (clash A) (fresh live A) (fresh-within A w)
     where
-      go : ((B : List ℤ) → Within B → Within (saturate n live B)) → (b : Bool) (xs : List ℤ) → Within xs → Within (round live n A b xs)
+      go : ((B : List ℤ) → AllDerived B → AllDerived (saturate n live B)) → (b : Bool) (xs : List ℤ) → AllDerived xs → AllDerived (round live n A b xs)
       go below true xs v = w
       go below false [] v = w
       go below false (x ∷ xs) v = below (x ∷ xs ++ A) (λ y m. elim (List·Memᴰ·append-cases (x ∷ xs) m) [ inl u ↦ v y u | inr u ↦ w y u ])
@@ -107,10 +107,10 @@ module _ (live : List (List ℤ)) where
 
   -- how many complements are still to come
   abbrev missing : List ℤ → ℕ
-  missing A = length (keep (lacks A) (joinAll live))
+  missing A = length (filter (lacks A) (concat live))
 
   -- a fresh literal is one of them
-  awaited : (A : List ℤ) {x : ℤ} → x ∈ fresh live A → (complement x ∈ joinAll live) × T (lacks A (complement x))
+  awaited : (A : List ℤ) {x : ℤ} → x ∈ fresh live A → (complement x ∈ concat live) × T (lacks A (complement x))
   awaited A {x} m = let r = fresh→ live A m in (joinAll← (r .0 .1) (r .0 .2), rw complement-twice (lacks-decides live A x .from (r .1)))
 
   fewer : (A : List ℤ) (x : ℤ) (xs : List ℤ) → x ∈ fresh live A → missing (x ∷ xs ++ A) < missing A
@@ -165,21 +165,21 @@ module _ (live : List (List ℤ)) where
 
 module _ (live : List (List ℤ)) (L : List ℤ) where
   abbrev reached : List ℤ
-  reached = saturate (length (joinAll live)) live L
+  reached = saturate (length (concat live)) live L
 
   clash→ : (x : ℤ) × (x ∈ reached) × (complement x ∈ reached) → (x : ℤ) × Closure live L x × Closure live L (complement x)
   clash→ r =
-      let w = saturate-within live L (length (joinAll live)) L (λ x m. given m) in
+      let w = saturate-within live L (length (concat live)) L (λ x m. given m) in
       (r .0, w (r .0) (r .1), w (complement (r .0)) (r .2))
 
   clash← : (x : ℤ) × Closure live L x × Closure live L (complement x) → (x : ℤ) × (x ∈ reached) × (complement x ∈ reached)
-  clash← r = elim (done live (length (joinAll live)) L (length-keep (lacks live L) (joinAll live))) [
+  clash← r = elim (done live (length (concat live)) L (length-keep (lacks live L) (concat live))) [
     | inl t ↦ clash-decides reached .to t
     | inr c ↦ (r .0, here c (r .1), here c (r .2))
   ]
     where
       here : ((x : ℤ) → ¬ (x ∈ fresh live reached)) → {x : ℤ} → Closure live L x → x ∈ reached
-      here c = closure-in live L reached (λ x m. grows live (length (joinAll live)) L m) c
+      here c = closure-in live L reached (λ x m. grows live (length (concat live)) L m) c
 
   pub refuted-decides : Decides (refuted live L) (Conflict live L)
   refuted-decides = or-decides (reworded clash→ clash← (clash-decides reached)) (empty-decides live)

@@ -12,7 +12,7 @@ use Rattle.words.proofs.Lists.{itself, and-decides, not-decides, any-decides, k
 use Rattle.words.proofs.Literals.{sameList-decides, has-decides}
 use Rattle.aspif.specs.Rules.{Rule}
 use Rattle.aspif.specs.declared.Kind.the-variants.{Normal}
-use Rattle.answer_set.specs.AnswerSets.{Taken, Chosen, LeastModel, derive, Met, AnswerSet}
+use Rattle.aspif.specs.AnswerSets.{Taken, Chosen, LeastModel, derive, Met, AnswerSet}
 use Rattle.drupe.specs.Lines.{isPositive}
 use Rattle.derivation.specs.States.{Named, State, isAtom, isName, hasName}
 use Rattle.derivation.specs.Steps.{isExternal, externalNames}
@@ -21,9 +21,9 @@ use Rattle.derivation.proofs.Questions.{positive-nonzero, positive-is, 
 use Rattle.derivation.proofs.Invariant.{AllAtoms, Kept}
 
 -- what a literal of a body says of M
-abbrev Holds : (ℕ → Type 0) → ℤ → Type 0
-Holds M (pos a) = M a
-Holds M (negsuc n) = ¬ M (suc n)
+abbrev TrueIn : (ℕ → Type 0) → ℤ → Type 0
+TrueIn M (pos a) = M a
+TrueIn M (negsuc n) = ¬ M (suc n)
 
 -- every number of the list is positive
 abbrev pub Positives : List ℤ → Type 0
@@ -46,9 +46,9 @@ module _ (P : List Rule) (M : ℕ → Type 0) (S : AnswerSet M P) (z : State) (k
 
   -- a body that is true under the valuation is met
   met : (r : Rule) → AllAtoms P (r .body) → All (k .W) (r .body) → ¬ (¬ Met M r)
-  met r a f c = shift (Holds M) (r .body) (λ x u. holds x (a x u) (f x u)) (λ H. c (λ b u. H (pos b) u, λ n u. H (negsuc n) u))
+  met r a f c = shift (TrueIn M) (r .body) (λ x u. holds x (a x u) (f x u)) (λ H. c (λ b u. H (pos b) u, λ n u. H (negsuc n) u))
     where
-      holds : (x : ℤ) → T (isAtom P (variable x)) → True (k .W) x → ¬ (¬ Holds M x)
+      holds : (x : ℤ) → T (isAtom P (variable x)) → True (k .W) x → ¬ (¬ TrueIn M x)
       holds (pos zero) a t f = a
       holds (pos (suc n)) a t f = t (λ w. f (k .atoms (suc n) a .0 w))
       holds (negsuc n) a t f = f (λ m. t (k .atoms (suc n) a .1 m))

@@ -7,15 +7,14 @@ use native.Mathlib.Omega.{arith}
 use lib.Dec.{T}
 use lib.IntN.{ℤ, pos}
 use Rattle.words.specs.Lists.{_∈_}
-use Rattle.words.specs.Literals.{variable}
+use Rattle.words.specs.Literals.{variable, top}
 use Rattle.words.proofs.Lists.{Decides, itself, reworded, and-decides, or-decides, any-decides, eqb-decides, leb-decides}
-use Rattle.words.proofs.Literals.{sameList-decides, variable-positive}
+use Rattle.words.proofs.Literals.{sameList-decides, variable-positive, positive}
 use Rattle.words.proofs.Tops.{top-le}
-use Rattle.answer_set.proofs.Answered.{positive}
-use Rattle.words.specs.Literals.{top}
 use Rattle.aspif.specs.Rules.{Rule, atoms}
 use Rattle.drupe.specs.Lines.{isPositive}
 use Rattle.derivation.specs.States.{Named, State, isAtom, isKnown, isName, hasName}
+use Rattle.aspif.proofs.RuleTests.{in-atoms}
 
 -- Lines
 
@@ -27,20 +26,16 @@ positive-is x t = positive x t .0
 
 -- Atoms
 
-atoms-le : (v : ℕ) {r : Rule} {P : List Rule} → r ∈ P → v ≤ max (top (r .heads)) (top (r .body)) → v ≤ atoms P
-atoms-le v (List·Memᴰ·head {x = q} {xs = P} p) h = let k : v ≤ max (top (q .heads)) (top (q .body)) = rw p at h in omega arith
-atoms-le v (List·Memᴰ·tail {x = q} {xs = P} m) h = omega (arith, atoms-le v m h)
-
 module _ (P : List Rule) where
   -- what a rule names, and is not 0, is an atom
   atom-le : (x : ℤ) → x ≢ pos 0 → variable x ≤ atoms P → T (isAtom P (variable x))
   atom-le x f h = and-decides (leb-decides 1 (variable x)) (leb-decides (variable x) (atoms P)) .from (variable-positive x f, h)
 
   pub head-atom : {r : Rule} → r ∈ P → {x : ℤ} → x ∈ r .heads → x ≢ pos 0 → T (isAtom P (variable x))
-  head-atom {r} m {x} u f = atom-le x f (atoms-le (variable x) m (omega (arith, top-le u)))
+  head-atom {r} m {x} u f = atom-le x f (omega (arith, in-atoms m, top-le u))
 
   pub body-atom : {r : Rule} → r ∈ P → {x : ℤ} → x ∈ r .body → x ≢ pos 0 → T (isAtom P (variable x))
-  body-atom {r} m {x} u f = atom-le x f (atoms-le (variable x) m (omega (arith, top-le u)))
+  body-atom {r} m {x} u f = atom-le x f (omega (arith, in-atoms m, top-le u))
 
   -- States
 

@@ -10,22 +10,24 @@ use lib.Dec.{T, ltb}
 use lib.IntN.{ℤ, pos, negℤ}
 use lib.ListN.{length}
 use Rattle.words.specs.Lists.{_∈_, all}
-use Rattle.words.specs.Literals.{variable, complement, noneTwice, ascending}
-use Rattle.words.proofs.Lists.{Decides, itself, passed, and-decides, if-decides, any-decides, all-decides, keep→, dropFirst→}
+use Rattle.words.specs.Literals.{variable, complement, distinct, ascending}
+use Rattle.words.proofs.Lists.{Decides, itself, passed, and-decides, if-decides, any-decides, all-decides, keep→, dropFirst→, each-cons}
 use Rattle.words.proofs.Literals.{sameList-decides, has-decides, variable-complement, ascending←}
 use Rattle.text.specs.Line.{anyOutside}
 use Rattle.text.specs.declared.Letter.{Letter}
 use Rattle.text.specs.declared.Letter.the-variants.{Addition, Body, Completion, Deletion, Extension, Loop, Support}
 use Rattle.aspif.specs.Rules.{Rule}
-use Rattle.answer_set.specs.AnswerSets.{Constraint, LeastModel, derive, AnswerSet}
-use Rattle.drupe.specs.Lines.{signsOf, isPositive, signed, lineRefusal, mostNumbers}
+use Rattle.aspif.specs.AnswerSets.{Constraint, LeastModel, derive, AnswerSet}
+use Rattle.drupe.specs.Lines.{signsOf, isPositive, signed, lineRefusal}
+use Rattle.words.specs.Limits.{mostNumbers}
 use Rattle.derivation.specs.States.{Named, State, start, isAtom, isKnown, isName, hasName}
-use Rattle.derivation.specs.Steps.{Step, Outcome, refused, next, allKnown, body, extension, completion, support, isExternal, externalNames, loop, addition, deletion, naming, citing, byLetter, step, steps, emptyLive}
-use Rattle.derivation.specs.Claims.{Demand3}
+use Rattle.drupe.specs.Texts.{Step}
+use Rattle.derivation.specs.Steps.{Outcome, refused, next, allKnown, body, extension, completion, support, isExternal, externalNames, loop, addition, deletion, naming, citing, byLetter, step, steps, emptyLive}
+use Rattle.derivation.specs.Claims.{Sound}
 use Rattle.derivation.proofs.Closure.{empty-decides, refuted-decides}
 use Rattle.derivation.proofs.Valuations.{conflict-false}
 use Rattle.derivation.proofs.Questions.{body-atom}
-use Rattle.answer_set.proofs.Answered.{normal-decides}
+use Rattle.aspif.proofs.RuleTests.{normal-decides}
 use Rattle.derivation.proofs.Invariant.{AllKnown, AllAtoms, Kept, start-kept, add-kept, define-kept}
 use Rattle.derivation.proofs.Nogoods.{Positives, completion-fails, support-fails, loop-fails}
 
@@ -68,7 +70,7 @@ module _ (P : List Rule) (M : ℕ → Type 0) (S : AnswerSet M P) where
 
   -- of questions 23 to 25 the signs are used
   if-line : (x : Letter) (zs : List ℤ) (o : Outcome) → (T (signed (signsOf x) zs) → Fine o) → Fine (elim (lineRefusal x zs) [ some k ↦ refused k | none ↦ o ])
-  if-line x zs o f = go (anyOutside zs || ltb mostNumbers (length zs)) (signed (signsOf x) zs) (noneTwice zs) f
+  if-line x zs o f = go (anyOutside zs || ltb mostNumbers (length zs)) (signed (signsOf x) zs) (distinct zs) f
     where
       go : (a b c : Bool) → (T b → Fine o) → Fine (elim (cond {A = Option ℕ} a (some 23) (cond b (cond c none (some 25)) (some 24))) [ some k ↦ refused k | none ↦ o ])
       go true b c f = tt
@@ -80,12 +82,8 @@ module _ (P : List Rule) (M : ℕ → Type 0) (S : AnswerSet M P) where
     known-decides : (L : List ℤ) → Decides (allKnown P z L) (AllKnown P z L)
     known-decides L = all-decides (λ x. itself (isKnown P z (variable x))) L
 
-    with-known : {x : ℤ} {L : List ℤ} → T (isKnown P z (variable x)) → AllKnown P z L → AllKnown P z (x ∷ L)
-    with-known t a y (List·Memᴰ·head p) = rw p t
-    with-known t a y (List·Memᴰ·tail m) = a y m
-
     with-complements-known : (x : ℤ) (L : List ℤ) → AllKnown P z (x ∷ L) → AllKnown P z (x ∷ map complement L)
-    with-complements-known x L a = with-known (a x (List·Memᴰ·head refl)) (λ y m. complemented y (Memᴰ·of-map complement L m))
+    with-complements-known x L a = each-cons (a x (List·Memᴰ·head refl)) (λ y m. complemented y (Memᴰ·of-map complement L m))
       where
         complemented : (y : ℤ) → (v : ℤ) × (v ∈ L) × (complement v ≡ y) → T (isKnown P z (variable y))
         complemented y r = rw (← r .2, variable-complement (r .0)) (a (r .0) (List·Memᴰ·tail (r .1)))
@@ -144,7 +142,7 @@ module _ (P : List Rule) (M : ℕ → Type 0) (S : AnswerSet M P) where
         (λ known. if-yes (all-decides (λ x. itself (isAtom P (variable x))) (h ∷ hs)) _ 31
         (λ a. if-yes question _ 32
         (λ e. add-kept P M z k (h ∷ map (λ n. negℤ (pos n)) (externalNames P z (h ∷ hs)))
-        (with-known (known h (List·Memᴰ·head refl)) (externals-known (h ∷ hs)))
+        (each-cons (known h (List·Memᴰ·head refl)) (externals-known (h ∷ hs)))
         (loop-fails P M S z k (h ∷ hs) q e h (List·Memᴰ·head refl) (a h (List·Memᴰ·head refl))))))
 
     addition-fine : (L : List ℤ) → ¬ (pos 0 ∈ L) → Fine (citing P z L (addition P z L))
@@ -186,8 +184,8 @@ module _ (P : List Rule) (M : ℕ → Type 0) (S : AnswerSet M P) where
       go later (refused n) f = tt
       go later (next z′) f = later z′ f
 
-pub demand3 : Demand3
-demand3 P ts z e l = (none, λ C c M S. none M (answer-set-without P C M c S))
+pub soundness : Sound
+soundness P ts z e l = (none, λ C c M S. none M (answer-set-without P C M c S))
   where
     none : (M : ℕ → Type 0) → AnswerSet M P → ⊥
     none M S =

@@ -10,7 +10,7 @@ use lib.Dec.{eqb}
 use lib.IntN.{ℤ, pos, negsuc}
 use Rattle.words.specs.Lists.{_∈_}
 use Rattle.words.specs.Literals.{variable, complement, ascending}
-use Rattle.words.proofs.Lists.{passed, failed, not-decides, eqb-decides}
+use Rattle.words.proofs.Lists.{passed, failed, not-decides, eqb-decides, each-cons}
 use Rattle.words.proofs.Literals.{ascending→, ascending←}
 use Rattle.derivation.specs.Propagation.{Closure, given, unit, Conflict}
 use Rattle.derivation.specs.Steps.{definition}
@@ -108,8 +108,4 @@ put-other W v A n f = rw (failed (eqb n v) (not-decides (eqb-decides n v) .from 
 module _ {A : Type 0} (R : A → Type 0) where
   pub shift : (l : List A) → ((x : A) → x ∈ l → ¬ (¬ R x)) → ¬ (¬ ((x : A) → x ∈ l → R x))
   shift [] f k = k (λ x m. elim m [ ])
-  shift (y ∷ l) f k = shift l (λ x m. f x (List·Memᴰ·tail m)) (λ g. f y (List·Memᴰ·head refl) (λ r. k (λ x m. at g r x (List·Memᴰ·cases-cons m))))
-    where
-      at : ((x : A) → x ∈ l → R x) → R y → (x : A) → (x ≡ y) ⊎ (x ∈ l) → R x
-      at g r x (inl p) = rw p r
-      at g r x (inr m) = g x m
+  shift (y ∷ l) f k = shift l (λ x m. f x (List·Memᴰ·tail m)) (λ g. f y (List·Memᴰ·head refl) (λ r. k (each-cons r g)))

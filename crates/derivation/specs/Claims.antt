@@ -8,10 +8,11 @@ use Prim.Native.Nat.{ℕ}
 use lib.IntN.{ℤ}
 use Rattle.words.specs.Lists.{_∈_}
 use Rattle.aspif.specs.Rules.{Rule}
-use Rattle.answer_set.specs.AnswerSets.{Constraint, AnswerSet}
+use Rattle.aspif.specs.AnswerSets.{Constraint, AnswerSet}
 use Rattle.derivation.specs.Propagation.{Conflict, refuted}
 use Rattle.derivation.specs.States.{State, start}
-use Rattle.derivation.specs.Steps.{Step, next, steps, emptyLive}
+use Rattle.drupe.specs.Texts.{Step}
+use Rattle.derivation.specs.Steps.{next, steps, emptyLive}
 
 -- "no set of atoms is an answer set of that program. Nor is any set an answer set of that program with any list of further
 -- constraints appended": a set is any predicate on numbers, and a further constraint has any literals, also above N, above the
@@ -24,8 +25,8 @@ NoAnswerSet P =
 
 -- "For every program read and every list of steps of the seven letters from an empty store .. if every step is accepted in its
 -- turn and the empty nogood is live after the last": of every list of rules, read or not
-abbrev pub Demand3 : Type 1
-Demand3 =
+abbrev pub Sound : Type 1
+Sound =
     (P : List Rule) (ts : List Step) (z : State)
     → steps P start ts ≡ next z → emptyLive z ≡ true → NoAnswerSet P
 

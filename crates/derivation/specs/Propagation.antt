@@ -8,7 +8,7 @@ use mathlib.Core.List.{List, [], _∷_, _++_, map}
 use Prim.Native.Nat.{ℕ, zero, suc}
 use lib.IntN.{ℤ}
 use lib.ListN.{length}
-use Rattle.words.specs.Lists.{_∈_, any, all, keep, joinAll}
+use Rattle.words.specs.Lists.{_∈_, any, all, filter, concat}
 use Rattle.words.specs.Literals.{complement, same, has}
 use Rattle.aspif.specs.Rules.{isEmpty}
 
@@ -30,11 +30,11 @@ othersIn A g x = all (λ k. same k x || has k A) g
 
 -- the complement of each literal of a live nogood whose other literals are all in A
 abbrev pub derivable : List (List ℤ) → List ℤ → List ℤ
-derivable live A = map complement (joinAll (map (λ g. keep (othersIn A g) g) live))
+derivable live A = map complement (concat (map (λ g. filter (othersIn A g) g) live))
 
 -- what is derivable and not in A
 abbrev pub fresh : List (List ℤ) → List ℤ → List ℤ
-fresh live A = keep (λ x. not (has x A)) (derivable live A)
+fresh live A = filter (λ x. not (has x A)) (derivable live A)
 
 -- a literal and its complement are in A
 abbrev pub clash : List ℤ → Bool
@@ -47,4 +47,4 @@ saturate (suc n) live A = elim (clash A) [ true ↦ A | false ↦ elim (fresh li
 
 -- every round but the last adds the complement of some literal of a nogood for the first time, so that many are enough
 abbrev pub refuted : List (List ℤ) → List ℤ → Bool
-refuted live L = clash (saturate (length (joinAll live)) live L) || any isEmpty live
+refuted live L = clash (saturate (length (concat live)) live L) || any isEmpty live

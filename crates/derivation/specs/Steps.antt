@@ -5,19 +5,15 @@ use mathlib.Core.Option.{none, some}
 use mathlib.Core.List.{List, [], _∷_, _++_, map}
 use Prim.Native.Nat.{ℕ}
 use lib.IntN.{ℤ, pos, negℤ}
-use Rattle.words.specs.Lists.{any, all, keep, dropFirst}
+use Rattle.words.specs.Lists.{any, all, filter, dropFirst}
 use Rattle.words.specs.Literals.{variable, complement, sameList, has, ascending}
 use Rattle.text.specs.declared.Letter.{Letter}
 use Rattle.text.specs.declared.Letter.the-variants.{Addition, Body, Completion, Deletion, Extension, Loop, Support}
 use Rattle.aspif.specs.Rules.{Rule, isNormal, isEmpty}
 use Rattle.drupe.specs.Lines.{lineRefusal}
+use Rattle.drupe.specs.Texts.{Step}
 use Rattle.derivation.specs.Propagation.{refuted}
 use Rattle.derivation.specs.States.{Named, State, isAtom, isKnown, isName, hasName}
-
--- a step: a line's letter and its numbers as written, without the closing 0
-pub record Step : Type 0 where
-  pub letter : Letter
-  pub numbers : List ℤ
 
 -- "A refused step ends the check", with the number of the question; otherwise the three things as the step leaves them
 pub data Outcome : Type 0 where
@@ -81,7 +77,7 @@ module _ (P : List Rule) (z : State) where
 
   -- the names of the external bodies
   abbrev pub externalNames : List ℤ → List ℕ
-  externalNames U = map (λ x. x .name) (keep (λ x. any (λ r. isExternal U r && sameList (x .body) (r .body)) P) (z .named))
+  externalNames U = map (λ x. x .name) (filter (λ x. any (λ r. isExternal U r && sameList (x .body) (r .body)) P) (z .named))
 
   -- question 31: "are all atoms?"
   abbrev pub allAtoms : List ℤ → Bool

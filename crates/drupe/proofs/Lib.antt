@@ -1,2 +1,4 @@
--- Laws of proof lines.
+-- Laws of proof lines, and of a reader that is lent.
 pub mod Lines
+pub mod Texts
+pub mod Lent

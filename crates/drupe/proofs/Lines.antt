@@ -11,18 +11,18 @@ use lib.Dec.{ltb, eqb}
 use lib.ListN.{length, take, drop, getD, replicate, length-replicate, length-drop, drop-of-length-le}
 use lib.Seq.{sets-eq, take-append-le}
 use borrow.Author.Tests.{le-ltb, lt-ltb, ltb-false, eq-eqb, ne-eqb}
-use Rattle.words.specs.Limits.{longest}
+use Rattle.words.specs.Limits.{longest, mostNumbers}
 use Rattle.words.specs.Lists.{all}
-use Rattle.words.specs.Literals.{noneTwice, same, has}
-use Rattle.words.proofs.Lists.{if-true, failed, not-decides, and-left, and-right}
+use Rattle.words.specs.Literals.{distinct, same, has}
+use Rattle.words.proofs.Lists.{if-true, failed, not-decides, and-left, and-right, or-false-right}
 use Rattle.words.proofs.Literals.{same-decides}
 use Rattle.text.specs.Bytes.{classOf}
 use Rattle.text.specs.Line.{Line, broken, numbers, lineOf, outside, anyOutside, isClosed}
-use Rattle.text.proofs.Lines.{capped-all, or-false-right, Numbered, bounds-of}
+use Rattle.text.proofs.Lines.{capped-all, Numbered, bounds-of}
 use Rattle.text.specs.declared.Letter.{Letter}
 use Rattle.text.specs.declared.Class.{Class}
 use Rattle.text.specs.declared.Class.the-variants.{Newline, Space, Minus, Digit, Step, Other}
-use Rattle.drupe.specs.Lines.{mostNumbers, signsOf, isPositive, signed, lineRefusal, LineAt, end, refused, line, refusedOr, asked, ofNumbers, isSpace, afterLetter, afterFirst, lineFrom, lineAt, answerOf, readingOf, Within, Reads}
+use Rattle.drupe.specs.Lines.{signsOf, isPositive, signed, lineRefusal, LineAt, end, refused, line, refusedOr, lineAsked, ofNumbers, isSpace, afterLetter, afterFirst, lineFrom, lineAt, lineAnswer, readingOf, AnswerBounds, ProofLineRead}
 use Rattle.drupe.specs.declared.Signs.{Signs}
 use Rattle.drupe.specs.declared.LineReading.{LineReading}
 
@@ -40,13 +40,13 @@ signed-some k (z ∷ zs) e = refl
 -- Questions 24 and 25, of numbers that passed 23
 
 module _ (x : Letter) (zs : List ℤ) (next : ℕ) (inside : anyOutside zs ≡ false) (few : length zs ≤ mostNumbers) where
-  pub asked-24 : signed (signsOf x) zs ≡ false → asked x zs next ≡ refused 24
+  pub asked-24 : signed (signsOf x) zs ≡ false → lineAsked x zs next ≡ refused 24
   asked-24 e = rw (inside, le-ltb mostNumbers (length zs) few, e)
 
-  pub asked-25 : signed (signsOf x) zs ≡ true → noneTwice zs ≡ false → asked x zs next ≡ refused 25
+  pub asked-25 : signed (signsOf x) zs ≡ true → distinct zs ≡ false → lineAsked x zs next ≡ refused 25
   asked-25 e d = rw (inside, le-ltb mostNumbers (length zs) few, e, d)
 
-  pub asked-line : signed (signsOf x) zs ≡ true → noneTwice zs ≡ true → asked x zs next ≡ line x zs next
+  pub asked-line : signed (signsOf x) zs ≡ true → distinct zs ≡ true → lineAsked x zs next ≡ line x zs next
   asked-line e d = rw (inside, le-ltb mostNumbers (length zs) few, e, d)
 
 pub drop-replicate : {A : Type 0} (n m : ℕ) (a : A) → drop n (replicate m a) ≡ replicate (m - n) a
@@ -136,7 +136,7 @@ Passed at n (refused k) = Unit {0}
 Passed at n (line x zs next) = (at < next) × (next ≤ n) × (lineRefusal x zs ≡ none) × (has (pos 0) zs ≡ false)
 
 module _ (at n : ℕ) where
-  asked-passed : (x : Letter) (zs : List ℤ) (next : ℕ) → at < next → next ≤ n → has (pos 0) zs ≡ false → Passed at n (asked x zs next)
+  asked-passed : (x : Letter) (zs : List ℤ) (next : ℕ) → at < next → next ≤ n → has (pos 0) zs ≡ false → Passed at n (lineAsked x zs next)
   asked-passed x zs next h l f = by (lineRefusal x zs) refl
     where
       by : (o : Option ℕ) → lineRefusal x zs ≡ o → Passed at n (refusedOr o (line x zs next))
@@ -193,15 +193,15 @@ few x zs e = by (anyOutside zs || ltb mostNumbers (length zs)) _ refl e
     by true o k e = absurd (let z : _≡_ {A = ℕ} 0 1 = cc in omega arith)
     by false o k e = ltb-false mostNumbers (length zs) (or-false-right (anyOutside zs) (ltb mostNumbers (length zs)) k)
 
-within : (at n : ℕ) (l : LineAt) → Passed at n l → Within at n (answerOf l)
+within : (at n : ℕ) (l : LineAt) → Passed at n l → AnswerBounds at n (lineAnswer l)
 within at n end p = tt
 within at n (refused k) p = tt
 within at n (line x zs next) p = (p .0, p .1, few x zs (p .2))
 
-pub reads-of : {s : List ℕ} {at : ℕ} {r : LineReading} → r ≡ readingOf (lineAt s at) → Reads s at r
+pub reads-of : {s : List ℕ} {at : ℕ} {r : LineReading} → r ≡ readingOf (lineAt s at) → ProofLineRead s at r
 reads-of {s} {at} {r} e =
     record {
       answer = ap (λ (x : LineReading). x .answer) e;
       numbers = ap (λ (x : LineReading). x .numbers) e;
-      within = subst (λ (x : LineReading). Within at (length s) (x .answer)) (sym e) (within at (length s) (lineAt s at) (passed s at));
+      within = subst (λ (x : LineReading). AnswerBounds at (length s) (x .answer)) (sym e) (within at (length s) (lineAt s at) (passed s at));
     }

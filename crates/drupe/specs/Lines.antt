@@ -9,9 +9,10 @@ use lib.Dec.{eqb, ltb}
 use lib.IntN.{ℤ, pos}
 use lib.Signed.{ltZ}
 use lib.ListN.{length, take, drop, replicate}
-use Rattle.words.specs.Limits.{longest}
+use denote.Ref.{now}
+use Rattle.words.specs.Limits.{longest, mostNumbers}
 use Rattle.words.specs.Lists.{all}
-use Rattle.words.specs.Literals.{noneTwice}
+use Rattle.words.specs.Literals.{distinct}
 use Rattle.text.specs.Bytes.{classOf}
 use Rattle.text.specs.Line.{Line, broken, numbers, lineOf, anyOutside, isClosed}
 use Rattle.text.specs.declared.Letter.{Letter}
@@ -22,10 +23,7 @@ use Rattle.drupe.specs.declared.Signs.{Signs}
 use Rattle.drupe.specs.declared.LineAnswer.{LineAnswer}
 use Rattle.drupe.specs.declared.LineAnswer.the-variants.{Line as Answered, End, Refused}
 use Rattle.drupe.specs.declared.LineReading.{LineReading}
-
--- "up to 65 nonzero numbers"
-abbrev pub mostNumbers : ℕ
-mostNumbers = 65
+use Rattle.drupe.specs.declared.reader.ProofReader.{ProofReader}
 
 -- the place of a letter in the table of signs
 abbrev pub placeOf : Letter → ℕ
@@ -62,7 +60,7 @@ signed k (z ∷ zs) = (not (k .first) || isPositive z) && (not (k .later) || all
 abbrev pub lineRefusal : Letter → List ℤ → Option ℕ
 lineRefusal x zs =
     cond (anyOutside zs || ltb mostNumbers (length zs)) (some 23)
-    (cond (signed (signsOf x) zs) (cond (noneTwice zs) none (some 25)) (some 24))
+    (cond (signed (signsOf x) zs) (cond (distinct zs) none (some 25)) (some 24))
 
 -- what stands at a position: the end, a refusal, or a line's letter with its numbers and the position after its newline
 pub data LineAt : Type 0 where
@@ -76,8 +74,8 @@ refusedOr (some k) l = refused k
 refusedOr none l = l
 
 -- questions 23 to 25 of a line's numbers, which end before position `next`
-abbrev pub asked : Letter → List ℤ → ℕ → LineAt
-asked x zs next = refusedOr (lineRefusal x zs) (line x zs next)
+abbrev pub lineAsked : Letter → List ℤ → ℕ → LineAt
+lineAsked x zs next = refusedOr (lineRefusal x zs) (line x zs next)
 
 -- The shape of a line: "the letter, a space, .. nonzero numbers, a closing `0`, newline"
 
@@ -85,7 +83,7 @@ asked x zs next = refusedOr (lineRefusal x zs) (line x zs next)
 -- take n bytes
 abbrev pub ofNumbers : Letter → ℕ → Line → LineAt
 ofNumbers x from broken = refused 22
-ofNumbers x from (numbers zs n) = cond (isClosed zs) (asked x (take (length zs - 1) zs) (from + n)) (refused 22)
+ofNumbers x from (numbers zs n) = cond (isClosed zs) (lineAsked x (take (length zs - 1) zs) (from + n)) (refused 22)
 
 abbrev pub isSpace : Class → Bool
 isSpace Space = true
@@ -123,10 +121,10 @@ lineAt text at =
 -- What `read_line` answers
 
 -- "it answers the letter, the numbers .., their count and the position after the newline. Its refusal returns the number alone."
-abbrev pub answerOf : LineAt → LineAnswer
-answerOf end = End
-answerOf (refused k) = Refused k
-answerOf (line x zs next) = Answered x (length zs) next
+abbrev pub lineAnswer : LineAt → LineAnswer
+lineAnswer end = End
+lineAnswer (refused k) = Refused k
+lineAnswer (line x zs next) = Answered x (length zs) next
 
 -- "the numbers as written without the closing 0", with zeros after them; all 0 unless a line is answered
 abbrev pub numbersOf : LineAt → List ℤ
@@ -135,15 +133,27 @@ numbersOf (refused k) = replicate mostNumbers (pos 0)
 numbersOf (line x zs next) = zs ++ replicate (mostNumbers - length zs) (pos 0)
 
 abbrev pub readingOf : LineAt → LineReading
-readingOf l = record { answer = answerOf l; numbers = numbersOf l }
+readingOf l = record { answer = lineAnswer l; numbers = numbersOf l }
 
 -- an answered line ends past the position, within a text of n bytes, and has no more numbers than the array
-abbrev pub Within : ℕ → ℕ → LineAnswer → Type 0
-Within at n End = Unit {0}
-Within at n (Refused k) = Unit {0}
-Within at n (Answered x count next) = (at < next) × (next ≤ n) × (count ≤ mostNumbers)
+abbrev pub AnswerBounds : ℕ → ℕ → LineAnswer → Type 0
+AnswerBounds at n End = Unit {0}
+AnswerBounds at n (Refused k) = Unit {0}
+AnswerBounds at n (Answered x count next) = (at < next) × (next ≤ n) × (count ≤ mostNumbers)
 
-pub record Reads (s : List ℕ) (at : ℕ) (r : LineReading) : Type 0 where
-  pub answer : r .answer ≡ answerOf (lineAt s at)
+pub record ProofLineRead (s : List ℕ) (at : ℕ) (r : LineReading) : Type 0 where
+  pub answer : r .answer ≡ lineAnswer (lineAt s at)
   pub numbers : r .numbers ≡ numbersOf (lineAt s at)
-  pub within : Within at (length s) (r .answer)
+  pub within : AnswerBounds at (length s) (r .answer)
+
+-- where a reader stands that was at a position and answered: after a line's newline, else where it was
+abbrev pub positionAfter : LineAnswer → ℕ → ℕ
+positionAfter End at = at
+positionAfter (Refused k) at = at
+positionAfter (Answered x count next) at = next
+
+-- what a reader at d hands out and what it is afterwards: the line at its position, over the same text, and the position that follows
+pub record HandsOut (d : ProofReader) (r : LineReading) (d′ : ProofReader) : Type 0 where
+  pub line : ProofLineRead (now (d .text)) (d .at) r
+  pub text : d′ .text ≡ d .text
+  pub at : d′ .at ≡ positionAfter (r .answer) (d .at)

@@ -1,21 +1,20 @@
 // The proof-line reader: document 01, 'The proof's seven letters' and questions 21 to 25.
-// The claim of `read_line` is `Reads` in specs/Lines.antt.
+// The claim of `read_line` is `ProofLineRead` in specs/Lines.antt.
 pub mod reader;
+pub mod writing;
 
 use text::Class;
 use text::Letter;
 use text::LineRead;
+use words::MOST_NUMBERS;
 ghost use mathlib.Core.Path.{_≡_};
 ghost use mathlib.Core.Bool.{false};
 ghost use Prim.Native.Nat.{_+_, _<_, _≤_};
 ghost use lib.ListN.{length};
-ghost use Rattle.words.specs.Limits.{longest};
+ghost use Rattle.words.specs.Limits.{longest, mostNumbers};
 ghost use Rattle.text.specs.Bytes.{classOf};
 ghost use Rattle.text.specs.Line.{anyOutside, lineOf};
-ghost use Rattle.drupe.specs.Lines.{Reads, afterLetter, asked, isSpace, lineFrom, mostNumbers, ofNumbers, placeOf, readingOf, refused, signed, signsOf};
-
-// The most numbers of a line.
-pub const MOST_NUMBERS: usize = 65;
+ghost use Rattle.drupe.specs.Lines.{ProofLineRead, afterLetter, lineAsked, isSpace, lineFrom, ofNumbers, placeOf, readingOf, refused, signed, signsOf};
 
 // What stands at a position: a line's letter, how many numbers it has and the position after its newline; the end; or the
 // number of the question that is answered no.
@@ -113,7 +112,7 @@ fn refuse(number: u8) -> LineReading
 // Questions 24 and 25 of numbers that passed 23. They are left in another order.
 fn ask(letter: Letter, numbers: &mut [i32], next: usize) -> LineReading
     requires { ⌜ (anyOutside (now numbers) ≡ false) × (length (now numbers) ≤ mostNumbers) ⌝ }
-    ensures { λ r. ⌜ r ≡ readingOf (asked letter (now (numbers .entry)) next) ⌝ }
+    ensures { λ r. ⌜ r ≡ readingOf (lineAsked letter (now (numbers .entry)) next) ⌝ }
 {
     if !is_signed(letter, numbers) {
         return refuse(24);
@@ -213,7 +212,7 @@ fn read_letter(text: &[u8], from: usize) -> LineReading
 
 // The line of the text that begins at the position.
 pub fn read_line(text: &[u8], position: usize) -> LineReading
-    ensures { λ r. ⌜ Reads (now (text .entry)) position r ⌝ }
+    ensures { λ r. ⌜ ProofLineRead (now (text .entry)) position r ⌝ }
 {
     if words::LONGEST < text.len() {
         return refuse(21);

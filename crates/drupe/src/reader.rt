@@ -1,9 +1,21 @@
 // The reader of proof lines as a struct that holds the text and a position in it: document 01, 'Where each language form
-// belongs'. The work is `read_line`'s; each function here takes the struct apart or makes it, and is proved by a walk.
+// belongs'. The work is `read_line`'s; a function that takes, makes or lends the struct is proved by a walk.
+use crate::LineAnswer;
 use crate::LineReading;
 use crate::read_line;
 ghost use mathlib.Core.Path.{_≡_};
-ghost use Rattle.drupe.specs.Lines.{Reads};
+ghost use Rattle.drupe.specs.Lines.{HandsOut, ProofLineRead, positionAfter};
+
+// Where the reader stands once the step is handed out: after a line's newline, else where it was.
+fn position_after(answer: LineAnswer, at: usize) -> usize
+    ensures { λ r. ⌜ r ≡ positionAfter answer at ⌝ }
+{
+    match answer {
+        LineAnswer::Line { next, .. } => next,
+        LineAnswer::End => at,
+        LineAnswer::Refused(_) => at,
+    }
+}
 
 pub struct ProofReader<'a> {
     pub text: &'a [u8],
@@ -17,26 +29,20 @@ pub fn start<'a>(text: &'a [u8]) -> ProofReader<'a>
     ProofReader { text, at: 0 }
 }
 
-// The step at the position.
-pub fn step<'a>(r: ProofReader<'a>) -> LineReading
-    ensures { λ s. ⌜ Reads (now (r .entry .text)) (r .entry .at) s ⌝ }
+// The step at the position. The reader moves on past a line, and stays at the end or a refusal.
+pub fn next<'s, 'a>(r: &'s mut ProofReader<'a>) -> LineReading
+    ensures { λ s. ⌜ HandsOut (now (r .entry)) s (now (r .exit)) ⌝ }
 {
-    read_line(r.text, r.at)
-}
-
-// Moved on to the position that an answered line names as the next.
-pub fn past<'a>(r: ProofReader<'a>, next: usize) -> ProofReader<'a>
-    ensures { λ q. ⌜ (q .text ≡ r .entry .text) × (q .at ≡ next) ⌝ }
-{
-    ProofReader {
-        text: r.text,
-        at: next,
-    }
+    let at = r.at;
+    let reading = read_line(r.text, at);
+    r.at = position_after(reading.answer, at);
+    reading
 }
 
 // The step at a position of a text: its callers need no walk.
 pub fn step_at(text: &[u8], position: usize) -> LineReading
-    ensures { λ r. ⌜ Reads (now (text .entry)) position r ⌝ }
+    ensures { λ r. ⌜ ProofLineRead (now (text .entry)) position r ⌝ }
 {
-    step(past(start(text), position))
+    let mut reader = ProofReader { text, at: position };
+    next(&mut reader)
 }

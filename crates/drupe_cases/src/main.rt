@@ -6,6 +6,7 @@ use cases::say;
 use cases::say_number;
 use drupe::LineAnswer;
 use drupe::LineReading;
+use drupe::reader;
 use libc::STDIN_FILENO;
 use text::Letter;
 
@@ -80,18 +81,21 @@ fn lengths() {
     answer(&text, 65536);
 }
 
-// Each step of a proof as `ProofReader` hands it out, with the end or the refusal that stops it.
+fn say_step(reading: LineReading) {
+    say(b"step");
+    say_reading(reading);
+}
+
+// Each step of a proof as one `ProofReader` hands it out, with the end or the refusal, at which the reader stays. The struct
+// stands in a local through all turns, so the function is proved by a walk.
 fn steps(text: &[u8]) {
-    let mut at = 0;
+    let mut reader = reader::start(text);
     loop {
-        let reading = drupe::reader::step_at(text, at);
-        say(b"step");
-        say_reading(reading);
-        let answer = reading.answer;
-        let LineAnswer::Line { next, .. } = answer else {
+        let at = reader.at;
+        say_step(reader::next(&mut reader));
+        if reader.at == at {
             return;
-        };
-        at = next;
+        }
     }
 }
 

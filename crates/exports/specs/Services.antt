@@ -10,7 +10,7 @@ use Rattle.aspif.specs.Reading.{ProgramRead}
 use Rattle.aspif.specs.declared.ProgramReading.{ProgramReading}
 use Rattle.answer_set.specs.SetTest.{SetTested}
 use Rattle.answer_set.specs.declared.SetAnswer.{SetAnswer}
-use Rattle.drupe.specs.Lines.{lineAt, answerOf, numbersOf}
+use Rattle.drupe.specs.Lines.{lineAt, lineAnswer, numbersOf}
 use Rattle.checker.specs.Check.{CheckedTexts}
 use Rattle.checker.specs.declared.Verdict.{Verdict}
 use Rattle.exports.specs.Codes.{Told, programCode, programNumbers, setCode, setNumbers, lineCode, lineNumbers, verdictCode, verdictNumbers}
@@ -31,7 +31,7 @@ pub record SetService (table : List ℤ) (rules : ℕ) (set marks marks′ answe
 -- all is said outright.
 pub record LineService (text : List ℕ) (position : ℕ) (numbers numbers′ : List ℤ) (answer answer′ : List ℕ) (result : ℕ) : Type 0 where
   pub copied : numbers′ ≡ sets numbers 0 (numbersOf (lineAt text position))
-  pub told : Told (lineCode (answerOf (lineAt text position))) (lineNumbers (answerOf (lineAt text position))) answer answer′ result
+  pub told : Told (lineCode (lineAnswer (lineAt text position))) (lineNumbers (lineAnswer (lineAt text position))) answer answer′ result
 
 -- the verdict, every word of the table and every word of the store
 pub record CheckService (program proof : List ℕ) (table store table′ store′ : List ℤ) (answer answer′ : List ℕ) (result : ℕ) : Type 0 where

@@ -5,12 +5,11 @@ use aspif::ProgramReading;
 use checker::Counts;
 use checker::Verdict;
 use drupe::LineAnswer;
-use text::Letter;
+use text::writing;
 ghost use mathlib.Core.Path.{_≡_};
 ghost use mathlib.Core.List.{[], _∷_};
 ghost use lib.ListN.{set};
 ghost use lib.Seq.{sets};
-ghost use Rattle.text.specs.Bytes.{byteOf};
 ghost use Rattle.exports.specs.Codes.{Told, programCode, programNumbers, setCode, setNumbers, lineCode, lineNumbers, verdictCode, verdictNumbers, countNumbers};
 
 // The codes of the cases to which document 01 gives no number.
@@ -57,25 +56,6 @@ fn put_counts(answer: &mut [u64], counts: Counts)
     put(answer, 3, counts.nogoods);
 }
 
-fn put_word(words: &mut [i32], at: usize, word: i32)
-    ensures { λ _. ⌜ now (words .exit) ≡ set (now (words .entry)) at word ⌝ }
-{
-    if at < words.len() {
-        words[at] = word;
-    }
-}
-
-// As many words as fit.
-pub fn put_words(destination: &mut [i32], source: &[i32])
-    ensures { λ _. ⌜ now (destination .exit) ≡ sets (now (destination .entry)) 0 (now (source .entry)) ⌝ }
-{
-    let mut i = 0;
-    while i < source.len() {
-        put_word(destination, i, source[i]);
-        i += 1;
-    }
-}
-
 // The program reader's answer.
 pub fn tell_program(reading: ProgramReading, answer: &mut [u64]) -> u32
     ensures { λ r. ⌜ Told (programCode reading) (programNumbers reading) (now (answer .entry)) (now (answer .exit)) r ⌝ }
@@ -110,20 +90,6 @@ pub fn tell_set(tested: SetAnswer, answer: &mut [u64]) -> u32
     }
 }
 
-fn byte_of(letter: Letter) -> u8
-    ensures { λ r. ⌜ r ≡ byteOf letter ⌝ }
-{
-    match letter {
-        Letter::Addition => b'a',
-        Letter::Body => b'b',
-        Letter::Completion => b'c',
-        Letter::Deletion => b'd',
-        Letter::Extension => b'e',
-        Letter::Loop => b'l',
-        Letter::Support => b's',
-    }
-}
-
 // The proof-line reader's answer.
 pub fn tell_line(line: LineAnswer, answer: &mut [u64]) -> u32
     ensures { λ r. ⌜ Told (lineCode line) (lineNumbers line) (now (answer .entry)) (now (answer .exit)) r ⌝ }
@@ -135,7 +101,7 @@ pub fn tell_line(line: LineAnswer, answer: &mut [u64]) -> u32
             next,
         } => {
             put_two(answer, count, next);
-            byte_of(letter) as u32
+            writing::byte_of(letter) as u32
         }
         LineAnswer::End => END,
         LineAnswer::Refused(number) => number as u32,

@@ -8,7 +8,8 @@ ghost use Rattle.exports.specs.Services.{ProgramService, SetService, Lin
 // Reads a program text into the table.
 #[no_mangle]
 pub extern "C" fn aspdrupe_read_program(text: &[u8], table: &mut [i32], answer: &mut [u64]) -> u32
-    ensures { λ r. ⌜ ProgramService (now (text .entry)) (now (table .entry)) (now (table .exit)) (now (answer .entry)) (now (answer .exit)) r ⌝ }
+    ensures { λ r. ⌜ ProgramService (now (text .entry)) (now (table .entry)) (now (table .exit)) (now (answer .entry))
+        (now (answer .exit)) r ⌝ }
 {
     let reading = aspif::read_program(text, table);
     answers::tell_program(reading, answer)
@@ -23,7 +24,8 @@ pub extern "C" fn aspdrupe_test_set(
     marks: &mut [u8],
     answer: &mut [u64],
 ) -> u32
-    ensures { λ r. ⌜ SetService (now (table .entry)) rules (now (set .entry)) (now (marks .entry)) (now (marks .exit)) (now (answer .entry)) (now (answer .exit)) r ⌝ }
+    ensures { λ r. ⌜ SetService (now (table .entry)) rules (now (set .entry)) (now (marks .entry)) (now (marks .exit))
+        (now (answer .entry)) (now (answer .exit)) r ⌝ }
 {
     let tested = answer_set::test_set(table, rules as usize, set, marks);
     answers::tell_set(tested, answer)
@@ -37,11 +39,12 @@ pub extern "C" fn aspdrupe_read_line(
     numbers: &mut [i32],
     answer: &mut [u64],
 ) -> u32
-    ensures { λ r. ⌜ LineService (now (text .entry)) position (now (numbers .entry)) (now (numbers .exit)) (now (answer .entry)) (now (answer .exit)) r ⌝ }
+    ensures { λ r. ⌜ LineService (now (text .entry)) position (now (numbers .entry)) (now (numbers .exit))
+        (now (answer .entry)) (now (answer .exit)) r ⌝ }
 {
     let reading = drupe::read_line(text, position as usize);
     let row = reading.numbers;
-    answers::put_words(numbers, &row);
+    words::put_words(numbers, &row);
     let line = reading.answer;
     answers::tell_line(line, answer)
 }
@@ -55,7 +58,8 @@ pub extern "C" fn aspdrupe_check_texts(
     store: &mut [i32],
     answer: &mut [u64],
 ) -> u32
-    ensures { λ r. ⌜ CheckService (now (program .entry)) (now (proof .entry)) (now (table .entry)) (now (store .entry)) (now (table .exit)) (now (store .exit)) (now (answer .entry)) (now (answer .exit)) r ⌝ }
+    ensures { λ r. ⌜ CheckService (now (program .entry)) (now (proof .entry)) (now (table .entry)) (now (store .entry))
+        (now (table .exit)) (now (store .exit)) (now (answer .entry)) (now (answer .exit)) r ⌝ }
 {
     let verdict = checker::check_texts(program, proof, table, store);
     answers::tell_verdict(verdict, answer)

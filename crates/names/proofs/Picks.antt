@@ -9,20 +9,20 @@ use native.Mathlib.Numerals.{add-one}
 use native.Mathlib.Omega.{arith}
 use lib.ListN.{length, take, drop, getD, set}
 use lib.Seq.{drop-cons, getD-drop, drop-drop, take-suc-set, drop-set-lt}
-use Rattle.words.specs.Lists.{keep}
+use Rattle.words.specs.Lists.{filter}
 use Rattle.aspif.specs.Rules.{Rule}
 use Rattle.names.specs.Queries.{picks, renamed}
-use Rattle.names.proofs.Sets.{Found, found-on}
+use Rattle.marks.proofs.Sets.{MarkedSoFar, found-on}
 
 module _ (f : Rule → Bool) where
   -- Where the names that are kept are those that g gives
 
-  pub picks-map : (g : Rule → ℕ) (P : List Rule) (ns : List ℕ) → take (length P) ns ≡ map g P → picks f P ns ≡ map g (keep f P)
+  pub picks-map : (g : Rule → ℕ) (P : List Rule) (ns : List ℕ) → take (length P) ns ≡ map g P → picks f P ns ≡ map g (filter f P)
   picks-map g [] ns e = refl
   picks-map g (r ∷ P) [] e = absurd (nil≢cons e)
   picks-map g (r ∷ P) (n ∷ ns) e = go (f r) (picks-map g P ns (tail-eq-of-cons-eq e))
     where
-      go : (b : Bool) → picks f P ns ≡ map g (keep f P) → cond b (n ∷ picks f P ns) (picks f P ns) ≡ map g (cond b (r ∷ keep f P) (keep f P))
+      go : (b : Bool) → picks f P ns ≡ map g (filter f P) → cond b (n ∷ picks f P ns) (picks f P ns) ≡ map g (cond b (r ∷ filter f P) (filter f P))
       go true q = ap₂ (λ x l. x ∷ l) (head-eq-of-cons-eq e) q
       go false q = q
 
@@ -40,11 +40,11 @@ module _ (f : Rule → Bool) where
 
   -- One rule of a loop that marks the names of those that pass
 
-  pub found-pick : {m after whole : List ℕ} (r : Rule) (P : List Rule) (ns : List ℕ) (k : ℕ) → Found m (picks f (r ∷ P) (drop k ns)) whole
-      → after ≡ cond (f r) (set m (getD ns k 0) 1) m → Found after (picks f P (drop (k + 1) ns)) whole
+  pub found-pick : {m after whole : List ℕ} (r : Rule) (P : List Rule) (ns : List ℕ) (k : ℕ) → MarkedSoFar m (picks f (r ∷ P) (drop k ns)) whole
+      → after ≡ cond (f r) (set m (getD ns k 0) 1) m → MarkedSoFar after (picks f P (drop (k + 1) ns)) whole
   found-pick {m} {after} {whole} r P ns k F e = go (f r) (getD ns k 0) (picks f P (drop (k + 1) ns)) (rw (getD-drop k ns 0 0, add-zero k, drop-drop 1 k ns) at F) e
     where
-      go : (b : Bool) (x : ℕ) (l : List ℕ) → Found m (cond b (x ∷ l) l) whole → after ≡ cond b (set m x 1) m → Found after l whole
+      go : (b : Bool) (x : ℕ) (l : List ℕ) → MarkedSoFar m (cond b (x ∷ l) l) whole → after ≡ cond b (set m x 1) m → MarkedSoFar after l whole
       go true x l F e = rw e (found-on F)
       go false x l F e = rw e F
 

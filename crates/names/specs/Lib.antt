@@ -1,2 +1,2 @@
--- Which rules a step is about, the names of their bodies, and sets of variables as marks.
+-- Which rules a step is about, and the names of their bodies: what private functions of the checker cite.
 pub mod Queries

@@ -1,39 +1,25 @@
--- What the functions of this crate promise. The steps' own definitions are derivation's; crate checker shows that what is found here
--- is what they ask for.
+-- What private functions of the checker cite, and no reader of a public contract needs: which rules a query asks for, and the names
+-- of their bodies. The steps' own definitions are derivation's; crate checker shows that what is found here is what they ask for.
 -- Assumes nothing.
 use mathlib.Core.Path.{_≡_}
 use mathlib.Core.Bool.{Bool, true, cond, not, _&&_}
 use mathlib.Core.List.{List, [], _∷_}
-use Prim.Native.Nat.{ℕ, zero, suc, _≤_}
+use Prim.Native.Nat.{ℕ}
 use lib.IntN.{ℤ, pos}
 use lib.Signed.{ltZ}
-use lib.ListN.{length, getD, drop}
-use Rattle.words.specs.Limits.{largest}
+use lib.ListN.{getD, drop}
 use Rattle.words.specs.Lists.{any}
 use Rattle.words.specs.Literals.{variable, sameList, has}
 use Rattle.aspif.specs.Rules.{Rule, isNormal}
-use Rattle.answer_set.specs.SetTest.{listed, marked, marksLent}
+use Rattle.aspif.specs.Tables.{rulesAt, soundRules}
+use Rattle.marks.specs.Marks.{marked}
 use Rattle.names.specs.declared.queries.Query.{Query}
 use Rattle.names.specs.declared.queries.Query.the-variants.{Body, Normal, Head, External}
 
--- "arrays of 4,096 entries": the marks are those of the numbers listed, as far as these are variables or 0
-pub record Marks (m l : List ℕ) : Type 0 where
-  pub long : length m ≡ marksLent
-  pub has : (v : ℕ) → v ≤ largest → marked m v ≡ listed l v
-
--- the numbers from n down to 1
-abbrev pub upTo : ℕ → List ℕ
-upTo zero = []
-upTo (suc n) = suc n ∷ upTo n
-
--- two answers are the same
-abbrev pub agree : Bool → Bool → Bool
-agree a b = cond a b (not b)
-
--- the same numbers below n are marked
-unfoldable pub sameMarks : ℕ → List ℕ → List ℕ → Bool
-sameMarks zero a b = true
-sameMarks (suc n) a b = agree (marked a n) (marked b n) && sameMarks n a b
+-- the table holds so many rules, which are sound and are those of P
+pub record HoldsRules (table : List ℤ) (rules : ℕ) (P : List Rule) : Type 0 where
+  pub sound : soundRules rules table ≡ true
+  pub are : rulesAt rules table ≡ P
 
 -- a positive literal whose atom is marked
 abbrev pub isInside : List ℕ → ℤ → Bool

@@ -1,20 +1,22 @@
 // Which rules a step is about, and the names of their bodies. Names are kept by rule, 0 for none.
 ghost use mathlib.Core.Path.{_≡_};
 ghost use mathlib.Core.Bool.{true, cond, _&&_};
+ghost use mathlib.Core.List.{List};
 ghost use Prim.Native.Nat.{_≤_};
 ghost use lib.ListN.{length, set};
 ghost use Rattle.words.specs.Lists.{any};
 ghost use Rattle.words.specs.Literals.{sameList};
-ghost use Rattle.aspif.specs.Rules.{isNormal};
-ghost use Rattle.answer_set.specs.SetTest.{ruleAt, shapeSound, rulesAt, soundRules};
-ghost use Rattle.names.specs.Queries.{Marks, isInside, isExternalBy, asks, picks, renamed};
-use answer_set::marks;
-use answer_set::tables;
+ghost use Rattle.aspif.specs.Rules.{Rule, isNormal};
+ghost use Rattle.aspif.specs.Tables.{ruleAt, shapeSound};
+ghost use Rattle.marks.specs.Marks.{Marks};
+ghost use Rattle.names.specs.Queries.{HoldsRules, isInside, isExternalBy, asks, picks, renamed};
 use aspif::Kind;
+use aspif::tables;
 use words::ENTRIES;
 
-// The rules that a step is about: those with a body; the normal ones with just some heads; those with a head; those with a head in
-// a set of atoms and no positive atom in it. Only Body and Normal read the literals that go with a query, and only External the set.
+// The rules that a step is about: those with a body; the normal ones with just some heads; those with a head; those with a head
+// in a set of atoms and no positive atom in it. Only Body and Normal read the literals that go with a query, and only External
+// the set.
 pub enum Query {
     Body,
     Normal,
@@ -71,7 +73,8 @@ fn is_normal(words: &[i32]) -> bool
 // The rule at the front is normal, with just these heads.
 fn is_normal_with(words: &[i32], heads: &[i32]) -> bool
     requires { ⌜ shapeSound (now words) ≡ true ⌝ }
-    ensures { λ r. ⌜ r ≡ (isNormal (ruleAt (now (words .entry)) .kind) && sameList (ruleAt (now (words .entry)) .heads) (now (heads .entry))) ⌝ }
+    ensures { λ r. ⌜ (let rule = ruleAt (now (words .entry)) in
+        r ≡ (isNormal (rule .kind) && sameList (rule .heads) (now (heads .entry)))) ⌝ }
 {
     if is_normal(words) {
         return words::is_same_list(tables::heads_of(words), heads);
@@ -119,8 +122,9 @@ pub fn names_of(
     literals: &[i32],
     inside: &[u8],
 ) -> [u8; ENTRIES]
-    requires { ⌜ (soundRules rules (now table) ≡ true) × (rules ≤ length (now names)) ⌝ }
-    ensures { λ m. ⌜ Marks m (picks (asks query (now (literals .entry)) (now (inside .entry))) (rulesAt rules (now (table .entry))) (now (names .entry))) ⌝ }
+    requires { ⌜ ((P : List Rule) × HoldsRules (now table) rules P) × (rules ≤ length (now names)) ⌝ }
+    ensures { λ m. ⌜ ((P : List Rule) → HoldsRules (now (table .entry)) rules P
+        → Marks m (picks (asks query (now (literals .entry)) (now (inside .entry))) P (now (names .entry)))) ⌝ }
 {
     let mut found = [0u8; ENTRIES];
     let mut k = 0;
@@ -128,13 +132,13 @@ pub fn names_of(
     while k < rules {
         let rest = &table[i..];
         mark_asked(rest, query, literals, inside, names[k], &mut found);
-        i += tables::rule_size(rest);
+        i = tables::next_rule(table, i);
         k += 1;
     }
     found
 }
 
-// The name where the rule at the front has the body, else the other.
+// The name, where the rule at the front has the body; else the other name.
 fn name_for(words: &[i32], body: &[i32], name: u16, other: u16) -> u16
     requires { ⌜ shapeSound (now words) ≡ true ⌝ }
     ensures { λ r. ⌜ r ≡ cond (sameList (ruleAt (now (words .entry)) .body) (now (body .entry))) name other ⌝ }
@@ -145,17 +149,18 @@ fn name_for(words: &[i32], body: &[i32], name: u16, other: u16) -> u16
     other
 }
 
-// Every rule with the body gets the name.
+// Every rule with the body gets the name; the names of other rules stay.
 pub fn enter(table: &[i32], rules: usize, body: &[i32], name: u16, names: &mut [u16])
-    requires { ⌜ (soundRules rules (now table) ≡ true) × (rules ≤ length (now names)) ⌝ }
-    ensures { λ _. ⌜ now (names .exit) ≡ renamed (λ r. sameList (r .body) (now (body .entry))) name (rulesAt rules (now (table .entry))) (now (names .entry)) ⌝ }
+    requires { ⌜ ((P : List Rule) × HoldsRules (now table) rules P) × (rules ≤ length (now names)) ⌝ }
+    ensures { λ _. ⌜ ((P : List Rule) → HoldsRules (now (table .entry)) rules P
+        → now (names .exit) ≡ renamed (λ r. sameList (r .body) (now (body .entry))) name P (now (names .entry))) ⌝ }
 {
     let mut k = 0;
     let mut i = 0;
     while k < rules {
         let rest = &table[i..];
         names[k] = name_for(rest, body, name, names[k]);
-        i += tables::rule_size(rest);
+        i = tables::next_rule(table, i);
         k += 1;
     }
 }

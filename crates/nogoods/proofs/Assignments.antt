@@ -11,8 +11,9 @@ use lib.Seq.{getD-set-same, getD-set-other}
 use Rattle.words.specs.Lists.{_∈_}
 use Rattle.words.specs.Literals.{variable, complement}
 use Rattle.words.proofs.Literals.{variable-complement}
-use Rattle.words.proofs.Places.{equal?, in-at, place-of, distinct}
-use Rattle.nogoods.specs.Store.{Literals}
+use Rattle.words.proofs.Places.{equal?, in-at, place-of, variables-differ}
+use Rattle.words.proofs.Laws.{padded}
+use Rattle.nogoods.specs.Keeps.{Literals}
 use Rattle.nogoods.specs.Propagate.{entry, Assigns, Valued, free}
 use Rattle.nogoods.specs.declared.units.Value.the-variants.{Free}
 
@@ -41,8 +42,8 @@ pub positive-complement : (z : ℤ) → 1 ≤ variable z → 1 ≤ variable (com
 positive-complement z h = rw (variable-complement z) h
 
 -- no literal is true with its complement
-pub apart : (m : List ℕ) (z : ℤ) → 1 ≤ variable z → Assigns m z → Assigns m (complement z) → ⊥
-apart m z h a b =
+pub not-both : (m : List ℕ) (z : ℤ) → 1 ≤ variable z → Assigns m z → Assigns m (complement z) → ⊥
+not-both m z h a b =
     let c : getD m (variable z) 0 ≡ 3 - entry z = rw (variable-complement z, entry-complement z h) at b in
     elim (entry-cases z) [ inl e ↦ omega arith | inr e ↦ omega arith ]
 
@@ -78,9 +79,7 @@ free-most (x ∷ m) = omega (arith, free-cons x m, free-most m)
 
 -- nothing is true where all are free
 pub zeros : (n k : ℕ) → _≡_ {A = ℕ} (getD (replicate n 0) k 0) 0
-zeros zero k = refl
-zeros (suc n) zero = refl
-zeros (suc n) (suc k) = zeros n k
+zeros n k = padded 0 [] n k
 
 pub none-true : (n : ℕ) (z : ℤ) → ¬ Assigns (replicate n 0) z
 none-true n z a = let e = zeros n (variable z) in elim (entry-cases z) [ inl p ↦ omega arith | inr p ↦ omega arith ]
@@ -93,7 +92,7 @@ alone L l i h u =
     let e : variable (getD L (r .0) (pos 0)) ≡ variable x = ap variable (r .2) ∙ variable-complement x in
     elim (equal? (r .0) i) [
       | inl k ↦ unlike x (l .low x (in-at (pos 0) L i h)) (ap (λ (j : ℕ). getD L j (pos 0)) (sym k) ∙ r .2)
-      | inr k ↦ distinct L (l .once) (r .0) i (r .1) h k e
+      | inr k ↦ variables-differ L (l .once) (r .0) i (r .1) h k e
     ]
   where
     unlike : (x : ℤ) → 1 ≤ variable x → x ≡ complement x → ⊥
@@ -114,7 +113,7 @@ module _ (m : List ℕ) (x : ℤ) (h : variable x < length m) where
     | inr n ↦ inr (rw (getD-set-other m (variable x) (variable y) (entry x) 0 n) at a)
     | inl e ↦ elim (same-variable x y e) [
       | inl q ↦ inl q
-      | inr q ↦ absurd (apart with-x x p assigned (rw q at a))
+      | inr q ↦ absurd (not-both with-x x p assigned (rw q at a))
     ]
   ]
 

@@ -9,10 +9,12 @@ use lib.IntN.{ℤ}
 use lib.ListN.{length, drop, getD, set, replicate, drop-of-length-le}
 use lib.Seq.{drop-cons}
 use Rattle.words.proofs.Places.{set-each}
-use Rattle.nogoods.specs.Propagate.{entries, free, Stands}
+use Rattle.words.specs.Limits.{entries}
+use Rattle.nogoods.specs.Records.{Stands}
+use Rattle.nogoods.specs.Propagate.{free}
 use Rattle.nogoods.specs.PropagateChains.{places, Links, Below, Queue}
 use Rattle.nogoods.proofs.Assignments.{zeros, free-assigned, free-cons}
-use Rattle.nogoods.proofs.Segments.{rest-start, rest-here}
+use Rattle.nogoods.proofs.Recorded.{encoded, live-at}
 
 -- Entries below a bound
 
@@ -30,7 +32,7 @@ below-weaker p q l h b j = omega (arith, b j)
 module _ (s : List ℤ) where
   pub links-none : (n : ℕ) → 0 < length s → Links s (replicate n 0) (replicate n 0)
   links-none n some = record {
-    stands = λ p. rw (zeros n p) (λ live h. rest-here s live 0 (rest-start s live h) some);
+    stands = λ p. rw (zeros n p) (λ live h. live-at s (encoded s h (λ g u. u)) some);
     down = λ p h. rw (zeros n p) h;
   }
 
@@ -55,21 +57,21 @@ module _ (m : List ℕ) where
     pub room : t + free m ≤ v + free (drop v m)
 
   module _ (queue : List ℕ) (v t : ℕ) (l : Loading queue v t) (h : v < length m) where
-    here : free (drop v m) ≡ free (getD m v 0 ∷ drop (v + 1) m)
-    here = rw (add-one, drop-cons m v 0 h)
+    free-from : free (drop v m) ≡ free (getD m v 0 ∷ drop (v + 1) m)
+    free-from = rw (add-one, drop-cons m v 0 h)
 
     pub loading-free : Loading queue (v + 1) t
     loading-free = record {
       inside = l .inside;
       few = omega (arith, l .few);
-      room = omega (arith, l .room, here, free-cons (getD m v 0) (drop (v + 1) m));
+      room = omega (arith, l .room, free-from, free-cons (getD m v 0) (drop (v + 1) m));
     }
 
     pub loading-assigned : (z : ℕ) → z < places → 1 ≤ getD m v 0 → getD m v 0 ≤ 2 → Loading (set queue t z) (v + 1) (t + 1)
     loading-assigned z k a b = record {
       inside = below-set places queue t z (l .inside) k;
       few = omega (arith, l .few);
-      room = omega (arith, l .room, here, free-assigned (getD m v 0) (drop (v + 1) m) a b);
+      room = omega (arith, l .room, free-from, free-assigned (getD m v 0) (drop (v + 1) m) a b);
     }
 
   pub loaded : (queue : List ℕ) (v t : ℕ) → Loading queue v t → length m ≤ v → v ≤ entries → Queue m queue t

@@ -13,13 +13,15 @@ use Rattle.words.specs.Literals.{variable, complement}
 use Rattle.words.proofs.Literals.{complement-twice, variable-complement}
 use Rattle.derivation.specs.Propagation.{Closure, given, unit, Conflict}
 use Rattle.words.proofs.Places.{same?}
-use Rattle.nogoods.specs.Store.{Literals}
-use Rattle.nogoods.specs.Propagate.{entries, entry, Assigns, Valued, free, Settled, AllTrue, Derives, nogoodAt, Stands, Within, Grows, Clashes, Ends}
+use Rattle.nogoods.specs.Keeps.{Literals}
+use Rattle.words.specs.Limits.{entries}
+use Rattle.nogoods.specs.Records.{nogoodAt, Stands}
+use Rattle.nogoods.specs.Propagate.{entry, Assigns, Valued, free, Settled, AllTrue, Derives, InClosure, Grows, Clashes, Ends}
 use Rattle.nogoods.specs.declared.units.Value.the-variants.{Free}
 use Rattle.nogoods.specs.declared.units.Derived.the-variants.{Assigned}
-use Rattle.nogoods.proofs.Assignments.{positive-complement, apart, assigned→, assigned-kept, assigned-fewer}
+use Rattle.nogoods.proofs.Assignments.{positive-complement, not-both, assigned→, assigned-kept, assigned-fewer}
 
-module _ (live : List (List ℤ)) (L : List ℤ) (m : List ℕ) (w : Within live L m) (g : List ℤ) (u : g ∈ live) where
+module _ (live : List (List ℤ)) (L : List ℤ) (m : List ℕ) (w : InClosure live L m) (g : List ℤ) (u : g ∈ live) where
   -- the complement of a literal whose others are true
   unit-in : (z : ℤ) → z ∈ g → ((y : ℤ) → y ∈ g → ¬ (y ≡ z) → Assigns m y) → Closure live L (complement z)
   unit-in z v f = unit g u (Memᴰ·cast (complement-twice z) v) (λ k i n. w k (f k i (λ e. n (e ∙ sym (complement-twice z)))))
@@ -46,11 +48,11 @@ module _ (live : List (List ℤ)) (L : List ℤ) (m : List ℕ) (lits : (g : Lis
       only below y i n = elim (same? y (complement x)) [ inl e ↦ e | inr d ↦ absurd (n (below y i d)) ]
 
       go : ((k : ℤ) → k ∈ g → ¬ (k ≡ complement x) → Assigns m k) → Settled m g → Assigns m x
-      go below (inl (z, i, a)) = rw (ap complement (only below z i (λ b. apart m z (lits g u .low z i) b a)) ∙ complement-twice x) at a
+      go below (inl (z, i, a)) = rw (ap complement (only below z i (λ b. not-both m z (lits g u .low z i) b a)) ∙ complement-twice x) at a
       go below (inr (y, z, i, j, d, a, b)) = absurd (d (only below y i a ∙ sym (only below z j b)))
 
   pub no-conflict : Conflict live L → ⊥
-  no-conflict (inl (x, a, b)) = apart m x (closure-assigned a .0) (closure-assigned a .1) (closure-assigned b .1)
+  no-conflict (inl (x, a, b)) = not-both m x (closure-assigned a .0) (closure-assigned a .1) (closure-assigned b .1)
   no-conflict (inr u) = elim (settled [] u) [ inl r ↦ List·Memᴰ·not-nil (r .1) | inr r ↦ List·Memᴰ·not-nil (r .2) ]
 
 -- How the assignment grows
@@ -75,9 +77,9 @@ module _ (s : List ℤ) (a b : List ℕ) (g : Grows s a b) where
   ends-before c true k = clashes-before k
   ends-before c false k = (grows-on g (k .0), k .1)
 
-module _ (s : List ℤ) (r : ℕ) (here : Stands s r) (lits : Literals (nogoodAt s r)) (m : List ℕ) (size : length m ≡ entries) where
+module _ (s : List ℤ) (r : ℕ) (stands : Stands s r) (lits : Literals (nogoodAt s r)) (m : List ℕ) (size : length m ≡ entries) where
   pub conflicting : AllTrue m (nogoodAt s r) → Clashes s m
-  conflicting f live L h w = all-true live L m w (nogoodAt s r) (here live h .0) f
+  conflicting f live L h w = all-true live L m w (nogoodAt s r) (stands live h .0) f
 
   pub derived : (m′ : List ℕ) (v : ℕ) → Derives (nogoodAt s r) m m′ (Assigned v)
       → Grows s m m′ × (suc (free m′) ≡ free m) × (1 ≤ v) × (v < entries)
@@ -92,7 +94,7 @@ module _ (s : List ℤ) (r : ℕ) (here : Stands s r) (lits : Literals (nogoodAt
       let f : suc (free m′) ≡ free m = rw is (assigned-fewer m x hx lx open-x) in (
         record {
           sound = λ live L h w y a. elim (assigned→ m x hx y lx (rw is at a)) [
-            | inl q ↦ rw q (unit-in live L m w (nogoodAt s r) (here live h .0) z i (last .others))
+            | inl q ↦ rw q (unit-in live L m w (nogoodAt s r) (stands live h .0) z i (last .others))
             | inr b ↦ w y b
           ];
           kept = λ y a. rw is (assigned-kept m x hx (open-x .1) y a);

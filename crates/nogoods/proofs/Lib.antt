@@ -1,10 +1,10 @@
 -- The laws that the proofs share.
 pub mod Assignments
 pub mod Looks
+pub mod Recorded
 pub mod Stored
 pub mod Literals
 pub mod Defined
-pub mod Segments
 pub mod Closures
 pub mod Sweeps
 pub mod Chains

@@ -1,20 +1,19 @@
 -- Lists that a nogood may be (`Literals` of specs/Store.antt): made from others by sorting, by complements, or literal by literal.
 -- Assumes nothing.
 use mathlib.Core.Path.{_≡_, refl, sym, ap, ap₂, subst, _∙_}
-use mathlib.Core.Logic.{_⊎_, inl, inr}
 use mathlib.Core.Bool.{not, _&&_}
-use mathlib.Core.List.{List, [], _∷_, map, List·Memᴰ·head, List·Memᴰ·tail, List·Memᴰ·not-nil, List·Memᴰ·cases-cons, Memᴰ·map, Memᴰ·of-map, head-eq-of-cons-eq, tail-eq-of-cons-eq, nil≢cons}
+use mathlib.Core.List.{List, [], _∷_, map, List·Memᴰ·head, List·Memᴰ·tail, List·Memᴰ·not-nil, Memᴰ·map, Memᴰ·of-map, head-eq-of-cons-eq, tail-eq-of-cons-eq, nil≢cons}
 use Prim.Native.Nat.{ℕ, _≤_}
 use lib.Dec.{eqb}
 use lib.IntN.{ℤ}
 use Rattle.words.specs.Limits.{largest}
 use Rattle.words.specs.Lists.{_∈_, any}
-use Rattle.words.specs.Literals.{variable, complement, mentions, noneTwice, ascending}
-use Rattle.words.proofs.Lists.{if-true, is-true}
+use Rattle.words.specs.Literals.{variable, complement, mentions, distinct, ascending}
+use Rattle.words.proofs.Lists.{if-true, is-true, each-cons}
 use Rattle.words.proofs.Literals.{variable-complement, ascending→}
 use Rattle.words.proofs.Sorting.{none-twice-ascending}
 use Rattle.words.proofs.Places.{once-decides}
-use Rattle.nogoods.specs.Store.{Literals}
+use Rattle.nogoods.specs.Keeps.{Literals}
 
 pub literals-ascending : (l : List ℤ) → Literals l → Literals (ascending l)
 literals-ascending l h =
@@ -29,20 +28,12 @@ literals-ascending l h =
 pub literals-nil : Literals []
 literals-nil = record { low = λ x m. absurd (List·Memᴰ·not-nil m); high = λ x m. absurd (List·Memᴰ·not-nil m); once = refl }
 
--- what holds of the first and of the others
-each : {P : ℤ → Type 0} {x : ℤ} {l : List ℤ} → P x → ((y : ℤ) → y ∈ l → P y) → (y : ℤ) → y ∈ x ∷ l → P y
-each {P} {x} {l} h k y m = by (List·Memᴰ·cases-cons m)
-  where
-    by : (y ≡ x) ⊎ (y ∈ l) → P y
-    by (inl p) = subst P (sym p) h
-    by (inr n) = k y n
-
 pub literals-cons : (x : ℤ) (l : List ℤ) → 1 ≤ variable x → variable x ≤ largest → ((y : ℤ) → y ∈ l → ¬ (variable x ≡ variable y)) → Literals l
     → Literals (x ∷ l)
 literals-cons x l a b f h =
     record {
-      low = each {P = λ y. 1 ≤ variable y} a (h .low);
-      high = each {P = λ y. variable y ≤ largest} b (h .high);
+      low = each-cons {P = λ y. 1 ≤ variable y} a (h .low);
+      high = each-cons {P = λ y. variable y ≤ largest} b (h .high);
       once = is-true (once-decides x l) (λ r. f (r .0) (r .1) (r .2), h .once);
     }
 
@@ -64,8 +55,9 @@ module _ (x : ℤ) (l : List ℤ) (h : Literals (x ∷ l)) where
   literals-pair y m =
       let v = variable-complement y in
       literals-cons x (complement y ∷ []) (h .low x (List·Memᴰ·head refl)) (h .high x (List·Memᴰ·head refl))
-      (each {P = λ z. ¬ (variable x ≡ variable z)} (rw v (literals-apart y m)) (λ z n. absurd (List·Memᴰ·not-nil n)))
-      (literals-cons (complement y) [] (rw v (h .low y (List·Memᴰ·tail m))) (rw v (h .high y (List·Memᴰ·tail m))) (λ z n. absurd (List·Memᴰ·not-nil n)) literals-nil)
+      (each-cons {P = λ z. ¬ (variable x ≡ variable z)} (rw v (literals-apart y m)) (λ z n. absurd (List·Memᴰ·not-nil n)))
+      (literals-cons (complement y) [] (rw v (h .low y (List·Memᴰ·tail m))) (rw v (h .high y (List·Memᴰ·tail m)))
+      (λ z n. absurd (List·Memᴰ·not-nil n)) literals-nil)
 
 -- The variables alone decide
 
@@ -73,7 +65,7 @@ mentions-variables : (v : ℕ) (l : List ℤ) → mentions v l ≡ any (eqb v) (
 mentions-variables v [] = refl
 mentions-variables v (x ∷ l) = rw (mentions-variables v l)
 
-none-twice-variables : (l m : List ℤ) → map variable l ≡ map variable m → noneTwice l ≡ noneTwice m
+none-twice-variables : (l m : List ℤ) → map variable l ≡ map variable m → distinct l ≡ distinct m
 none-twice-variables [] [] e = refl
 none-twice-variables [] (y ∷ m) e = absurd (nil≢cons e)
 none-twice-variables (x ∷ l) [] e = absurd (nil≢cons (sym e))
@@ -99,9 +91,6 @@ literals-variables l m e h =
 pub variables-complements : (l : List ℤ) → map variable (map complement l) ≡ map variable l
 variables-complements [] = refl
 variables-complements (x ∷ l) = ap₂ (λ v k. v ∷ k) (variable-complement x) (variables-complements l)
-
-pub literals-complements : (l : List ℤ) → Literals l → Literals (map complement l)
-literals-complements l h = literals-variables l (map complement l) (sym (variables-complements l)) h
 
 -- the first literal's complement, or those of the others
 pub literals-complement-first : (x : ℤ) (l : List ℤ) → Literals (x ∷ l) → Literals (complement x ∷ l)

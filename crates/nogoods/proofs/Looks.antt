@@ -9,8 +9,8 @@ use borrow.Author.Count.{below-more}
 use lib.IntN.{ℤ, pos}
 use lib.ListN.{length, getD}
 use Rattle.words.specs.Literals.{variable, complement}
-use Rattle.words.proofs.Places.{in-at, place-of, distinct}
-use Rattle.nogoods.specs.Store.{Literals}
+use Rattle.words.proofs.Places.{in-at, place-of, variables-differ}
+use Rattle.nogoods.specs.Keeps.{Literals}
 use Rattle.nogoods.specs.Propagate.{Assigns, Valued, Settled, AllTrue, Looked}
 use Rattle.nogoods.specs.declared.units.Value.the-variants.{Free}
 use Rattle.nogoods.specs.declared.units.Look.the-variants.{Unit}
@@ -49,7 +49,7 @@ module _ (m : List ℕ) (g : List ℤ) where
       at i,
       in-at (pos 0) g one (omega arith),
       in-at (pos 0) g i h,
-      (λ e. distinct g (l .once) one i (omega arith) h (λ p. omega arith) (ap variable e)),
+      (λ e. variables-differ g (l .once) one i (omega arith) h (λ p. omega arith) (ap variable e)),
       elim (s .first) [ inl p ↦ absurd (omega arith) | inr w ↦ w .1 .0 ],
       f .0,
     )

@@ -3,72 +3,70 @@
 use mathlib.Core.Path.{_≡_, refl, sym, _∙_}
 use mathlib.Core.Logic.{_⊎_, inl, inr}
 use mathlib.Core.Bool.{Bool, true, false, true≢false}
-use mathlib.Core.List.{List, [], List·Memᴰ·cases-cons}
-use Prim.Native.Nat.{ℕ, _+_, _≤_, _<_}
+use mathlib.Core.List.{List, List·Memᴰ·head, List·Memᴰ·not-nil, List·Memᴰ·cases-cons}
+use Prim.Native.Nat.{ℕ, _≤_, _<_}
 use native.Mathlib.Omega.{arith}
 use lib.IntN.{ℤ}
 use lib.ListN.{length}
 use Rattle.words.specs.Lists.{_∈_}
-use Rattle.words.proofs.Segments.{none-left}
-use Rattle.nogoods.specs.Store.{nogoodWords, Literals}
-use Rattle.nogoods.specs.Propagate.{entries, Encodes, free, Settled, Derives, countAt, nogoodAt, Stands, Grows, AllSettled}
+use Rattle.words.specs.Limits.{entries}
+use Rattle.nogoods.specs.Keeps.{Literals}
+use Rattle.nogoods.specs.Records.{Encodes, endAt, nogoodAt, Stands}
+use Rattle.nogoods.specs.Propagate.{free, Settled, Derives, Grows, AllSettled}
 use Rattle.nogoods.specs.declared.units.Derived.the-variants.{Assigned}
-use Rattle.nogoods.proofs.Stored.{some-words}
-use Rattle.nogoods.proofs.Segments.{Rest, rest-start, rest-is, rest-here, rest-on}
+use Rattle.nogoods.proofs.Recorded.{Rest, rest-at, rest-first, rest-next, rest-over, Inside, inside-tail, encoded}
 use Rattle.nogoods.proofs.Closures.{grows-not, grows-on, derived}
 
-module _ (s : List ℤ) where
-  -- where nothing has changed, nothing follows from the nogoods before i
-  pub record Passed (live : List (List ℤ)) (m : List ℕ) (changed : Bool) (i : ℕ) : Type 0 where
-    pub onward : Rest s live i
-    pub done : changed ≡ false → (g : List ℤ) → g ∈ live → (g ∈ onward .left) ⊎ Settled m g
+-- those left are live; where nothing has changed, nothing follows from the others
+pub record Behind (m : List ℕ) (changed : Bool) (live left : List (List ℤ)) : Type 0 where
+  pub inside : Inside live left
+  pub done : changed ≡ false → (g : List ℤ) → g ∈ live → (g ∈ left) ⊎ Settled m g
 
+module _ (s : List ℤ) where
   -- from m₀ to m, by the nogoods before i
-  pub record Going (m₀ m : List ℕ) (changed : Bool) (i : ℕ) : Type 0 where
+  pub record Sweeping (m₀ m : List ℕ) (changed : Bool) (i : ℕ) : Type 0 where
     pub size : length m ≡ entries
     pub grows : Grows s m₀ m
     pub more : changed ≡ true → free m < free m₀
     pub same : changed ≡ false → m ≡ m₀
-    pub passed : (live : List (List ℤ)) → Encodes s live → Passed live m changed i
+    pub ahead : (live : List (List ℤ)) → Encodes s live → Rest (Behind m changed) s (length s) live i
 
-  pub start : (m : List ℕ) → length m ≡ entries → Going m m false 0
-  start m size = record {
+  pub sweep-start : (m : List ℕ) → length m ≡ entries → Sweeping m m false 0
+  sweep-start m size = record {
     size = size;
     grows = grows-not;
     more = λ e. absurd (true≢false (sym e));
     same = λ e. refl;
-    passed = λ live h. record { onward = rest-start s live h; done = λ e g u. inl u };
+    ahead = λ live h. encoded s h (record { inside = λ g u. u; done = λ e g u. inl u });
   }
 
-  module _ (m₀ m : List ℕ) (changed : Bool) (i : ℕ) (k : Going m₀ m changed i) (h : i < length s) where
-    pub here : Stands s i
-    here live e = rest-here s live i (k .passed live e .onward) h
+  module _ (m₀ m : List ℕ) (changed : Bool) (i : ℕ) (k : Sweeping m₀ m changed i) (h : i < length s) where
+    pub sweep-at : Stands s i
+    sweep-at live e = let w = k .ahead live e in (rest-first w h .inside _ (List·Memᴰ·head refl), rest-at w h .room)
 
     -- the nogood at i is passed
     past : (live : List (List ℤ)) → Encodes s live → (m′ : List ℕ) (c : Bool)
-        → (c ≡ false → (changed ≡ false) × (m′ ≡ m) × Settled m (nogoodAt s i)) → Passed live m′ c (i + 1 + countAt s i)
-    past live enc m′ c q =
-        let p = k .passed live enc in
-        record {
-          onward = rest-on s live i (p .onward) h;
-          done = λ e g u. rw (q e .1) (elim (p .done (q e .0) g u) [
-            | inr a ↦ inr a
-            | inl v ↦ elim (List·Memᴰ·cases-cons (rw (rest-is s live i (p .onward) h) at v)) [ inl r ↦ inr (rw r (q e .2)) | inr t ↦ inl t ]
-          ]);
-        }
+        → (c ≡ false → (changed ≡ false) × (m′ ≡ m) × Settled m (nogoodAt s i)) → Rest (Behind m′ c) s (length s) live (endAt s i)
+    past live enc m′ c q = rest-next (k .ahead live enc) h (λ gs b. record {
+      inside = inside-tail gs (b .inside);
+      done = λ e g u. rw (q e .1) (elim (b .done (q e .0) g u) [
+        | inr a ↦ inr a
+        | inl v ↦ elim (List·Memᴰ·cases-cons v) [ inl r ↦ inr (rw r (q e .2)) | inr t ↦ inl t ]
+      ]);
+    })
 
-    pub nothing : Settled m (nogoodAt s i) → Going m₀ m changed (i + 1 + countAt s i)
-    nothing a = record {
+    pub sweep-settled : Settled m (nogoodAt s i) → Sweeping m₀ m changed (endAt s i)
+    sweep-settled a = record {
       size = k .size;
       grows = k .grows;
       more = k .more;
       same = k .same;
-      passed = λ live enc. past live enc m changed (λ e. (e, refl, a));
+      ahead = λ live enc. past live enc m changed (λ e. (e, refl, a));
     }
 
-    pub assigned : Literals (nogoodAt s i) → (m′ : List ℕ) (v : ℕ) → Derives (nogoodAt s i) m m′ (Assigned v) → Going m₀ m′ true (i + 1 + countAt s i)
-    assigned lits m′ v d =
-        let p = derived s i here lits m (k .size) m′ v d in
+    pub sweep-assigned : Literals (nogoodAt s i) → (m′ : List ℕ) (v : ℕ) → Derives (nogoodAt s i) m m′ (Assigned v) → Sweeping m₀ m′ true (endAt s i)
+    sweep-assigned lits m′ v d =
+        let p = derived s i sweep-at lits m (k .size) m′ v d in
         let g = p .0 in
         let f = k .grows .fewer in
         record {
@@ -76,13 +74,9 @@ module _ (s : List ℤ) where
           grows = grows-on (k .grows) g;
           more = λ e. omega (arith, p .1);
           same = λ e. absurd (true≢false e);
-          passed = λ live enc. past live enc m′ true (λ e. absurd (true≢false e));
+          ahead = λ live enc. past live enc m′ true (λ e. absurd (true≢false e));
         }
 
-  pub over : (m₀ m : List ℕ) (changed : Bool) (i : ℕ) → Going m₀ m changed i → length s ≤ i → changed ≡ false → AllSettled s m₀
-  over m₀ m changed i k h e live enc g u =
-      let p = k .passed live enc in
-      rw (← k .same e) (elim (p .done e g u) [ inr a ↦ a | inl v ↦ absurd (gone (none-left nogoodWords some-words (p .onward .seg) h) v) ])
-    where
-      gone : {l : List (List ℤ)} → l ≡ [] → g ∈ l → ⊥
-      gone p v = elim (rw p at v) [ ]
+  pub sweep-over : (m₀ m : List ℕ) (changed : Bool) (i : ℕ) → Sweeping m₀ m changed i → length s ≤ i → changed ≡ false → AllSettled s m₀
+  sweep-over m₀ m changed i k h e live enc g u =
+      rw (← k .same e) (elim (rest-over (k .ahead live enc) h .done e g u) [ inr a ↦ a | inl v ↦ absurd (List·Memᴰ·not-nil v) ])

@@ -2,14 +2,14 @@
 -- Assumes nothing.
 use mathlib.Core.Bool.{cond}
 use mathlib.Core.List.{List, [], _∷_}
-use Prim.Native.Nat.{ℕ, suc, _+_}
+use Prim.Native.Nat.{ℕ, _+_}
 use lib.IntN.{ℤ}
-use lib.ListN.{length}
 use Rattle.words.specs.Literals.{sameList}
+use Rattle.nogoods.specs.Store.{recordSize}
 use Rattle.nogoods.specs.declared.store.Found.{Found}
 use Rattle.nogoods.specs.declared.store.Found.the-variants.{At, Nothing}
 
 -- the place of the first that is the list, where the words begin at i
 abbrev pub foundAt : ℕ → List ℤ → List (List ℤ) → Found
 foundAt i literals [] = Nothing
-foundAt i literals (g ∷ live) = cond (sameList g literals) (At i) (foundAt (i + suc (length g)) literals live)
+foundAt i literals (g ∷ live) = cond (sameList g literals) (At i) (foundAt (i + recordSize g) literals live)

@@ -1,4 +1,4 @@
--- What the functions of src/propagation.rt, src/units.rt and src/occurrences.rt promise of the assignment and of the nogoods that they look at. Only private
+-- What the functions of src/propagation.rt, src/units.rt and src/occurrences.rt promise of the assignment. Only private
 -- functions cite this file; the contract of `refutes` names the derivation's `refuted` alone.
 -- Assumes nothing.
 use mathlib.Core.Path.{_≡_}
@@ -6,13 +6,12 @@ use mathlib.Core.Logic.{_⊎_}
 use mathlib.Core.Bool.{Bool, true, false}
 use mathlib.Core.List.{List, [], _∷_}
 use Prim.Native.Nat.{ℕ, zero, suc, _+_, _≤_, _<_}
-use lib.IntN.{ℤ, pos, negsuc, natAbs}
-use lib.ListN.{length, take, drop, getD, set}
-use Rattle.words.specs.Limits.{largest}
+use lib.IntN.{ℤ, pos, negsuc}
+use lib.ListN.{length, getD, set}
 use Rattle.words.specs.Lists.{_∈_}
 use Rattle.words.specs.Literals.{variable, complement}
 use Rattle.derivation.specs.Propagation.{Closure, Conflict}
-use Rattle.nogoods.specs.Store.{Literals, liveWords}
+use Rattle.nogoods.specs.Records.{Encodes}
 use Rattle.nogoods.specs.declared.units.Value.{Value}
 use Rattle.nogoods.specs.declared.units.Value.the-variants.{True, False, Free}
 use Rattle.nogoods.specs.declared.units.Look.{Look}
@@ -23,10 +22,6 @@ use Rattle.nogoods.specs.declared.propagation.Swept.{Swept}
 use Rattle.nogoods.specs.declared.propagation.Swept.the-variants.{Refuted, Changed, Same}
 
 -- Assignments: an entry for each variable, 0 free, 1 true, 2 false
-
--- "arrays of 4,096 entries hold .. the propagation's assignment": as many as there are variables, and one for 0
-abbrev pub entries : ℕ
-entries = suc largest
 
 -- the entry of its variable that makes a literal true
 abbrev pub entry : ℤ → ℕ
@@ -81,46 +76,22 @@ Derives g m m′ Conflicting = AllTrue m g
 Derives g m m′ (Assigned v) = (z : ℤ) × (Last m g z) × (variable z ≡ v) × (m′ ≡ set m v (entry (complement z)))
 Derives g m m′ Nothing = (m′ ≡ m) × Settled m g
 
--- The words of the nogoods, one nogood after another
-
--- the words are those of the nogoods
-pub record Encodes (s : List ℤ) (live : List (List ℤ)) : Type 0 where
-  pub words : s ≡ liveWords live
-  pub literals : (g : List ℤ) → g ∈ live → Literals g
-
--- the literal count at r
-abbrev pub countAt : List ℤ → ℕ → ℕ
-countAt s r = natAbs (getD s r (pos 0))
-
--- the literals after the count at r
-abbrev pub nogoodAt : List ℤ → ℕ → List ℤ
-nogoodAt s r = take (countAt s r) (drop (r + 1) s)
-
--- a nogood's literals can be read at r
-pub record Readable (s : List ℤ) (r : ℕ) : Type 0 where
-  pub room : r + 1 + countAt s r ≤ length s
-  pub literals : Literals (nogoodAt s r)
-
--- one of the nogoods stands at r
-abbrev pub Stands : List ℤ → ℕ → Type 0
-Stands s r = (live : List (List ℤ)) → Encodes s live → (nogoodAt s r ∈ live) × (r + 1 + countAt s r ≤ length s)
-
 -- Propagation
 
 -- what the assignment makes true is in the closure
-abbrev pub Within : List (List ℤ) → List ℤ → List ℕ → Type 0
-Within live L m = (z : ℤ) → Assigns m z → Closure live L z
+abbrev pub InClosure : List (List ℤ) → List ℤ → List ℕ → Type 0
+InClosure live L m = (z : ℤ) → Assigns m z → Closure live L z
 
 -- from m to m′ the assignment grew by what follows from the nogoods
 pub record Grows (s : List ℤ) (m m′ : List ℕ) : Type 0 where
-  pub sound : (live : List (List ℤ)) (L : List ℤ) → Encodes s live → Within live L m → Within live L m′
+  pub sound : (live : List (List ℤ)) (L : List ℤ) → Encodes s live → InClosure live L m → InClosure live L m′
   pub kept : (z : ℤ) → Assigns m z → Assigns m′ z
   pub size : length m′ ≡ length m
   pub fewer : free m′ ≤ free m
 
 -- the nogoods and what the assignment makes true contradict each other
 abbrev pub Clashes : List ℤ → List ℕ → Type 0
-Clashes s m = (live : List (List ℤ)) (L : List ℤ) → Encodes s live → Within live L m → Conflict live L
+Clashes s m = (live : List (List ℤ)) (L : List ℤ) → Encodes s live → InClosure live L m → Conflict live L
 
 -- nothing follows from any nogood
 abbrev pub AllSettled : List ℤ → List ℕ → Type 0

@@ -5,7 +5,9 @@ use mathlib.Core.List.{List}
 use Prim.Native.Nat.{ℕ, _+_, _≤_, _<_}
 use lib.IntN.{ℤ}
 use lib.ListN.{getD}
-use Rattle.nogoods.specs.Propagate.{entries, free, Stands, Grows, Clashes}
+use Rattle.words.specs.Limits.{entries}
+use Rattle.nogoods.specs.Records.{Stands}
+use Rattle.nogoods.specs.Propagate.{free, Grows, Clashes}
 use Rattle.nogoods.specs.declared.occurrences.Walk.{Walk}
 use Rattle.nogoods.specs.declared.occurrences.Walk.the-variants.{Clash, Queued}
 

@@ -3,5 +3,6 @@
 pub mod definitions;
 mod occurrences;
 pub mod propagation;
+mod records;
 pub mod store;
 mod units;

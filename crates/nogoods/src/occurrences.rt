@@ -2,7 +2,7 @@
 // all is not promised. The sweeps after it decide: of its answer only a conflict counts, and of its assignment that it grew.
 //
 // Each literal has a chain of the places where it stands: `head` by the literal, `next` by the place, 0 at the end, since
-// the word at 0 is a count. By the place, `owner` says where its nogood starts. By a nogood's start, `counts` says how
+// a header stands at 0. By the place, `owner` says where its nogood starts. By a nogood's start, `counts` says how
 // many of its literals were not met as true ones; at 1 the nogood is looked at. `queue` has the literals that are true.
 ghost use mathlib.Core.Path.{_≡_};
 ghost use mathlib.Core.Bool.{true};
@@ -10,10 +10,14 @@ ghost use mathlib.Core.List.{List};
 ghost use Prim.Native.Nat.{_+_, _≤_, _<_};
 ghost use lib.IntN.{ℤ};
 ghost use lib.ListN.{length};
-ghost use Rattle.words.specs.Limits.{largest};
+ghost use Rattle.words.specs.Limits.{largest, entries};
 ghost use Rattle.words.specs.Literals.{variable};
-ghost use Rattle.nogoods.specs.Propagate.{entries, countAt, Encodes, Readable, Stands, Saturates};
+ghost use Rattle.nogoods.specs.Store.{headerSize};
+ghost use Rattle.nogoods.specs.Records.{Encodes, endAt, Readable, Stands};
+ghost use Rattle.nogoods.specs.Propagate.{Saturates};
 ghost use Rattle.nogoods.specs.PropagateChains.{places, reach, Links, Below, Queue, Walks};
+use crate::records;
+use crate::records::HEADER;
 use crate::units;
 use crate::units::Derived;
 use words::ENTRIES;
@@ -55,15 +59,15 @@ fn enter(
     next: &mut [u16; REACH],
     head: &mut [u16; PLACES],
 )
-    requires { ⌜ Readable (now nogoods) r × Stands (now nogoods) r ⌝ }
-    requires { ⌜ length (now nogoods) ≤ reach ⌝ }
-    requires { ⌜ Links (now nogoods) (now owner) (now next) ⌝ }
-    requires { ⌜ Below (r + 1) (now head) ⌝ }
-    ensures { λ _. ⌜ Links (now (nogoods .entry)) (now (owner .exit)) (now (next .exit)) ⌝ }
-    ensures { λ _. ⌜ Below (r + 1 + countAt (now (nogoods .entry)) r) (now (head .exit)) ⌝ }
+    requires record { ⌜ Readable (now nogoods) r × Stands (now nogoods) r ⌝ }
+    requires reach { ⌜ length (now nogoods) ≤ reach ⌝ }
+    requires links { ⌜ Links (now nogoods) (now owner) (now next) ⌝ }
+    requires heads { ⌜ Below (r + headerSize) (now head) ⌝ }
+    ensures links { λ _. ⌜ Links (now (nogoods .entry)) (now (owner .exit)) (now (next .exit)) ⌝ }
+    ensures heads { λ _. ⌜ Below (endAt (now (nogoods .entry)) r) (now (head .exit)) ⌝ }
 {
-    let end = r + 1 + units::count_at(nogoods, r);
-    let mut p = r + 1;
+    let end = records::end_at(nogoods, r);
+    let mut p = r + HEADER;
     while p < end {
         let z = place_of(nogoods[p]);
         owner[p] = r as u16;
@@ -81,19 +85,18 @@ fn enter_all(
     head: &mut [u16; PLACES],
     counts: &mut [u16; REACH],
 )
-    requires { ⌜ ((live : List (List ℤ)) × Encodes (now nogoods) live) ⌝ }
-    requires { ⌜ (0 < length (now nogoods)) × (length (now nogoods) ≤ reach) ⌝ }
-    requires { ⌜ Links (now nogoods) (now owner) (now next) ⌝ }
-    requires { ⌜ Below 1 (now head) ⌝ }
-    ensures { λ _. ⌜ Links (now (nogoods .entry)) (now (owner .exit)) (now (next .exit)) ⌝ }
-    ensures { λ _. ⌜ Below (length (now (nogoods .entry))) (now (head .exit)) ⌝ }
+    requires encoded { ⌜ ((live : List (List ℤ)) × Encodes (now nogoods) live) ⌝ }
+    requires reach { ⌜ (0 < length (now nogoods)) × (length (now nogoods) ≤ reach) ⌝ }
+    requires links { ⌜ Links (now nogoods) (now owner) (now next) ⌝ }
+    requires heads { ⌜ Below 1 (now head) ⌝ }
+    ensures links { λ _. ⌜ Links (now (nogoods .entry)) (now (owner .exit)) (now (next .exit)) ⌝ }
+    ensures heads { λ _. ⌜ Below (length (now (nogoods .entry))) (now (head .exit)) ⌝ }
 {
     let mut r = 0;
     while r < nogoods.len() {
-        let n = units::count_at(nogoods, r);
         enter(nogoods, r, owner, next, head);
-        counts[r] = n as u16;
-        r = r + 1 + n;
+        counts[r] = records::count_at(nogoods, r) as u16;
+        r = records::end_at(nogoods, r);
     }
 }
 
@@ -109,8 +112,8 @@ fn is_assigned(entry: u8) -> bool
 
 // The literals that are true are queued. The queue's end.
 fn load(assignment: &[u8; ENTRIES], queue: &mut [u16; ENTRIES]) -> usize
-    requires { ⌜ length (now assignment) ≡ entries ⌝ }
-    requires { ⌜ Below places (now queue) ⌝ }
+    requires size { ⌜ length (now assignment) ≡ entries ⌝ }
+    requires queue { ⌜ Below places (now queue) ⌝ }
     ensures { λ t. ⌜ Queue (now (assignment .entry)) (now (queue .exit)) t ⌝ }
 {
     let mut t = 0;
@@ -150,12 +153,12 @@ fn visit(
     queue: &mut [u16; ENTRIES],
     start: usize,
 ) -> Walk
-    requires { ⌜ ((live : List (List ℤ)) × Encodes (now nogoods) live) ⌝ }
-    requires { ⌜ length (now nogoods) ≤ reach ⌝ }
-    requires { ⌜ Links (now nogoods) (now owner) (now next) ⌝ }
-    requires { ⌜ first < length (now nogoods) ⌝ }
-    requires { ⌜ length (now assignment) ≡ entries ⌝ }
-    requires { ⌜ Queue (now assignment) (now queue) start ⌝ }
+    requires encoded { ⌜ ((live : List (List ℤ)) × Encodes (now nogoods) live) ⌝ }
+    requires reach { ⌜ length (now nogoods) ≤ reach ⌝ }
+    requires links { ⌜ Links (now nogoods) (now owner) (now next) ⌝ }
+    requires first { ⌜ first < length (now nogoods) ⌝ }
+    requires size { ⌜ length (now assignment) ≡ entries ⌝ }
+    requires queue { ⌜ Queue (now assignment) (now queue) start ⌝ }
     ensures { λ w. ⌜ Walks (now (nogoods .entry)) (now (assignment .entry)) (now (assignment .exit)) (now (queue .exit)) w ⌝ }
 {
     let mut t = start;
@@ -190,12 +193,12 @@ fn run(
     assignment: &mut [u8; ENTRIES],
     queue: &mut [u16; ENTRIES],
 ) -> bool
-    requires { ⌜ ((live : List (List ℤ)) × Encodes (now nogoods) live) ⌝ }
-    requires { ⌜ length (now nogoods) ≤ reach ⌝ }
-    requires { ⌜ Links (now nogoods) (now owner) (now next) ⌝ }
-    requires { ⌜ Below (length (now nogoods)) (now head) ⌝ }
-    requires { ⌜ length (now assignment) ≡ entries ⌝ }
-    requires { ⌜ Below places (now queue) ⌝ }
+    requires encoded { ⌜ ((live : List (List ℤ)) × Encodes (now nogoods) live) ⌝ }
+    requires reach { ⌜ length (now nogoods) ≤ reach ⌝ }
+    requires links { ⌜ Links (now nogoods) (now owner) (now next) ⌝ }
+    requires heads { ⌜ Below (length (now nogoods)) (now head) ⌝ }
+    requires size { ⌜ length (now assignment) ≡ entries ⌝ }
+    requires queue { ⌜ Below places (now queue) ⌝ }
     ensures { λ r. ⌜ Saturates (now (nogoods .entry)) (now (assignment .entry)) (now (assignment .exit)) r ⌝ }
 {
     let mut t = load(assignment, queue);
@@ -219,8 +222,8 @@ fn run(
 
 // The assignment grows by what follows from the nogoods, unless these are too long. Whether there is a conflict.
 pub fn saturate(nogoods: &[i32], assignment: &mut [u8; ENTRIES]) -> bool
-    requires { ⌜ ((live : List (List ℤ)) × Encodes (now nogoods) live) ⌝ }
-    requires { ⌜ length (now assignment) ≡ entries ⌝ }
+    requires encoded { ⌜ ((live : List (List ℤ)) × Encodes (now nogoods) live) ⌝ }
+    requires size { ⌜ length (now assignment) ≡ entries ⌝ }
     ensures { λ r. ⌜ Saturates (now (nogoods .entry)) (now (assignment .entry)) (now (assignment .exit)) r ⌝ }
 {
     if nogoods.len() == 0 {

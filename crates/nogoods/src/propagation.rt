@@ -7,9 +7,12 @@ ghost use lib.IntN.{ℤ};
 ghost use lib.ListN.{length};
 ghost use Rattle.words.specs.Lists.{_∈_};
 ghost use Rattle.derivation.specs.Propagation.{refuted};
-ghost use Rattle.nogoods.specs.Store.{Literals, Holds};
-ghost use Rattle.nogoods.specs.Propagate.{entries, Assigns, Encodes, Sweeps, Settles, Ends};
+ghost use Rattle.nogoods.specs.Keeps.{Literals, Holds};
+ghost use Rattle.words.specs.Limits.{entries};
+ghost use Rattle.nogoods.specs.Records.{Encodes};
+ghost use Rattle.nogoods.specs.Propagate.{Assigns, Sweeps, Settles, Ends};
 use crate::occurrences;
+use crate::records;
 use crate::units;
 use crate::units::Derived;
 use words::ENTRIES;
@@ -23,15 +26,15 @@ enum Swept {
 
 // One pass over the nogoods, each with what those before it gave.
 fn sweep(nogoods: &[i32], assignment: &mut [u8; ENTRIES]) -> Swept
-    requires { ⌜ ((live : List (List ℤ)) × Encodes (now nogoods) live) ⌝ }
-    requires { ⌜ length (now assignment) ≡ entries ⌝ }
+    requires encoded { ⌜ ((live : List (List ℤ)) × Encodes (now nogoods) live) ⌝ }
+    requires size { ⌜ length (now assignment) ≡ entries ⌝ }
     ensures { λ r. ⌜ Sweeps (now (nogoods .entry)) (now (assignment .entry)) (now (assignment .exit)) r ⌝ }
 {
     let mut changed = false;
     let mut i = 0;
     while i < nogoods.len() {
         let given = units::derive_at(nogoods, i, assignment);
-        i = i + 1 + units::count_at(nogoods, i);
+        i = records::end_at(nogoods, i);
         match given {
             Derived::Conflicting => {
                 return Swept::Refuted;
@@ -51,8 +54,8 @@ fn sweep(nogoods: &[i32], assignment: &mut [u8; ENTRIES]) -> Swept
 // The assignment that makes just the literals true.
 fn assigned(literals: &[i32]) -> [u8; ENTRIES]
     requires { ⌜ Literals (now literals) ⌝ }
-    ensures { λ m. ⌜ length m ≡ entries ⌝ }
-    ensures { λ m. ⌜ ((z : ℤ) → (Assigns m z) ↔ (z ∈ now (literals .entry))) ⌝ }
+    ensures size { λ m. ⌜ length m ≡ entries ⌝ }
+    ensures literals { λ m. ⌜ ((z : ℤ) → (Assigns m z) ↔ (z ∈ now (literals .entry))) ⌝ }
 {
     let mut assignment = [0u8; ENTRIES];
     let mut i = 0;
@@ -65,8 +68,8 @@ fn assigned(literals: &[i32]) -> [u8; ENTRIES]
 
 // Sweeps until nothing changes, at most so many.
 fn settle(nogoods: &[i32], rounds: usize, assignment: &mut [u8; ENTRIES]) -> Swept
-    requires { ⌜ ((live : List (List ℤ)) × Encodes (now nogoods) live) ⌝ }
-    requires { ⌜ length (now assignment) ≡ entries ⌝ }
+    requires encoded { ⌜ ((live : List (List ℤ)) × Encodes (now nogoods) live) ⌝ }
+    requires size { ⌜ length (now assignment) ≡ entries ⌝ }
     ensures { λ r. ⌜ Settles (now (nogoods .entry)) rounds (now (assignment .entry)) (now (assignment .exit)) r ⌝ }
 {
     let mut left = rounds;
@@ -89,8 +92,8 @@ fn settle(nogoods: &[i32], rounds: usize, assignment: &mut [u8; ENTRIES]) -> Swe
 // What a few sweeps leave: the counters, and then sweeps until nothing changes. Each before the last one assigns a variable, so
 // that one more than there are entries is enough.
 fn finish(nogoods: &[i32], assignment: &mut [u8; ENTRIES]) -> bool
-    requires { ⌜ ((live : List (List ℤ)) × Encodes (now nogoods) live) ⌝ }
-    requires { ⌜ length (now assignment) ≡ entries ⌝ }
+    requires encoded { ⌜ ((live : List (List ℤ)) × Encodes (now nogoods) live) ⌝ }
+    requires size { ⌜ length (now assignment) ≡ entries ⌝ }
     ensures { λ r. ⌜ Ends (now (nogoods .entry)) (now (assignment .entry)) (now (assignment .exit)) r ⌝ }
 {
     if occurrences::saturate(nogoods, assignment) {
@@ -106,8 +109,8 @@ fn finish(nogoods: &[i32], assignment: &mut [u8; ENTRIES]) -> bool
 
 // Propagation to its end. Whether that is a conflict.
 fn propagate(nogoods: &[i32], assignment: &mut [u8; ENTRIES]) -> bool
-    requires { ⌜ ((live : List (List ℤ)) × Encodes (now nogoods) live) ⌝ }
-    requires { ⌜ length (now assignment) ≡ entries ⌝ }
+    requires encoded { ⌜ ((live : List (List ℤ)) × Encodes (now nogoods) live) ⌝ }
+    requires size { ⌜ length (now assignment) ≡ entries ⌝ }
     ensures { λ r. ⌜ Ends (now (nogoods .entry)) (now (assignment .entry)) (now (assignment .exit)) r ⌝ }
 {
     let swept = settle(nogoods, 2, assignment);
@@ -120,9 +123,10 @@ fn propagate(nogoods: &[i32], assignment: &mut [u8; ENTRIES]) -> bool
 
 // Whether propagation from the literals over the nogoods in the store's first `used` words comes to a conflict.
 pub fn refutes(store: &[i32], used: usize, literals: &[i32]) -> bool
-    requires { ⌜ ((live : List (List ℤ)) × Holds (now store) used live) ⌝ }
-    requires { ⌜ Literals (now literals) ⌝ }
-    ensures { λ r. ⌜ ((live : List (List ℤ)) → Holds (now (store .entry)) used live → r ≡ refuted live (now (literals .entry))) ⌝ }
+    requires held { ⌜ ((live : List (List ℤ)) × Holds (now store) used live) ⌝ }
+    requires literals { ⌜ Literals (now literals) ⌝ }
+    ensures { λ r. ⌜ ((live : List (List ℤ)) → Holds (now (store .entry)) used live
+        → r ≡ refuted live (now (literals .entry))) ⌝ }
 {
     let mut assignment = assigned(literals);
     propagate(&store[..used], &mut assignment)

@@ -1,15 +1,18 @@
 // Nogoods in the store's words.
 ghost use mathlib.Core.Path.{_≡_};
 ghost use mathlib.Core.List.{List, [], _∷_, _++_};
-ghost use Prim.Native.Nat.{suc, _≤_};
+ghost use Prim.Native.Nat.{_≤_};
 ghost use lib.IntN.{ℤ};
-ghost use lib.ListN.{length, drop};
+ghost use lib.ListN.{length};
+ghost use Rattle.words.specs.Limits.{largest};
 ghost use Rattle.words.specs.Lists.{any, dropFirst};
 ghost use Rattle.words.specs.Literals.{sameList};
 ghost use Rattle.aspif.specs.Rules.{isEmpty};
-ghost use Rattle.nogoods.specs.Store.{Literals, Holds, Fits, nogoodWords};
+ghost use Rattle.nogoods.specs.Keeps.{Literals, Holds, Fits, Written};
+ghost use Rattle.nogoods.specs.Store.{nogoodWords, recordSize};
 ghost use Rattle.nogoods.specs.Finds.{foundAt};
-use crate::units;
+use crate::records;
+use crate::records::HEADER;
 
 // Where a nogood stands.
 pub enum Found {
@@ -25,20 +28,21 @@ pub enum Added {
 
 // The words of a nogood at the front of the free tail.
 pub fn write(free: &mut [i32], literals: &[i32])
-    requires { ⌜ (suc (length (now literals)) ≤ length (now free)) × (length (now literals) ≤ 4096) ⌝ }
-    ensures { λ _. ⌜ now (free .exit) ≡ nogoodWords (now (literals .entry)) ++ drop (suc (length (now (literals .entry)))) (now (free .entry)) ⌝ }
+    requires { ⌜ (recordSize (now literals) ≤ length (now free)) × (length (now literals) ≤ largest) ⌝ }
+    ensures { λ _. ⌜ Written (nogoodWords (now (literals .entry))) (now (free .entry)) (now (free .exit)) ⌝ }
 {
     free[0] = literals.len() as i32;
-    words::copy(&mut free[1..], literals);
+    words::copy(&mut free[HEADER..], literals);
 }
 
 // One more live nogood, after the others.
 pub fn append(store: &mut [i32], used: usize, literals: &[i32]) -> Added
-    requires { ⌜ ((live : List (List ℤ)) × Holds (now store) used live) ⌝ }
-    requires { ⌜ Literals (now literals) × (length (now literals) ≤ 4096) ⌝ }
-    ensures { λ r. ⌜ ((live : List (List ℤ)) → Holds (now (store .entry)) used live → Fits (live ++ (now (literals .entry) ∷ [])) (now (store .exit)) r) ⌝ }
+    requires held { ⌜ ((live : List (List ℤ)) × Holds (now store) used live) ⌝ }
+    requires literals { ⌜ Literals (now literals) × (length (now literals) ≤ largest) ⌝ }
+    ensures { λ r. ⌜ ((live : List (List ℤ)) → Holds (now (store .entry)) used live
+        → Fits (live ++ (now (literals .entry) ∷ [])) (now (store .exit)) r) ⌝ }
 {
-    let size = literals.len() + 1;
+    let size = HEADER + literals.len();
     if store.len() - used < size {
         return Added::Full;
     }
@@ -49,16 +53,15 @@ pub fn append(store: &mut [i32], used: usize, literals: &[i32]) -> Added
 // The oldest live nogood that is the list of literals.
 fn find(store: &[i32], used: usize, literals: &[i32]) -> Found
     requires { ⌜ ((live : List (List ℤ)) × Holds (now store) used live) ⌝ }
-    ensures { λ r. ⌜ ((live : List (List ℤ)) → Holds (now (store .entry)) used live → r ≡ foundAt 0 (now (literals .entry)) live) ⌝ }
+    ensures { λ r. ⌜ ((live : List (List ℤ)) → Holds (now (store .entry)) used live
+        → r ≡ foundAt 0 (now (literals .entry)) live) ⌝ }
 {
     let mut i = 0;
     while i < used {
-        let from = i + 1;
-        let end = from + units::count_at(store, i);
-        if words::is_same_list(&store[from..end], literals) {
+        if words::is_same_list(records::nogood_at(store, i), literals) {
             return Found::At(i);
         }
-        i = end;
+        i = records::end_at(store, i);
     }
     Found::Nothing
 }
@@ -66,11 +69,12 @@ fn find(store: &[i32], used: usize, literals: &[i32]) -> Found
 // The oldest live nogood that is the list of literals goes out, and the words close up. How many words are used then.
 pub fn delete(store: &mut [i32], used: usize, literals: &[i32]) -> usize
     requires { ⌜ ((live : List (List ℤ)) × Holds (now store) used live) ⌝ }
-    ensures { λ r. ⌜ ((live : List (List ℤ)) → Holds (now (store .entry)) used live → Holds (now (store .exit)) r (dropFirst (λ g. sameList g (now (literals .entry))) live)) ⌝ }
+    ensures { λ r. ⌜ ((live : List (List ℤ)) → Holds (now (store .entry)) used live
+        → Holds (now (store .exit)) r (dropFirst (λ g. sameList g (now (literals .entry))) live)) ⌝ }
 {
     match find(store, used, literals) {
         Found::At(i) => {
-            let k = literals.len() + 1;
+            let k = HEADER + literals.len();
             words::close_up(&mut store[i..used], k);
             used - k
         }
@@ -86,7 +90,7 @@ pub fn count(store: &[i32], used: usize) -> usize
     let mut n = 0;
     let mut i = 0;
     while i < used {
-        i = i + 1 + units::count_at(store, i);
+        i = records::end_at(store, i);
         n += 1;
     }
     n
@@ -99,11 +103,10 @@ pub fn has_empty(store: &[i32], used: usize) -> bool
 {
     let mut i = 0;
     while i < used {
-        let n = units::count_at(store, i);
-        if n == 0 {
+        if records::count_at(store, i) == 0 {
             return true;
         }
-        i = i + 1 + n;
+        i = records::end_at(store, i);
     }
     false
 }

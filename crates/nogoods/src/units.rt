@@ -2,10 +2,12 @@
 ghost use mathlib.Core.Path.{_≡_};
 ghost use Prim.Native.Nat.{_≤_};
 ghost use lib.ListN.{length, set};
-ghost use Rattle.words.specs.Limits.{largest};
+ghost use Rattle.words.specs.Limits.{largest, entries};
 ghost use Rattle.words.specs.Literals.{variable};
-ghost use Rattle.nogoods.specs.Store.{Literals};
-ghost use Rattle.nogoods.specs.Propagate.{entries, entry, Valued, Looked, Derives, countAt, nogoodAt, Readable};
+ghost use Rattle.nogoods.specs.Keeps.{Literals};
+ghost use Rattle.nogoods.specs.Records.{nogoodAt, Readable};
+ghost use Rattle.nogoods.specs.Propagate.{entry, Valued, Looked, Derives};
+use crate::records;
 use words::ENTRIES;
 
 // A literal under an assignment.
@@ -55,10 +57,10 @@ fn value_of(word: i32, assignment: &[u8; ENTRIES]) -> Value
 
 // A literal becomes true. Its variable.
 pub fn make_true(word: i32, assignment: &mut [u8; ENTRIES]) -> usize
-    requires { ⌜ variable word ≤ largest ⌝ }
-    requires { ⌜ length (now assignment) ≡ entries ⌝ }
-    ensures { λ v. ⌜ v ≡ variable word ⌝ }
-    ensures { λ v. ⌜ now (assignment .exit) ≡ set (now (assignment .entry)) (variable word) (entry word) ⌝ }
+    requires literal { ⌜ variable word ≤ largest ⌝ }
+    requires size { ⌜ length (now assignment) ≡ entries ⌝ }
+    ensures variable { λ v. ⌜ v ≡ variable word ⌝ }
+    ensures assigned { λ v. ⌜ now (assignment .exit) ≡ set (now (assignment .entry)) (variable word) (entry word) ⌝ }
 {
     let v = words::variable_of(word);
     assignment[v] = entry_of(word);
@@ -97,8 +99,8 @@ fn look_at(literals: &[i32], assignment: &[u8; ENTRIES]) -> Look
 
 // One nogood's part: where all its literals but one are true and that one is free, its complement becomes true.
 fn derive(literals: &[i32], assignment: &mut [u8; ENTRIES]) -> Derived
-    requires { ⌜ Literals (now literals) ⌝ }
-    requires { ⌜ length (now assignment) ≡ entries ⌝ }
+    requires literals { ⌜ Literals (now literals) ⌝ }
+    requires size { ⌜ length (now assignment) ≡ entries ⌝ }
     ensures { λ r. ⌜ Derives (now (literals .entry)) (now (assignment .entry)) (now (assignment .exit)) r ⌝ }
 {
     let look = look_at(literals, assignment);
@@ -112,21 +114,11 @@ fn derive(literals: &[i32], assignment: &mut [u8; ENTRIES]) -> Derived
     }
 }
 
-// The literal count at r; 0 past the end.
-pub fn count_at(nogoods: &[i32], r: usize) -> usize
-    ensures { λ n. ⌜ n ≡ countAt (now (nogoods .entry)) r ⌝ }
-{
-    words::variable_of(words::word_at(nogoods, r))
-}
-
-// The same of the nogood whose count stands at r.
+// The record at r's part: where all its literals but one are true and that one is free, its complement becomes true.
 pub fn derive_at(nogoods: &[i32], r: usize, assignment: &mut [u8; ENTRIES]) -> Derived
-    requires { ⌜ Readable (now nogoods) r ⌝ }
-    requires { ⌜ length (now assignment) ≡ entries ⌝ }
+    requires record { ⌜ Readable (now nogoods) r ⌝ }
+    requires size { ⌜ length (now assignment) ≡ entries ⌝ }
     ensures { λ d. ⌜ Derives (nogoodAt (now (nogoods .entry)) r) (now (assignment .entry)) (now (assignment .exit)) d ⌝ }
 {
-    let n = count_at(nogoods, r);
-    let a = r + 1;
-    let e = a + n;
-    derive(&nogoods[a..e], assignment)
+    derive(records::nogood_at(nogoods, r), assignment)
 }

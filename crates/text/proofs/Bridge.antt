@@ -16,7 +16,8 @@ use borrow.Author.Tests.{ltb-true, ltb-false, lt-ltb, le-ltb, ne-eqb}
 use Rattle.words.specs.Limits.{largest}
 use Rattle.words.specs.Literals.{same}
 use Rattle.text.specs.Bytes.{classOf}
-use Rattle.text.specs.Line.{digits, natural, nonNegative, negative, number, also, numbersOf, Words, unended, words, apart, joined, cut, span, Line, broken, numbers, spanned, ofWords, lineOf, outside, anyOutside, isClosed, capped, Told, Within, Reads}
+use Rattle.text.specs.Line.{digits, natural, nonNegative, negative, number, also, numbersIn, Words, unended, words, newWord, joined, cut, span, Line, broken, numbers, spanned, ofWords, lineOf, outside, anyOutside, isClosed}
+use Rattle.text.specs.Scanned.{capped, LineTold, LineBounds, LineScanned}
 use Rattle.text.specs.Scan.{moreOf, newlineOf, spaceOf, actionOf, valueOf, unseen, Scanned, turn, scan}
 use Rattle.text.specs.declared.Letter.{Letter}
 use Rattle.text.specs.declared.Class.{Class}
@@ -155,7 +156,7 @@ end (sized neg m) = ends (valueOf neg m) neg (min m (suc largest)) refl (capped-
 -- the line from the place on
 abbrev from : Place → Words → Line
 from p unended = broken
-from p (words w ws) = spanned (also (rest p w) (numbersOf ws)) (span (w ∷ ws))
+from p (words w ws) = spanned (also (rest p w) (numbersIn ws)) (span (w ∷ ws))
 
 abbrev longer : Line → Line
 longer broken = broken
@@ -176,18 +177,18 @@ spanned-preceded z (some zs) j k e = ap (numbers (z ∷ zs)) e
 from-goes : (p q : Place) (c : Class) (o : Words) → ((w : List Class) → rest p (c ∷ w) ≡ rest q w) → from p (joined c o) ≡ longer (from q o)
 from-goes p q c unended e = refl
 from-goes p q c (words w ws) e =
-    rw (e w) (spanned-longer (also (rest q w) (numbersOf ws)) (span ((c ∷ w) ∷ ws)) (span (w ∷ ws)) (omega arith))
+    rw (e w) (spanned-longer (also (rest q w) (numbersIn ws)) (span ((c ∷ w) ∷ ws)) (span (w ∷ ws)) (omega arith))
 
 from-fails : (p : Place) (c : Class) (o : Words) → ((w : List Class) → rest p (c ∷ w) ≡ none) → from p (joined c o) ≡ broken
 from-fails p c unended e = refl
 from-fails p c (words w ws) e = rw (e w)
 
-apart-ends : (p : Place) (z : ℤ) (o : Words) → rest p [] ≡ some z → from p (apart o) ≡ preceded z (from fresh o)
+apart-ends : (p : Place) (z : ℤ) (o : Words) → rest p [] ≡ some z → from p (newWord o) ≡ preceded z (from fresh o)
 apart-ends p z unended e = refl
 apart-ends p z (words w ws) e =
-    rw e (spanned-preceded z (numbersOf (w ∷ ws)) (span ([] ∷ w ∷ ws)) (span (w ∷ ws)) (omega arith))
+    rw e (spanned-preceded z (numbersIn (w ∷ ws)) (span ([] ∷ w ∷ ws)) (span (w ∷ ws)) (omega arith))
 
-apart-fails : (p : Place) (o : Words) → rest p [] ≡ none → from p (apart o) ≡ broken
+apart-fails : (p : Place) (o : Words) → rest p [] ≡ none → from p (newWord o) ≡ broken
 apart-fails p unended e = refl
 apart-fails p (words w ws) e = rw e
 
@@ -233,7 +234,7 @@ module _ (f : State → ℕ → Seen → List ℤ → ℕ → Scanned) (o : Word
   at-inside c (fails e) = rw (from-fails p c o e) refl
   at-inside c (goes q e) = rw (from-goes p q c o e) (agrees-longer _ n seen row i (from q o) (h q n seen row (i + 1)))
 
-  at-space : {a b : Action} → End p a b → Agrees (turn f b n seen row i) n seen row i (from p (apart o))
+  at-space : {a b : Action} → End p a b → Agrees (turn f b n seen row i) n seen row i (from p (newWord o))
   unfolding turn
   at-space (fails e) = rw (apart-fails p o e) refl
   at-space (ends z neg m e v t k) =
@@ -257,7 +258,7 @@ scanned (Other ∷ l) p n seen row i = at-inside (scan l) (cut l) (scanned l) n 
 
 -- The first byte
 
-apart-fresh : (o : Words) → from fresh (apart o) ≡ ofWords (apart o)
+apart-fresh : (o : Words) → from fresh (newWord o) ≡ ofWords (newWord o)
 apart-fresh unended = refl
 apart-fresh (words w ws) = refl
 
@@ -265,12 +266,12 @@ joined-fresh : (c : Class) (o : Words) → from fresh (joined c o) ≡ ofWords (
 joined-fresh c unended = refl
 joined-fresh c (words w ws) = refl
 
-agrees-told : (x : Scanned) (row : List ℤ) (l m : Line) → l ≡ m → Agrees x 0 unseen row 0 l → Told m row (x .row) (x .line)
+agrees-told : (x : Scanned) (row : List ℤ) (l m : Line) → l ≡ m → Agrees x 0 unseen row 0 l → LineTold m row (x .row) (x .line)
 agrees-told x row l broken e a = rw e at a
 agrees-told x row l (numbers [] k) e a = absurd (rw e at a)
 agrees-told x row l (numbers (z ∷ zs) k) e a = let b = rw e at a in (simp zero-add at (b .0), b .1)
 
-scan-told : (l : List Class) (row : List ℤ) → (let x = scan l Start 0 unseen row 0 in Told (ofWords (cut l)) row (x .row) (x .line))
+scan-told : (l : List Class) (row : List ℤ) → (let x = scan l Start 0 unseen row 0 in LineTold (ofWords (cut l)) row (x .row) (x .line))
 unfolding scan turn
 scan-told [] row = refl
 scan-told (Newline ∷ l) row = (refl, refl)
@@ -280,14 +281,14 @@ scan-told (Digit d ∷ l) row = agrees-told _ row _ _ (joined-fresh (Digit d) (c
 scan-told (Step x ∷ l) row = agrees-told _ row _ _ (joined-fresh (Step x) (cut l)) (scanned (Step x ∷ l) fresh 0 unseen row 0)
 scan-told (Other ∷ l) row = agrees-told _ row _ _ (joined-fresh Other (cut l)) (scanned (Other ∷ l) fresh 0 unseen row 0)
 
-told-within : (l : Line) (n : ℕ) (row after : List ℤ) (r : LineRead) → Told l row after r → Bounds n l → Within n r
+told-within : (l : Line) (n : ℕ) (row after : List ℤ) (r : LineRead) → LineTold l row after r → Bounds n l → LineBounds n r
 told-within broken n row after r t b = rw t tt
 told-within (numbers zs k) n row after r t b = rw (t .0) b
 
 -- what the scan from the beginning ends with is what `read_line` is to say
 pub reads : {s : List ℕ} {row after : List ℤ} {r : LineRead} → length after ≡ length row
-    → scan (map classOf s) Start 0 unseen row 0 ≡ record { line = r; row = after } → Reads s row after r
+    → scan (map classOf s) Start 0 unseen row 0 ≡ record { line = r; row = after } → LineScanned s row after r
 unfolding lineOf
 reads {s} {row} {after} {r} k e =
-    let t : Told (lineOf s) row after r = subst (λ (x : Scanned). Told (lineOf s) row (x .row) (x .line)) e (scan-told (map classOf s) row) in
+    let t : LineTold (lineOf s) row after r = subst (λ (x : Scanned). LineTold (lineOf s) row (x .row) (x .line)) e (scan-told (map classOf s) row) in
     record { told = t; kept = k; within = told-within (lineOf s) (length s) row after r t (bounds s) }

@@ -1,3 +1,6 @@
 -- The laws of lines, and what the proof of `read_line` rests on.
 pub mod Lines
 pub mod Bridge
+pub mod Decimals
+pub mod Puts
+pub mod Spelling

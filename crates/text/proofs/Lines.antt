@@ -10,8 +10,10 @@ use lib.ListN.{length, length-map}
 use lib.Seq.{sets}
 use borrow.Author.Tests.{ltb-false}
 use Rattle.words.specs.Limits.{largest}
+use Rattle.words.proofs.Lists.{or-false-left, or-false-right}
 use Rattle.text.specs.Bytes.{classOf}
-use Rattle.text.specs.Line.{number, also, numbersOf, Words, unended, words, apart, joined, cut, span, Line, broken, numbers, spanned, ofWords, lineOf, outside, anyOutside, isClosed, capped, Told, Reads}
+use Rattle.text.specs.Line.{number, also, numbersIn, Words, unended, words, newWord, joined, cut, span, Line, broken, numbers, spanned, ofWords, lineOf, outside, anyOutside, isClosed}
+use Rattle.text.specs.Scanned.{capped, LineTold, LineScanned}
 use Rattle.text.specs.declared.Class.{Class}
 use Rattle.text.specs.declared.Class.the-variants.{Newline, Space, Minus, Digit, Step, Other}
 use Rattle.text.specs.declared.LineRead.{LineRead}
@@ -24,14 +26,6 @@ capped-inside (pos m) e = ap pos (omega (arith, ltb-false largest m e))
 capped-inside (negsuc m) e =
     let h : min (suc m) (suc largest) ≡ suc m = omega (arith, ltb-false largest (suc m) e) in
     ap (λ (n : ℕ). negℤ (pos n)) h
-
-or-false-left : (a b : Bool) → a || b ≡ false → a ≡ false
-or-false-left true b e = e
-or-false-left false b e = refl
-
-pub or-false-right : (a b : Bool) → a || b ≡ false → b ≡ false
-or-false-right true b e = absurd (let z : _≡_ {A = ℕ} 0 1 = cc in omega arith)
-or-false-right false b e = e
 
 -- where no number is outside, the row keeps the numbers themselves
 pub capped-all : (zs : List ℤ) → anyOutside zs ≡ false → map capped zs ≡ zs
@@ -48,7 +42,7 @@ abbrev Spans : ℕ → Words → Type 0
 Spans n unended = Unit {0}
 Spans n (words w ws) = span (w ∷ ws) ≤ n
 
-spans-apart : (n : ℕ) (o : Words) → Spans n o → Spans (suc n) (apart o)
+spans-apart : (n : ℕ) (o : Words) → Spans n o → Spans (suc n) (newWord o)
 spans-apart n unended h = tt
 spans-apart n (words w ws) h = omega arith
 
@@ -79,9 +73,9 @@ half-also (c ∷ w) ws o h = by (number (c ∷ w)) o h
     by (some z) none h = tt
     by (some z) (some zs) h = omega arith
 
-half : (ws : List (List Class)) → Half (numbersOf ws) (span ws)
+half : (ws : List (List Class)) → Half (numbersIn ws) (span ws)
 half [] = omega arith
-half (w ∷ ws) = half-also w ws (numbersOf ws) (half ws)
+half (w ∷ ws) = half-also w ws (numbersIn ws) (half ws)
 
 abbrev pub Bounds : ℕ → Line → Type 0
 Bounds n broken = Unit {0}
@@ -96,7 +90,7 @@ bounds-words n unended h = tt
 bounds-words n (words [] []) h = (omega arith, h, omega arith)
 bounds-words n (words [] (w ∷ ws)) h = tt
 bounds-words n (words (c ∷ w) ws) h =
-    bounds-spanned n (span ((c ∷ w) ∷ ws)) (numbersOf ((c ∷ w) ∷ ws)) (omega arith) h (half ((c ∷ w) ∷ ws))
+    bounds-spanned n (span ((c ∷ w) ∷ ws)) (numbersIn ((c ∷ w) ∷ ws)) (omega arith) h (half ((c ∷ w) ∷ ws))
 
 pub bounds : (s : List ℕ) → Bounds (length s) (lineOf s)
 unfolding lineOf
@@ -117,20 +111,20 @@ pub record Numbered (s : List ℕ) (before after : List ℤ) (count next : ℕ) 
   pub shut : closed ≡ isClosed list
   pub row : after ≡ sets before 0 (map capped list)
 
-pub numbered : {s : List ℕ} {before after : List ℤ} {r : LineRead} {count next : ℕ} {out closed : Bool} → Reads s before after r → r ≡ Numbers count next out closed
+pub numbered : {s : List ℕ} {before after : List ℤ} {r : LineRead} {count next : ℕ} {out closed : Bool} → LineScanned s before after r → r ≡ Numbers count next out closed
     → Numbered s before after count next out closed
 numbered {s} {before} {after} {r} {count} {next} {out} {closed} h e = by (lineOf s) refl (h .told)
   where
-    by : (l : Line) → lineOf s ≡ l → Told l before after r → Numbered s before after count next out closed
+    by : (l : Line) → lineOf s ≡ l → LineTold l before after r → Numbered s before after count next out closed
     by broken q t = absurd (let z : _≡_ {A = ℕ} 0 1 = cc in omega arith)
     by (numbers zs n) q t =
         let k = t .0 in
         record { list = zs; is = cc; long = cc; large = cc; shut = cc; row = t .1 }
 
 -- of any other text
-pub not-numbered : {s : List ℕ} {before after : List ℤ} {r : LineRead} → Reads s before after r → r ≡ Broken → lineOf s ≡ broken
+pub not-numbered : {s : List ℕ} {before after : List ℤ} {r : LineRead} → LineScanned s before after r → r ≡ Broken → lineOf s ≡ broken
 not-numbered {s} {before} {after} {r} h e = by (lineOf s) refl (h .told)
   where
-    by : (l : Line) → lineOf s ≡ l → Told l before after r → lineOf s ≡ broken
+    by : (l : Line) → lineOf s ≡ l → LineTold l before after r → lineOf s ≡ broken
     by broken q t = q
     by (numbers zs n) q t = absurd (let k = t .0 in let z : _≡_ {A = ℕ} 0 1 = cc in omega arith)

@@ -2,4 +2,7 @@
 pub mod Bytes
 pub mod Decimals
 pub mod Line
+pub mod Scanned
 pub mod Scan
+pub mod Writing
+pub mod Strings

@@ -1,21 +1,17 @@
 -- Numbers and lines, as document 01, 'Program text', has them.
 -- Assumes nothing.
-use mathlib.Core.Path.{_≡_}
 use mathlib.Core.Bool.{Bool, false, not, _&&_, _||_}
 use mathlib.Core.Option.{Option, none, some}
 use mathlib.Core.List.{List, [], _∷_, map}
-use Prim.Native.Nat.{ℕ, zero, suc, _+_, _*_, _<_, _≤_, min}
+use Prim.Native.Nat.{ℕ, zero, suc, _+_, _*_}
 use lib.Dec.{ltb}
-use lib.IntN.{ℤ, pos, negsuc, negℤ}
+use lib.IntN.{ℤ, pos, negsuc}
 use lib.ListN.{length}
-use lib.Seq.{sets}
 use Rattle.words.specs.Limits.{largest}
 use Rattle.words.specs.Literals.{variable, same}
 use Rattle.text.specs.Bytes.{classOf}
 use Rattle.text.specs.declared.Class.{Class}
 use Rattle.text.specs.declared.Class.the-variants.{Newline, Space, Minus, Digit, Step, Other}
-use Rattle.text.specs.declared.LineRead.{LineRead}
-use Rattle.text.specs.declared.LineRead.the-variants.{Numbers, Broken}
 
 -- Numbers
 
@@ -67,9 +63,9 @@ also (some z) none = none
 also (some z) (some zs) = some (z ∷ zs)
 
 -- every word is a number
-abbrev pub numbersOf : List (List Class) → Option (List ℤ)
-numbersOf [] = some []
-numbersOf (w ∷ ws) = also (number w) (numbersOf ws)
+abbrev pub numbersIn : List (List Class) → Option (List ℤ)
+numbersIn [] = some []
+numbersIn (w ∷ ws) = also (number w) (numbersIn ws)
 
 -- Lines
 
@@ -79,9 +75,9 @@ pub data Words : Type 0 where
   unended : Words
   words : List Class → List (List Class) → Words
 
-abbrev pub apart : Words → Words
-apart unended = unended
-apart (words w ws) = words [] (w ∷ ws)
+abbrev pub newWord : Words → Words
+newWord unended = unended
+newWord (words w ws) = words [] (w ∷ ws)
 
 abbrev pub joined : Class → Words → Words
 joined c unended = unended
@@ -91,7 +87,7 @@ joined c (words w ws) = words (c ∷ w) ws
 abbrev pub cut : List Class → Words
 cut [] = unended
 cut (Newline ∷ s) = words [] []
-cut (Space ∷ s) = apart (cut s)
+cut (Space ∷ s) = newWord (cut s)
 cut (Minus ∷ s) = joined Minus (cut s)
 cut (Digit d ∷ s) = joined (Digit d) (cut s)
 cut (Step x ∷ s) = joined (Step x) (cut s)
@@ -116,8 +112,8 @@ spanned (some zs) n = numbers zs n
 abbrev pub ofWords : Words → Line
 ofWords unended = broken
 ofWords (words [] []) = numbers [] 1
-ofWords (words [] (w ∷ ws)) = spanned (numbersOf ([] ∷ w ∷ ws)) (span ([] ∷ w ∷ ws))
-ofWords (words (c ∷ w) ws) = spanned (numbersOf ((c ∷ w) ∷ ws)) (span ((c ∷ w) ∷ ws))
+ofWords (words [] (w ∷ ws)) = spanned (numbersIn ([] ∷ w ∷ ws)) (span ([] ∷ w ∷ ws))
+ofWords (words (c ∷ w) ws) = spanned (numbersIn ((c ∷ w) ∷ ws)) (span ((c ∷ w) ∷ ws))
 
 -- the line that a text of bytes begins with
 unfoldable pub lineOf : List ℕ → Line
@@ -138,27 +134,3 @@ abbrev pub isClosed : List ℤ → Bool
 isClosed [] = false
 isClosed (z ∷ []) = same z (pos 0)
 isClosed (z ∷ y ∷ zs) = not (same z (pos 0)) && isClosed (y ∷ zs)
-
--- A number as a word keeps it: one past the largest variable stands for every larger size, so that no size wraps.
-abbrev pub capped : ℤ → ℤ
-capped (pos m) = pos (min m (suc largest))
-capped (negsuc m) = negℤ (pos (min (suc m) (suc largest)))
-
--- What `read_line` says of the line at the start of a text
-
--- the count, the bytes taken, whether a size is outside and whether the line is closed; the numbers stand in the lent words,
--- as many as fit. `read_line` is no service: where the line is broken its caller refuses, and nothing is said of the lent words.
-abbrev pub Told : Line → List ℤ → List ℤ → LineRead → Type 0
-Told broken before after r = r ≡ Broken
-Told (numbers zs n) before after r =
-    (r ≡ Numbers (length zs) n (anyOutside zs) (isClosed zs)) × (after ≡ sets before 0 (map capped zs))
-
--- a line takes a byte at least, within the text, and more bytes than numbers
-abbrev pub Within : ℕ → LineRead → Type 0
-Within n (Numbers count next out closed) = (0 < next) × (next ≤ n) × (count < next)
-Within n Broken = Unit {0}
-
-pub record Reads (s : List ℕ) (before after : List ℤ) (r : LineRead) : Type 0 where
-  pub told : Told (lineOf s) before after r
-  pub kept : length after ≡ length before
-  pub within : Within (length s) r

@@ -1,9 +1,11 @@
 // Bytes to lines and numbers, for the program reader and the proof-line reader alike: document 01, 'Program text'.
-// The claim of `read_line` is `Reads` in specs/Line.antt.
+// The claim of `read_line` is `LineScanned` in specs/Line.antt. Module `writing` goes the other way.
+pub mod writing;
+
 ghost use mathlib.Core.Path.{_≡_};
 ghost use lib.ListN.{set};
 ghost use Rattle.text.specs.Bytes.{classOf, letterOr};
-ghost use Rattle.text.specs.Line.{Reads};
+ghost use Rattle.text.specs.Scanned.{LineScanned};
 ghost use Rattle.text.specs.Scan.{actionOf, digitOf, endOf, firstOf, moreOf, seeing, valueOf};
 
 // The proof's seven letters, by the names of source document 000.
@@ -64,7 +66,7 @@ struct Seen {
 }
 
 // One past the largest variable. It stands for every larger size, so that no size wraps.
-const CAP: u16 = 4096;
+const CAP: u16 = words::ENTRIES as u16;
 
 fn letter_or(b: u8) -> Class
     ensures { λ r. ⌜ r ≡ letterOr b ⌝ }
@@ -192,14 +194,12 @@ impl Seen {
 fn store(row: &mut [i32], n: usize, neg: bool, m: u16)
     ensures { λ _. ⌜ now (row .exit) ≡ set (now (row .entry)) n (valueOf neg m) ⌝ }
 {
-    if n < row.len() {
-        row[n] = value(neg, m);
-    }
+    words::put_word(row, n, value(neg, m));
 }
 
 // The numbers of the line that the text begins with, into the row, as many as fit.
 pub fn read_line(text: &[u8], row: &mut [i32]) -> LineRead
-    ensures { λ r. ⌜ Reads (now (text .entry)) (now (row .entry)) (now (row .exit)) r ⌝ }
+    ensures { λ r. ⌜ LineScanned (now (text .entry)) (now (row .entry)) (now (row .exit)) r ⌝ }
 {
     let mut state = State::Start;
     let mut count: usize = 0;

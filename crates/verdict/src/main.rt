@@ -37,7 +37,7 @@ fn main() {
     let program_size = read_file(b"case.aspif", &mut program);
     let mut proof = io::large_buffer();
     let proof_size = read_file(b"case.drupe", &mut proof);
-    let mut line = [0u8; 97];
+    let mut line = [0u8; checker::report::LONGEST_LINE];
     let size = checker::report::check_line(
         &program[..program_size],
         &proof[..proof_size],

@@ -8,3 +8,4 @@ pub mod Segments
 pub mod Sorting
 pub mod Tops
 pub mod Words
+pub mod Ascending

@@ -2,13 +2,13 @@
 -- read a test made of smaller ones part by part. The words are those of specs/Lists.antt. Assumes nothing.
 use mathlib.Core.Path.{_≡_, refl, sym, subst}
 use mathlib.Core.Logic.{_⊎_, inl, inr}
-use mathlib.Core.Bool.{Bool, true, false, not, cond, _&&_, _||_, and-eq-true-iff}
+use mathlib.Core.Bool.{Bool, true, false, not, cond, _&&_, _||_, and-eq-true-iff, true≢false}
 use mathlib.Core.List.{List, [], _∷_, List·Memᴰ·head, List·Memᴰ·tail, List·Memᴰ·append-cases, Memᴰ·append-left, Memᴰ·append-right}
-use Prim.Native.Nat.{ℕ, suc, _≤_, _<_}
+use Prim.Native.Nat.{ℕ, suc, _≤_, _<_, _-_}
 use native.Mathlib.Omega.{arith}
 use lib.Dec.{T, T-not, not-T, eqb, leb, eqb→eq, eqb-refl, leb→le, le→leb}
 use lib.ListN.{length}
-use Rattle.words.specs.Lists.{_∈_, any, all, keep, dropFirst, joinAll}
+use Rattle.words.specs.Lists.{_∈_, any, all, filter, dropFirst, concat}
 
 -- what an equation of two different constructors comes to
 pub zero-one : _≡_ {A = ℕ} 0 1 → ⊥
@@ -46,6 +46,26 @@ and-left a b e = and-eq-true-iff a b .0 e .0
 
 pub and-right : (a b : Bool) → (a && b) ≡ true → b ≡ true
 and-right a b e = and-eq-true-iff a b .0 e .1
+
+-- the parts of a disjunction that is not passed
+pub or-false-left : (a b : Bool) → (a || b) ≡ false → a ≡ false
+or-false-left true b e = e
+or-false-left false b e = refl
+
+pub or-false-right : (a b : Bool) → (a || b) ≡ false → b ≡ false
+or-false-right true b e = absurd (true≢false e)
+or-false-right false b e = e
+
+-- a disjunction's parts in another order
+pub or-swap : (a b c : Bool) → (a || (b || c)) ≡ (b || (a || c))
+or-swap true true c = refl
+or-swap true false c = refl
+or-swap false b c = refl
+
+-- what holds of both answers to a test
+pub by-test : {A : Type 0} (P : A → Type 0) (t : Bool) {x y : A} → (t ≡ true → P x) → (t ≡ false → P y) → P (cond t x y)
+by-test P true f g = f refl
+by-test P false f g = g refl
 
 -- two tests of the same thing
 pub same-test : {b c : Bool} {A B : Type 0} → Decides b A → Decides c B → (A → B) → (B → A) → b ≡ c
@@ -86,6 +106,11 @@ leb-decides m n = record { to = leb→le m n; from = le→leb m n }
 
 -- Tests of every element
 
+-- what holds of the first and of the others holds of each
+pub each-cons : {A : Type 0} {P : A → Type 0} {x : A} {l : List A} → P x → ((y : A) → y ∈ l → P y) → (y : A) → y ∈ x ∷ l → P y
+each-cons h k y (List·Memᴰ·head p) = rw p h
+each-cons h k y (List·Memᴰ·tail m) = k y m
+
 module _ {A : Type 0} {f : A → Bool} {F : A → Type 0} (i : (x : A) → Decides (f x) (F x)) where
   pub any-decides : (l : List A) → Decides (any f l) ((x : A) × (x ∈ l) × F x)
   any-decides [] = record { to = λ t. absurd t; from = λ r. elim r.1 [ ] }
@@ -104,47 +129,41 @@ module _ {A : Type 0} {f : A → Bool} {F : A → Type 0} (i : (x : A) → Decid
 
   pub all-decides : (l : List A) → Decides (all f l) ((x : A) → x ∈ l → F x)
   all-decides [] = record { to = λ t x m. elim m [ ]; from = λ g. tt }
-  all-decides (y ∷ l) = reworded every (λ g. (g y (List·Memᴰ·head refl), λ x m. g x (List·Memᴰ·tail m))) (and-decides (i y) (all-decides l))
-    where
-      at : F y → ((x : A) → x ∈ l → F x) → {x : A} → x ∈ y ∷ l → F x
-      at u g (List·Memᴰ·head p) = rw p u
-      at u g {x} (List·Memᴰ·tail m) = g x m
-
-      every : F y × ((x : A) → x ∈ l → F x) → (x : A) → x ∈ y ∷ l → F x
-      every p x m = at (p .0) (p .1) m
+  all-decides (y ∷ l) =
+      reworded (λ p. each-cons (p .0) (p .1)) (λ g. (g y (List·Memᴰ·head refl), λ x m. g x (List·Memᴰ·tail m))) (and-decides (i y) (all-decides l))
 
 -- What is kept
 
 module _ {A : Type 0} (f : A → Bool) where
-  pub keep→ : {x : A} (l : List A) → x ∈ keep f l → (x ∈ l) × T (f x)
+  pub keep→ : {x : A} (l : List A) → x ∈ filter f l → (x ∈ l) × T (f x)
   keep→ [] m = elim m [ ]
   keep→ {x} (y ∷ l) m = go (λ n. keep→ l n) (f y) refl m
     where
       later : (x ∈ l) × T (f x) → (x ∈ y ∷ l) × T (f x)
       later r = (List·Memᴰ·tail (r .0), r .1)
 
-      go : (x ∈ keep f l → (x ∈ l) × T (f x)) → (b : Bool) → f y ≡ b → x ∈ cond b (y ∷ keep f l) (keep f l) → (x ∈ y ∷ l) × T (f x)
+      go : (x ∈ filter f l → (x ∈ l) × T (f x)) → (b : Bool) → f y ≡ b → x ∈ cond b (y ∷ filter f l) (filter f l) → (x ∈ y ∷ l) × T (f x)
       go below true p (List·Memᴰ·head q) = (List·Memᴰ·head q, rw (q, p) tt)
       go below true p (List·Memᴰ·tail n) = later (below n)
       go below false p n = later (below n)
 
-  pub keep← : {x : A} {l : List A} → x ∈ l → T (f x) → x ∈ keep f l
+  pub keep← : {x : A} {l : List A} → x ∈ l → T (f x) → x ∈ filter f l
   keep← {x} (List·Memᴰ·head {x = y} {xs = l} p) t = go (f y) (rw p at t)
     where
-      go : (b : Bool) → T b → x ∈ cond b (y ∷ keep f l) (keep f l)
+      go : (b : Bool) → T b → x ∈ cond b (y ∷ filter f l) (filter f l)
       go true t = List·Memᴰ·head p
       go false t = absurd t
   keep← {x} (List·Memᴰ·tail {x = y} {xs = l} m) t = go (f y) (keep← m t)
     where
-      go : (b : Bool) → x ∈ keep f l → x ∈ cond b (y ∷ keep f l) (keep f l)
+      go : (b : Bool) → x ∈ filter f l → x ∈ cond b (y ∷ filter f l) (filter f l)
       go true n = List·Memᴰ·tail n
       go false n = n
 
-  pub length-keep : (l : List A) → length (keep f l) ≤ length l
+  pub length-keep : (l : List A) → length (filter f l) ≤ length l
   length-keep [] = omega arith
   length-keep (x ∷ l) = go (f x) (length-keep l)
     where
-      go : (b : Bool) → length (keep f l) ≤ length l → length (cond b (x ∷ keep f l) (keep f l)) ≤ suc (length l)
+      go : (b : Bool) → length (filter f l) ≤ length l → length (cond b (x ∷ filter f l) (filter f l)) ≤ suc (length l)
       go true h = omega arith
       go false h = omega arith
 
@@ -159,26 +178,26 @@ module _ {A : Type 0} (f : A → Bool) where
 
 -- a test that passes less keeps less
 module _ {A : Type 0} (f g : A → Bool) (sub : (x : A) → T (f x) → T (g x)) where
-  pub keep-le : (l : List A) → length (keep f l) ≤ length (keep g l)
+  pub keep-le : (l : List A) → length (filter f l) ≤ length (filter g l)
   keep-le [] = omega arith
   keep-le (x ∷ l) = go (f x) (g x) (sub x) (keep-le l)
     where
-      go : (a b : Bool) → (T a → T b) → length (keep f l) ≤ length (keep g l) → length (cond a (x ∷ keep f l) (keep f l)) ≤ length (cond b (x ∷ keep g l) (keep g l))
+      go : (a b : Bool) → (T a → T b) → length (filter f l) ≤ length (filter g l) → length (cond a (x ∷ filter f l) (filter f l)) ≤ length (cond b (x ∷ filter g l) (filter g l))
       go true true s h = omega arith
       go true false s h = absurd (s tt)
       go false true s h = omega arith
       go false false s h = h
 
-  pub keep-lt : {y : A} {l : List A} → y ∈ l → T (not (f y)) → T (g y) → length (keep f l) < length (keep g l)
+  pub keep-lt : {y : A} {l : List A} → y ∈ l → T (not (f y)) → T (g y) → length (filter f l) < length (filter g l)
   keep-lt (List·Memᴰ·head {x = x} {xs = l} p) u v = go (f x) (g x) (rw p at u) (rw p at v) (keep-le l)
     where
-      go : (a b : Bool) → T (not a) → T b → length (keep f l) ≤ length (keep g l) → length (cond a (x ∷ keep f l) (keep f l)) < length (cond b (x ∷ keep g l) (keep g l))
+      go : (a b : Bool) → T (not a) → T b → length (filter f l) ≤ length (filter g l) → length (cond a (x ∷ filter f l) (filter f l)) < length (cond b (x ∷ filter g l) (filter g l))
       go true b u v h = absurd u
       go false true u v h = omega arith
       go false false u v h = absurd v
   keep-lt (List·Memᴰ·tail {x = x} {xs = l} m) u v = go (f x) (g x) (sub x) (keep-lt m u v)
     where
-      go : (a b : Bool) → (T a → T b) → length (keep f l) < length (keep g l) → length (cond a (x ∷ keep f l) (keep f l)) < length (cond b (x ∷ keep g l) (keep g l))
+      go : (a b : Bool) → (T a → T b) → length (filter f l) < length (filter g l) → length (cond a (x ∷ filter f l) (filter f l)) < length (cond b (x ∷ filter g l) (filter g l))
       go true true s h = omega arith
       go true false s h = absurd (s tt)
       go false true s h = omega arith
@@ -187,15 +206,15 @@ module _ {A : Type 0} (f g : A → Bool) (sub : (x : A) → T (f x) → T (g x))
 -- Lists one after another
 
 module _ {A : Type 0} where
-  pub joinAll← : {x : A} {l : List A} {ls : List (List A)} → l ∈ ls → x ∈ l → x ∈ joinAll ls
-  joinAll← (List·Memᴰ·head {xs = ls} p) m = Memᴰ·append-left (joinAll ls) (rw p at m)
+  pub joinAll← : {x : A} {l : List A} {ls : List (List A)} → l ∈ ls → x ∈ l → x ∈ concat ls
+  joinAll← (List·Memᴰ·head {xs = ls} p) m = Memᴰ·append-left (concat ls) (rw p at m)
   joinAll← (List·Memᴰ·tail {x = k} n) m = Memᴰ·append-right k (joinAll← n m)
 
-  pub joinAll→ : {x : A} (ls : List (List A)) → x ∈ joinAll ls → (l : List A) × (l ∈ ls) × (x ∈ l)
+  pub joinAll→ : {x : A} (ls : List (List A)) → x ∈ concat ls → (l : List A) × (l ∈ ls) × (x ∈ l)
   joinAll→ [] m = elim m [ ]
   joinAll→ {x} (k ∷ ls) m = go (λ n. joinAll→ ls n) (List·Memᴰ·append-cases k m)
     where
-      go : (x ∈ joinAll ls → (l : List A) × (l ∈ ls) × (x ∈ l)) → (x ∈ k) ⊎ (x ∈ joinAll ls) → (l : List A) × (l ∈ k ∷ ls) × (x ∈ l)
+      go : (x ∈ concat ls → (l : List A) × (l ∈ ls) × (x ∈ l)) → (x ∈ k) ⊎ (x ∈ concat ls) → (l : List A) × (l ∈ k ∷ ls) × (x ∈ l)
       go below (inl n) = (k, List·Memᴰ·head refl, n)
       go below (inr n) = let r = below n in (r .0, List·Memᴰ·tail (r .1), r .2)
 
@@ -203,3 +222,13 @@ module _ {A : Type 0} where
   pub none-in : {x : A} {l : List A} → length l ≤ 0 → ¬ (x ∈ l)
   none-in h (List·Memᴰ·head {xs = l} p) = omega arith
   none-in h (List·Memᴰ·tail {xs = l} m) = omega arith
+
+-- Counting down
+
+-- a number above 0 is one more than the number before it, which opens a definition by `zero` and `suc` at a loop's number
+pub one-less : (n : ℕ) → 0 < n → n ≡ suc (n - 1)
+one-less n h = omega arith
+
+-- a loop's number that is not above 0 is 0
+pub none-left : (n : ℕ) → n ≤ 0 → n ≡ 0
+none-left n h = omega arith

@@ -8,9 +8,11 @@ use Prim.Native.Nat.{zero, suc, _≤_}
 use native.Mathlib.Omega.{arith}
 use lib.Dec.{T, ltb, eqb→eq, eqb-refl}
 use lib.IntN.{ℤ, pos, negsuc, negℤ-negℤ}
+use lib.Signed.{ltZ}
+use borrow.Author.Tests.{ltb-true}
 use Rattle.words.specs.Lists.{_∈_}
 use Rattle.words.specs.Literals.{variable, complement, same, sameList, has, insert, insertAll, ascending}
-use Rattle.words.proofs.Lists.{Decides, reworded, and-decides, any-decides}
+use Rattle.words.proofs.Lists.{Decides, reworded, and-decides, any-decides, passed}
 
 -- Tests
 
@@ -106,3 +108,8 @@ ascending→ {x} l m = elim (insertAll→ [] l m) [ inl n ↦ elim n [ ] | inr n
 
 pub ascending← : {x : ℤ} (l : List ℤ) → x ∈ l → x ∈ ascending l
 ascending← l m = insertAll← [] l (inr m)
+
+-- a word above 0 is its variable
+pub positive : (z : ℤ) → T (ltZ (pos 0) z) → (z ≡ pos (variable z)) × (1 ≤ variable z)
+positive (pos n) t = (refl, ltb-true 0 n (passed (ltb 0 n) .to t))
+positive (negsuc n) t = absurd t

@@ -10,7 +10,7 @@ use lib.Dec.{eqb}
 use lib.IntN.{ℤ, pos}
 use lib.ListN.{length, getD, set}
 use Rattle.words.specs.Lists.{_∈_}
-use Rattle.words.specs.Literals.{variable, same, mentions, noneTwice}
+use Rattle.words.specs.Literals.{variable, same, mentions, distinct}
 use Rattle.words.proofs.Lists.{Decides, passed, answered, and-decides, not-decides, any-decides, eqb-decides}
 use Rattle.words.proofs.Literals.{same-decides}
 
@@ -45,18 +45,18 @@ mentions-decides : (v : ℕ) (l : List ℤ) → Decides (mentions v l) ((x : ℤ
 mentions-decides v l = any-decides (λ x. eqb-decides v (variable x)) l
 
 -- no variable stands twice: the first one stands in no other literal, and the others are so
-pub once-decides : (x : ℤ) (l : List ℤ) → Decides (noneTwice (x ∷ l)) ((¬ ((y : ℤ) × (y ∈ l) × (variable x ≡ variable y))) × (noneTwice l ≡ true))
-once-decides x l = and-decides (not-decides (mentions-decides (variable x) l)) (passed (noneTwice l))
+pub once-decides : (x : ℤ) (l : List ℤ) → Decides (distinct (x ∷ l)) ((¬ ((y : ℤ) × (y ∈ l) × (variable x ≡ variable y))) × (distinct l ≡ true))
+once-decides x l = and-decides (not-decides (mentions-decides (variable x) l)) (passed (distinct l))
 
-first : (x : ℤ) (l : List ℤ) → noneTwice (x ∷ l) ≡ true → (j : ℕ) → j < length l → ¬ (variable x ≡ variable (getD l j (pos 0)))
+first : (x : ℤ) (l : List ℤ) → distinct (x ∷ l) ≡ true → (j : ℕ) → j < length l → ¬ (variable x ≡ variable (getD l j (pos 0)))
 first x l o j h e = once-decides x l .to (passed _ .from o) .0 (getD l j (pos 0), in-at (pos 0) l j h, e)
 
 -- no variable stands twice: at two places stand two variables
-pub distinct : (l : List ℤ) → noneTwice l ≡ true → (i j : ℕ) → i < length l → j < length l → ¬ (i ≡ j)
+pub variables-differ : (l : List ℤ) → distinct l ≡ true → (i j : ℕ) → i < length l → j < length l → ¬ (i ≡ j)
     → ¬ (variable (getD l i (pos 0)) ≡ variable (getD l j (pos 0)))
-distinct [] o i j h k n e = omega arith
-distinct (x ∷ l) o zero zero h k n e = n refl
-distinct (x ∷ l) o zero (suc j) h k n e = first x l o j (omega arith) e
-distinct (x ∷ l) o (suc i) zero h k n e = first x l o i (omega arith) (sym e)
-distinct (x ∷ l) o (suc i) (suc j) h k n e =
-    distinct l (once-decides x l .to (passed _ .from o) .1) i j (omega arith) (omega arith) (λ p. n (ap suc p)) e
+variables-differ [] o i j h k n e = omega arith
+variables-differ (x ∷ l) o zero zero h k n e = n refl
+variables-differ (x ∷ l) o zero (suc j) h k n e = first x l o j (omega arith) e
+variables-differ (x ∷ l) o (suc i) zero h k n e = first x l o i (omega arith) (sym e)
+variables-differ (x ∷ l) o (suc i) (suc j) h k n e =
+    variables-differ l (once-decides x l .to (passed _ .from o) .1) i j (omega arith) (omega arith) (λ p. n (ap suc p)) e

@@ -8,11 +8,11 @@ use native.Mathlib.Omega.{arith}
 use lib.ListN.{length, drop, length-append}
 use lib.Seq.{drop-drop, drop-append-seam, drop-at}
 use lib.IntN.{ℤ}
-use Rattle.words.specs.Lists.{joinAll}
+use Rattle.words.specs.Lists.{concat}
 
 module _ {A : Type 0} (f : A → List ℤ) where
   abbrev pub recordWords : List A → List ℤ
-  recordWords xs = joinAll (map f xs)
+  recordWords xs = concat (map f xs)
 
   pub record-append : (xs ys : List A) → recordWords (xs ++ ys) ≡ recordWords xs ++ recordWords ys
   record-append [] ys = refl
@@ -58,17 +58,6 @@ module _ {A : Type 0} (f : A → List ℤ) where
         rest = record { words = d; size = omega arith; within = S .within };
         room = omega arith;
       }
-
-  -- A loop over the records, whose answer is F 0 of all of them: F i of those that are left, from i on.
-  module _ {R : Type 0} (F : ℕ → List A → R) (s : List ℤ) (e : ℕ) (live : List A) where
-    -- the invariant at i
-    pub record Left (i : ℕ) : Type 0 where
-      pub left : List A
-      pub seg : Segment s i e left
-      pub same : F i left ≡ F 0 live
-
-    pub all-left : Segment s 0 e live → Left 0
-    all-left S = record { left = live; seg = S; same = refl }
 
   -- after the last record
   pub none-left : {s : List ℤ} {i e : ℕ} {left : List A} → ((x : A) → 0 < length (f x)) → Segment s i e left → e ≤ i → left ≡ []

@@ -1,11 +1,27 @@
--- The limits of document 01 that more than one crate cites, each written once.
+-- The limits of document 01, each written once.
 -- Assumes nothing.
-use Prim.Native.Nat.{ℕ}
+use Prim.Native.Nat.{ℕ, suc}
 
 -- "A variable is a number from 1 to 4,095": the largest variable
 abbrev pub largest : ℕ
 largest = 4095
 
+-- "arrays of 4,096 entries", "4,096 bytes of marks": an entry for each variable, and one for 0
+abbrev pub entries : ℕ
+entries = suc largest
+
 -- "Has the text at most 65,535 bytes?", of the program and of the proof alike
 abbrev pub longest : ℕ
 longest = 65535
+
+-- "At most 1,024 rules."
+abbrev pub mostRules : ℕ
+mostRules = 1024
+
+-- "Are both counts .. 0 to 64"
+abbrev pub mostLiterals : ℕ
+mostLiterals = 64
+
+-- "up to 65 nonzero numbers"
+abbrev pub mostNumbers : ℕ
+mostNumbers = 65

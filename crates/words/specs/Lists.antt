@@ -2,6 +2,8 @@
 -- Assumes nothing.
 use mathlib.Core.Bool.{Bool, true, false, cond, _&&_, _||_}
 use mathlib.Core.List.{List, [], _∷_, _++_, List·Memᴰ}
+use Prim.Native.Nat.{ℕ}
+use lib.Dec.{ltb, leb}
 
 infix 4 _∈_
 -- x stands in the list
@@ -20,9 +22,9 @@ module _ {A : Type 0} where
   all f (x ∷ l) = f x && all f l
 
   -- those that pass, in their order
-  abbrev pub keep : (A → Bool) → List A → List A
-  keep f [] = []
-  keep f (x ∷ l) = cond (f x) (x ∷ keep f l) (keep f l)
+  abbrev pub filter : (A → Bool) → List A → List A
+  filter f [] = []
+  filter f (x ∷ l) = cond (f x) (x ∷ filter f l) (filter f l)
 
   -- all but the first that passes
   abbrev pub dropFirst : (A → Bool) → List A → List A
@@ -30,6 +32,11 @@ module _ {A : Type 0} where
   dropFirst f (x ∷ l) = cond (f x) l (x ∷ dropFirst f l)
 
 -- the lists one after another
-abbrev pub joinAll : {A : Type 0} → List (List A) → List A
-joinAll [] = []
-joinAll (l ∷ ls) = l ++ joinAll ls
+abbrev pub concat : {A : Type 0} → List (List A) → List A
+concat [] = []
+concat (l ∷ ls) = l ++ concat ls
+
+-- each number is above the one before, the first above `low`, and none is above `high`
+abbrev pub ascends : ℕ → ℕ → List ℕ → Bool
+ascends low high [] = true
+ascends low high (n ∷ ns) = ltb low n && (leb n high && ascends n high ns)

@@ -2,10 +2,14 @@ use mathlib.Core.Path.{_≡_, sym, _∙_, ap}
 use mathlib.Core.Bool.{true}
 use native.Mathlib.Omega.{arith}
 use borrow.Author.Tests.{not-true, not-false}
+use Rattle.words.specs.Limits.{entries}
 use Rattle.aspif.specs.Rules.{atoms}
-use Rattle.answer_set.specs.SetTest.{ascends, rulesAt, soundTable, listed, marked}
-use Rattle.answer_set.proofs.Fronts.{sound-rules}
-use Rattle.answer_set.proofs.Tested.{atoms-small, marks-listed, refused-41, refused-42, refused-43, tested}
+use Rattle.words.specs.Lists.{ascends}
+use Rattle.aspif.specs.Tables.{rulesAt, soundTable}
+use Rattle.marks.specs.Marks.{listed, marked}
+use Rattle.aspif.proofs.Cursors.{sound-rules, atoms-small}
+use Rattle.marks.proofs.Sets.{marks-listed}
+use Rattle.answer_set.proofs.Tested.{refused-41, refused-42, refused-43, tested}
 use borrow.Author.Needs.{needs}
 use Rattle.answer_set.proofs.test_set.Statement.{statement}
 use Rattle.answer_set.proofs.test_set.Tie as tie
@@ -57,7 +61,7 @@ returns-4 c =
     let s = sound (d .before .before) in
     let w = sym (told d) ∙ not-false _ (g .if2 .left) in
     let h = atoms-small (a .rules) (a .table .now) (sound-rules _ _ s) in
-    let e : marked (m .mark-all .last .1 .0) ≡ listed (a .set .now) = ap marked (m .mark-all .ensures) ∙ marks-listed (atoms (rulesAt (a .rules) (a .table .now))) 4096 (a .set .now) w (omega arith) in
+    let e : marked (m .mark-all .last .1 .0) ≡ listed (a .set .now) = ap marked (m .mark-all .ensures) ∙ marks-listed (atoms (rulesAt (a .rules) (a .table .now))) entries (a .set .now) w (omega arith) in
     tested (a .table .now) (a .rules) (a .set .now) (a .marks .now) (k .close .last .1 .1 .1 .1 .0) s w (sym (z .marks .given) ∙ m .before .before .if3 .left) e (d .before .largest-atom .ensures) (z .before .zero-marks .ensures) (k .close .ensures) (c .judge .ensures)
 
 pub test-set-spec : {M : Type 1} → statement M

@@ -23,7 +23,8 @@ module _ (c : tie.After-read2) where
 check-proof-requires : tie.Need-check-proof-requires
 check-proof-requires c κs =
     let d = c .before .before .before in
-    (held _ _ _ _ (read d .answer) (read d .table) (found d) (search needs) .0, zeros _ (length (start d .args .store .now)) (c .before .before .before .before .before .before .before .before .before .zero-all .ensures))
+    let h = held _ _ _ _ (read d .answer) (read d .table) (found d) (search needs) in
+    (((found d .P, h .0), h .1), zeros _ (length (start d .args .store .now)) (c .before .before .before .before .before .before .before .before .before .zero-all .ensures))
 
 returns : tie.Need-returns
 returns c =
@@ -37,7 +38,7 @@ returns-2 c =
     let b : length (c .before .before .before .before .before .before .before .before .before .before .before .before .zero-all .last .0) ≡ length (start d .args .store .now) = search needs in
     let p = found d in
     let h = held _ _ _ _ (read d .answer) (read d .table) p a in
-    c .before .before .check-proof .ensures (p .P) (p .count) (h .2) (h .1) ∙ judged-lengths (p .P) (start d .args .proof .now) a b ∙ sym (check-read _ _ _ _ (read d .answer) (read d .table) p)
+    c .before .before .check-proof .ensures (p .P) (h .0) (h .2) ∙ judged-lengths (p .P) (start d .args .proof .now) a b ∙ sym (check-read _ _ _ _ (read d .answer) (read d .table) p)
 
 pub check-texts-spec : {M : Type 1} → statement M
 check-texts-spec =

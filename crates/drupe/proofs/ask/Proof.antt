@@ -4,7 +4,8 @@ use mathlib.Core.Path.{sym, ap, _∙_}
 use lib.IntN.{pos}
 use lib.ListN.{length}
 use borrow.Author.Tests.{not-true, not-false}
-use Rattle.drupe.specs.Lines.{mostNumbers, readingOf}
+use Rattle.words.specs.Limits.{mostNumbers}
+use Rattle.drupe.specs.Lines.{readingOf}
 use Rattle.drupe.proofs.Lines.{asked-24, asked-25, asked-line, drop-replicate}
 use borrow.Author.Needs.{needs}
 use Rattle.drupe.proofs.ask.Statement.{statement}

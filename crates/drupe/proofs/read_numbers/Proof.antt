@@ -11,7 +11,7 @@ use lib.Seq.{length-take-le}
 use borrow.Author.Tests.{not-true, not-false, lt-ltb}
 use Rattle.text.specs.Line.{anyOutside, isClosed}
 use Rattle.text.proofs.Lines.{Numbered, numbered, not-numbered, bounds-of}
-use Rattle.drupe.specs.Lines.{mostNumbers}
+use Rattle.words.specs.Limits.{mostNumbers}
 use Rattle.drupe.proofs.Lines.{closed-some, outside-before, row-before}
 use borrow.Author.Needs.{needs}
 use Rattle.drupe.proofs.read_numbers.Statement.{statement}

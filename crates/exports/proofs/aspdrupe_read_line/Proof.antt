@@ -6,7 +6,7 @@ use mathlib.Core.List.{List}
 use Prim.Native.Nat.{ℕ}
 use lib.IntN.{ℤ}
 use lib.Seq.{sets}
-use Rattle.drupe.specs.Lines.{Reads}
+use Rattle.drupe.specs.Lines.{ProofLineRead}
 use Rattle.drupe.specs.declared.LineReading.{LineReading}
 use Rattle.exports.specs.Codes.{Told, lineCode, lineNumbers}
 use Rattle.exports.specs.Services.{LineService}
@@ -15,7 +15,7 @@ use Rattle.exports.proofs.aspdrupe_read_line.Statement.{statement}
 use Rattle.exports.proofs.aspdrupe_read_line.Tie as tie
 
 line-told : {text : List ℕ} {position : ℕ} {r : LineReading} {numbers numbers′ : List ℤ} {answer answer′ : List ℕ} {result : ℕ}
-    → Reads text position r → numbers′ ≡ sets numbers 0 (r .numbers)
+    → ProofLineRead text position r → numbers′ ≡ sets numbers 0 (r .numbers)
     → Told (lineCode (r .answer)) (lineNumbers (r .answer)) answer answer′ result
     → LineService text position numbers numbers′ answer answer′ result
 line-told read copied told = record {

@@ -2,14 +2,15 @@ use mathlib.Core.Path.{_≡_, sym, _∙_, refl}
 use mathlib.Core.Bool.{Bool}
 use Prim.Native.Nat.{ℕ, _≤_, _-_}
 use native.Mathlib.Omega.{arith}
-use Rattle.answer_set.specs.SetTest.{marked, anyBelow, apart}
+use Rattle.marks.specs.Marks.{marked}
+use Rattle.answer_set.specs.SetTest.{anyBelow, differsAt}
 use Rattle.answer_set.proofs.Marking.{below-on, below-here, below-end}
 use borrow.Author.Needs.{needs}
 use Rattle.answer_set.proofs.answers.differing.Statement.{statement}
 use Rattle.answer_set.proofs.answers.differing.Tie as tie
 
 abbrev Inv-loop : tie.InvT-loop
-Inv-loop inside marks n i₀ i = (i ≤ n) × (anyBelow (apart (marked inside) marks) n ≡ anyBelow (apart (marked inside) marks) i)
+Inv-loop inside marks n i₀ i = (i ≤ n) × (anyBelow (differsAt (marked inside) marks) n ≡ anyBelow (differsAt (marked inside) marks) i)
 
 abbrev μ-loop : tie.MeasureT-loop
 μ-loop inside marks n i₀ i = i
@@ -20,7 +21,7 @@ module _ (c : tie.After-just-one Inv-loop μ-loop) where
   s = c .before .before .before .before .before .before .before
 
   abbrev f : ℕ → Bool
-  f = apart (marked (s .args .inside .now)) (s .args .marks .now)
+  f = differsAt (marked (s .args .inside .now)) (s .args .marks .now)
 
   abbrev i : ℕ
   i = c .before .before .before .before .loop .i

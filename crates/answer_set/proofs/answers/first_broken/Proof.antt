@@ -6,8 +6,10 @@ use native.Mathlib.Omega.{arith}
 use lib.IntN.{ℤ}
 use lib.ListN.{drop}
 use Rattle.words.proofs.Parts.{tail-of}
-use Rattle.answer_set.specs.SetTest.{sizeAt, ruleAt, rulesAt, marked, isBroken, brokenFrom, broken}
-use Rattle.answer_set.proofs.Fronts.{Cursor, Turn, turn, shape-of, no-rules, few-rules, sound-rules}
+use Rattle.aspif.specs.Tables.{sizeAt, ruleAt, rulesAt}
+use Rattle.marks.specs.Marks.{marked}
+use Rattle.answer_set.specs.SetTest.{isBroken, brokenFrom, breaks}
+use Rattle.aspif.proofs.Cursors.{Cursor, AtRule, at-rule, no-rules, few-rules, sound-rules}
 use borrow.Author.Needs.{needs}
 use Rattle.answer_set.proofs.answers.first_broken.Statement.{statement}
 use Rattle.answer_set.proofs.answers.first_broken.Tie as tie
@@ -35,17 +37,14 @@ module _ (c : tie.After-rest Inv-loop μ-loop) where
   abbrev i : ℕ
   i = c .before .before .loop .i
 
-  at : Turn t (c .before .before .loop .left) i
-  at = turn (c .before .loop-test .taken) (c .before .before .loop .inv .0)
+  at : AtRule t (c .before .before .loop .left) i
+  at = at-rule (c .before .loop-test .taken) (c .before .before .loop .inv .0)
 
-  whole : brokenFrom M 1 (rulesAt (s .args .rules) t) ≡ cond (isBroken M (ruleAt (drop i t))) (broken (c .before .before .loop .number)) (brokenFrom M (c .before .before .loop .number + 1) (rulesAt (c .before .before .loop .left - 1) (drop (i + sizeAt (drop i t)) t)))
+  whole : brokenFrom M 1 (rulesAt (s .args .rules) t) ≡ cond (isBroken M (ruleAt (drop i t))) (breaks (c .before .before .loop .number)) (brokenFrom M (c .before .before .loop .number + 1) (rulesAt (c .before .before .loop .left - 1) (drop (i + sizeAt (drop i t)) t)))
   whole = c .before .before .loop .inv .2 ∙ ap (brokenFrom M (c .before .before .loop .number)) (at .rules)
 
 tells : (c : tie.After-is-broken Inv-loop μ-loop) → (let d = c .before in isBroken (M d) (ruleAt (drop (i d) (t d))) ≡ c .is-broken .result)
 tells c = let d = c .before in sym (rw (tail-of (i d) (t d)) at (c .is-broken .ensures))
-
-size : (c : tie.After-rule-size Inv-loop μ-loop) → (let d = c .before .before .before in c .rule-size .result ≡ sizeAt (drop (i d) (t d)))
-size c = let d = c .before .before .before in (rw (tail-of (i d) (t d)) at (c .rule-size .ensures)) .0
 
 loop-holds : tie.Need-loop-holds Inv-loop μ-loop
 loop-holds c = (record { within = omega arith; sound = sound-rules _ _ (c .before .pre) }, omega arith, refl)
@@ -54,16 +53,13 @@ mul-rest : tie.Need-mul-rest Inv-loop μ-loop
 mul-rest c = let w = c .before .loop .inv .0 .within in search needs
 
 is-broken-requires : tie.Need-is-broken-requires Inv-loop μ-loop
-is-broken-requires c κs = rw (tail-of (i c) (t c)) (shape-of _ (at c .sound))
+is-broken-requires c κs = rw (tail-of (i c) (t c)) (at c .here .1)
 
 returns : tie.Need-returns Inv-loop μ-loop
 returns c = λ just. let d = c .before .before in rw (whole d, tells (c .before) ∙ c .if1 .taken) refl
 
-rule-size-requires : tie.Need-rule-size-requires Inv-loop μ-loop
-rule-size-requires c κs = let d = c .before .before in rw (tail-of (i d) (t d)) (shape-of _ (at d .sound))
-
-add-i : tie.Need-add-i Inv-loop μ-loop
-add-i c = let n = at (c .before .before .before) .next .within in record { fits = omega (arith, size c) }
+next-rule-requires : tie.Need-next-rule-requires Inv-loop μ-loop
+next-rule-requires c κs = at (c .before .before) .here
 
 add-number : tie.Need-add-number Inv-loop μ-loop
 add-number c = let l = c .before .before .before .before .before .loop in let f = few-rules _ _ (s (c .before .before .before) .pre) in record { fits = omega (arith, l .inv .1) }
@@ -75,7 +71,7 @@ loop-again : tie.Need-loop-again Inv-loop μ-loop
 loop-again c =
     let d = c .before .before .before in
     let l = d .before .before .loop in
-    rw (size c) (at d .next, omega (arith, l .inv .1, d .before .loop-test .taken), whole d ∙ rw (tells (c .before .before) ∙ c .before .if1 .left))
+    rw (c .next-rule .ensures .0) (at d .next, omega (arith, l .inv .1, d .before .loop-test .taken), whole d ∙ rw (tells (c .before .before) ∙ c .before .if1 .left))
 
 returns-2 : tie.Need-returns-2 Inv-loop μ-loop
 returns-2 c = λ just. let l = c .before .loop in rw (l .inv .2, no-rules (l .left) (drop (l .i) (c .before .before .before .args .table .now)) (c .loop-test .left)) refl
@@ -93,8 +89,7 @@ first-broken-spec =
     (λ c. search needs)
     is-broken-requires
     returns
-    rule-size-requires
-    add-i
+    next-rule-requires
     add-number
     (λ c. search needs)
     loop-less

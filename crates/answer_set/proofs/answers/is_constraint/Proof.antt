@@ -1,5 +1,5 @@
 use mathlib.Core.Path.{sym, _∙_}
-use Rattle.answer_set.proofs.Fronts.{empty-length}
+use Rattle.aspif.proofs.RuleTests.{empty-length}
 use borrow.Author.Needs.{needs}
 use Rattle.answer_set.proofs.answers.is_constraint.Statement.{statement}
 use Rattle.answer_set.proofs.answers.is_constraint.Tie as tie

@@ -2,7 +2,8 @@ use mathlib.Core.Path.{refl}
 use mathlib.Core.Bool.{Bool}
 use Prim.Native.Nat.{ℕ, _+_}
 use native.Mathlib.Omega.{arith}
-use Rattle.answer_set.specs.SetTest.{marked, apart}
+use Rattle.marks.specs.Marks.{marked}
+use Rattle.answer_set.specs.SetTest.{differsAt}
 use Rattle.answer_set.specs.Private.{Finds}
 use borrow.Author.Needs.{needs}
 use Rattle.answer_set.proofs.answers.judge.Statement.{statement}
@@ -11,7 +12,7 @@ use Rattle.answer_set.proofs.answers.judge.Tie as tie
 -- what the search found
 module _ (c : tie.After-differing) where
   abbrev just : ℕ → Bool
-  just = let a = c .before .before .before .args in apart (marked (a .inside .now)) (a .marks .now)
+  just = let a = c .before .before .before .args in differsAt (marked (a .inside .now)) (a .marks .now)
 
   found : Finds just (c .before .before .before .args .atoms + 1) (c .differing .result)
   found = c .differing .ensures

@@ -5,7 +5,8 @@ use mathlib.Core.Path.{_≡_, sym, _∙_}
 use Prim.Native.Nat.{_≤_, _-_}
 use Rattle.words.proofs.Laws.{all-on, all-here, all-none}
 use Rattle.words.proofs.Words.{back}
-use Rattle.answer_set.specs.SetTest.{marked, literalHolds, bodyHolds}
+use Rattle.marks.specs.Marks.{marked}
+use Rattle.answer_set.specs.SetTest.{literalHolds, bodyHolds}
 use borrow.Author.Needs.{needs}
 use Rattle.answer_set.proofs.models.body_holds.Statement.{statement}
 use Rattle.answer_set.proofs.models.body_holds.Tie as tie

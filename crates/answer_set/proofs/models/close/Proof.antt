@@ -2,7 +2,9 @@ use mathlib.Core.Path.{_≡_, sym, _∙_, refl}
 use native.Mathlib.Omega.{arith}
 use borrow.Author.Tests.{not-true}
 use lib.ListN.{length}
-use Rattle.answer_set.specs.SetTest.{rulesAt, marked, rounds}
+use Rattle.aspif.specs.Tables.{rulesAt}
+use Rattle.marks.specs.Marks.{marked}
+use Rattle.answer_set.specs.SetTest.{rounds}
 use Rattle.answer_set.proofs.Marking.{rounds-on, rounds-end, last-round}
 use borrow.Author.Needs.{needs}
 use Rattle.answer_set.proofs.models.close.Statement.{statement}

@@ -8,9 +8,10 @@ use lib.IntN.{ℤ}
 use lib.ListN.{length, drop}
 use Rattle.aspif.specs.Rules.{Rule}
 use Rattle.words.proofs.Parts.{tail-of}
-use Rattle.answer_set.specs.SetTest.{sizeAt, ruleAt, rulesAt, marked, giveRule, round}
-use Rattle.answer_set.specs.Private.{Marking}
-use Rattle.answer_set.proofs.Fronts.{Cursor, Turn, turn, shape-of, no-rules}
+use Rattle.aspif.specs.Tables.{sizeAt, ruleAt, rulesAt}
+use Rattle.marks.specs.Marks.{marked, Marking}
+use Rattle.answer_set.specs.SetTest.{giveRule, round}
+use Rattle.aspif.proofs.Cursors.{Cursor, AtRule, at-rule, no-rules}
 use borrow.Author.Needs.{needs}
 use Rattle.answer_set.proofs.models.give_all.Statement.{statement}
 use Rattle.answer_set.proofs.models.give_all.Tie as tie
@@ -36,17 +37,14 @@ module _ (c : tie.After-rest Inv-loop μ-loop) where
   abbrev i : ℕ
   i = c .before .before .loop .i
 
-  at : Turn t (c .before .before .loop .left) i
-  at = turn (c .before .loop-test .taken) (c .before .before .loop .inv .0)
+  at : AtRule t (c .before .before .loop .left) i
+  at = at-rule (c .before .loop-test .taken) (c .before .before .loop .inv .0)
 
 told : (c : tie.After-give-rule Inv-loop μ-loop)
     → (let d = c .before .before in
     let m = d .before .before .loop .marks in
     Marking (giveRule (marked (s d .args .inside .now)) (ruleAt (drop (i d) (t d))) m) m (c .give-rule .last .1 .1 .0) (c .give-rule .result))
 told c = let d = c .before .before in rw (tail-of (i d) (t d)) at (c .give-rule .ensures)
-
-size : (c : tie.After-rule-size Inv-loop μ-loop) → (let d = c .before .before .before .before .before .before in c .rule-size .result ≡ sizeAt (drop (i d) (t d)))
-size c = let d = c .before .before .before .before .before .before in (rw (tail-of (i d) (t d)) at (c .rule-size .ensures)) .0
 
 loop-holds : tie.Need-loop-holds Inv-loop μ-loop
 loop-holds c = (record { within = omega arith; sound = c .before .before .pre }, refl, refl, λ e. refl)
@@ -55,13 +53,10 @@ mul-rest : tie.Need-mul-rest Inv-loop μ-loop
 mul-rest c = let w = c .before .loop .inv .0 .within in search needs
 
 give-rule-requires : tie.Need-give-rule-requires Inv-loop μ-loop
-give-rule-requires c κs = let d = c .before in rw (tail-of (i d) (t d)) (shape-of _ (at d .sound))
+give-rule-requires c κs = let d = c .before in rw (tail-of (i d) (t d)) (at d .here .1)
 
-rule-size-requires : tie.Need-rule-size-requires Inv-loop μ-loop
-rule-size-requires c κs = let d = c .before .before .before .before .before in rw (tail-of (i d) (t d)) (shape-of _ (at d .sound))
-
-add-i : tie.Need-add-i Inv-loop μ-loop
-add-i c = let n = at (c .before .before .before .before .before .before) .next .within in record { fits = omega (arith, size c) }
+next-rule-requires : tie.Need-next-rule-requires Inv-loop μ-loop
+next-rule-requires c κs = at (c .before .before .before .before .before) .here
 
 loop-less : tie.Need-loop-less Inv-loop μ-loop
 loop-less c = omega arith
@@ -71,7 +66,7 @@ loop-again c =
     let g = c .before .before .before .before in
     let d = g .before .before in
     let l = d .before .before .loop in
-    rw (size c) (
+    rw (c .next-rule .ensures .0) (
       at d .next,
       c .before .before .before .marks .given ∙ l .inv .1,
       l .inv .2 ∙ ap (λ (rs : List Rule). round (marked (s d .args .inside .now)) rs (l .marks)) (at d .rules) ∙ rw (told g .marks),
@@ -99,8 +94,7 @@ give-all-spec =
     (λ c. search needs)
     (λ c. search needs)
     give-rule-requires
-    rule-size-requires
-    add-i
+    next-rule-requires
     (λ c. search needs)
     loop-less
     loop-again

@@ -1,7 +1,8 @@
 use mathlib.Core.Path.{_≡_, _∙_, refl, sym, ap}
 use mir.Facts.{toZ-ofZ}
 use Rattle.words.specs.Literals.{variable}
-use Rattle.answer_set.specs.SetTest.{marked, gives, giveHead}
+use Rattle.marks.specs.Marks.{marked}
+use Rattle.answer_set.specs.SetTest.{gives, giveHead}
 use borrow.Author.Needs.{needs}
 use Rattle.answer_set.proofs.models.give_head.Statement.{statement}
 use Rattle.answer_set.proofs.models.give_head.Tie as tie

@@ -7,8 +7,8 @@ use mathlib.Core.List.{List}
 use mathlib.Core.Logic.{⊎-elim}
 use Prim.Native.Nat.{ℕ, _≤_, _-_}
 use Rattle.words.proofs.Words.{back}
-use Rattle.answer_set.specs.SetTest.{marked, giveHead, giveHeads}
-use Rattle.answer_set.specs.Private.{Marking}
+use Rattle.marks.specs.Marks.{marked, Marking}
+use Rattle.answer_set.specs.SetTest.{giveHead, giveHeads}
 use Rattle.answer_set.proofs.Marking.{heads-on, heads-end}
 use borrow.Author.Needs.{needs}
 use Rattle.answer_set.proofs.models.give_heads.Statement.{statement}

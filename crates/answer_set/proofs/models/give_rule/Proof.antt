@@ -1,5 +1,7 @@
 use mathlib.Core.Path.{_≡_, sym, _∙_, refl}
-use Rattle.answer_set.specs.SetTest.{bodyAt, marked, bodyHolds, giveRule}
+use Rattle.aspif.specs.Tables.{bodyAt}
+use Rattle.marks.specs.Marks.{marked}
+use Rattle.answer_set.specs.SetTest.{bodyHolds, giveRule}
 use borrow.Author.Needs.{needs}
 use Rattle.answer_set.proofs.models.give_rule.Statement.{statement}
 use Rattle.answer_set.proofs.models.give_rule.Tie as tie

@@ -2,7 +2,7 @@ use mathlib.Core.Path.{_≡_, _∙_, sym, ap}
 use mathlib.Core.Bool.{not}
 use mir.Facts.{toZ-ofZ}
 use Rattle.words.specs.Literals.{variable}
-use Rattle.answer_set.specs.SetTest.{marked}
+use Rattle.marks.specs.Marks.{marked}
 use Rattle.answer_set.proofs.Marking.{holds-neg, holds-pos}
 use borrow.Author.Needs.{needs}
 use Rattle.answer_set.proofs.models.literal_holds.Statement.{statement}

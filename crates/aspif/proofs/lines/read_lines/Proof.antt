@@ -3,13 +3,13 @@ use native.Mathlib.Omega.{arith}
 use lib.ListN.{length}
 use Rattle.words.proofs.Parts.{tail-of}
 use Rattle.aspif.specs.Turns.{TurnTaken}
-use Rattle.aspif.proofs.Passes.{Stands, stands-start, free, turn, lines-refused, lines-ended, lines-added, Onward}
+use Rattle.aspif.proofs.Passes.{Standing, stands-start, free, turn, lines-refused, lines-ended, lines-added, Onward}
 use borrow.Author.Needs.{needs}
 use Rattle.aspif.proofs.lines.read_lines.Statement.{statement}
 use Rattle.aspif.proofs.lines.read_lines.Tie as tie
 
 abbrev Inv-loop : tie.InvT-loop
-Inv-loop text table₀ at₀ line₀ used₀ rules₀ atoms₀ table at line used rules atoms = Stands text table₀ table at line used rules atoms
+Inv-loop text table₀ at₀ line₀ used₀ rules₀ atoms₀ table at line used rules atoms = Standing text table₀ table at line used rules atoms
 
 abbrev μ-loop : tie.MeasureT-loop
 μ-loop text table₀ at₀ line₀ used₀ rules₀ atoms₀ table at line used rules atoms = length text - at

@@ -7,9 +7,10 @@ use borrow.Author.Tests.{eq-eqb, ne-eqb}
 use lib.IntN.{pos}
 use lib.ListN.{getD}
 use mir.Facts.{toZ-ofZ}
+use Rattle.words.specs.Limits.{mostLiterals}
 use Rattle.words.specs.Literals.{variable}
-use Rattle.aspif.specs.Reading.{isAt, isCount}
-use Rattle.aspif.proofs.Counts.{count-small}
+use Rattle.aspif.specs.Reading.{isAt, isCountAt}
+use Rattle.aspif.proofs.Counts.{count-small-at}
 use borrow.Author.Needs.{needs}
 use Rattle.aspif.proofs.rules.body_shape.Statement.{statement}
 use Rattle.aspif.proofs.rules.body_shape.Tie as tie
@@ -19,8 +20,8 @@ module _ (c : tie.After-variable-of) where
   placed : (let a = c .before .before .before .before .before .before .args in isAt (a .row .now) (a .count) (3 + a .heads) (pos 0) ≡ true)
   placed = sym (c .before .before .before .before .before .is-at .ensures) ∙ c .before .before .before .before .if1 .taken
 
-  counted : (let a = c .before .before .before .before .before .before .args in isCount (a .row .now) (a .count) (4 + a .heads) ≡ true)
-  counted = sym (c .before .before .before .is-count .ensures) ∙ c .before .before .if2 .taken
+  counted : (let a = c .before .before .before .before .before .before .args in isCountAt (a .row .now) (a .count) (4 + a .heads) ≡ true)
+  counted = sym (c .before .before .before .is-count-at .ensures) ∙ c .before .before .if2 .taken
 
   body : (let a = c .before .before .before .before .before .before .args in
       c .variable-of .result ≡ variable (getD (a .row .now) (4 + a .heads) (pos 0)))
@@ -28,8 +29,8 @@ module _ (c : tie.After-variable-of) where
       let w = c .before .word-at in
       c .variable-of .ensures ∙ ap variable (toZ-ofZ (sfits-of {z = w .result} (w .ok)) ∙ w .ensures)
 
-  small : c .variable-of .result ≤ 64
-  small = rw body (let a = c .before .before .before .before .before .before .args in count-small (a .row .now) (a .count) (4 + a .heads) counted)
+  small : c .variable-of .result ≤ mostLiterals
+  small = rw body (let a = c .before .before .before .before .before .before .args in count-small-at (a .row .now) (a .count) (4 + a .heads) counted)
 
 add-if3-2 : tie.Need-add-if3-2
 add-if3-2 c =
@@ -46,7 +47,7 @@ returns-2 c =
 
 returns-3 : tie.Need-returns-3
 returns-3 c =
-    rw (sym (c .before .before .before .is-at .ensures) ∙ c .before .before .if1 .taken, sym (c .before .is-count .ensures) ∙ c .if2 .left)
+    rw (sym (c .before .before .before .is-at .ensures) ∙ c .before .before .if1 .taken, sym (c .before .is-count-at .ensures) ∙ c .if2 .left)
 
 returns-4 : tie.Need-returns-4
 returns-4 c =

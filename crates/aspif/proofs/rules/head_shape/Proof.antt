@@ -7,25 +7,26 @@ use borrow.Author.Tests.{le-leb, lt-leb}
 use lib.IntN.{pos}
 use lib.ListN.{getD}
 use mir.Facts.{toZ-ofZ}
+use Rattle.words.specs.Limits.{mostLiterals}
 use Rattle.words.specs.Literals.{variable}
-use Rattle.aspif.specs.Reading.{isCount}
-use Rattle.aspif.proofs.Counts.{count-small}
+use Rattle.aspif.specs.Reading.{isCountAt}
+use Rattle.aspif.proofs.Counts.{count-small-at}
 use borrow.Author.Needs.{needs}
 use Rattle.aspif.proofs.rules.head_shape.Statement.{statement}
 use Rattle.aspif.proofs.rules.head_shape.Tie as tie
 
 -- the head count, and that it is one
 module _ (c : tie.After-variable-of) where
-  counted : (let a = c .before .before .before .before .args in isCount (a .row .now) (a .count) 2 ≡ true)
-  counted = sym (c .before .before .before .is-count .ensures) ∙ c .before .before .if1 .taken
+  counted : (let a = c .before .before .before .before .args in isCountAt (a .row .now) (a .count) 2 ≡ true)
+  counted = sym (c .before .before .before .is-count-at .ensures) ∙ c .before .before .if1 .taken
 
   heads : c .variable-of .result ≡ variable (getD (c .before .before .before .before .args .row .now) 2 (pos 0))
   heads =
       let w = c .before .word-at in
       c .variable-of .ensures ∙ ap variable (toZ-ofZ (sfits-of {z = w .result} (w .ok)) ∙ w .ensures)
 
-  small : c .variable-of .result ≤ 64
-  small = rw heads (let a = c .before .before .before .before .args in count-small (a .row .now) (a .count) 2 counted)
+  small : c .variable-of .result ≤ mostLiterals
+  small = rw heads (let a = c .before .before .before .before .args in count-small-at (a .row .now) (a .count) 2 counted)
 
 add-if2 : tie.Need-add-if2
 add-if2 c =
@@ -47,7 +48,7 @@ returns-2 c =
 
 returns-3 : tie.Need-returns-3
 returns-3 c =
-    rw (sym (c .before .is-count .ensures) ∙ c .if1 .left)
+    rw (sym (c .before .is-count-at .ensures) ∙ c .if1 .left)
 
 pub head-shape-spec : {M : Type 1} → statement M
 head-shape-spec =

@@ -3,10 +3,10 @@ use mathlib.Core.List.{List}
 use Prim.Native.Nat.{ℕ}
 use lib.IntN.{ℤ, pos}
 use lib.ListN.{length, replicate}
-use Rattle.aspif.specs.Rules.{Rule, atoms}
-use Rattle.answer_set.specs.SetTest.{rulesAt}
+use Rattle.aspif.specs.Rules.{Rule}
 use Rattle.checker.specs.Check.{Course, course}
-use Rattle.checker.specs.Held.{Ran}
+use Rattle.checker.specs.Held.{Program, Ran}
+use Rattle.checker.proofs.Tracking.{rules-held}
 use Rattle.checker.proofs.Verdicts.{too-long, ran-stopped, ran-through, judged-stopped, judged-through}
 use borrow.Author.Needs.{needs}
 use Rattle.checker.proofs.judging.check_proof.Statement.{statement}
@@ -20,41 +20,39 @@ module _ (c : tie.After-run-lines) where
   abbrev store′ : List ℤ
   store′ = c .run-lines .last .1 .1 .1 .1 .0
 
-  abbrev courseOf : List Rule → Course
-  courseOf P = course P (length (start .args .store .now)) (start .args .proof .now)
+  abbrev came : List Rule → Course
+  came P = course P (length (start .args .store .now)) (start .args .proof .now)
 
-  abbrev came : Course
-  came = courseOf (rulesAt (start .args .rules) (start .args .table .now))
-
-  ran : Ran store′ came (c .run-lines .result)
+  ran : (P : List Rule) → Program (start .args .table .now) (start .args .rules) (start .args .atoms) P → Ran store′ (came P) (c .run-lines .result)
   ran = c .run-lines .ensures
 
 returns : tie.Need-returns
-returns c = λ P n w e.
+returns c = λ P p w.
     let a = c .before .before .before .before .before .before .before .args in
     let r = c .before .before .refuse .ensures in
-    judged-stopped _ _ P _ _ (too-long P _ (a .proof .now) (search needs)) (r .0) (r .1) (r .2)
+    judged-stopped _ _ P _ _ (too-long P _ (a .proof .now) (search needs)) (r .0) (r .1 .0) (r .1 .1)
 
 conclude-requires : tie.Need-conclude-requires
 conclude-requires c κs =
     let q = c .before .before .before .before .before in
-    let r = ran-through (store′ q) (came q) _ _ (ran q) (c .before .before .run2 .given .1) in
+    let p = start q .pre .0 .0 in
+    let r = ran-through (store′ q) (came q (p .0)) _ _ (ran q (p .0) (p .1)) (c .before .before .run2 .given .1) in
     (r .0 .live, r .2)
 
 returns-2 : tie.Need-returns-2
-returns-2 c = λ P n w e.
+returns-2 c = λ P p w.
     let q = c .before .before .before .before .before .before .before .before .before in
     let r = c .before .before .refuse2 .ensures in
     let same : length (store′ q) ≡ length (start q .args .store .now) = search needs in
-    let o = ran-stopped (store′ q) (came q) _ (ran q) (c .before .before .before .before .before .before .run .given .1) in
-    judged-stopped _ _ P _ _ (ap (courseOf q) (sym e) ∙ o) (r .0) (r .1) (r .2 ∙ ap (λ (k : ℕ). replicate k (pos 0)) same)
+    let o = ran-stopped (store′ q) (came q P) _ (ran q P p) (c .before .before .before .before .before .before .run .given .1) in
+    judged-stopped _ _ P _ _ o (r .0) (r .1 .0) (r .1 .1 ∙ ap (λ (k : ℕ). replicate k (pos 0)) same)
 
 returns-3 : tie.Need-returns-3
-returns-3 c = λ P n w e.
+returns-3 c = λ P p w.
     let q = c .before .before .before .before .before .before in
     let same : length (store′ q) ≡ length (start q .args .store .now) = search needs in
-    let t = ran-through (store′ q) (came q) _ _ (ran q) (c .before .before .before .run2 .given .1) in
-    judged-through _ _ P _ _ _ _ _ (t .0) (ap (courseOf q) (sym e) ∙ t .1) (c .conclude .ensures (t .0 .live) (t .2)) (start q .pre .0 .top ∙ ap atoms e) (sym n) w (t .2) same
+    let t = ran-through (store′ q) (came q P) _ _ (ran q P p) (c .before .before .before .run2 .given .1) in
+    judged-through _ _ P _ _ _ _ _ (t .0) (t .1) (c .conclude .ensures (t .0 .live) (t .2)) (p .top) (sym (rules-held (p .holds))) w (t .2) same
 
 pub check-proof-spec : {M : Type 1} → statement M
 check-proof-spec =

@@ -9,10 +9,10 @@ use Rattle.words.specs.Literals.{variable, sameList, ascending}
 use Rattle.words.proofs.Words.{back}
 use Rattle.text.specs.declared.Letter.the-variants.{Body}
 use Rattle.aspif.specs.Rules.{Rule}
-use Rattle.answer_set.specs.SetTest.{marked, rulesAt}
+use Rattle.marks.specs.Marks.{marked}
 use Rattle.derivation.specs.States.{State}
 use Rattle.derivation.specs.Steps.{isUnnamedBody}
-use Rattle.names.specs.Queries.{renamed}
+use Rattle.names.specs.Queries.{HoldsRules, renamed}
 use Rattle.checker.specs.Held.{Tracks}
 use Rattle.checker.proofs.Letters.{first, copied, some-number, first-high, introduced, body-tracks}
 use borrow.Author.Needs.{needs}
@@ -27,7 +27,7 @@ part-all-marked-start c = search (needs, some-number Body refl (c .before .befor
 
 returns : tie.Need-returns
 returns c =
-    λ z T H.
+    λ P p z T H.
     let s = c .before .before .before .before .before .before .before in
     rw (introduced z T Body _ (s .pre .1 .1) refl refl (sym (c .before .all-marked .ensures) ∙ not-true _ (c .if1 .taken)) refl) refl
 
@@ -43,7 +43,7 @@ named c = rw (name (c .before .before)) at (c .is-marked .ensures)
 
 returns-2 : tie.Need-returns-2
 returns-2 c =
-    λ z T H.
+    λ P p z T H.
     let k = c .before .before .before .before .before in
     let s = k .before .before .before .before .before .before .before in
     rw (introduced z T Body _ (s .pre .1 .1) refl refl (sym (k .before .all-marked .ensures) ∙ not-false _ (k .if1 .left)) (sym (named (c .before)) ∙ c .if2 .taken)) refl
@@ -67,29 +67,27 @@ module _ (c : tie.After-name-body) where
   abbrev numbers : List ℤ
   numbers = start .args .numbers .now
 
-  abbrev rules : List Rule
-  rules = rulesAt (start .args .rules) (start .args .table .now)
-
   part : take (length numbers - 1) (drop 1 (c .before .before .before .before .copy .last .0)) ≡ drop 1 numbers
   part = copied numbers _ _ (some-number Body refl (start .pre .1 .1)) (c .before .before .before .before .copy .ensures)
 
-  -- question 28
-  answer : (z : State) → Tracks rules (start .args .known .now) (start .args .names .now) (z .introduced) (z .named)
-      → c .name-body .result ≡ isUnnamedBody rules z (drop 1 numbers)
-  answer z T = c .name-body .ensures .0 _ z T ∙ ap (isUnnamedBody rules z) part
+  module _ (P : List Rule) (p : HoldsRules (start .args .table .now) (start .args .rules) P) where
+    -- question 28
+    answer : (z : State) → Tracks P (start .args .known .now) (start .args .names .now) (z .introduced) (z .named)
+        → c .name-body .result ≡ isUnnamedBody P z (drop 1 numbers)
+    answer z T = c .name-body .ensures .0 P p _ z T ∙ ap (isUnnamedBody P z) part
 
-  entered : c .name-body .result ≡ true
-      → c .name-body .last .1 .1 .0 ≡ renamed (λ r. sameList (r .body) (ascending (drop 1 numbers))) (variable (first numbers)) rules (start .args .names .now)
-  entered e = c .name-body .ensures .1 e ∙ ap₂ (λ t n. renamed (λ r. sameList (r .body) (ascending t)) n rules (start .args .names .now)) part (name (c .before .before .before .before .before .before .before .before .before .before))
+    entered : c .name-body .result ≡ true
+        → c .name-body .last .1 .1 .0 ≡ renamed (λ r. sameList (r .body) (ascending (drop 1 numbers))) (variable (first numbers)) P (start .args .names .now)
+    entered e = c .name-body .ensures .1 P p e ∙ ap₂ (λ t n. renamed (λ r. sameList (r .body) (ascending t)) n P (start .args .names .now)) part (name (c .before .before .before .before .before .before .before .before .before .before))
 
 returns-3 : tie.Need-returns-3
 returns-3 c =
-    λ z T H.
+    λ P p z T H.
     let b = c .before .before .before .before in
     let m = b .before .before .before .before .before .before .before in
     let k = m .before .before .before .before .before in
     let s = k .before .before .before .before .before .before .before in
-    rw (introduced z T Body _ (s .pre .1 .1) refl refl (sym (k .before .all-marked .ensures) ∙ not-false _ (k .if1 .left)) (sym (named (m .before)) ∙ m .if2 .left), sym (answer b z T) ∙ not-true _ (c .if3 .taken)) refl
+    rw (introduced z T Body _ (s .pre .1 .1) refl refl (sym (k .before .all-marked .ensures) ∙ not-false _ (k .if1 .left)) (sym (named (m .before)) ∙ m .if2 .left), sym (answer b P p z T) ∙ not-true _ (c .if3 .taken)) refl
 
 define-requires : tie.Need-define-requires
 define-requires c κs =
@@ -99,7 +97,7 @@ define-requires c κs =
 
 returns-4 : tie.Need-returns-4
 returns-4 c =
-    λ z T H.
+    λ P p z T H.
     let d = c .before .before .before .before in
     let e = d .before .before .before .before in
     let b = e .before .before .before .before in
@@ -108,9 +106,9 @@ returns-4 c =
     let s = k .before .before .before .before .before .before .before in
     let f = sym (named (m .before)) ∙ m .if2 .left in
     let u = not-false _ (e .if3 .left) in
-    let q = sym (answer b z T) ∙ u in
+    let q = sym (answer b P p z T) ∙ u in
     rw (introduced z T Body _ (s .pre .1 .1) refl refl (sym (k .before .all-marked .ensures) ∙ not-false _ (k .if1 .left)) f, q)
-    (d .define .ensures .1 (z .live) H, rw (d .define .ensures .0, entered b u) (body-tracks z T Body _ (s .pre .1 .1) refl f q))
+    (d .define .ensures .1 (z .live) H, rw (d .define .ensures .0, entered b P p u) (body-tracks z T Body _ (s .pre .1 .1) refl f q))
 
 pub body-spec : {M : Type 1} → statement M
 body-spec =

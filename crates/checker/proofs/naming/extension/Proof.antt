@@ -3,7 +3,7 @@ use borrow.Author.Tests.{not-true, not-false}
 use Rattle.words.specs.Literals.{variable}
 use Rattle.words.proofs.Words.{back}
 use Rattle.text.specs.declared.Letter.the-variants.{Extension}
-use Rattle.answer_set.specs.SetTest.{marked}
+use Rattle.marks.specs.Marks.{marked}
 use Rattle.checker.proofs.Letters.{first, some-number, introduced, extension-tracks}
 use borrow.Author.Needs.{needs}
 use Rattle.checker.proofs.naming.extension.Statement.{statement}

@@ -1,7 +1,7 @@
 -- `checker::report::put_counts` meets its contract.
 -- Assumes nothing.
 use native.Mathlib.Omega.{arith}
-use Rattle.checker.proofs.Puts.{put-on}
+use Rattle.text.proofs.Puts.{put-on}
 use borrow.Author.Needs.{needs}
 use Rattle.checker.proofs.report.put_counts.Statement.{statement}
 use Rattle.checker.proofs.report.put_counts.Tie as tie

@@ -1,7 +1,7 @@
 -- `checker::report::put_number` meets its contract.
 -- Assumes nothing.
 use native.Mathlib.Omega.{arith}
-use Rattle.checker.proofs.Puts.{put-on, decimal-short}
+use Rattle.text.proofs.Puts.{put-on, decimal-short}
 use borrow.Author.Needs.{needs}
 use Rattle.checker.proofs.report.put_number.Statement.{statement}
 use Rattle.checker.proofs.report.put_number.Tie as tie

@@ -1,7 +1,8 @@
 -- `checker::report::write_line` meets its contract: a word, and then numbers and the newline.
 -- Assumes nothing.
 use native.Mathlib.Omega.{arith}
-use Rattle.checker.proofs.Puts.{put-on, line-put}
+use Rattle.text.proofs.Puts.{put-on}
+use Rattle.checker.proofs.Puts.{line-put}
 use borrow.Author.Needs.{needs}
 use Rattle.checker.proofs.report.write_line.Statement.{statement}
 use Rattle.checker.proofs.report.write_line.Tie as tie

@@ -1,16 +1,14 @@
-use mathlib.Core.Path.{refl}
+use mathlib.Core.Path.{_≡_, refl}
 use mathlib.Core.List.{List}
 use Prim.Native.Nat.{ℕ, _+_, _-_, _<_}
 use native.Mathlib.Omega.{arith}
 use lib.IntN.{ℤ}
 use lib.ListN.{length, length-replicate}
 use Rattle.aspif.specs.Rules.{Rule}
-use Rattle.aspif.specs.Reading.{mostRules}
-use Rattle.answer_set.specs.SetTest.{rulesAt}
-use Rattle.answer_set.proofs.Readable.{rules-count}
+use Rattle.words.specs.Limits.{mostRules}
 use Rattle.drupe.specs.Lines.{lineAt}
-use Rattle.checker.specs.Held.{LineTurn}
-use Rattle.checker.proofs.Tracking.{start-tracks}
+use Rattle.checker.specs.Held.{Program, LineLeaves}
+use Rattle.checker.proofs.Tracking.{same-rules, rules-held, start-tracks}
 use Rattle.checker.proofs.Courses.{Going, going-start, going-ends, going-fails, going-on}
 use borrow.Author.Needs.{needs}
 use Rattle.checker.proofs.runs.run_lines.Statement.{statement}
@@ -18,18 +16,21 @@ use Rattle.checker.proofs.runs.run_lines.Tie as tie
 
 abbrev Inv-loop : tie.InvT-loop
 Inv-loop proof table rules atoms store₀ known₀ names₀ used₀ at₀ steps₀ store known names used at steps =
-    Going (rulesAt rules table) (length store₀) proof store known names used at steps
+    (P : List Rule) × Program table rules atoms P × Going P (length store₀) proof store known names used at steps
 
 abbrev μ-loop : tie.MeasureT-loop
 μ-loop proof table rules atoms store₀ known₀ names₀ used₀ at₀ steps₀ store known names used at steps = length proof - at
 
 -- where the loop stands, and what the turn there left
 module _ (c : tie.After-turn-at Inv-loop μ-loop) where
+  abbrev l : tie.At-loop Inv-loop μ-loop
+  l = c .before .before .before .before
+
   abbrev start : tie.Start Inv-loop μ-loop
-  start = c .before .before .before .before .before .before .before .before .before
+  start = l .before .before .before .before .before
 
   abbrev P : List Rule
-  P = rulesAt (start .args .rules) (start .args .table .now)
+  P = l .loop .inv .0
 
   abbrev store′ : List ℤ
   store′ = c .turn-at .last .1 .1 .1 .1 .1 .1 .1 .0
@@ -40,31 +41,34 @@ module _ (c : tie.After-turn-at Inv-loop μ-loop) where
   abbrev names′ : List ℕ
   names′ = c .turn-at .last .1 .1 .1 .1 .1 .1 .0
 
-  G : Going P (length (start .args .store .now)) (start .args .proof .now) (c .before .before .before .before .loop .store) (c .before .before .before .before .loop .known) (c .before .before .before .before .loop .names) (c .before .before .before .before .loop .used) (c .before .before .before .before .loop .at) (c .before .before .before .before .loop .steps)
-  G = c .before .before .before .before .loop .inv
+  G : Going P (length (start .args .store .now)) (start .args .proof .now) (l .loop .store) (l .loop .known) (l .loop .names) (l .loop .used) (l .loop .at) (l .loop .steps)
+  G = l .loop .inv .2
 
-  turned : LineTurn P known′ names′ store′ (c .before .before .before .before .loop .used) (G .z) (lineAt (start .args .proof .now) (c .before .before .before .before .loop .at)) (c .turn-at .result)
-  turned = c .turn-at .ensures (G .z) (G .tracks) (G .holds)
+  turned : LineLeaves P known′ names′ store′ (l .loop .used) (G .z) (lineAt (start .args .proof .now) (l .loop .at)) (c .turn-at .result)
+  turned = c .turn-at .ensures P (l .loop .inv .1) (G .z) (G .tracks) (G .holds)
+
+  -- every program that the table holds is the same
+  same : {Q : List Rule} → Program (start .args .table .now) (start .args .rules) (start .args .atoms) Q → Q ≡ P
+  same q = same-rules (q .holds) (l .loop .inv .1 .holds)
 
 start-requires : tie.Need-start-requires Inv-loop μ-loop
-start-requires c κs = c .before .pre .0 .high
+start-requires c κs = c .before .pre .0 .0 .1 .high
 
 loop-holds : tie.Need-loop-holds Inv-loop μ-loop
 loop-holds c =
     let s = c .before .before .start .ensures in
-    let p = c .before .before .before .before .pre in
-    let a = c .before .before .before .before .args in
-    let n = rules-count (a .rules) (a .table .now) in
-    rw (s .1, s .2) (going-start _ _ _ (start-tracks (rw (← p .0 .top) (s .0)) (omega (arith, p .0 .few, n))) (p .1 .1) refl (length-replicate {A = ℕ} mostRules 0))
+    let q = c .before .before .before .before .pre in
+    let p = q .0 .0 .1 in
+    rw (s .1, s .2) (q .0 .0 .0, p, going-start _ _ _ (start-tracks (rw (← p .top) (s .0)) (omega (arith, q .0 .1, rules-held (p .holds)))) (q .1 .1) refl (length-replicate {A = ℕ} mostRules 0))
 
 slice-aggregate-turn-at-2 : tie.Need-slice-aggregate-turn-at-2 Inv-loop μ-loop
-slice-aggregate-turn-at-2 c = let p = c .before .before .loop .inv .places in search needs
+slice-aggregate-turn-at-2 c = let p = c .before .before .loop .inv .2 .places in search needs
 
 turn-at-requires : tie.Need-turn-at-requires Inv-loop μ-loop
 turn-at-requires c κs =
-    let l = c .before .before .before .loop in
+    let i = c .before .before .before .loop .inv in
     let p = c .before .before .before .before .before .before .before .before .pre .0 in
-    ((p, omega (arith, p .few, l .inv .places)), (l .inv .z .live, l .inv .holds))
+    ((p .0, omega (arith, p .1, i .2 .places)), (i .2 .z .live, i .2 .holds))
 
 enum-told : tie.Need-enum-told Inv-loop μ-loop
 enum-told c = search needs
@@ -72,17 +76,16 @@ enum-told c = search needs
 returns : tie.Need-returns Inv-loop μ-loop
 returns c =
     let t = c .before .before .before .before .before in
-    going-ends _ _ _ (start t .pre .1 .0) (G t) (store′ t) (known′ t) (names′ t) (search needs) (search needs) (c .enum-told .given .1) (turned t)
+    λ Q q. rw (same t q) (going-ends _ _ _ (start t .pre .1 .0) (G t) (store′ t) (known′ t) (names′ t) (search needs) (search needs) (c .enum-told .given .1) (turned t))
 
 returns-2 : tie.Need-returns-2 Inv-loop μ-loop
 returns-2 c =
     let t = c .before .before .before .before .before .before in
-    going-fails _ _ _ (start t .pre .1 .0) (G t) (store′ t) (known′ t) (names′ t) (search needs) (search needs) _ (c .before .turned .given .1) (turned t)
+    λ Q q. rw (same t q) (going-fails _ _ _ (start t .pre .1 .0) (G t) (store′ t) (known′ t) (names′ t) (search needs) (search needs) _ (c .before .turned .given .1) (turned t))
 
 onward : (c : tie.After-known-told2 Inv-loop μ-loop)
     → (let t = c .before .before .before .before .before .before in let g = c .before .turned2 .given .0 in
-    Going (P t) (length (start t .args .store .now)) (start t .args .proof .now) (store′ t) (known′ t) (names′ t) (g .1 .0) (g .0) (t .before .before .before .before .loop .steps + 1)
-    × (t .before .before .before .before .loop .at < g .0))
+    Going (P t) (length (start t .args .store .now)) (start t .args .proof .now) (store′ t) (known′ t) (names′ t) (g .1 .0) (g .0) (l t .loop .steps + 1) × (l t .loop .at < g .0))
 onward c =
     let t = c .before .before .before .before .before .before in
     going-on _ _ _ (start t .pre .1 .0) (G t) (store′ t) (known′ t) (names′ t) (search needs) (search needs) _ _ (c .before .turned2 .given .1) (turned t)
@@ -91,7 +94,7 @@ loop-less : tie.Need-loop-less Inv-loop μ-loop
 loop-less c = let o = onward c in omega (arith, o .0 .within, o .1)
 
 loop-again : tie.Need-loop-again Inv-loop μ-loop
-loop-again c = onward c .0
+loop-again c = let i = l (c .before .before .before .before .before .before) .loop .inv in (i .0, i .1, onward c .0)
 
 pub run-lines-spec : {M : Type 1} → statement M
 run-lines-spec =

@@ -5,7 +5,6 @@ use lib.IntN.{pos}
 use lib.ListN.{take}
 use lib.Seq.{length-take-le}
 use Rattle.words.specs.Literals.{has}
-use Rattle.answer_set.specs.SetTest.{rulesAt}
 use Rattle.drupe.specs.Lines.{lineRefusal, line, lineAt}
 use Rattle.drupe.proofs.Lines.{passed-line}
 use Rattle.checker.proofs.Turns.{good-line, step-is, read-end, read-refused, read-line, read-count}
@@ -28,8 +27,8 @@ module _ (c : tie.After-answer2) where
 array-borrow-prefix-numbers : tie.Need-array-borrow-prefix-numbers
 array-borrow-prefix-numbers c = let d = c .before in read-count (b d .step-at .ensures) _ _ _ (d .answer2 .given .1)
 
-slice-aggregate-step : tie.Need-slice-aggregate-step
-slice-aggregate-step c = let d = c .before .before in sym (length-take-le _ _ (read-count (b d .step-at .ensures) _ _ _ (d .answer2 .given .1)))
+slice-aggregate-line : tie.Need-slice-aggregate-line
+slice-aggregate-line c = let d = c .before .before in sym (length-take-le _ _ (read-count (b d .step-at .ensures) _ _ _ (d .answer2 .given .1)))
 
 step-requires : tie.Need-step-requires
 step-requires c κs =
@@ -38,20 +37,18 @@ step-requires c κs =
     (s .pre .0, (s .pre .1, good-line _ _ (good d .0) (good d .1)))
 
 returns : tie.Need-returns
-returns c = λ z T H. rw (read-end (c .before .before .before .step-at .ensures) (c .enum-told .given .1)) (refl, H)
+returns c = λ P p z T H. rw (read-end (c .before .before .before .step-at .ensures) (c .enum-told .given .1)) (refl, H)
 
 returns-2 : tie.Need-returns-2
-returns-2 c = λ z T H. rw (read-refused (c .before .before .before .before .step-at .ensures) _ (c .before .answer .given .1)) refl
+returns-2 c = λ P p z T H. rw (read-refused (c .before .before .before .before .step-at .ensures) _ (c .before .answer .given .1)) refl
 
 returns-3 : tie.Need-returns-3
-returns-3 c = λ z T H.
+returns-3 c = λ P p z T H.
     let t = c .before .before .before .before .before .before .before .step in
     let d = c .before .before .before .before .before .before .before .before .before .before .before .before .before in
-    let a = d .before .before .before .before .before .before .before .args in
-    let P = rulesAt (a .rules) (a .table .now) in
     let g = d .answer2 .given .0 in
     let zs = take (g .1 .0) (b d .step-at .result .numbers) in
-    rw (there d, step-is (g .0) zs (good d .0) (good d .1) P z) (t .result, c .turn-of .ensures, t .ensures z T H)
+    rw (there d, step-is (g .0) zs (good d .0) (good d .1) P z) (t .result, c .turn-of .ensures, t .ensures P p z T H)
 
 pub turn-at-spec : {M : Type 1} → statement M
 turn-at-spec =
@@ -62,7 +59,7 @@ turn-at-spec =
     (λ c. search needs)
     (λ c. search needs)
     array-borrow-prefix-numbers
-    slice-aggregate-step
+    slice-aggregate-line
     step-requires
     (λ c κs. search needs)
     returns

@@ -1,14 +1,22 @@
 use mathlib.Core.Path.{_≡_, subst}
-use Rattle.answer_set.specs.SetTest.{rulesAt}
+use mathlib.Core.List.{List}
+use Prim.Native.Nat.{_≤_}
+use lib.ListN.{length}
+use Rattle.aspif.specs.Rules.{Rule}
 use Rattle.text.specs.declared.Letter.{Letter}
-use Rattle.checker.specs.Held.{Line}
+use Rattle.names.specs.Queries.{HoldsRules}
+use Rattle.checker.specs.Held.{PassedLine}
 use borrow.Author.Needs.{needs}
 use Rattle.checker.proofs.steps.step.Statement.{statement}
 use Rattle.checker.proofs.steps.step.Tie as tie
 
--- the numbers are those of the letter that was told
-line : (s : tie.Start) {x : Letter} → s .args .letter ≡ x → Line x (s .args .numbers .now)
-line s e = subst (λ x. Line x (s .args .numbers .now)) e (s .pre .1 .1)
+-- the line passed 22 to 25 for the letter that was told
+line : (s : tie.Start) {x : Letter} → s .args .letter ≡ x → PassedLine x (s .args .line .now)
+line s e = subst (λ x. PassedLine x (s .args .line .now)) e (s .pre .1 .1)
+
+-- what `body` and `completion` ask of the table: the rules alone
+rules : (s : tie.Start) → ((P : List Rule) × HoldsRules (s .args .table .now) (s .args .rules) P) × (s .args .rules ≤ length (s .args .names .now))
+rules s = let p = s .pre .0 in ((p .0 .0, p .0 .1 .holds), p .1)
 
 addition-requires : tie.Need-addition-requires
 addition-requires c κs =
@@ -20,13 +28,13 @@ body-requires : tie.Need-body-requires
 body-requires c κs =
     let t = c .before .before .before .before in
     let s = t .before .before .before .before in
-    ((s .pre .0 .0 .sound, s .pre .0 .1), (s .pre .1 .0, line s (t .enum-told2 .given .1)))
+    (rules s, (s .pre .1 .0, line s (t .enum-told2 .given .1)))
 
 completion-requires : tie.Need-completion-requires
 completion-requires c κs =
     let t = c .before .before .before .before in
     let s = t .before .before .before .before in
-    ((s .pre .0 .0 .sound, s .pre .0 .1), (s .pre .1 .0, line s (t .enum-told3 .given .1)))
+    (rules s, (s .pre .1 .0, line s (t .enum-told3 .given .1)))
 
 deletion-requires : tie.Need-deletion-requires
 deletion-requires c κs =
@@ -56,43 +64,43 @@ returns : tie.Need-returns
 returns c =
     let t = c .before .before .before .before .before .before in
     let s = t .before .before .before .before in
-    λ z tracks H. rw (t .enum-told .given .1) (c .before .before .addition .ensures (rulesAt (s .args .rules) (s .args .table .now)) (s .args .names .now) z tracks H)
+    λ P p z tracks H. rw (t .enum-told .given .1) (c .before .before .addition .ensures P (s .args .names .now) z tracks H)
 
 returns-2 : tie.Need-returns-2
 returns-2 c =
     let t = c .before .before .before .before .before .before .before .before .before .before .before in
     let s = t .before .before .before .before in
-    λ z tracks H. rw (t .enum-told2 .given .1) (c .before .before .before .before .before .before .body .ensures z tracks H)
+    λ P p z tracks H. rw (t .enum-told2 .given .1) (c .before .before .before .before .before .before .body .ensures P (p .holds) z tracks H)
 
 returns-3 : tie.Need-returns-3
 returns-3 c =
     let t = c .before .before .before .before .before .before .before in
     let s = t .before .before .before .before in
-    λ z tracks H. rw (t .enum-told3 .given .1) (c .before .before .completion .ensures z tracks H)
+    λ P p z tracks H. rw (t .enum-told3 .given .1) (c .before .before .completion .ensures P (p .holds) z tracks H)
 
 returns-4 : tie.Need-returns-4
 returns-4 c =
     let t = c .before .before .before .before .before .before in
     let s = t .before .before .before .before in
-    λ z tracks H. rw (t .enum-told4 .given .1) (c .before .before .deletion .ensures (rulesAt (s .args .rules) (s .args .table .now)) (s .args .names .now) z tracks H)
+    λ P p z tracks H. rw (t .enum-told4 .given .1) (c .before .before .deletion .ensures P (s .args .names .now) z tracks H)
 
 returns-5 : tie.Need-returns-5
 returns-5 c =
     let t = c .before .before .before .before .before .before .before .before in
     let s = t .before .before .before .before in
-    λ z tracks H. rw (t .enum-told5 .given .1) (c .before .before .before .before .extension .ensures (rulesAt (s .args .rules) (s .args .table .now)) (s .args .names .now) z tracks H)
+    λ P p z tracks H. rw (t .enum-told5 .given .1) (c .before .before .before .before .extension .ensures P (s .args .names .now) z tracks H)
 
 returns-6 : tie.Need-returns-6
 returns-6 c =
     let t = c .before .before .before .before .before .before in
     let s = t .before .before .before .before in
-    λ z tracks H. rw (t .enum-told6 .given .1) (c .before .loops .ensures z tracks H)
+    λ P p z tracks H. rw (t .enum-told6 .given .1) (c .before .loops .ensures P p z tracks H)
 
 returns-7 : tie.Need-returns-7
 returns-7 c =
     let t = c .before .before .before .before .before .before .before in
     let s = t .before .before .before .before in
-    λ z tracks H. rw (t .enum-told7 .given .1) (c .before .before .support .ensures z tracks H)
+    λ P p z tracks H. rw (t .enum-told7 .given .1) (c .before .before .support .ensures P p z tracks H)
 
 pub step-spec : {M : Type 1} → statement M
 step-spec =

@@ -1,11 +1,13 @@
 use mathlib.Core.Path.{_≡_, refl, sym, _∙_}
+use mathlib.Core.List.{List}
 use borrow.Author.Tests.{not-true, not-false}
 use lib.ListN.{drop}
 use Rattle.words.proofs.Words.{back}
 use Rattle.text.specs.declared.Letter.the-variants.{Completion}
-use Rattle.answer_set.specs.SetTest.{rulesAt}
+use Rattle.aspif.specs.Rules.{Rule}
 use Rattle.derivation.specs.States.{State}
 use Rattle.derivation.specs.Steps.{isCompletion}
+use Rattle.names.specs.Queries.{HoldsRules}
 use Rattle.checker.specs.Held.{Tracks}
 use Rattle.checker.proofs.Letters.{first, some-number, cited, completed}
 use borrow.Author.Needs.{needs}
@@ -14,7 +16,7 @@ use Rattle.checker.proofs.supports.completion.Tie as tie
 
 returns : tie.Need-returns
 returns c =
-    λ z T H.
+    λ P p z T H.
     let s = c .before .before .before .before .before in
     rw (cited z T Completion _ (s .pre .1 .1) refl (sym (c .before .all-marked .ensures) ∙ not-true _ (c .if1 .taken))) refl
 
@@ -28,21 +30,21 @@ slice-copy-out-variable-of : tie.Need-slice-copy-out-variable-of
 slice-copy-out-variable-of c = search (needs, some-number Completion refl (c .before .before .before .before .before .before .before .before .before .pre .1 .1))
 
 -- question 29
-answer : (c : tie.After-is-marked) (z : State) → let a = c .before .before .before .before .before .before .before .before .before .before .before .before .args in
-    Tracks (rulesAt (a .rules) (a .table .now)) (a .known .now) (a .names .now) (z .introduced) (z .named)
-    → c .is-marked .result ≡ isCompletion (rulesAt (a .rules) (a .table .now)) z (first (a .numbers .now)) (drop 1 (a .numbers .now))
-answer c z T =
+answer : (c : tie.After-is-marked) (P : List Rule) (z : State) → let a = c .before .before .before .before .before .before .before .before .before .before .before .before .args in
+    HoldsRules (a .table .now) (a .rules) P → Tracks P (a .known .now) (a .names .now) (z .introduced) (z .named)
+    → c .is-marked .result ≡ isCompletion P z (first (a .numbers .now)) (drop 1 (a .numbers .now))
+answer c P z p T =
     let v = c .before in
     let f = v .before .before .before in
     let s = f .before .before .before .before .before .before .before .before in
-    rw (v .variable-of .ensures, back _ (v .before .variable-of-arg .given)) at (c .is-marked .ensures) ∙ completed z T _ (s .pre .1 .1) (f .names-of .ensures)
+    rw (v .variable-of .ensures, back _ (v .before .variable-of-arg .given)) at (c .is-marked .ensures) ∙ completed z T _ (s .pre .1 .1) (f .names-of .ensures P p)
 
 returns-2 : tie.Need-returns-2
 returns-2 c =
-    λ z T H.
+    λ P p z T H.
     let k = c .before .before .before .before .before .before .before .before in
     let s = k .before .before .before .before .before in
-    rw (cited z T Completion _ (s .pre .1 .1) refl (sym (k .before .all-marked .ensures) ∙ not-false _ (k .if1 .left)), sym (answer (c .before) z T) ∙ not-true _ (c .if2 .taken)) refl
+    rw (cited z T Completion _ (s .pre .1 .1) refl (sym (k .before .all-marked .ensures) ∙ not-false _ (k .if1 .left)), sym (answer (c .before) P z p T) ∙ not-true _ (c .if2 .taken)) refl
 
 join-requires : tie.Need-join-requires
 join-requires c κs =
@@ -52,11 +54,11 @@ join-requires c κs =
 
 returns-3 : tie.Need-returns-3
 returns-3 c =
-    λ z T H.
+    λ P p z T H.
     let m = c .before .before .before .before .before in
     let k = m .before .before .before .before .before .before .before .before in
     let s = k .before .before .before .before .before in
-    rw (cited z T Completion _ (s .pre .1 .1) refl (sym (k .before .all-marked .ensures) ∙ not-false _ (k .if1 .left)), sym (answer (m .before) z T) ∙ not-false _ (m .if2 .left))
+    rw (cited z T Completion _ (s .pre .1 .1) refl (sym (k .before .all-marked .ensures) ∙ not-false _ (k .if1 .left)), sym (answer (m .before) P z p T) ∙ not-false _ (m .if2 .left))
     (c .before .before .join .ensures (z .live) H, T)
 
 pub completion-spec : {M : Type 1} → statement M

@@ -16,9 +16,9 @@ head c = rw (back _ (c .before .h .given)) at (c .variable-of .ensures)
 
 returns : tie.Need-returns
 returns c =
-    λ known z T.
+    λ P p known z T.
     let s = c .before .before .before .before in
-    sym (no-atom z T (s .args .numbers .now) (omega (arith, s .pre .0 .0 .top, c .if1 .taken, head (c .before))))
+    sym (no-atom z T (s .args .numbers .now) (omega (arith, p .top, c .if1 .taken, head (c .before))))
 
 sub-marks-of : tie.Need-sub-marks-of
 sub-marks-of c = some-number Support refl (c .before .before .before .before .pre .1)
@@ -28,12 +28,12 @@ part-marks-of-start c = search (needs, some-number Support refl (c .before .befo
 
 returns-2 : tie.Need-returns-2
 returns-2 c =
-    λ known z T.
+    λ P p known z T.
     let k = c .before .before .before .before .before .before .before in
     let s = k .before .before .before .before in
     c .is-same-set .ensures
-    ∙ supported z T (s .args .numbers .now) (s .pre .1) (omega (arith, s .pre .0 .0 .top, k .if1 .left, head (k .before))) _ (back _ (k .before .before .h .given))
-    (c .before .before .before .before .before .marks-of .ensures) (c .before .before .before .names-of .ensures)
+    ∙ supported z T (s .args .numbers .now) (s .pre .1) (omega (arith, p .top, k .if1 .left, head (k .before))) _ (back _ (k .before .before .h .given))
+    (c .before .before .before .before .before .marks-of .ensures) (c .before .before .before .names-of .ensures P (p .holds))
 
 pub is-supported-spec : {M : Type 1} → statement M
 is-supported-spec =

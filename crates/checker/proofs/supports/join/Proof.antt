@@ -3,7 +3,7 @@ use lib.IntN.{pos}
 use lib.ListN.{drop, getD}
 use Rattle.words.proofs.Parts.{tail-of}
 use Rattle.nogoods.proofs.Literals.{literals-tail}
-use Rattle.nogoods.proofs.Defined.{apart}
+use Rattle.nogoods.proofs.Defined.{name-and-literals}
 use Rattle.checker.proofs.Kept.{kept-added, Joined, joined}
 use borrow.Author.Needs.{needs}
 use Rattle.checker.proofs.supports.join.Statement.{statement}
@@ -13,7 +13,7 @@ complement-all-requires : tie.Need-complement-all-requires
 complement-all-requires c κs =
     let s = c .before in
     let l = s .args .numbers .now in
-    rw (tail-of 1 l) (literals-tail (getD l 0 (pos 0)) (drop 1 l) (apart l (s .pre .1 .1) (s .pre .1 .0)) .high)
+    rw (tail-of 1 l) (literals-tail (getD l 0 (pos 0)) (drop 1 l) (name-and-literals l (s .pre .1 .1) (s .pre .1 .0)) .high)
 
 -- the numbers as they are added
 module _ (c : tie.After-sort) where

@@ -5,8 +5,8 @@ use lib.ListN.{length, take}
 use mir.Syntax.{w32}
 use mir.Val.{toZ, ofZ}
 use mir.Facts.{toZ-ofZ}
-use Rattle.words.specs.Limits.{largest}
-use Rattle.answer_set.specs.SetTest.{marked, marksLent}
+use Rattle.words.specs.Limits.{largest, entries}
+use Rattle.marks.specs.Marks.{marked}
 use Rattle.checker.specs.Held.{gathered}
 use Rattle.checker.proofs.Gathering.{gathered-on, gathered-all}
 use borrow.Author.Needs.{needs}
@@ -15,10 +15,10 @@ use Rattle.checker.proofs.unfounded.gather.Tie as tie
 
 abbrev Inv-loop : tie.InvT-loop
 Inv-loop h found row₀ count₀ v₀ row count v =
-    (1 ≤ v) × (v ≤ marksLent) × (count < v) × (length row ≡ length row₀) × (take count row ≡ gathered (marked found) (toZ w32 h) (v - 1) 1)
+    (1 ≤ v) × (v ≤ entries) × (count < v) × (length row ≡ length row₀) × (take count row ≡ gathered (marked found) (toZ w32 h) (v - 1) 1)
 
 abbrev μ-loop : tie.MeasureT-loop
-μ-loop h found row₀ count₀ v₀ row count v = marksLent - v
+μ-loop h found row₀ count₀ v₀ row count v = entries - v
 
 loop-holds : tie.Need-loop-holds Inv-loop μ-loop
 loop-holds c = (omega arith, omega arith, omega arith, refl, refl)

@@ -8,7 +8,7 @@ use mir.Syntax.{w32}
 use mir.Val.{toZ, ofZ}
 use mir.Facts.{toZ-ofZ, toZ-pos}
 use Rattle.words.specs.Literals.{variable, complement}
-use Rattle.answer_set.specs.SetTest.{marked}
+use Rattle.marks.specs.Marks.{marked}
 use Rattle.checker.proofs.Gathering.{gather-first, gather-name, gather-none, put-word}
 use borrow.Author.Needs.{needs, sfits-of}
 use Rattle.checker.proofs.unfounded.gather_one.Statement.{statement}

@@ -1,7 +1,7 @@
 use mathlib.Core.Path.{_≡_, refl, sym, ap, subst, _∙_}
 use mathlib.Core.Bool.{true}
 use mathlib.Core.List.{List}
-use Prim.Native.Nat.{_≤_}
+use Prim.Native.Nat.{ℕ, _≤_}
 use native.Mathlib.Omega.{arith}
 use borrow.Author.Tests.{not-true, not-false}
 use lib.IntN.{ℤ, pos}
@@ -11,11 +11,10 @@ use Rattle.words.specs.Limits.{largest}
 use Rattle.words.specs.Lists.{all}
 use Rattle.words.specs.Literals.{variable, top}
 use Rattle.words.proofs.Words.{back}
-use Rattle.aspif.specs.Rules.{atoms}
-use Rattle.answer_set.specs.SetTest.{marked, rulesAt}
+use Rattle.marks.specs.Marks.{marked}
 use Rattle.text.specs.declared.Letter.the-variants.{Loop}
-use Rattle.nogoods.specs.Store.{Literals}
-use Rattle.checker.specs.Held.{Line, gathered}
+use Rattle.nogoods.specs.Keeps.{Literals}
+use Rattle.checker.specs.Held.{PassedLine, gathered}
 use Rattle.checker.proofs.Letters.{some-number, cited}
 use Rattle.checker.proofs.Kept.{kept-added}
 use Rattle.checker.proofs.Gathering.{gathered-literals}
@@ -32,34 +31,34 @@ module _ (c : tie.Else2) where
   abbrev U : List ℤ
   U = s .args .numbers .now
 
-  line : Line Loop U
+  line : PassedLine Loop U
   line = s .pre .1 .1
 
   known : all (λ x. marked (s .args .known .now) (variable x)) U ≡ true
   known = let d = c .before .before in sym (d .before .all-marked .ensures) ∙ not-false _ (d .if1 .left)
 
-  low : top U ≤ atoms (rulesAt (s .args .rules) (s .args .table .now))
-  low = omega (arith, c .if2 .left, c .before .largest-variable .ensures, s .pre .0 .0 .top)
+  low : {N : ℕ} → s .args .atoms ≡ N → top U ≤ N
+  low e = omega (arith, c .if2 .left, c .before .largest-variable .ensures)
 
 returns : tie.Need-returns
 returns c =
     let s = c .before .before .before .before in
-    λ z tracks H. rw (cited z tracks Loop (s .args .numbers .now) (s .pre .1 .1) refl (sym (c .before .all-marked .ensures) ∙ not-true _ (c .if1 .taken))) refl
+    λ P p z tracks H. rw (cited z tracks Loop (s .args .numbers .now) (s .pre .1 .1) refl (sym (c .before .all-marked .ensures) ∙ not-true _ (c .if1 .taken))) refl
 
 returns-2 : tie.Need-returns-2
 returns-2 c =
     let d = c .before .before in
     let s = d .before .before .before .before in
-    λ z tracks H.
+    λ P p z tracks H.
     loop-atoms z tracks _ (s .args .numbers .now) (s .pre .1 .1) (sym (d .before .all-marked .ensures) ∙ not-false _ (d .if1 .left))
-    (omega (arith, c .if2 .taken, c .before .largest-variable .ensures, s .pre .0 .0 .top))
+    (omega (arith, c .if2 .taken, c .before .largest-variable .ensures, p .top))
 
 returns-3 : tie.Need-returns-3
 returns-3 c =
     let n = c .before .before .before in
     let m = n .before .before in
     let e = m .before in
-    λ z tracks H. loop-named z tracks _ (n .names-of .ensures) (U e) (line e) (known e) (low e) (m .marks-of .ensures) (sym (c .before .is-marked .ensures) ∙ c .if3 .taken)
+    λ P p z tracks H. loop-named z tracks _ (n .names-of .ensures P (p .holds)) (U e) (line e) (known e) (low e (p .top)) (m .marks-of .ensures) (sym (c .before .is-marked .ensures) ∙ c .if3 .taken)
 
 shared-slice-copy-out-gather : tie.Need-shared-slice-copy-out-gather
 shared-slice-copy-out-gather c =
@@ -97,9 +96,8 @@ returns-4 c =
     let d = g .before .before .before .before in
     let n = names g in
     let e = tests g in
-    let p = s e .pre .0 .0 in
-    λ z tracks H.
-    loop-added z tracks _ (n .names-of .ensures) (U e) (line e) (known e) (low e) (n .before .before .marks-of .ensures) (sym (d .before .is-marked .ensures) ∙ d .if3 .left)
+    λ P p z tracks H.
+    loop-added z tracks _ (n .names-of .ensures P (p .holds)) (U e) (line e) (known e) (low e (p .top)) (n .before .before .marks-of .ensures) (sym (d .before .is-marked .ensures) ∙ d .if3 .left)
     (omega (arith, p .top, p .high)) (c .fitted .result) (kept-added (z .live) _ (a .append .result) (c .fitted .ensures) (gives g) (a .append .ensures (z .live) H))
 
 pub loops-spec : {M : Type 1} → statement M

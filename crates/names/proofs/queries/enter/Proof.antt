@@ -8,8 +8,8 @@ use lib.ListN.{length, take, drop, getD, length-set, take-append-drop}
 use Rattle.words.specs.Literals.{sameList}
 use Rattle.words.proofs.Parts.{tail-of}
 use Rattle.aspif.specs.Rules.{Rule}
-use Rattle.answer_set.specs.SetTest.{sizeAt, ruleAt, rulesAt}
-use Rattle.answer_set.proofs.Fronts.{Cursor, Turn, turn, shape-of, no-rules}
+use Rattle.aspif.specs.Tables.{sizeAt, ruleAt, rulesAt}
+use Rattle.aspif.proofs.Cursors.{Cursor, AtRule, at-rule, no-rules}
 use Rattle.names.specs.Queries.{renamed}
 use Rattle.names.proofs.Picks.{renamed-on}
 use borrow.Author.Needs.{needs}
@@ -51,8 +51,8 @@ module _ (c : tie.After-rest Inv-loop μ-loop) where
   abbrev f : Rule → Bool
   f = with (s .args .body .now)
 
-  at : Turn t (c .before .before .loop .inv .0) i
-  at = let l = c .before .before .loop in turn (omega (arith, c .before .loop-test .taken, l .inv .1)) (l .inv .2)
+  at : AtRule t (c .before .before .loop .inv .0) i
+  at = let l = c .before .before .loop in at-rule (omega (arith, c .before .loop-test .taken, l .inv .1)) (l .inv .2)
 
   room : k < length ns
   room = omega (arith, s .pre .1, c .before .loop-test .taken, c .before .before .loop .inv .3)
@@ -62,30 +62,24 @@ told : (c : tie.After-name-for Inv-loop μ-loop)
     → (let d = c .before .before in c .name-for .result ≡ cond (f d (ruleAt (drop (i d) (t d)))) (s d .args .name) (getD (ns d) (k d) 0))
 told c = let d = c .before .before in rw (tail-of (i d) (t d)) at (c .name-for .ensures)
 
-size : (c : tie.After-rule-size Inv-loop μ-loop) → (let d = c .before .before .before in c .rule-size .result ≡ sizeAt (drop (i d) (t d)))
-size c = let d = c .before .before .before in (rw (tail-of (i d) (t d)) at (c .rule-size .ensures)) .0
-
 loop-holds : tie.Need-loop-holds Inv-loop μ-loop
-loop-holds c = let s = c .before in (s .args .rules, omega arith, record { within = omega arith; sound = s .pre .0 }, refl, refl)
+loop-holds c = let s = c .before in (s .args .rules, omega arith, record { within = omega arith; sound = s .pre .0 .1 .sound }, refl, refl)
 
 mul-rest : tie.Need-mul-rest Inv-loop μ-loop
 mul-rest c = let w = c .before .loop .inv .2 .within in search needs
 
 name-for-requires : tie.Need-name-for-requires Inv-loop μ-loop
-name-for-requires c κs = let d = c .before in rw (tail-of (i d) (t d)) (shape-of _ (at d .sound))
+name-for-requires c κs = let d = c .before in rw (tail-of (i d) (t d)) (at d .here .1)
 
-rule-size-requires : tie.Need-rule-size-requires Inv-loop μ-loop
-rule-size-requires c κs = let d = c .before .before in rw (tail-of (i d) (t d)) (shape-of _ (at d .sound))
-
-add-i : tie.Need-add-i Inv-loop μ-loop
-add-i c = let n = at (c .before .before .before) .next .within in record { fits = omega (arith, size c) }
+next-rule-requires : tie.Need-next-rule-requires Inv-loop μ-loop
+next-rule-requires c κs = at (c .before .before) .here
 
 loop-again : tie.Need-loop-again Inv-loop μ-loop
 loop-again c =
     let d = c .before .before .before in
     let l = d .before .before .loop in
     let rest = rulesAt (l .inv .0 - 1) (drop (i d + sizeAt (drop (i d) (t d))) (t d)) in
-    rw (size c) (
+    rw (c .next-rule .ensures .0) (
       l .inv .0 - 1,
       omega (arith, d .before .loop-test .taken, l .inv .1),
       at d .next,
@@ -100,7 +94,7 @@ returns : tie.Need-returns Inv-loop μ-loop
 returns c =
     let l = c .before .loop in
     let none = no-rules (l .inv .0) (drop (l .i) (c .before .before .before .args .table .now)) (omega (arith, c .loop-test .left, l .inv .1)) in
-    sym (rw (none, take-append-drop (l .k) (l .names)) at (l .inv .4))
+    λ P H. rw (← H .are) (sym (rw (none, take-append-drop (l .k) (l .names)) at (l .inv .4)))
 
 pub enter-spec : {M : Type 1} → statement M
 enter-spec =
@@ -118,8 +112,7 @@ enter-spec =
     name-for-requires
     (λ c. search needs)
     (λ c. room (c .before .before))
-    rule-size-requires
-    add-i
+    next-rule-requires
     (λ c. search needs)
     (λ c. omega arith)
     loop-again

@@ -1,7 +1,7 @@
 use mathlib.Core.Path.{_≡_, sym, _∙_, ap}
 use mathlib.Core.Bool.{not}
 use Rattle.words.specs.Lists.{any}
-use Rattle.answer_set.specs.SetTest.{headsAt}
+use Rattle.aspif.specs.Tables.{headsAt}
 use Rattle.names.specs.Queries.{isInside}
 use borrow.Author.Needs.{needs}
 use Rattle.names.proofs.queries.is_external.Statement.{statement}

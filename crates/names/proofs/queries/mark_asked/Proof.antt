@@ -1,5 +1,5 @@
 use mathlib.Core.Path.{_≡_, sym, _∙_}
-use Rattle.answer_set.specs.SetTest.{ruleAt}
+use Rattle.aspif.specs.Tables.{ruleAt}
 use Rattle.names.specs.Queries.{asks}
 use borrow.Author.Needs.{needs}
 use Rattle.names.proofs.queries.mark_asked.Statement.{statement}

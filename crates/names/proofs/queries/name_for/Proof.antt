@@ -1,6 +1,6 @@
 use mathlib.Core.Path.{_≡_, sym, _∙_}
 use Rattle.words.specs.Literals.{sameList}
-use Rattle.answer_set.specs.SetTest.{bodyAt}
+use Rattle.aspif.specs.Tables.{bodyAt}
 use borrow.Author.Needs.{needs}
 use Rattle.names.proofs.queries.name_for.Statement.{statement}
 use Rattle.names.proofs.queries.name_for.Tie as tie

@@ -7,10 +7,10 @@ use lib.IntN.{ℤ}
 use lib.ListN.{drop, getD, set}
 use Rattle.words.proofs.Parts.{tail-of}
 use Rattle.aspif.specs.Rules.{Rule}
-use Rattle.answer_set.specs.SetTest.{sizeAt, ruleAt, rulesAt}
-use Rattle.answer_set.proofs.Fronts.{Cursor, Turn, turn, shape-of, no-rules}
+use Rattle.aspif.specs.Tables.{sizeAt, ruleAt, rulesAt}
+use Rattle.aspif.proofs.Cursors.{Cursor, AtRule, at-rule, no-rules}
 use Rattle.names.specs.Queries.{asks, picks}
-use Rattle.names.proofs.Sets.{Found, found-none, found-all}
+use Rattle.marks.proofs.Sets.{MarkedSoFar, found-none, found-all}
 use Rattle.names.proofs.Picks.{found-pick}
 use borrow.Author.Needs.{needs}
 use Rattle.names.proofs.queries.names_of.Statement.{statement}
@@ -21,7 +21,7 @@ Inv-loop table rules names query literals inside found₀ k₀ i₀ found k i =
     (left : ℕ)
     × (k + left ≡ rules)
     × Cursor table left i
-    × Found found (picks (asks query literals inside) (rulesAt left (drop i table)) (drop k names)) (picks (asks query literals inside) (rulesAt rules table) names)
+    × MarkedSoFar found (picks (asks query literals inside) (rulesAt left (drop i table)) (drop k names)) (picks (asks query literals inside) (rulesAt rules table) names)
 
 abbrev μ-loop : tie.MeasureT-loop
 μ-loop table rules names query literals inside found₀ k₀ i₀ found k i = rules - k
@@ -43,8 +43,8 @@ module _ (c : tie.After-rest Inv-loop μ-loop) where
   abbrev f : Rule → Bool
   f = asks (s .args .query) (s .args .literals .now) (s .args .inside .now)
 
-  at : Turn t (c .before .before .loop .inv .0) i
-  at = let l = c .before .before .loop in turn (omega (arith, c .before .loop-test .taken, l .inv .1)) (l .inv .2)
+  at : AtRule t (c .before .before .loop .inv .0) i
+  at = let l = c .before .before .loop in at-rule (omega (arith, c .before .loop-test .taken, l .inv .1)) (l .inv .2)
 
 -- what the call tells of the rule and its name
 told : (c : tie.After-mark-asked Inv-loop μ-loop)
@@ -53,11 +53,8 @@ told : (c : tie.After-mark-asked Inv-loop μ-loop)
     c .mark-asked .last .1 .1 .1 .1 .1 .0 ≡ cond (f d (ruleAt (drop (i d) (t d)))) (set (l .found) (getD (s d .args .names .now) (k d) 0) 1) (l .found))
 told c = let d = c .before .before .before in rw (tail-of (i d) (t d)) at (c .mark-asked .ensures)
 
-size : (c : tie.After-rule-size Inv-loop μ-loop) → (let d = c .before .before .before .before .before in c .rule-size .result ≡ sizeAt (drop (i d) (t d)))
-size c = let d = c .before .before .before .before .before in (rw (tail-of (i d) (t d)) at (c .rule-size .ensures)) .0
-
 loop-holds : tie.Need-loop-holds Inv-loop μ-loop
-loop-holds c = let s = c .before .before in (s .args .rules, omega arith, record { within = omega arith; sound = s .pre .0 }, found-none _)
+loop-holds c = let s = c .before .before in (s .args .rules, omega arith, record { within = omega arith; sound = s .pre .0 .1 .sound }, found-none _)
 
 mul-rest : tie.Need-mul-rest Inv-loop μ-loop
 mul-rest c = let w = c .before .loop .inv .2 .within in search needs
@@ -69,20 +66,17 @@ slice-aggregate-mark-asked : tie.Need-slice-aggregate-mark-asked Inv-loop μ-loo
 slice-aggregate-mark-asked c = sym (c .before .before .before .before .loop .inv .3 .long)
 
 mark-asked-requires : tie.Need-mark-asked-requires Inv-loop μ-loop
-mark-asked-requires c κs = let d = c .before .before in rw (tail-of (i d) (t d)) (shape-of _ (at d .sound))
+mark-asked-requires c κs = let d = c .before .before in rw (tail-of (i d) (t d)) (at d .here .1)
 
-rule-size-requires : tie.Need-rule-size-requires Inv-loop μ-loop
-rule-size-requires c κs = let d = c .before .before .before .before in rw (tail-of (i d) (t d)) (shape-of _ (at d .sound))
-
-add-i : tie.Need-add-i Inv-loop μ-loop
-add-i c = let n = at (c .before .before .before .before .before) .next .within in record { fits = omega (arith, size c) }
+next-rule-requires : tie.Need-next-rule-requires Inv-loop μ-loop
+next-rule-requires c κs = at (c .before .before .before .before) .here
 
 loop-again : tie.Need-loop-again Inv-loop μ-loop
 loop-again c =
     let m = c .before .before in
     let d = m .before .before .before in
     let l = d .before .before .loop in
-    rw (size c) (
+    rw (c .next-rule .ensures .0) (
       l .inv .0 - 1,
       omega (arith, d .before .loop-test .taken, l .inv .1),
       at d .next,
@@ -92,7 +86,8 @@ loop-again c =
 returns : tie.Need-returns Inv-loop μ-loop
 returns c =
     let l = c .before .loop in
-    found-all (rw (no-rules (l .inv .0) (drop (l .i) (c .before .before .before .before .args .table .now)) (omega (arith, c .loop-test .left, l .inv .1))) at (l .inv .3))
+    let none = no-rules (l .inv .0) (drop (l .i) (c .before .before .before .before .args .table .now)) (omega (arith, c .loop-test .left, l .inv .1)) in
+    λ P H. rw (← H .are) (found-all (rw none at (l .inv .3)))
 
 pub names-of-spec : {M : Type 1} → statement M
 names-of-spec =
@@ -109,8 +104,7 @@ names-of-spec =
     shared-slice-read-mark-asked
     slice-aggregate-mark-asked
     mark-asked-requires
-    rule-size-requires
-    add-i
+    next-rule-requires
     (λ c. search needs)
     (λ c. omega arith)
     loop-again

@@ -6,8 +6,9 @@ use Rattle.words.proofs.Parts.{tail-of}
 use Rattle.words.proofs.Places.{in-at}
 use Rattle.words.proofs.Sorting.{length-ascending}
 use Rattle.words.proofs.Words.{back}
+use Rattle.nogoods.specs.Store.{headerSize}
 use Rattle.nogoods.proofs.Literals.{literals-ascending, literals-tail}
-use Rattle.nogoods.proofs.Defined.{apart, others-sorted, definition-written}
+use Rattle.nogoods.proofs.Defined.{name-and-literals, others-sorted, definition-written}
 use borrow.Author.Needs.{needs}
 use Rattle.nogoods.proofs.definitions.write_definition.Statement.{statement}
 use Rattle.nogoods.proofs.definitions.write_definition.Tie as tie
@@ -16,7 +17,8 @@ write-first-requires : tie.Need-write-first-requires
 write-first-requires c κs =
     let s = c .before .before .before in
     let l = s .args .numbers .now in
-    (s .pre .0 .high (getD l 0 (pos 0)) (in-at (pos 0) l 0 (s .pre .1)), s .pre .1, s .pre .2, omega (arith, s .pre))
+    let p = s .pre .0 in
+    ((p .0 .high (getD l 0 (pos 0)) (in-at (pos 0) l 0 (p .1)), p .1), (p .2, omega (arith, p .1, s .pre .1)))
 
 write-pairs-requires : tie.Need-write-pairs-requires
 write-pairs-requires c κs =
@@ -24,10 +26,10 @@ write-pairs-requires c κs =
     let w = o .before .before .before .write-first in
     let s = o .before .before .before .before .before .before .before in
     let l = s .args .numbers .now in
-    let end = length l + 1 in
-    rw (others-sorted l (o .sort .last .0) (s .pre .1) (o .sort .ensures), tail-of end (w .last .0), length-drop, length-ascending, w .kept .0) (
-      literals-ascending (drop 1 l) (literals-tail (getD l 0 (pos 0)) (drop 1 l) (apart l (s .pre .1) (s .pre .0))),
-      omega (arith, length-drop 1 l, s .pre),
+    let end = headerSize + length l in
+    rw (others-sorted l (o .sort .last .0) (s .pre .0 .1) (o .sort .ensures), tail-of end (w .last .0), length-drop, length-ascending, w .kept .0) (
+      literals-ascending (drop 1 l) (literals-tail (getD l 0 (pos 0)) (drop 1 l) (name-and-literals l (s .pre .0 .1) (s .pre .0 .0))),
+      omega (arith, length-drop 1 l, s .pre .0 .1, s .pre .1),
     )
 
 returns : tie.Need-returns
@@ -36,9 +38,12 @@ returns c =
     let w = o .before .before .before .write-first in
     let s = o .before .before .before .before .before .before .before in
     let l = s .args .numbers .now in
-    definition-written (getD l 0 (pos 0)) (drop 1 l) (s .args .free .now) (w .last .0) (c .before .write-pairs .last .0) (length l + 1)
-    (omega (arith, length-drop 1 l, s .pre .1)) (w .ensures)
-    (rw (others-sorted l (o .sort .last .0) (s .pre .1) (o .sort .ensures), back (getD l 0 (pos 0)) (o .before .before .before .before .before .before .name .given)) at (c .before .write-pairs .ensures))
+    definition-written (getD l 0 (pos 0)) (drop 1 l) (s .args .free .now) (w .last .0) (c .before .write-pairs .last .0) (headerSize + length l)
+    (omega (arith, length-drop 1 l, s .pre .0 .1)) (w .ensures)
+    (rw (
+      others-sorted l (o .sort .last .0) (s .pre .0 .1) (o .sort .ensures),
+      back (getD l 0 (pos 0)) (o .before .before .before .before .before .before .name .given),
+    ) at (c .before .write-pairs .ensures))
 
 pub write-definition-spec : {M : Type 1} → statement M
 write-definition-spec =

@@ -9,6 +9,7 @@ use mir.Facts.{toZ-ofZ}
 use borrow.Rule.Slice.PartMut.{same-len-mid}
 use Rattle.words.specs.Literals.{complement}
 use Rattle.words.proofs.Words.{back}
+use Rattle.nogoods.specs.Store.{headerSize}
 use Rattle.nogoods.proofs.Defined.{first-written}
 use borrow.Author.Needs.{needs, sfits-of}
 use Rattle.nogoods.proofs.definitions.write_first.Statement.{statement}
@@ -23,7 +24,9 @@ same-length c =
     let w = k .before .before .before .write in
     let y = toZ w32 (ofZ w32 (k .complement-of .result)) in
     let a = k .before .before .before .before .before .args in
-    same-len-mid 1 (length (a .numbers .now) + 1 - 1) (set (w .last .0) 1 y) (c .before .sort .last .0) (c .before .sort .kept .0) ∙ length-set (w .last .0) 1 y ∙ w .kept .0
+    let n = headerSize + length (a .numbers .now) - headerSize in
+    same-len-mid headerSize n (set (w .last .0) headerSize y) (c .before .sort .last .0) (c .before .sort .kept .0)
+    ∙ length-set (w .last .0) headerSize y ∙ w .kept .0
 
 returns : tie.Need-returns
 returns c =
@@ -33,9 +36,9 @@ returns c =
     let y : toZ w32 (ofZ w32 (k .complement-of .result)) ≡ complement (getD (a .numbers .now) 0 (pos 0)) =
     toZ-ofZ (sfits-of {z = k .complement-of .result} (k .complement-of .ok)) ∙ k .complement-of .ensures
     ∙ ap complement (back (getD (a .numbers .now) 0 (pos 0)) (k .before .complement-of-arg .given)) in
-    rw (← y)
-    (first-written (a .numbers .now) (a .free .now) (k .before .before .before .write .last .0) (c .before .sort .last .0) _ (length (a .numbers .now) + 1 - 1) (s .pre .1) (omega arith)
-    (k .before .before .before .write .ensures) (c .before .sort .ensures))
+    first-written (a .numbers .now) (a .free .now) (k .before .before .before .write .last .0) (c .before .sort .last .0) _ _
+    (headerSize + length (a .numbers .now) - headerSize) (s .pre .0 .1) (omega arith) y
+    (k .before .before .before .write .ensures) (c .before .sort .ensures)
 
 pub write-first-spec : {M : Type 1} → statement M
 write-first-spec =

@@ -1,11 +1,8 @@
-use mathlib.Core.Path.{_≡_, ap, ap₂, _∙_}
-use mathlib.Core.List.{[], _∷_, _++_}
-use Prim.Native.Nat.{suc}
-use lib.ListN.{length, drop}
+use mathlib.Core.Path.{_≡_, subst, _∙_}
 use mir.Facts.{toZ-ofZ}
-use Rattle.words.specs.Literals.{complement, ascending}
-use Rattle.words.proofs.Sorting.{length-ascending}
 use Rattle.nogoods.specs.Store.{nogoodWords}
+use Rattle.nogoods.specs.Keeps.{Written}
+use Rattle.nogoods.specs.Definitions.{pair}
 use borrow.Author.Needs.{needs, sfits-of}
 use Rattle.nogoods.proofs.definitions.write_pair.Statement.{statement}
 use Rattle.nogoods.proofs.definitions.write_pair.Tie as tie
@@ -16,11 +13,10 @@ returns c =
     let k = r .before .before .complement-of in
     let s = r .before .before .before in
     let a = s .args in
-    let pair : r .sort .last .0 ≡ ascending (a .name ∷ complement (a .literal) ∷ []) =
+    let sorted : r .sort .last .0 ≡ pair (a .name) (a .literal) =
     r .sort .ensures
     ∙ rw (toZ-ofZ (s .fits .name), toZ-ofZ (sfits-of {z = k .result} (k .ok)), k .ensures, toZ-ofZ (s .fits .literal)) in
-    c .before .write .ensures
-    ∙ ap₂ (λ l n. nogoodWords l ++ drop (suc n) (a .free .now)) pair (ap length pair ∙ length-ascending (a .name ∷ complement (a .literal) ∷ []))
+    subst (λ l. Written (nogoodWords l) (a .free .now) (c .before .write .last .0)) sorted (c .before .write .ensures)
 
 pub write-pair-spec : {M : Type 1} → statement M
 write-pair-spec =

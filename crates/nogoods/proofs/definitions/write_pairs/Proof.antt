@@ -1,9 +1,9 @@
 use mathlib.Core.Path.{_≡_, _∙_}
-use mathlib.Core.List.{_++_, map}
+use mathlib.Core.List.{map}
 use Prim.Native.Nat.{_*_, _-_, _≤_}
 use native.Mathlib.Omega.{arith}
 use lib.IntN.{pos}
-use lib.ListN.{length, take, drop, getD, length-drop}
+use lib.ListN.{length, take, getD, length-drop}
 use lib.Seq.{take-length}
 use mir.Syntax.{w32}
 use mir.Val.{toZ, ofZ}
@@ -13,14 +13,17 @@ use Rattle.words.proofs.Parts.{tail-of}
 use Rattle.words.proofs.Places.{in-at}
 use Rattle.words.proofs.Words.{back}
 use Rattle.nogoods.specs.Store.{liveWords}
-use Rattle.nogoods.proofs.Defined.{pair, pair-next}
+use Rattle.nogoods.specs.Keeps.{Written}
+use Rattle.nogoods.specs.Definitions.{pair, pairSize}
+use Rattle.nogoods.proofs.Defined.{pair-next}
 use borrow.Author.Needs.{needs}
 use Rattle.nogoods.proofs.definitions.write_pairs.Statement.{statement}
 use Rattle.nogoods.proofs.definitions.write_pairs.Tie as tie
 
 abbrev Inv-loop : tie.InvT-loop
 Inv-loop free₀ name literals at₀ i₀ free at i =
-    (i ≤ length literals) × (at ≡ 3 * i) × (length free ≡ length free₀) × (free ≡ liveWords (map (pair (toZ w32 name)) (take i literals)) ++ drop at free₀)
+    (i ≤ length literals) × (at ≡ pairSize * i) × (length free ≡ length free₀)
+    × Written (liveWords (map (pair (toZ w32 name)) (take i literals))) free₀ free
 
 abbrev μ-loop : tie.MeasureT-loop
 μ-loop free₀ name literals at₀ i₀ free at i = length literals - i
@@ -57,7 +60,7 @@ returns c =
     let s = c .before .before in
     let L = s .args .literals .now in
     let e : l .i ≡ length L = omega (arith, c .loop-test .left, l .inv .0) in
-    l .inv .3 ∙ rw (l .inv .1, e, take-length L, toZ-ofZ (s .fits .name))
+    rw (e, take-length L, toZ-ofZ (s .fits .name)) at (l .inv .3)
 
 pub write-pairs-spec : {M : Type 1} → statement M
 write-pairs-spec =

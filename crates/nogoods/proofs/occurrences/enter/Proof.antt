@@ -5,31 +5,32 @@ use borrow.Author.Needs.{needs}
 use lib.IntN.{ℤ, pos}
 use lib.ListN.{length, getD}
 use Rattle.words.proofs.Words.{back}
+use Rattle.nogoods.specs.Store.{headerSize}
 use Rattle.nogoods.specs.PropagateChains.{reach, Links, Below}
-use Rattle.nogoods.proofs.Segments.{literal-at}
+use Rattle.nogoods.proofs.Recorded.{literal-at}
 use Rattle.nogoods.proofs.Chains.{below-set, below-weaker, linked}
 use Rattle.nogoods.proofs.occurrences.enter.Statement.{statement}
 use Rattle.nogoods.proofs.occurrences.enter.Tie as tie
 
 abbrev Inv-loop : tie.InvT-loop
-Inv-loop nogoods r owner₀ next₀ head₀ end p₀ owner next head p = (r < p) × (p ≤ end) × Links nogoods owner next × Below p head
+Inv-loop nogoods r owner₀ next₀ head₀ end p₀ owner next head p = (r + headerSize ≤ p) × (p ≤ end) × Links nogoods owner next × Below p head
 
 abbrev μ-loop : tie.MeasureT-loop
 μ-loop nogoods r owner₀ next₀ head₀ end p₀ owner next head p = end - p
 
--- the nogood's end
-room : (c : tie.After-count-at Inv-loop μ-loop) → let s = c .before in
-    (s .args .r + 1 + c .count-at .result ≤ length (s .args .nogoods .now)) × (length (s .args .nogoods .now) ≤ reach)
-room c = let s = c .before in (omega (arith, s .pre .0 .0 .room, c .count-at .ensures), s .pre .1 .0)
+end-at-requires : tie.Need-end-at-requires Inv-loop μ-loop
+end-at-requires c κs = c .pre .0 .0 .room
 
-add-end : tie.Need-add-end Inv-loop μ-loop
-add-end c = let k = c .pre .0 .0 .room in search needs
+-- the record's end
+room : (c : tie.After-end-at Inv-loop μ-loop) → let s = c .before in
+    (c .end-at .result ≤ length (s .args .nogoods .now)) × (length (s .args .nogoods .now) ≤ reach)
+room c = let s = c .before in (omega (arith, s .pre .0 .0 .room, c .end-at .ensures), s .pre .1 .0)
 
-add-end-2 : tie.Need-add-end-2 Inv-loop μ-loop
-add-end-2 c = let k = room c in search needs
+add-p : tie.Need-add-p Inv-loop μ-loop
+add-p c = let k = c .before .pre .0 .0 .room in search needs
 
 loop-holds : tie.Need-loop-holds Inv-loop μ-loop
-loop-holds c = let s = c .before in (omega arith, omega arith, s .pre .1 .1 .0, s .pre .1 .1 .1)
+loop-holds c = let s = c .before in (omega arith, omega (arith, c .end-at .ensures), s .pre .1 .1 .0, s .pre .1 .1 .1)
 
 -- the place that is entered
 abbrev word : tie.In-loop Inv-loop μ-loop → ℤ
@@ -50,7 +51,7 @@ place-of-requires c κs =
     let l = c .before .before in
     let s = l .before .before in
     rw (back (word (c .before)) (c .place-of-arg .given))
-    (literal-at _ (s .args .r) (l .loop .p) (s .pre .0 .0) (l .loop .inv .0) (omega (arith, c .before .loop-test .taken, l .before .count-at .ensures)))
+    (literal-at _ (s .args .r) (l .loop .p) (s .pre .0 .0) (l .loop .inv .0) (omega (arith, c .before .loop-test .taken, l .before .end-at .ensures)))
 
 cast-owner : tie.Need-cast-owner Inv-loop μ-loop
 cast-owner c = let k = inside (c .before .before) in search needs
@@ -98,7 +99,7 @@ loop-again c =
 returns : tie.Need-returns Inv-loop μ-loop
 returns c =
     let l = c .before .loop in
-    (l .inv .2, below-weaker (l .p) _ (l .head) (omega (arith, c .before .before .count-at .ensures)) (l .inv .3))
+    (l .inv .2, below-weaker (l .p) _ (l .head) (omega (arith, c .before .before .end-at .ensures)) (l .inv .3))
 
 pub enter-spec : {M : Type 1} → statement M
 enter-spec =
@@ -106,10 +107,8 @@ enter-spec =
     (tie.spec
     Inv-loop
     μ-loop
-    add-end
-    (λ c κs. search needs)
-    add-end-2
-    (λ c. search needs)
+    end-at-requires
+    add-p
     loop-holds
     mul-place-of
     shared-slice-copy-out-place-of

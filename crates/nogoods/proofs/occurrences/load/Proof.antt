@@ -3,7 +3,7 @@ use Prim.Native.Nat.{_-_, _≤_, _<_}
 use native.Mathlib.Omega.{arith}
 use borrow.Author.Needs.{needs}
 use lib.ListN.{length}
-use Rattle.nogoods.specs.Propagate.{entries}
+use Rattle.words.specs.Limits.{entries}
 use Rattle.nogoods.proofs.Chains.{Loading, loading-free, loading-assigned, loaded}
 use Rattle.nogoods.proofs.occurrences.load.Statement.{statement}
 use Rattle.nogoods.proofs.occurrences.load.Tie as tie

@@ -4,7 +4,8 @@ use Prim.Native.Nat.{ℕ, _-_, _≤_, _<_}
 use native.Mathlib.Omega.{arith}
 use borrow.Author.Needs.{needs}
 use lib.ListN.{length, getD}
-use Rattle.nogoods.specs.Propagate.{entries, Grows}
+use Rattle.words.specs.Limits.{entries}
+use Rattle.nogoods.specs.Propagate.{Grows}
 use Rattle.nogoods.specs.PropagateChains.{places, reach, Queue, Walks}
 use Rattle.nogoods.specs.declared.occurrences.Walk.{Walk}
 use Rattle.nogoods.proofs.Closures.{grows-not, grows-on, clashes-before}

@@ -2,7 +2,7 @@
 use Prim.Native.Nat.{_≤_, _<_}
 use native.Mathlib.Omega.{arith}
 use lib.ListN.{length}
-use Rattle.nogoods.specs.Propagate.{entries}
+use Rattle.words.specs.Limits.{entries}
 use Rattle.nogoods.specs.PropagateChains.{places, reach}
 use Rattle.nogoods.proofs.Closures.{grows-not}
 use Rattle.nogoods.proofs.Chains.{below-none, links-none}

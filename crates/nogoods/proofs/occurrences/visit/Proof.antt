@@ -6,10 +6,12 @@ use native.Mathlib.Omega.{arith}
 use borrow.Author.Needs.{needs}
 use lib.IntN.{ℤ}
 use lib.ListN.{length, getD}
-use Rattle.nogoods.specs.Propagate.{entries, free, nogoodAt, Stands, Readable, Derives, Grows}
+use Rattle.words.specs.Limits.{entries}
+use Rattle.nogoods.specs.Records.{nogoodAt, Stands, Readable}
+use Rattle.nogoods.specs.Propagate.{free, Derives, Grows}
 use Rattle.nogoods.specs.PropagateChains.{reach, Queue}
 use Rattle.nogoods.specs.declared.units.Derived.{Derived}
-use Rattle.nogoods.proofs.Segments.{readable}
+use Rattle.nogoods.proofs.Recorded.{readable}
 use Rattle.nogoods.proofs.Closures.{grows-not, grows-on, clashes-before, conflicting, derived}
 use Rattle.nogoods.proofs.Chains.{queue-on}
 use Rattle.nogoods.proofs.occurrences.visit.Statement.{statement}

@@ -11,7 +11,8 @@ use Rattle.words.specs.Lists.{_∈_}
 use Rattle.words.specs.Literals.{variable, complement}
 use Rattle.words.proofs.Words.{back}
 use Rattle.words.proofs.Places.{in-at, place-of}
-use Rattle.nogoods.specs.Propagate.{entries, entry, Assigns}
+use Rattle.words.specs.Limits.{entries}
+use Rattle.nogoods.specs.Propagate.{entry, Assigns}
 use Rattle.nogoods.proofs.Assignments.{none-true, alone, assigned, assigned→, assigned-kept}
 use Rattle.nogoods.proofs.propagation.assigned.Statement.{statement}
 use Rattle.nogoods.proofs.propagation.assigned.Tie as tie

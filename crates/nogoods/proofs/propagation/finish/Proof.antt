@@ -3,7 +3,8 @@
 use mathlib.Core.Path.{_≡_, _∙_}
 use Prim.Native.Nat.{_+_}
 use native.Mathlib.Omega.{arith}
-use Rattle.nogoods.specs.Propagate.{entries, Grows, Settles}
+use Rattle.words.specs.Limits.{entries}
+use Rattle.nogoods.specs.Propagate.{Grows, Settles}
 use Rattle.nogoods.specs.declared.propagation.Swept.{Swept}
 use Rattle.nogoods.proofs.Assignments.{free-most}
 use Rattle.nogoods.proofs.Closures.{grows-on, clashes-before}

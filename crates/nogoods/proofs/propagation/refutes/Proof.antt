@@ -9,9 +9,10 @@ use Rattle.words.proofs.Lists.{passed, failed, not-decides}
 use Rattle.words.specs.Lists.{_∈_}
 use Rattle.derivation.specs.Propagation.{given, refuted}
 use Rattle.derivation.proofs.Closure.{refuted-decides}
-use Rattle.nogoods.specs.Store.{Literals}
-use Rattle.nogoods.specs.Propagate.{Assigns, Encodes, Ends}
-use Rattle.nogoods.proofs.Segments.{front}
+use Rattle.nogoods.specs.Keeps.{Literals}
+use Rattle.nogoods.specs.Records.{Encodes}
+use Rattle.nogoods.specs.Propagate.{Assigns, Ends}
+use Rattle.nogoods.proofs.Recorded.{used-words}
 use Rattle.nogoods.proofs.Closures.{no-conflict}
 use borrow.Author.Needs.{needs}
 use Rattle.nogoods.proofs.propagation.refutes.Statement.{statement}
@@ -34,14 +35,14 @@ propagate-requires : tie.Need-propagate-requires
 propagate-requires c κs =
     let a = c .before .before in
     let p = a .before .pre .0 in
-    ((p .0, front _ _ (p .0) (p .1)), a .assigned .ensures .0)
+    ((p .0, used-words _ _ (p .0) (p .1)), a .assigned .ensures .0)
 
 returns : tie.Need-returns
 returns c live h =
     let a = c .before .before .before in
     let s = a .before in
     let e = a .assigned .ensures .1 in
-    answer _ live (front (s .args .store .now) (s .args .used) live h) (s .args .literals .now) (s .pre .1) _ _
+    answer _ live (used-words (s .args .store .now) (s .args .used) live h) (s .args .literals .now) (s .pre .1) _ _
     (λ z. e z .0) (λ z. e z .1) (c .propagate .result) (c .propagate .ensures)
 
 pub refutes-spec : {M : Type 1} → statement M

@@ -1,50 +1,48 @@
--- The loop keeps `Going`: what the nogoods before i have given.
+-- The loop keeps `Sweeping`: what the nogoods before i have given.
 use mathlib.Core.Path.{_≡_}
 use mathlib.Core.List.{List}
-use Prim.Native.Nat.{_+_, _-_, _≤_}
+use Prim.Native.Nat.{_-_}
 use native.Mathlib.Omega.{arith}
 use borrow.Author.Needs.{needs}
 use lib.IntN.{ℤ}
 use lib.ListN.{length}
-use Rattle.nogoods.specs.Propagate.{Derives, Readable, Stands, countAt, nogoodAt}
+use Rattle.nogoods.specs.Records.{Readable, Stands, nogoodAt}
+use Rattle.nogoods.specs.Propagate.{Derives}
 use Rattle.nogoods.specs.declared.units.Derived.{Derived}
-use Rattle.nogoods.proofs.Segments.{readable}
+use Rattle.nogoods.proofs.Recorded.{readable}
 use Rattle.nogoods.proofs.Closures.{clashes-before, conflicting}
-use Rattle.nogoods.proofs.Sweeps.{Going, start, here, nothing, assigned, over}
+use Rattle.nogoods.proofs.Sweeps.{Sweeping, sweep-start, sweep-at, sweep-settled, sweep-assigned, sweep-over}
 use Rattle.nogoods.proofs.propagation.sweep.Statement.{statement}
 use Rattle.nogoods.proofs.propagation.sweep.Tie as tie
 
 abbrev Inv-loop : tie.InvT-loop
-Inv-loop nogoods assignment₀ changed₀ i₀ assignment changed i = Going nogoods assignment₀ assignment changed i
+Inv-loop nogoods assignment₀ changed₀ i₀ assignment changed i = Sweeping nogoods assignment₀ assignment changed i
 
 abbrev μ-loop : tie.MeasureT-loop
 μ-loop nogoods assignment₀ changed₀ i₀ assignment changed i = length nogoods - i
 
 loop-holds : tie.Need-loop-holds Inv-loop μ-loop
-loop-holds c = start _ _ (c .pre .1)
+loop-holds c = sweep-start _ _ (c .pre .1)
 
 -- the nogood at i
 module _ (c : tie.In-loop Inv-loop μ-loop) where
   abbrev words : List ℤ
   words = c .before .before .args .nogoods .now
 
-  abbrev going : Going words (c .before .before .args .assignment .now) (c .before .loop .assignment) (c .before .loop .changed) (c .before .loop .i)
+  abbrev going : Sweeping words (c .before .before .args .assignment .now) (c .before .loop .assignment) (c .before .loop .changed) (c .before .loop .i)
   going = c .before .loop .inv
 
   stands : Stands words (c .before .loop .i)
-  stands = here _ _ _ _ _ going (c .loop-test .taken)
+  stands = sweep-at _ _ _ _ _ going (c .loop-test .taken)
 
   read : Readable words (c .before .loop .i)
   read = readable _ _ (c .before .before .pre .0) stands
 
-  room : c .before .loop .i + 1 + countAt words (c .before .loop .i) ≤ length words
-  room = let p = c .before .before .pre .0 in stands (p .0) (p .1) .1
-
 derive-at-requires : tie.Need-derive-at-requires Inv-loop μ-loop
 derive-at-requires c κs = (read (c .before), c .before .before .loop .inv .size)
 
-add-i-2 : tie.Need-add-i-2 Inv-loop μ-loop
-add-i-2 c = let h = room (c .before .before .before) in let e = c .count-at .ensures in search needs
+end-at-requires : tie.Need-end-at-requires Inv-loop μ-loop
+end-at-requires c κs = read (c .before .before) .room
 
 -- what the nogood gave
 told : (c : tie.After-derive-at Inv-loop μ-loop) (x : Derived) → c .derive-at .result ≡ x
@@ -65,7 +63,8 @@ loop-again : tie.Need-loop-again Inv-loop μ-loop
 loop-again c =
     let o = c .before .before .before in
     let k = o .before .before in
-    rw (c .before .before .count-at .ensures) (assigned _ _ _ _ _ (going k) (k .loop-test .taken) (read k .literals) _ _ (told o _ (c .enum-told2 .given .1)))
+    rw (c .before .before .end-at .ensures)
+    (sweep-assigned _ _ _ _ _ (going k) (k .loop-test .taken) (read k .literals) _ _ (told o _ (c .enum-told2 .given .1)))
 
 loop-less-2 : tie.Need-loop-less-2 Inv-loop μ-loop
 loop-less-2 c = omega (arith, c .before .before .before .before .before .loop-test .taken)
@@ -75,13 +74,13 @@ loop-again-2 c =
     let o = c .before .before .before in
     let k = o .before .before in
     let t = told o _ (c .enum-told3 .given .1) in
-    rw (c .before .before .count-at .ensures, t .0) (nothing _ _ _ _ _ (going k) (k .loop-test .taken) (t .1))
+    rw (c .before .before .end-at .ensures, t .0) (sweep-settled _ _ _ _ _ (going k) (k .loop-test .taken) (t .1))
 
 returns-2 : tie.Need-returns-2 Inv-loop μ-loop
 returns-2 c = let l = c .before .before .loop in (l .inv .grows, l .inv .more (c .if1 .taken))
 
 returns-3 : tie.Need-returns-3 Inv-loop μ-loop
-returns-3 c = let l = c .before .before .loop in (l .inv .same (c .if1 .left), over _ _ _ _ _ (l .inv) (c .before .loop-test .left) (c .if1 .left))
+returns-3 c = let l = c .before .before .loop in (l .inv .same (c .if1 .left), sweep-over _ _ _ _ _ (l .inv) (c .before .loop-test .left) (c .if1 .left))
 
 pub sweep-spec : {M : Type 1} → statement M
 sweep-spec =
@@ -91,9 +90,7 @@ sweep-spec =
     μ-loop
     loop-holds
     derive-at-requires
-    (λ c. search needs)
-    (λ c κs. search needs)
-    add-i-2
+    end-at-requires
     (λ c. search needs)
     returns
     (λ c. search needs)

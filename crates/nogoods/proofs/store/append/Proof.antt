@@ -1,18 +1,17 @@
 use mathlib.Core.Path.{_≡_, ap, _∙_}
 use mathlib.Core.List.{List, [], _∷_, append-nil, List·Memᴰ·eq-of-singleton}
-use Prim.Native.Nat.{_+_}
 use native.Mathlib.Omega.{arith}
-use native.Mathlib.Numerals.{add-one}
 use lib.IntN.{ℤ}
 use lib.ListN.{length}
-use Rattle.nogoods.specs.Store.{nogoodWords, liveWords}
+use Rattle.nogoods.specs.Store.{nogoodWords, recordSize, liveWords}
+use Rattle.nogoods.proofs.Recorded.{record-size}
 use Rattle.nogoods.proofs.Stored.{full, added}
 use borrow.Author.Needs.{needs}
 use Rattle.nogoods.proofs.store.append.Statement.{statement}
 use Rattle.nogoods.proofs.store.append.Tie as tie
 
-size : (g : List ℤ) → length (liveWords (g ∷ [])) ≡ length g + 1
-size g = ap length (append-nil (nogoodWords g)) ∙ omega arith
+size : (g : List ℤ) → length (liveWords (g ∷ [])) ≡ recordSize g
+size g = ap length (append-nil (nogoodWords g)) ∙ record-size g
 
 returns : tie.Need-returns
 returns c =
@@ -25,8 +24,8 @@ returns-2 c =
     λ live H.
     let s = c .before .before .before .before in
     let L = s .args .literals .now in
-    added H (L ∷ []) (size L) (omega (arith, c .before .before .before .if1 .left, H .fits)) (λ g m. rw (List·Memᴰ·eq-of-singleton m) (s .pre .1 .0)) (c .before .write .last .0)
-    (rw (append-nil L, add-one) (c .before .write .ensures))
+    added H (L ∷ []) (size L) (λ g m. rw (List·Memᴰ·eq-of-singleton m) (s .pre .1 .0)) (c .before .write .last .0)
+    (rw (append-nil L) (c .before .write .ensures))
 
 pub append-spec : {M : Type 1} → statement M
 append-spec =

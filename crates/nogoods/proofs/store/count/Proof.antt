@@ -1,67 +1,44 @@
-use borrow.Author.Needs.{needs}
-use mathlib.Core.Path.{_≡_, ap}
+-- The loop: as many nogoods are counted as are not left.
+use mathlib.Core.Path.{_≡_}
 use Prim.Native.Nat.{_+_, _-_, _≤_}
 use native.Mathlib.Omega.{arith}
+use borrow.Author.Needs.{needs}
 use lib.ListN.{length}
-use Rattle.words.proofs.Segments.{none-left}
-use Rattle.nogoods.specs.Store.{nogoodWords}
-use Rattle.nogoods.proofs.Stored.{some-words, segment, Going, here, room}
+use Rattle.nogoods.specs.Records.{endAt}
+use Rattle.nogoods.proofs.Recorded.{rest-next, rest-over, Ahead, ahead, ahead-room}
 use Rattle.nogoods.proofs.store.count.Statement.{statement}
 use Rattle.nogoods.proofs.store.count.Tie as tie
 
 abbrev Inv-loop : tie.InvT-loop
-Inv-loop store used n₀ i₀ n i = (n ≤ i) × (i ≤ used) × Going (λ live left. n + length left ≡ length live) store used i
+Inv-loop store used n₀ i₀ n i = (n ≤ i) × Ahead (λ live left. n + length left ≡ length live) store used i
 
 abbrev μ-loop : tie.MeasureT-loop
 μ-loop store used n₀ i₀ n i = used - i
 
--- the nogood at i stands within the used words
-fits : (c : tie.After-count-at Inv-loop μ-loop)
-    → (let a = c .before .before .before .args in (c .before .before .loop .i + 1 + c .count-at .result ≤ a .used) × (a .used ≤ length (a .store .now)))
-fits c = room (c .before .before .loop .inv .2) (c .before .loop-test .taken) (c .count-at .ensures) (c .before .before .before .pre)
+-- the record at i can be read
+room : (c : tie.In-loop Inv-loop μ-loop) → let s = c .before .before .args .store .now in endAt s (c .before .loop .i) ≤ length s
+room c = ahead-room (c .before .loop .inv .1) (c .loop-test .taken) (c .before .before .pre)
 
 loop-holds : tie.Need-loop-holds Inv-loop μ-loop
-loop-holds c =
-    (omega arith, omega arith, λ live H. (live, segment H, omega arith))
+loop-holds c = (omega arith, ahead (λ live. omega arith))
 
-add-i-2 : tie.Need-add-i-2 Inv-loop μ-loop
-add-i-2 c =
-    record { fits = omega (arith, fits c) }
+end-at-requires : tie.Need-end-at-requires Inv-loop μ-loop
+end-at-requires c κs = room c
 
 add-n : tie.Need-add-n Inv-loop μ-loop
-add-n c =
-    record { fits = omega (arith, fits c) }
+add-n c = let k = room (c .before) in search needs
 
 loop-less : tie.Need-loop-less Inv-loop μ-loop
-loop-less c =
-    omega (arith, fits c)
+loop-less c = omega (arith, c .before .loop-test .taken, c .end-at .ensures)
 
 loop-again : tie.Need-loop-again Inv-loop μ-loop
 loop-again c =
-    let l = c .before .before .loop in (
-      omega (arith, fits c),
-      fits c .0,
-      λ live H. let t = here (l .inv .2) (c .before .loop-test .taken) (c .count-at .ensures) H in (t .gs, t .rest, omega (arith, ap length (t .is), l .inv .2 live H .2)),
-    )
+    let i = c .before in
+    let v = i .before .loop .inv in
+    rw (c .end-at .ensures) (omega (arith, v .0), λ live H. rest-next (v .1 live H) (i .loop-test .taken) (λ gs q. omega (arith, q)))
 
 returns : tie.Need-returns Inv-loop μ-loop
-returns c =
-    λ live H.
-    let k = c .before .loop .inv .2 live H in
-    let z = none-left nogoodWords some-words (k .1) (c .loop-test .left) in
-    omega (arith, ap length z, k .2)
+returns c = λ live H. omega (arith, rest-over (c .before .loop .inv .1 live H) (c .loop-test .left))
 
 pub count-spec : {M : Type 1} → statement M
-count-spec =
-    tie.close
-    (tie.spec
-    Inv-loop
-    μ-loop
-    loop-holds
-    (λ c. search needs)
-    (λ c κs. search needs)
-    add-i-2
-    add-n
-    loop-less
-    loop-again
-    returns)
+count-spec = tie.close (tie.spec Inv-loop μ-loop loop-holds end-at-requires add-n loop-less loop-again returns)

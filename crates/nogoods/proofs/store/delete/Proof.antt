@@ -6,19 +6,20 @@ use Prim.Native.Nat.{_+_, _≤_}
 use native.Mathlib.Omega.{arith}
 use lib.IntN.{ℤ}
 use lib.ListN.{length}
-use Rattle.nogoods.specs.Store.{Holds}
+use Rattle.nogoods.specs.Store.{recordSize}
+use Rattle.nogoods.specs.Keeps.{Holds}
 use Rattle.nogoods.proofs.Stored.{Hit, hit, miss, hit-room, hit-cut}
 use borrow.Author.Needs.{needs}
 use Rattle.nogoods.proofs.store.delete.Statement.{statement}
 use Rattle.nogoods.proofs.store.delete.Tie as tie
 
 -- the nogood that was found
-found : (c : tie.After-i) (live : List (List ℤ)) → Holds (c .before .before .before .before .args .store .now) (c .before .before .before .before .args .used) live
-    → Hit 0 (c .i .given .0 .0) (c .before .before .before .before .args .literals .now) live
+found : (c : tie.After-i) (live : List (List ℤ)) → let a = c .before .before .before .before .args in
+    Holds (a .store .now) (a .used) live → Hit 0 (c .i .given .0 .0) (a .literals .now) live
 found c live H = hit 0 _ _ live (sym (c .before .before .find .ensures live H) ∙ c .i .given .1)
 
 room : (c : tie.After-i) → (let a = c .before .before .before .before .args in
-    (c .i .given .0 .0 + (length (a .literals .now) + 1) ≤ a .used) × (a .used ≤ length (a .store .now)))
+    (c .i .given .0 .0 + recordSize (a .literals .now) ≤ a .used) × (a .used ≤ length (a .store .now)))
 room c = let p = c .before .before .before .before .pre in hit-room (p .1) (found c (p .0) (p .1))
 
 mul-close-up : tie.Need-mul-close-up

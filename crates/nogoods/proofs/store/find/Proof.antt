@@ -1,94 +1,81 @@
-use borrow.Author.Needs.{needs}
+-- The loop: the nogoods before i are other lists.
 use mathlib.Core.Path.{_≡_, refl, sym, ap, _∙_}
-use Prim.Native.Nat.{ℕ, suc, _+_, _-_, _≤_}
+use mathlib.Core.Bool.{true, false}
+use mathlib.Core.List.{List, _∷_}
+use Prim.Native.Nat.{ℕ, _+_, _-_, _≤_}
 use native.Mathlib.Omega.{arith}
+use borrow.Author.Needs.{needs}
 use lib.IntN.{ℤ}
 use lib.ListN.{length}
-use mathlib.Core.List.{List, _∷_}
-use Rattle.words.proofs.Segments.{none-left}
-use Rattle.nogoods.specs.Store.{nogoodWords, Holds}
-use Rattle.nogoods.proofs.Stored.{some-words, segment, Going, here, room}
-use mathlib.Core.Bool.{true, false}
 use Rattle.words.specs.Literals.{sameList}
+use Rattle.nogoods.specs.Store.{recordSize}
+use Rattle.nogoods.specs.Records.{endAt, nogoodAt}
 use Rattle.nogoods.specs.Finds.{foundAt}
 use Rattle.nogoods.specs.declared.store.Found.the-variants.{At}
+use Rattle.nogoods.proofs.Recorded.{rest-at, rest-first, rest-next, rest-over, Ahead, ahead, ahead-room}
 use Rattle.nogoods.proofs.store.find.Statement.{statement}
 use Rattle.nogoods.proofs.store.find.Tie as tie
-
-abbrev Inv-loop : tie.InvT-loop
-Inv-loop store used literals i₀ i = (i ≤ used) × Going (λ live left. foundAt i literals left ≡ foundAt 0 literals live) store used i
-
-abbrev μ-loop : tie.MeasureT-loop
-μ-loop store used literals i₀ i = used - i
-
--- the nogood at i stands within the used words
-fits : (c : tie.After-count-at Inv-loop μ-loop)
-    → (let a = c .before .before .before .args in (c .before .before .loop .i + 1 + c .count-at .result ≤ a .used) × (a .used ≤ length (a .store .now)))
-fits c = room (c .before .before .loop .inv .1) (c .before .loop-test .taken) (c .count-at .ensures) (c .before .before .before .pre)
 
 found-here : (i : ℕ) (L g : List ℤ) (gs : List (List ℤ)) → sameList g L ≡ true → foundAt i L (g ∷ gs) ≡ At i
 found-here i L g gs e = rw e
 
-found-on : (i : ℕ) (L g : List ℤ) (gs : List (List ℤ)) → sameList g L ≡ false → foundAt i L (g ∷ gs) ≡ foundAt (i + suc (length g)) L gs
+found-on : (i : ℕ) (L g : List ℤ) (gs : List (List ℤ)) → sameList g L ≡ false → foundAt i L (g ∷ gs) ≡ foundAt (i + recordSize g) L gs
 found-on i L g gs e = rw e
 
--- whether it is the list, as the call tells
-tells : (c : tie.After-is-same-list Inv-loop μ-loop)
-    → (let d = c .before .before in let l = d .before .before .loop in let a = d .before .before .before .args in
-    (live : List (List ℤ)) (H : Holds (a .store .now) (a .used) live)
-    → sameList (here (l .inv .1) (d .before .loop-test .taken) (d .count-at .ensures) H .g) (a .literals .now) ≡ c .is-same-list .result)
-tells c live H =
-    let d = c .before .before in
-    let l = d .before .before .loop in
-    let e : l .i + 1 + d .count-at .result - (l .i + 1) ≡ d .count-at .result = omega arith in
-    sym (rw (e, here (l .inv .1) (d .before .loop-test .taken) (d .count-at .ensures) H .literals) at (c .is-same-list .ensures))
+abbrev Inv-loop : tie.InvT-loop
+Inv-loop store used literals i₀ i = Ahead (λ live left. foundAt i literals left ≡ foundAt 0 literals live) store used i
+
+abbrev μ-loop : tie.MeasureT-loop
+μ-loop store used literals i₀ i = used - i
+
+-- the record at i can be read
+room : (c : tie.In-loop Inv-loop μ-loop) → let s = c .before .before .args .store .now in endAt s (c .before .loop .i) ≤ length s
+room c = ahead-room (c .before .loop .inv) (c .loop-test .taken) (c .before .before .pre)
+
+-- the literals of the record at i
+abbrev g : tie.In-loop Inv-loop μ-loop → List ℤ
+g c = nogoodAt (c .before .before .args .store .now) (c .before .loop .i)
 
 loop-holds : tie.Need-loop-holds Inv-loop μ-loop
-loop-holds c =
-    (omega arith, λ live H. (live, segment H, refl))
+loop-holds c = ahead (λ live. refl)
 
-add-end : tie.Need-add-end Inv-loop μ-loop
-add-end c =
-    record { fits = omega (arith, fits c) }
+nogood-at-requires : tie.Need-nogood-at-requires Inv-loop μ-loop
+nogood-at-requires c κs = room c
 
-part-is-same-list-end : tie.Need-part-is-same-list-end Inv-loop μ-loop
-part-is-same-list-end c =
-    omega (arith, fits c)
+-- whether it is the list, as the call tells
+module _ (c : tie.After-is-same-list Inv-loop μ-loop) where
+  abbrev i : tie.In-loop Inv-loop μ-loop
+  i = c .before .before
+
+  tells : sameList (g i) (i .before .before .args .literals .now) ≡ c .is-same-list .result
+  tells = sym (rw (c .before .nogood-at .ensures) at (c .is-same-list .ensures))
 
 returns : tie.Need-returns Inv-loop μ-loop
 returns c =
     λ live H.
-    let d = c .before .before .before in
-    let l = d .before .before .loop in
-    let L = d .before .before .before .args .literals .now in
-    let t = here (l .inv .1) (d .before .loop-test .taken) (d .count-at .ensures) H in
-    sym (sym (l .inv .1 live H .2) ∙ ap (foundAt (l .i) L) (t .is) ∙ found-here (l .i) L (t .g) (t .gs) (tells (c .before) live H ∙ c .if1 .taken))
+    let k = i (c .before) in
+    let w = k .before .loop .inv live H in
+    let h = k .loop-test .taken in
+    sym (found-here _ (k .before .before .args .literals .now) (g k) (rest-at w h .gs) (tells (c .before) ∙ c .if1 .taken)) ∙ rest-first w h
+
+end-at-requires : tie.Need-end-at-requires Inv-loop μ-loop
+end-at-requires c κs = room (i (c .before))
 
 loop-less : tie.Need-loop-less Inv-loop μ-loop
-loop-less c =
-    omega (arith, fits (c .before .before .before))
+loop-less c = omega (arith, i (c .before .before) .loop-test .taken, c .end-at .ensures)
 
 loop-again : tie.Need-loop-again Inv-loop μ-loop
-loop-again c = (
-  fits (c .before .before .before) .0,
-  λ live H.
-      let d = c .before .before .before in
-      let l = d .before .before .loop in
-      let L = d .before .before .before .args .literals .now in
-      let t = here (l .inv .1) (d .before .loop-test .taken) (d .count-at .ensures) H in
-      let n : l .i + 1 + d .count-at .result ≡ l .i + suc (length (t .g)) = omega (arith, t .count) in (
-        t .gs,
-        t .rest,
-        ap (λ m. foundAt m L (t .gs)) n ∙ sym (found-on (l .i) L (t .g) (t .gs) (tells (c .before) live H ∙ c .if1 .left)) ∙ sym (ap (foundAt (l .i) L) (t .is)) ∙ l .inv .1 live H .2,
-      ),
-)
+loop-again c =
+    let o = c .before .before in
+    let k = i o in
+    let L = k .before .before .args .literals .now in
+    rw (c .end-at .ensures) (λ live H.
+    let w = k .before .loop .inv live H in
+    let h = k .loop-test .taken in
+    rest-next w h (λ gs q. ap (λ m. foundAt m L gs) (rest-at w h .size) ∙ sym (found-on _ L (g k) gs (tells o ∙ c .before .if1 .left)) ∙ q))
 
 returns-2 : tie.Need-returns-2 Inv-loop μ-loop
-returns-2 c =
-    λ live H.
-    let k = c .before .loop .inv .1 live H in
-    let z = none-left nogoodWords some-words (k .1) (c .loop-test .left) in
-    sym (sym (k .2) ∙ ap (foundAt (c .before .loop .i) (c .before .before .args .literals .now)) z)
+returns-2 c = λ live H. rest-over (c .before .loop .inv live H) (c .loop-test .left)
 
 pub find-spec : {M : Type 1} → statement M
 find-spec =
@@ -97,15 +84,10 @@ find-spec =
     Inv-loop
     μ-loop
     loop-holds
-    (λ c. search needs)
-    (λ c κs. search needs)
-    add-end
-    (λ c. search needs)
-    (λ c. search needs)
-    (λ c. search needs)
-    part-is-same-list-end
+    nogood-at-requires
     (λ c κs. search needs)
     returns
+    end-at-requires
     loop-less
     loop-again
     returns-2)

@@ -1,0 +1,35 @@
+//! Refutations of random programs, of growing length up to the limit of a proof's text.
+
+use super::{refutations, Input};
+use inputs::random::Random;
+use inputs::rules::{choice, constraint, normal, Rule};
+
+/// About so many steps, and the seed that gives a program with such a refutation.
+const CASES: [(usize, u64); 6] = [(100, 179), (200, 109), (400, 136), (800, 160), (1_600, 77), (2_300, 6_638)];
+
+pub fn inputs() -> Vec<Input> {
+    CASES.iter().map(|&(length, seed)| input(length, seed)).collect()
+}
+
+fn input(length: usize, seed: u64) -> Input {
+    let rules = rules(&mut Random::from_seed(seed + 1));
+    let lines = refutations::refute(&rules, 2 * length, seed).expect("the seed gives a refutation");
+    Input::of(format!("random-{length}"), &rules, &lines)
+}
+
+/// Atoms of which half may be chosen, and the others have two rules each; constraints of three literals.
+fn rules(random: &mut Random) -> Vec<Rule> {
+    let atoms = random.between(8, 87);
+    let constraints = atoms * random.between(10, 39) / 10;
+    let chosen: Vec<i32> = (1..=atoms / 2).collect();
+    let mut rules = vec![choice(&chosen, &[])];
+    for head in atoms / 2 + 1..=atoms {
+        for _ in 0..2 {
+            rules.push(normal(head, &random.literals(2, atoms)));
+        }
+    }
+    for _ in 0..constraints {
+        rules.push(constraint(&random.literals(3, atoms)));
+    }
+    rules
+}

@@ -1,0 +1,280 @@
+/* How much stack the services need. Every service is called, on inputs that reach its deepest paths, each call in a thread of its own:
+ *
+ *   stack           in threads with a stack of ASPDRUPE_STACK bytes: the test, which bindings/c/run builds and runs
+ *   stack SIZE      in threads with a stack of SIZE bytes
+ *   stack measure   in threads with more than enough; prints how many bytes of it each has used, with what the thread itself takes
+ *
+ * The exit status is 0 where every call has answered as it must. Of a call that leaves its stack the signal is told.
+ *
+ * To measure, from the repository's root:
+ *   rt staticlib exports
+ *   cc -pthread -o target/stack bindings/c/stack.c target/staticlib/libexports.a && target/stack measure */
+#define _DEFAULT_SOURCE
+#include <inttypes.h>
+#include <limits.h>
+#include <pthread.h>
+#include <stdarg.h>
+#include <stdio.h>
+#include <stdlib.h>
+#include <string.h>
+#include <sys/mman.h>
+#include <sys/wait.h>
+#include <unistd.h>
+
+#include "aspdrupe.h"
+
+/* Below a thread's stack, so that a frame cannot reach past it; and the stack that is measured on. */
+#define GUARD ((size_t)1 << 20)
+#define PLENTY ((size_t)1 << 20)
+#define PATTERN 0xA5
+
+/* The limits of document 01. */
+#define TEXT 65535
+#define WORDS 16384
+#define RULES 1024
+#define PART 64
+
+struct text {
+    uint8_t bytes[TEXT + 1];
+    size_t size;
+};
+
+static void stop(const char *what) {
+    perror(what);
+    exit(2);
+}
+
+/* Appends to a text. */
+static void put(struct text *text, const char *format, ...) {
+    va_list values;
+    va_start(values, format);
+    size_t room = sizeof text->bytes - text->size;
+    int size = vsnprintf((char *)text->bytes + text->size, room, format, values);
+    va_end(values);
+    if (size < 0 || (size_t)size >= room) stop("a text is too long");
+    text->size += (size_t)size;
+}
+
+/* Appends numbers, the first to the last, with a space before each. */
+static void put_range(struct text *text, int first, int last) {
+    for (int n = first; n <= last; n++) put(text, " %d", n);
+}
+
+/* ---- The inputs ---- */
+
+static struct text newlines, long_line, one_rule, chain, wide_rules, wide_steps, big_rules, full_rules, full_steps;
+
+/* One rule, and a chain of definitions of which the last name is refuted only at the chain's far end. */
+static void make_chain(void) {
+    put(&one_rule, "asp 1 0 0\n1 0 1 1 0 1 -1\n0\n");
+    put(&chain, "b 2 -1 0\nc 2 1 0\ns 1 2 0\n");
+    for (int name = 3; name <= 2402; name++) put(&chain, "e %d %d 0\n", name, name - 1);
+    for (int i = 0; i < 100; i++) put(&chain, "a 2402 0\nd 2402 0\n");
+    put(&chain, "a 1 0\na 0\n");
+}
+
+/* Rules with as many heads and literals as there may be, and steps with as many numbers. */
+static void make_wide(void) {
+    put(&wide_rules, "asp 1 0 0\n1 1 64");
+    put_range(&wide_rules, 1, PART);
+    put(&wide_rules, " 0 64");
+    put_range(&wide_rules, PART + 1, 2 * PART);
+    put(&wide_rules, "\n1 0 1 1 0 0\n0\n");
+    put(&wide_steps, "b 130");
+    put_range(&wide_steps, PART + 1, 2 * PART);
+    put(&wide_steps, " 0\nb 131 0\nc 131 1 0\ns 1 130 131 0\ne 132");
+    put_range(&wide_steps, 1, PART);
+    put(&wide_steps, " 0\nl");
+    put_range(&wide_steps, 1, PART + 1);
+    put(&wide_steps, " 0\n");
+    for (const char *letter = "ad"; *letter != 0; letter++) {
+        put(&wide_steps, "%c 132 -1", *letter);
+        put_range(&wide_steps, 2, PART);
+        put(&wide_steps, " 0\n");
+    }
+}
+
+/* Rules with 64 heads, nearly as many as a text holds. */
+static void make_big(void) {
+    put(&big_rules, "asp 1 0 0\n");
+    for (int i = 0; i < 190; i++) {
+        put(&big_rules, "1 1 64");
+        put_range(&big_rules, 1000, 999 + PART);
+        put(&big_rules, " 0 0\n");
+    }
+    put(&big_rules, "0\n");
+}
+
+/* As many rules as there may be, in a table that they fill, and the steps that go through all of them until the text is nearly full. */
+static void make_full(void) {
+    put(&full_rules, "asp 1 0 0\n");
+    for (int i = 0; i < RULES; i++) put(&full_rules, "1 1 7 2 3 4 5 6 7 8 0 6 2 3 4 5 6 7\n");
+    put(&full_rules, "0\n");
+    put(&full_steps, "b 9 2 3 4 5 6 7 0\n");
+    while (full_steps.size < TEXT - 60) put(&full_steps, "s 2 9 0\nd 2 -9 0\nl 8 0\nd 8 -9 0\nl 2 3 0\nd 2 0\n");
+}
+
+static void make_inputs(void) {
+    make_chain();
+    make_wide();
+    make_big();
+    make_full();
+    for (int i = 0; i < TEXT; i++) put(&newlines, "\n");
+    put(&long_line, "a");
+    while (long_line.size < TEXT - 10) put(&long_line, " -4095");
+    put(&long_line, " 0\n");
+}
+
+/* ---- The calls ---- */
+
+/* What a call is lent, apart from the texts. */
+static int32_t table[WORDS], store[WORDS], numbers[ASPDRUPE_NUMBERS];
+static uint8_t marks[ASPDRUPE_MARKS];
+static uint64_t answer[ASPDRUPE_ANSWER];
+
+static uint32_t read_program(const struct text *text) {
+    return aspdrupe_read_program(text->bytes, text->size, table, WORDS, answer, ASPDRUPE_ANSWER);
+}
+
+static uint32_t read_line(const struct text *text) {
+    return aspdrupe_read_line(text->bytes, text->size, 0, numbers, ASPDRUPE_NUMBERS, answer, ASPDRUPE_ANSWER);
+}
+
+static uint32_t check(const struct text *program, const struct text *proof) {
+    return aspdrupe_check_texts(program->bytes, program->size, proof->bytes, proof->size, table, WORDS, store, WORDS, answer,
+                                ASPDRUPE_ANSWER);
+}
+
+static uint32_t read_full(void) { return read_program(&full_rules); }
+static uint32_t read_big(void) { return read_program(&big_rules); }
+static uint32_t read_wide(void) { return read_program(&wide_rules); }
+static uint32_t read_newlines(void) { return read_program(&newlines); }
+static uint32_t line_wide(void) { return read_line(&wide_steps); }
+static uint32_t line_long(void) { return read_line(&long_line); }
+static uint32_t check_chain(void) { return check(&one_rule, &chain); }
+static uint32_t check_wide(void) { return check(&wide_rules, &wide_steps); }
+static uint32_t check_full(void) { return check(&full_rules, &full_steps); }
+static uint32_t check_long(void) { return check(&one_rule, &long_line); }
+static uint32_t check_newlines(void) { return check(&newlines, &newlines); }
+
+/* A chain of rules against their order: the least model takes as many rounds as there are rules. It is the set that is tested. */
+static uint32_t test_chain(void) {
+    static uint16_t set[RULES];
+    size_t at = 0;
+    for (size_t i = 0; i < RULES; i++) set[i] = (uint16_t)(i + 1);
+    for (int atom = RULES; atom > 1; atom--) {
+        const int32_t rule[] = {0, 1, 1, atom, atom - 1};
+        for (size_t i = 0; i < 5; i++) table[at++] = rule[i];
+    }
+    const int32_t fact[] = {0, 1, 0, 1};
+    for (size_t i = 0; i < 4; i++) table[at++] = fact[i];
+    while (at < WORDS) table[at++] = 0;
+    return aspdrupe_test_set(table, WORDS, RULES, set, RULES, marks, ASPDRUPE_MARKS, answer, ASPDRUPE_ANSWER);
+}
+
+/* A call with the code and the numbers that it must answer, the others left 0. */
+struct call {
+    const char *name;
+    uint32_t (*run)(void);
+    uint32_t code;
+    uint64_t answer[ASPDRUPE_ANSWER];
+};
+
+static const struct call calls[] = {
+    {"read_program: 1,024 rules", read_full, 0, {8, RULES, 0, 0}},
+    {"read_program: rules of 64 heads", read_big, 0, {1063, 190, 0, 0}},
+    {"read_program: 64 heads, 64 literals", read_wide, 0, {128, 2, 0, 0}},
+    {"read_program: newlines", read_newlines, 2, {1, 0, 0, 0}},
+    {"test_set: a chain of 1,024 rules", test_chain, ASPDRUPE_YES, {0, 0, 0, 0}},
+    {"read_line: 65 numbers", line_wide, 'b', {65, 229, 0, 0}},
+    {"read_line: a line of 65,530 bytes", line_long, 23, {0, 0, 0, 0}},
+    {"check_texts: a chain of definitions", check_chain, ASPDRUPE_INCONSISTENT, {1, 1, 2605, 4806}},
+    {"check_texts: lines of 65 numbers", check_wide, ASPDRUPE_OPEN, {128, 2, 8, 134}},
+    {"check_texts: full texts and table", check_full, ASPDRUPE_OPEN, {8, RULES, 8539, 7}},
+    {"check_texts: a line of 65,530 bytes", check_long, ASPDRUPE_REFUSED_PROOF, {23, 1, 0, 0}},
+    {"check_texts: newlines", check_newlines, ASPDRUPE_REFUSED_PROGRAM, {2, 1, 0, 0}},
+};
+
+#define CALLS (sizeof calls / sizeof *calls)
+
+/* ---- The threads ---- */
+
+struct job {
+    const struct call *call;
+    int good;
+};
+
+/* In the thread: the call, and whether it answers as it must. */
+static void *do_job(void *argument) {
+    struct job *job = argument;
+    job->good = job->call->run() == job->call->code;
+    for (size_t i = 0; i < ASPDRUPE_ANSWER; i++) job->good &= answer[i] == job->call->answer[i];
+    return NULL;
+}
+
+/* A stack of so many bytes with a guard below it. */
+static uint8_t *new_stack(size_t size) {
+    uint8_t *area = mmap(NULL, GUARD + size, PROT_READ | PROT_WRITE, MAP_PRIVATE | MAP_ANONYMOUS, -1, 0);
+    if (area == MAP_FAILED) stop("mmap");
+    if (mprotect(area, GUARD, PROT_NONE) != 0) stop("mprotect");
+    return area + GUARD;
+}
+
+/* Runs a call in a thread on that stack; whether it answers as it must. */
+static int run_on(const struct call *call, uint8_t *stack, size_t size) {
+    struct job job = {call, 0};
+    pthread_attr_t attributes;
+    pthread_t thread;
+    for (size_t i = 0; i < ASPDRUPE_ANSWER; i++) answer[i] = 0;
+    if (pthread_attr_init(&attributes) != 0 || pthread_attr_setstack(&attributes, stack, size) != 0) stop("no stack of this size");
+    if (pthread_create(&thread, &attributes, do_job, &job) != 0 || pthread_join(thread, NULL) != 0) stop("no thread with this stack");
+    if (!job.good) {
+        printf("FAILED: %s: answered", call->name);
+        for (size_t i = 0; i < ASPDRUPE_ANSWER; i++) printf(" %" PRIu64, answer[i]);
+        printf("\n");
+    }
+    return job.good;
+}
+
+/* How many bytes of the stack were used since all of it was filled with the pattern. */
+static size_t used(const uint8_t *stack, size_t size) {
+    size_t left = 0;
+    while (left < size && stack[left] == PATTERN) left++;
+    return size - left;
+}
+
+/* In a process of its own: the call in a thread with a stack of so many bytes, and where it is asked for, how many it has used. */
+static int try_call(const struct call *call, size_t size, int measuring) {
+    uint8_t *stack = new_stack(size);
+    for (size_t i = 0; measuring && i < size; i++) stack[i] = PATTERN;
+    int good = run_on(call, stack, size);
+    if (measuring) printf("%8zu  %s\n", used(stack, size), call->name);
+    fflush(stdout);
+    return good;
+}
+
+/* Whether a call answers as it must in a thread with a stack of so many bytes. */
+static int passes(const struct call *call, size_t size, int measuring) {
+    int status;
+    fflush(stdout);
+    pid_t child = fork();
+    if (child < 0) stop("fork");
+    if (child == 0) _exit(!try_call(call, size, measuring));
+    if (waitpid(child, &status, 0) != child) stop("waitpid");
+    if (WIFSIGNALED(status)) printf("FAILED: %s: a stack of %zu bytes, signal %d\n", call->name, size, WTERMSIG(status));
+    return WIFEXITED(status) && WEXITSTATUS(status) == 0;
+}
+
+int main(int argc, char **argv) {
+    int measuring = argc == 2 && strcmp(argv[1], "measure") == 0;
+    size_t size = measuring ? PLENTY : argc == 2 ? strtoul(argv[1], NULL, 10) : ASPDRUPE_STACK;
+    size_t failed = 0;
+    if (argc > 2 || size < (size_t)PTHREAD_STACK_MIN) {
+        fprintf(stderr, "usage: %s [SIZE | measure]; a thread has at least %zu bytes\n", argv[0], (size_t)PTHREAD_STACK_MIN);
+        return 2;
+    }
+    make_inputs();
+    for (size_t i = 0; i < CALLS; i++) failed += !passes(&calls[i], size, measuring);
+    printf("stacks of %zu bytes: %zu calls passed, %zu failed\n", size, CALLS - failed, failed);
+    return failed != 0;
+}

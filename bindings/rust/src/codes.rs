@@ -1,0 +1,195 @@
+//! From what a function of the library returns and leaves, a code and numbers, to the answer of its service.
+
+use crate::answers::{Counts, LineAnswer, ProgramReading, ProgramRefusal, ProofRefusal, SetAnswer, Verdict};
+use crate::questions::{Letter, ProgramQuestion, ProofQuestion, SetQuestion, UnknownAnswer};
+
+/// What the program reader returns.
+#[derive(Debug, Clone, Copy, PartialEq, Eq)]
+enum ProgramCode {
+    Read,
+    Refused(ProgramQuestion),
+}
+
+/// What the set test returns.
+#[derive(Debug, Clone, Copy, PartialEq, Eq)]
+enum SetCode {
+    Yes,
+    Differs,
+    Broken,
+    Refused(SetQuestion),
+}
+
+/// What the proof-line reader returns.
+#[derive(Debug, Clone, Copy, PartialEq, Eq)]
+enum LineCode {
+    End,
+    Line(Letter),
+    Refused(ProofQuestion),
+}
+
+/// What the whole check returns.
+#[derive(Debug, Clone, Copy, PartialEq, Eq)]
+enum CheckCode {
+    Inconsistent,
+    Open,
+    RefusedProgram,
+    RefusedProof,
+}
+
+fn unknown(wanted: &'static str, code: u32) -> UnknownAnswer {
+    UnknownAnswer { wanted, number: u64::from(code) }
+}
+
+impl TryFrom<u32> for ProgramCode {
+    type Error = UnknownAnswer;
+
+    fn try_from(code: u32) -> Result<Self, UnknownAnswer> {
+        match code {
+            0 => Ok(ProgramCode::Read),
+            1..=11 => ProgramQuestion::try_from(u64::from(code)).map(ProgramCode::Refused),
+            _ => Err(unknown("code of the program reader", code)),
+        }
+    }
+}
+
+impl TryFrom<u32> for SetCode {
+    type Error = UnknownAnswer;
+
+    fn try_from(code: u32) -> Result<Self, UnknownAnswer> {
+        match code {
+            0 => Ok(SetCode::Yes),
+            1 => Ok(SetCode::Differs),
+            2 => Ok(SetCode::Broken),
+            41..=43 => SetQuestion::try_from(u64::from(code)).map(SetCode::Refused),
+            _ => Err(unknown("code of the set test", code)),
+        }
+    }
+}
+
+impl TryFrom<u32> for LineCode {
+    type Error = UnknownAnswer;
+
+    fn try_from(code: u32) -> Result<Self, UnknownAnswer> {
+        match code {
+            0 => Ok(LineCode::End),
+            21..=25 => ProofQuestion::try_from(u64::from(code)).map(LineCode::Refused),
+            _ => {
+                let letter = Letter::try_from(u64::from(code));
+                letter.map(LineCode::Line).map_err(|_| unknown("code of the proof-line reader", code))
+            }
+        }
+    }
+}
+
+impl TryFrom<u32> for CheckCode {
+    type Error = UnknownAnswer;
+
+    fn try_from(code: u32) -> Result<Self, UnknownAnswer> {
+        match code {
+            0 => Ok(CheckCode::Inconsistent),
+            1 => Ok(CheckCode::Open),
+            2 => Ok(CheckCode::RefusedProgram),
+            3 => Ok(CheckCode::RefusedProof),
+            _ => Err(unknown("code of the whole check", code)),
+        }
+    }
+}
+
+/// The program reader's answer.
+pub fn program_reading(code: u32, answer: [u64; 2]) -> Result<ProgramReading, UnknownAnswer> {
+    let [first, second] = answer.map(|number| number as usize);
+    Ok(match ProgramCode::try_from(code)? {
+        ProgramCode::Read => ProgramReading::Read { atoms: first, rules: second },
+        ProgramCode::Refused(question) => ProgramReading::Refused(ProgramRefusal { question, line: first }),
+    })
+}
+
+/// The set test's answer.
+pub fn set_answer(code: u32, answer: u64) -> Result<SetAnswer, UnknownAnswer> {
+    Ok(match SetCode::try_from(code)? {
+        SetCode::Yes => SetAnswer::Yes,
+        SetCode::Differs => SetAnswer::Differs(atom(answer)?),
+        SetCode::Broken => SetAnswer::Broken(answer as usize),
+        SetCode::Refused(question) => SetAnswer::Refused(question),
+    })
+}
+
+fn atom(number: u64) -> Result<u16, UnknownAnswer> {
+    u16::try_from(number).map_err(|_| UnknownAnswer { wanted: "atom", number })
+}
+
+/// The proof-line reader's answer.
+pub fn line_answer(code: u32, answer: [u64; 2]) -> Result<LineAnswer, UnknownAnswer> {
+    let [count, next] = answer.map(|number| number as usize);
+    Ok(match LineCode::try_from(code)? {
+        LineCode::End => LineAnswer::End,
+        LineCode::Line(letter) => LineAnswer::Line { letter, count, next },
+        LineCode::Refused(question) => LineAnswer::Refused(question),
+    })
+}
+
+/// The whole check's answer.
+pub fn verdict(code: u32, answer: [u64; 4]) -> Result<Verdict, UnknownAnswer> {
+    let [atoms, rules, steps, nogoods] = answer.map(|number| number as usize);
+    let counts = Counts { atoms, rules, steps, nogoods };
+    let [number, place, ..] = answer;
+    let place = place as usize;
+    Ok(match CheckCode::try_from(code)? {
+        CheckCode::Inconsistent => Verdict::Inconsistent(counts),
+        CheckCode::Open => Verdict::Open(counts),
+        CheckCode::RefusedProgram => Verdict::RefusedProgram(ProgramRefusal { question: number.try_into()?, line: place }),
+        CheckCode::RefusedProof => Verdict::RefusedProof(ProofRefusal { question: number.try_into()?, step: place }),
+    })
+}
+
+#[cfg(test)]
+mod tests {
+    use super::*;
+
+    /// The codes up to 999 that are known, and that those above them are not.
+    fn known<T: TryFrom<u32, Error = UnknownAnswer>>() -> Vec<u32> {
+        for code in [1_000, 1 << 8 | 1, 1 << 16 | 1, u32::MAX] {
+            assert_eq!(T::try_from(code).err().map(|unknown| unknown.number), Some(u64::from(code)));
+        }
+        (0..1_000).filter(|&code| T::try_from(code).is_ok()).collect()
+    }
+
+    #[test]
+    fn known_codes() {
+        assert_eq!(known::<ProgramCode>(), (0..=11).collect::<Vec<_>>());
+        assert_eq!(known::<SetCode>(), [0, 1, 2, 41, 42, 43]);
+        assert_eq!(known::<LineCode>(), [0, 21, 22, 23, 24, 25, 97, 98, 99, 100, 101, 108, 115]);
+        assert_eq!(known::<CheckCode>(), [0, 1, 2, 3]);
+    }
+
+    #[test]
+    fn unknown_codes_are_errors() {
+        assert_eq!(program_reading(12, [1, 1]), Err(UnknownAnswer { wanted: "code of the program reader", number: 12 }));
+        assert_eq!(set_answer(3, 1), Err(UnknownAnswer { wanted: "code of the set test", number: 3 }));
+        assert_eq!(line_answer(26, [1, 1]), Err(UnknownAnswer { wanted: "code of the proof-line reader", number: 26 }));
+        assert_eq!(verdict(4, [0; 4]), Err(UnknownAnswer { wanted: "code of the whole check", number: 4 }));
+    }
+
+    #[test]
+    fn unknown_numbers_are_errors() {
+        assert_eq!(set_answer(1, 65_535), Ok(SetAnswer::Differs(65_535)));
+        assert_eq!(set_answer(1, 65_536), Err(UnknownAnswer { wanted: "atom", number: 65_536 }));
+        assert_eq!(verdict(2, [21, 1, 0, 0]).map_err(|unknown| unknown.number), Err(21));
+        assert_eq!(verdict(3, [11, 1, 0, 0]).map_err(|unknown| unknown.number), Err(11));
+    }
+
+    #[test]
+    fn numbers_have_their_places() {
+        assert_eq!(program_reading(0, [7, 3]), Ok(ProgramReading::Read { atoms: 7, rules: 3 }));
+        let refusal = ProgramRefusal { question: ProgramQuestion::Kinds, line: 7 };
+        assert_eq!(program_reading(5, [7, 0]), Ok(ProgramReading::Refused(refusal)));
+        assert_eq!(set_answer(2, 9), Ok(SetAnswer::Broken(9)));
+        assert_eq!(line_answer(108, [2, 30]), Ok(LineAnswer::Line { letter: Letter::Loop, count: 2, next: 30 }));
+        for (code, answer, line) in
+            [(0, [1, 2, 3, 4], "inconsistent 1 2 3 4"), (1, [5, 6, 7, 8], "open 5 6 7 8"), (2, [10, 3, 0, 0], "refused program 10 3")]
+        {
+            assert_eq!(verdict(code, answer).map(|verdict| verdict.to_string()), Ok(String::from(line)));
+        }
+        assert_eq!(verdict(3, [33, 12, 9, 9]).map(|verdict| verdict.to_string()), Ok(String::from("refused proof 33 12")));
+    }
+}

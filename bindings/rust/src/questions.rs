@@ -1,0 +1,149 @@
+//! What the library says in numbers, as enums: the questions that document 01 puts to the inputs, and the letters of proof lines.
+
+use std::fmt;
+
+/// A code, or a number beside it, that the library's contracts do not allow. The library is proved never to answer one: it shows
+/// that this crate and the library that it is linked with do not belong together.
+#[derive(Debug, Clone, Copy, PartialEq, Eq)]
+pub struct UnknownAnswer {
+    /// What the number should have been.
+    pub wanted: &'static str,
+    /// The number.
+    pub number: u64,
+}
+
+impl fmt::Display for UnknownAnswer {
+    fn fmt(&self, f: &mut fmt::Formatter) -> fmt::Result {
+        write!(f, "the library answered {}, which is no {}", self.number, self.wanted)
+    }
+}
+
+impl std::error::Error for UnknownAnswer {}
+
+/// An enum whose cases have numbers and texts; a case's text is its documentation and what it is displayed as.
+macro_rules! numbered {
+    ($(#[$about:meta])* $name:ident, $what:literal { $($case:ident = $number:literal, $text:literal;)* }) => {
+        $(#[$about])*
+        #[derive(Debug, Clone, Copy, PartialEq, Eq, Hash)]
+        #[repr(u8)]
+        pub enum $name {
+            $(#[doc = $text] $case = $number,)*
+        }
+
+        impl $name {
+            /// All cases, ascending by number.
+            pub const ALL: &'static [$name] = &[$($name::$case),*];
+
+            /// The case's number.
+            pub const fn number(self) -> u8 {
+                self as u8
+            }
+        }
+
+        impl TryFrom<u64> for $name {
+            type Error = UnknownAnswer;
+
+            fn try_from(number: u64) -> Result<Self, UnknownAnswer> {
+                let found = $name::ALL.iter().find(|case| u64::from(case.number()) == number);
+                found.copied().ok_or(UnknownAnswer { wanted: $what, number })
+            }
+        }
+
+        impl fmt::Display for $name {
+            fn fmt(&self, f: &mut fmt::Formatter) -> fmt::Result {
+                f.write_str(match self {
+                    $($name::$case => $text,)*
+                })
+            }
+        }
+    };
+}
+
+numbered! {
+    /// A question put to a program text. A refusal names the first that is answered no.
+    ProgramQuestion, "question put to a program text" {
+        Length = 1, "Has the text at most 65,535 bytes?";
+        Header = 2, "Is line 1 `asp 1 0 0`?";
+        Numbers = 3, "Is there a line, ended, of well-formed numbers?";
+        Range = 4, "Are all numbers from -4,095 to 4,095?";
+        Kinds = 5, "Is the statement kind 1, the head kind 0 or 1, and the body kind 0?";
+        Counts = 6, "Are both counts there, 0 to 64, and matched by what follows?";
+        HeadCount = 7, "Does the head count suit the head kind?";
+        Literals = 8, "Are heads positive and distinct, literals nonzero with no atom twice?";
+        RuleCount = 9, "Are there fewer than 1,024 rules before it?";
+        Table = 10, "Does the table hold the rule?";
+        End = 11, "Does the text end after the line `0`?";
+    }
+}
+
+numbered! {
+    /// A question put to a proof text. A refusal names the first that is answered no.
+    ProofQuestion, "question put to a proof text" {
+        Length = 21, "Has the text at most 65,535 bytes?";
+        Shape = 22, "Is the line a letter, a space, numbers, a closing `0` and a newline?";
+        Sizes = 23, "Are all numbers from -4,095 to 4,095, and at most 65 of them?";
+        Signs = 24, "Is a first number there for `b c e l s`, and every sign as told?";
+        Distinct = 25, "Is no variable named twice in the line?";
+        Known = 26, "Are all variables known, save the name introduced?";
+        Fresh = 27, "Is the name introduced unknown?";
+        Body = 28, "`b`: is it the body of a rule, and without a name?";
+        Completion = 29, "`c`: has a normal rule that body and that head?";
+        Support = 30, "`s`: is it an atom, with exactly the names of its bodies?";
+        Atoms = 31, "`l`: are all of them atoms?";
+        Externals = 32, "`l`: is each external body named?";
+        Addition = 33, "`a`: does propagation come to a conflict?";
+        Store = 34, "Do the live nogoods fit the store?";
+    }
+}
+
+numbered! {
+    /// A question put by the set test. A refusal names the first that is answered no.
+    SetQuestion, "question put by the set test" {
+        Table = 41, "Is the table one that the program reader leaves, with that rule count?";
+        Set = 42, "Is the set strictly ascending within 1 to the largest atom?";
+        Marks = 43, "Are there 4,096 marks?";
+    }
+}
+
+numbered! {
+    /// The letter of a proof line; its number is its byte.
+    Letter, "letter of a proof line" {
+        Addition = b'a', "a";
+        Body = b'b', "b";
+        Completion = b'c', "c";
+        Deletion = b'd', "d";
+        Extension = b'e', "e";
+        Loop = b'l', "l";
+        Support = b's', "s";
+    }
+}
+
+#[cfg(test)]
+mod tests {
+    use super::*;
+
+    /// The numbers up to 1,000 that have a case, each of which has that number.
+    fn known<T: TryFrom<u64>>(number: fn(T) -> u8) -> Vec<u64> {
+        let of = |n: u64| T::try_from(n).ok().map(|case| u64::from(number(case)));
+        (0..1_000).filter(|&n| of(n).inspect(|&own| assert_eq!(own, n)).is_some()).collect()
+    }
+
+    #[test]
+    fn numbers_of_document_01() {
+        assert_eq!(known(ProgramQuestion::number), (1..=11).collect::<Vec<_>>());
+        assert_eq!(known(ProofQuestion::number), (21..=34).collect::<Vec<_>>());
+        assert_eq!(known(SetQuestion::number), (41..=43).collect::<Vec<_>>());
+        assert_eq!(known(Letter::number), b"abcdels".map(u64::from));
+        assert_eq!(Letter::ALL.iter().map(Letter::to_string).collect::<String>(), "abcdels");
+    }
+
+    #[test]
+    fn other_numbers_are_errors() {
+        for number in [0, 12, 21, 257, 1 << 32 | 1, u64::MAX] {
+            let unknown = UnknownAnswer { wanted: "question put to a program text", number };
+            assert_eq!(ProgramQuestion::try_from(number), Err(unknown));
+        }
+        let unknown = SetQuestion::try_from(44).unwrap_err();
+        assert_eq!(unknown.to_string(), "the library answered 44, which is no question put by the set test");
+    }
+}

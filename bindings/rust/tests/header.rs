@@ -1,0 +1,39 @@
+//! The constants of this crate are those of the header for C, and the stack that both name is enough for a thread of Rust.
+
+use aspdrupe::*;
+
+const HEADER: &str = include_str!("../../c/aspdrupe.h");
+
+/// The number that the header defines.
+fn defined(name: &str) -> usize {
+    let prefix = format!("#define ASPDRUPE_{name} ");
+    let line = HEADER.lines().find_map(|line| line.strip_prefix(prefix.as_str()));
+    line.unwrap_or_else(|| panic!("the header has no {name}")).parse().unwrap()
+}
+
+#[test]
+fn same_constants() {
+    assert_eq!(STACK, defined("STACK"));
+    assert_eq!(MARKS, defined("MARKS"));
+    assert_eq!(MOST_NUMBERS, defined("NUMBERS"));
+}
+
+/// Every service once. The inputs that go deepest are those of bindings/c/stack.c.
+fn call_all() -> [String; 4] {
+    let program = b"asp 1 0 0\n1 0 1 1 0 1 2\n1 0 1 2 0 1 1\n1 0 0 0 1 -1\n0\n";
+    let proof = b"b 3 -1 0\nb 4 2 0\ns 1 4 0\nc 3 0\nl 1 2 0\na 0\n";
+    let (mut table, mut store) = ([0; 16], [0; 32]);
+    let read = read_program(program, &mut table);
+    let set = test_set(&table, 3, &[], &mut [0; MARKS]);
+    let line = read_line(proof, 0).map(|(line, _)| line);
+    let verdict = check_texts(program, proof, &mut table, &mut store);
+    [format!("{read:?}"), format!("{set:?}"), format!("{line:?}"), verdict.unwrap().to_string()]
+}
+
+#[test]
+fn stack_of_a_thread() {
+    let thread = std::thread::Builder::new().stack_size(STACK).spawn(call_all).unwrap();
+    let expected =
+        ["Ok(Read { atoms: 2, rules: 3 })", "Ok(Broken(3))", "Ok(Line { letter: Body, count: 2, next: 9 })", "inconsistent 2 3 6 8"];
+    assert_eq!(thread.join().unwrap(), expected);
+}

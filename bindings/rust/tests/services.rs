@@ -1,0 +1,127 @@
+//! The four services on document 01's starred examples and on buffers that are too small or empty.
+
+use aspdrupe::*;
+
+// Starred example 1.
+const PROGRAM: &[u8] = b"asp 1 0 0\n1 0 1 1 0 1 -1\n0\n";
+const PROOF: &[u8] = b"b 2 -1 0\nc 2 1 0\ns 1 2 0\na 1 0\na 0\n";
+const RULES: [i32; 5] = [0, 1, 1, 1, -1];
+const STORE: [i32; 15] = [2, -1, -2, 2, 1, 2, 2, -1, 2, 2, 1, -2, 1, 1, 0];
+
+/// The verdict's line, the table and the store, for buffers of so many words.
+fn checked(program: &[u8], proof: &[u8], table: usize, store: usize) -> (String, Vec<i32>, Vec<i32>) {
+    let (mut table, mut store) = (vec![7; table], vec![7; store]);
+    let verdict = check_texts(program, proof, &mut table, &mut store).unwrap();
+    (verdict.to_string(), table, store)
+}
+
+fn line(text: &str) -> String {
+    String::from(text)
+}
+
+fn refused(question: ProgramQuestion, line: usize) -> Result<ProgramReading, UnknownAnswer> {
+    Ok(ProgramReading::Refused(ProgramRefusal { question, line }))
+}
+
+#[test]
+fn starred_1() {
+    assert_eq!(checked(PROGRAM, PROOF, 5, 15), (line("inconsistent 1 1 5 6"), RULES.to_vec(), STORE.to_vec()));
+    assert_eq!(checked(PROGRAM, PROOF, 5, 14), (line("refused proof 34 5"), vec![0; 5], vec![0; 14]));
+    assert_eq!(checked(PROGRAM, PROOF, 4, 15), (line("refused program 10 2"), vec![0; 4], vec![0; 15]));
+}
+
+#[test]
+fn starred_2() {
+    let proof = [PROOF, b"d 0\n"].concat();
+    assert_eq!(checked(PROGRAM, &proof, 5, 15), (line("open 1 1 6 5"), RULES.to_vec(), STORE.to_vec()));
+}
+
+#[test]
+fn verdicts_as_enums() {
+    let (mut table, mut store) = ([7; 5], [7; 15]);
+    let counts = Counts { atoms: 1, rules: 1, steps: 5, nogoods: 6 };
+    assert_eq!(check_texts(PROGRAM, PROOF, &mut table, &mut store), Ok(Verdict::Inconsistent(counts)));
+    let refusal = ProofRefusal { question: ProofQuestion::Addition, step: 1 };
+    assert_eq!(check_texts(PROGRAM, b"a 1 0\n", &mut table, &mut store), Ok(Verdict::RefusedProof(refusal)));
+    let refusal = ProgramRefusal { question: ProgramQuestion::Header, line: 1 };
+    assert_eq!(check_texts(b"", PROOF, &mut table, &mut store), Ok(Verdict::RefusedProgram(refusal)));
+}
+
+#[test]
+fn programs() {
+    let mut table = [7; 7];
+    assert_eq!(read_program(PROGRAM, &mut table), Ok(ProgramReading::Read { atoms: 1, rules: 1 }));
+    assert_eq!(table, [0, 1, 1, 1, -1, 0, 0]);
+    let mut short = [7; 4];
+    assert_eq!(read_program(PROGRAM, &mut short), refused(ProgramQuestion::Table, 2));
+    assert_eq!(short, [0; 4]);
+    assert_eq!(read_program(&[b'\n'; 65_536], &mut short), refused(ProgramQuestion::Length, 0));
+}
+
+#[test]
+fn sets() {
+    let mut marks = [7; MARKS];
+    // example 1's rule: its head and its negated atom are the same
+    assert_eq!(test_set(&RULES, 1, &[], &mut marks), Ok(SetAnswer::Differs(1)));
+    assert_eq!(marks[..3], [0, 1, 0]);
+    assert_eq!(test_set(&RULES, 1, &[1], &mut marks), Ok(SetAnswer::Differs(1)));
+    assert_eq!(marks, [0; MARKS]);
+    // starred example 7, `1 1 1 1 0 0`: both pass
+    assert_eq!(test_set(&[1, 1, 0, 1], 1, &[], &mut marks), Ok(SetAnswer::Yes));
+    assert_eq!(test_set(&[1, 1, 0, 1], 1, &[1], &mut marks), Ok(SetAnswer::Yes));
+    // the same with a constraint that asks for atom 1
+    let asks = [1, 1, 0, 1, 0, 0, 1, -1];
+    assert_eq!(test_set(&asks, 2, &[], &mut marks), Ok(SetAnswer::Broken(2)));
+    assert_eq!(test_set(&asks, 2, &[1], &mut marks), Ok(SetAnswer::Yes));
+    assert_eq!(test_set(&asks, usize::MAX, &[], &mut marks), Ok(SetAnswer::Refused(SetQuestion::Table)));
+    assert_eq!(test_set(&asks, 2, &[2], &mut marks), Ok(SetAnswer::Refused(SetQuestion::Set)));
+    assert_eq!(test_set(&asks, 2, &[1], &mut marks[1..]), Ok(SetAnswer::Refused(SetQuestion::Marks)));
+}
+
+#[test]
+fn lines_of_starred_1() {
+    let mut at = 0;
+    let mut seen = Vec::new();
+    while let (LineAnswer::Line { letter, count, next }, numbers) = read_line(PROOF, at).unwrap() {
+        assert_eq!(numbers[count..], vec![0; MOST_NUMBERS - count]);
+        seen.push((letter, numbers[..count].to_vec()));
+        at = next;
+    }
+    assert_eq!(at, PROOF.len());
+    let expected = [
+        (Letter::Body, vec![2, -1]),
+        (Letter::Completion, vec![2, 1]),
+        (Letter::Support, vec![1, 2]),
+        (Letter::Addition, vec![1]),
+        (Letter::Addition, vec![]),
+    ];
+    assert_eq!(seen, expected);
+}
+
+#[test]
+fn lines_and_positions() {
+    let answered = |answer| Ok((answer, [0; MOST_NUMBERS]));
+    assert_eq!(read_line(PROOF, PROOF.len()), answered(LineAnswer::End));
+    for at in [1, PROOF.len() + 1, usize::MAX] {
+        assert_eq!(read_line(PROOF, at), answered(LineAnswer::Refused(ProofQuestion::Shape)));
+    }
+    assert_eq!(read_line(b"s -1 0\n", 0), answered(LineAnswer::Refused(ProofQuestion::Signs)));
+    for letter in Letter::ALL.iter().copied() {
+        let text = format!("{letter} 1 0\n");
+        let answer = LineAnswer::Line { letter, count: 1, next: 6 };
+        assert_eq!(read_line(text.as_bytes(), 0).unwrap().0, answer);
+    }
+}
+
+#[test]
+fn nothing_lent() {
+    assert_eq!(read_program(&[], &mut []), refused(ProgramQuestion::Header, 1));
+    assert_eq!(read_program(b"asp 1 0 0\n0\n", &mut []), Ok(ProgramReading::Read { atoms: 0, rules: 0 }));
+    assert_eq!(test_set(&[], 0, &[], &mut []), Ok(SetAnswer::Refused(SetQuestion::Marks)));
+    assert_eq!(test_set(&[], 1, &[], &mut []), Ok(SetAnswer::Refused(SetQuestion::Table)));
+    assert_eq!(test_set(&[], 0, &[], &mut [7; MARKS]), Ok(SetAnswer::Yes));
+    assert_eq!(read_line(&[], 0), Ok((LineAnswer::End, [0; MOST_NUMBERS])));
+    assert_eq!(checked(&[], &[], 0, 0).0, "refused program 2 1");
+    assert_eq!(checked(b"asp 1 0 0\n0\n", &[], 0, 0).0, "open 0 0 0 0");
+    assert_eq!(checked(PROGRAM, b"a 1 0\n", 5, 0).0, "refused proof 33 1");
+}

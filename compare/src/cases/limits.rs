@@ -1,0 +1,425 @@
+//! Inputs at the limits of document 01: counts of heads, literals, numbers and rules, sizes of atoms and variables, lengths of
+//! texts, a store that is just full, long loop nogoods and long chains of propagation.
+
+use std::sync::OnceLock;
+
+use inputs::lines::{self, line_of, proof_text};
+use inputs::rules::{choice, constraint, normal, program_text, rule_line, Rule};
+use inputs::{joined, Pair};
+
+use super::fixed::{program, proof, PROOF_1, RULE_1};
+
+/// A name, two texts, and the line that `verdict` must print where it is plain from the document.
+pub struct Case {
+    pub name: String,
+    pub pair: Pair,
+    pub line: Option<String>,
+}
+
+fn case(name: impl Into<String>, program: impl AsRef<[u8]>, proof: impl AsRef<[u8]>, line: &str) -> Case {
+    let line = Some(String::from(line)).filter(|line| !line.is_empty());
+    Case { name: name.into(), pair: Pair::of(program, proof), line }
+}
+
+/// All cases, made once.
+pub fn cases() -> &'static [Case] {
+    static CASES: OnceLock<Vec<Case>> = OnceLock::new();
+    CASES.get_or_init(all_cases)
+}
+
+fn all_cases() -> Vec<Case> {
+    let mut cases = Vec::new();
+    cases.extend(head_counts());
+    cases.extend(body_counts());
+    cases.extend(program_numbers());
+    cases.extend(rule_counts());
+    cases.extend(program_lengths());
+    cases.extend(program_shapes());
+    cases.extend(proof_lengths());
+    cases.extend(number_counts());
+    cases.extend(variable_sizes());
+    cases.extend(proof_shapes());
+    cases.extend(full_stores());
+    cases.extend(long_loops());
+    cases.extend(long_chains());
+    cases.extend(chains_behind_many_words());
+    cases
+}
+
+fn count_to(last: i32) -> Vec<i32> {
+    (1..=last).collect()
+}
+
+fn head_counts() -> Vec<Case> {
+    let mut cases = Vec::new();
+    for (count, line) in
+        [(0, "refused program 7 2"), (1, "open 1 1 0 0"), (64, "open 64 1 0 0"), (65, "refused program 6 2"), (66, "refused program 6 2")]
+    {
+        cases.push(case(format!("choice of {count}"), program_text(&[choice(&count_to(count), &[])]), "", line));
+    }
+    for (count, line) in
+        [(0, "open 0 1 0 0"), (1, "open 1 1 0 0"), (2, "refused program 7 2"), (64, "refused program 7 2"), (65, "refused program 6 2")]
+    {
+        let rule = Rule { choice: false, heads: count_to(count), body: Vec::new() };
+        cases.push(case(format!("normal rule with {count} heads"), program_text(&[rule]), "", line));
+    }
+    cases
+}
+
+fn body_counts() -> Vec<Case> {
+    let mut cases = Vec::new();
+    for (count, line) in
+        [(0, "open 1 1 0 0"), (63, "open 63 1 0 0"), (64, "open 64 1 0 0"), (65, "refused program 6 2"), (66, "refused program 6 2")]
+    {
+        for sign in [1, -1] {
+            let body: Vec<i32> = count_to(count).iter().rev().map(|atom| atom * sign).collect();
+            cases.push(case(format!("body of {count}"), program_text(&[normal(1, &body)]), "", line));
+        }
+    }
+    let both = choice(&count_to(64), &(65..=128).collect::<Vec<_>>());
+    cases.push(case("64 heads and 64 literals", program_text(&[both]), "", "open 128 1 0 0"));
+    cases
+}
+
+/// A row that is good, with a number at a limit in each of its places in turn.
+fn program_numbers() -> Vec<Case> {
+    let mut cases = Vec::new();
+    let row = [1, 1, 2, 3, 4, 0, 2, 5, -6];
+    for number in [-4_097, -4_096, -4_095, -65, -64, -1, 0, 1, 2, 3, 63, 64, 65, 4_094, 4_095, 4_096, 4_097, 65_536] {
+        for place in 0..row.len() {
+            let mut changed = row;
+            changed[place] = number;
+            cases.push(case(format!("{number} at place {place}"), program(&[&joined(&changed)]), "", ""));
+        }
+    }
+    for place in 0..=row.len() {
+        cases.push(case(format!("{place} numbers"), program(&[&joined(&row[..place])]), "", ""));
+    }
+    cases
+}
+
+fn rule_counts() -> Vec<Case> {
+    let mut cases = Vec::new();
+    for (count, line) in [(1_023, "open 0 1023 0 0"), (1_024, "open 0 1024 0 0"), (1_025, "refused program 9 1026")] {
+        cases.push(case(format!("{count} rules"), program_text(&vec![constraint(&[]); count]), "", line));
+    }
+    let wide = vec![normal(1, &count_to(13).iter().map(|atom| -atom).collect::<Vec<_>>()); 963];
+    cases.push(case("963 rules of 17 words", program_text(&wide), "", "open 13 963 0 0"));
+    let mut full = wide.clone();
+    full.extend(vec![normal(1, &[2, 3]); 2]);
+    full.push(constraint(&[]));
+    cases.push(case("a table of 16,386 words", program_text(&full), "", "refused program 10 967"));
+    let mut fits = wide;
+    fits.extend(vec![constraint(&[]); 3]);
+    fits.push(normal(1, &[]));
+    cases.push(case("a table of 16,384 words", program_text(&fits), "", "open 13 967 0 0"));
+    cases
+}
+
+/// Lines of three kinds that have just so many bytes together, most of them of the first kind.
+fn lines_of_length(length: usize, kinds: [&str; 3]) -> String {
+    let first = kinds[0].len();
+    for (second, third) in (0..first).flat_map(|second| [(second, 0), (second, 1)]) {
+        let others = kinds[1].repeat(second) + &kinds[2].repeat(third);
+        if (length - others.len()).is_multiple_of(first) {
+            return kinds[0].repeat((length - others.len()) / first) + &others;
+        }
+    }
+    panic!("no lines of these kinds have {length} bytes together")
+}
+
+/// A program of just so many bytes.
+pub fn program_of_length(length: usize) -> Vec<u8> {
+    let big = rule_line(&choice(&(1_000..1_064).collect::<Vec<_>>(), &[]));
+    let inner = length - "asp 1 0 0\n0\n".len();
+    let many = inner / big.len() - 1;
+    let rest = lines_of_length(inner - many * big.len(), ["1 0 0 0 0\n", "1 0 1 1 0 0\n", "1 0 1 10 0 0\n"]);
+    format!("asp 1 0 0\n{}{rest}0\n", big.repeat(many)).into_bytes()
+}
+
+fn program_lengths() -> Vec<Case> {
+    let mut cases = Vec::new();
+    for length in [65_534, 65_535, 65_536, 65_537] {
+        let text = program_of_length(length);
+        assert_eq!(text.len(), length);
+        let line = if length > 65_535 { "refused program 1 0" } else { "" };
+        cases.push(case(format!("a program of {length} bytes"), text, "", line));
+        let line = if length > 65_535 { "refused program 1 0" } else { "refused program 2 1" };
+        cases.push(case(format!("a program of {length} newlines"), vec![b'\n'; length], "", line));
+    }
+    cases.push(case("a program of 200,000 bytes", vec![b'0'; 200_000], vec![b'0'; 200_000], "refused program 1 0"));
+    cases
+}
+
+fn program_shapes() -> Vec<Case> {
+    let mut cases = Vec::new();
+    for (text, line) in [
+        ("", "refused program 2 1"),
+        ("asp 1 0 0", "refused program 2 1"),
+        ("asp 1 0 0\n", "refused program 3 2"),
+        ("asp 1 0 0\n0", "refused program 3 2"),
+        ("asp 1 0 0\n\n0\n", "refused program 5 2"),
+        ("asp 1 0 0 \n0\n", "refused program 2 1"),
+        ("asp 1 0 0\r\n0\n", "refused program 2 1"),
+        ("asp 1 0 0\n0\n\n", "refused program 11 2"),
+        ("asp 1 0 0\n0\n0\n", "refused program 11 2"),
+        ("asp 1 0 0\n0\n ", "refused program 11 2"),
+        ("asp 1 0 0\n0 \n", "refused program 3 2"),
+        ("asp 1 0 0\n0 1\n", "refused program 5 2"),
+        ("asp 1 0 0\n1 0 1 1 0 0\n", "refused program 3 3"),
+        ("asp 1 0 0\n1 0 1 1 0 0", "refused program 3 2"),
+        ("asp 1 0 0\n1 0 1 1 0 0\n10 1\n0\n", "refused program 5 3"),
+        ("asp 1 0 0\n1 0 1 01 0 0\n0\n", "refused program 3 2"),
+        ("asp 1 0 0\n1 0 1 1  0 0\n0\n", "refused program 3 2"),
+        ("asp 1 0 0\n4096 00\n0\n", "refused program 3 2"),
+    ] {
+        cases.push(case(format!("text {text:?}"), text, "a 0\n", line));
+    }
+    let digits = "9".repeat(3_000);
+    cases.push(case("3,000 digits", program(&[&format!("1 0 1 {digits} 0 0")]), "", "refused program 4 2"));
+    cases.push(case("20,000 numbers", program(&[&format!("1 0 1 1 0 0{}", " 1".repeat(20_000))]), "", "refused program 6 2"));
+    cases.push(case("20,000 ones", program(&[&format!("1{}", " 1".repeat(20_000))]), "", "refused program 5 2"));
+    cases.push(case("a bad one after 20,000", program(&[&format!("1{} -", " 4096".repeat(10_000))]), "", "refused program 3 2"));
+    cases
+}
+
+/// A proof of just so many bytes, all of it deletions of nothing.
+fn proof_of_length(length: usize) -> Vec<u8> {
+    lines_of_length(length, ["d 0\n", "d 1 0\n", "d -1 0\n"]).into_bytes()
+}
+
+fn proof_lengths() -> Vec<Case> {
+    let mut cases = Vec::new();
+    for length in [65_534, 65_535, 65_536, 65_537] {
+        let text = proof_of_length(length);
+        assert_eq!(text.len(), length);
+        let over = length > 65_535;
+        cases.push(case(format!("a proof of {length} bytes"), program(RULE_1), text, if over { "refused proof 21 0" } else { "" }));
+        let line = if over { "refused proof 21 0" } else { "refused proof 22 1" };
+        cases.push(case(format!("a proof of {length} newlines"), program(RULE_1), vec![b'\n'; length], line));
+        cases.push(case(format!("one line of {length} bytes"), program(RULE_1), vec![b'a'; length], line));
+    }
+    cases
+}
+
+/// 64 to 66 numbers after every letter, and the steps of the largest size that can be good.
+fn number_counts() -> Vec<Case> {
+    let mut cases = Vec::new();
+    let rules = [choice(&count_to(64), &(65..=128).collect::<Vec<_>>()), normal(200, &(1..=64).map(|atom| -atom).collect::<Vec<_>>())];
+    for letter in *b"abcdels" {
+        for count in [0, 1, 2, 3, 64, 65, 66, 67] {
+            for first in [1, 300] {
+                let mut numbers: Vec<i32> = (1..=count).collect();
+                if let Some(number) = numbers.first_mut() {
+                    *number = first;
+                }
+                cases.push(case(
+                    format!("{} with {count} numbers from {first}", letter as char),
+                    program_text(&rules),
+                    line_of(letter, &numbers),
+                    "",
+                ));
+            }
+        }
+    }
+    let mut largest = vec![300];
+    largest.extend((65..=128).rev());
+    let mut smallest = vec![4_095];
+    smallest.extend((1..=64).map(|atom| -atom));
+    let named = line_of(b'b', &largest) + &line_of(b'b', &smallest);
+    cases.push(case("bodies of 64 literals", program_text(&rules), &named, "open 200 2 2 130"));
+    cases.push(case("completed", program_text(&rules), named.clone() + "c 4095 200 0\nc 300 1 0\n", "refused proof 29 4"));
+    cases.push(case("a loop of 65", program_text(&rules), line_of(b'l', &count_to(65)), "open 200 2 1 1"));
+    let mut outside = count_to(64);
+    outside.push(129);
+    cases.push(case("a loop of 65 with a body outside", program_text(&rules), line_of(b'l', &outside), "refused proof 32 1"));
+    cases.push(case("a loop of 65 with a named body outside", program_text(&rules), named + &line_of(b'l', &outside), "open 200 2 3 131"));
+    cases.extend(supports());
+    cases
+}
+
+/// Support by 64 bodies, which is the most that a line can name, and by 65.
+fn supports() -> Vec<Case> {
+    let mut cases = Vec::new();
+    for (count, line) in [(63, "open 100 63 64 127"), (64, "open 100 64 65 129"), (65, "refused proof 23 66")] {
+        let rules: Vec<Rule> = (1..=count).map(|atom| normal(100, &[atom])).collect();
+        let mut text: String = (1..=count).map(|atom| line_of(b'b', &[100 + atom, atom])).collect();
+        let mut numbers = vec![100];
+        numbers.extend((101..=100 + count).rev());
+        text.push_str(&line_of(b's', &numbers));
+        cases.push(case(format!("support by {count} bodies"), program_text(&rules), text, line));
+    }
+    cases
+}
+
+fn variable_sizes() -> Vec<Case> {
+    let mut cases = Vec::new();
+    for number in [4_094, 4_095, 4_096, 4_097, 65_536, 2_147_483_647] {
+        for letter in ["a", "d", "c", "l", "s", "b", "e", "a -", "d -", "e 2 -", "b 2 -", "c 2 ", "c -", "b -", "l 1 ", "s 1 "] {
+            let spaced = if letter.len() == 1 { " " } else { "" };
+            for largest in ["1 0 1 1 0 0", "1 0 1 4095 0 0"] {
+                let step = format!("{letter}{spaced}{number} 0");
+                cases.push(case(format!("step {step}"), program(&[largest]), proof(&[&step]), ""));
+            }
+        }
+    }
+    cases.push(case("name 4,095", program(RULE_1), "e 4095 -1 0\na 4095 1 0\n", "open 1 1 2 3"));
+    cases.push(case("no name is left", program(&["1 0 1 4095 0 0"]), "e 4095 0\n", "refused proof 27 1"));
+    cases
+}
+
+fn proof_shapes() -> Vec<Case> {
+    let mut cases = Vec::new();
+    for (step, line) in [
+        ("", "refused proof 22 1"),
+        ("a", "refused proof 22 1"),
+        ("a ", "refused proof 22 1"),
+        ("a0", "refused proof 22 1"),
+        ("a  0", "refused proof 22 1"),
+        ("a 0 ", "refused proof 22 1"),
+        (" a 0", "refused proof 22 1"),
+        ("a 0\r", "refused proof 22 1"),
+        ("a 1", "refused proof 22 1"),
+        ("a 0 0", "refused proof 22 1"),
+        ("a -0", "refused proof 22 1"),
+        ("a 00", "refused proof 22 1"),
+        ("a +1 0", "refused proof 22 1"),
+        ("A 0", "refused proof 22 1"),
+        ("f 0", "refused proof 22 1"),
+        ("0", "refused proof 22 1"),
+        ("b 0", "refused proof 24 1"),
+        ("b -2 0", "refused proof 24 1"),
+        ("b 2 2 0", "refused proof 25 1"),
+        ("b 2 3 0", "refused proof 26 1"),
+        ("b 1 -1 0", "refused proof 25 1"),
+        ("b 2 1 0", "refused proof 28 1"),
+        ("e 2 3 0", "refused proof 26 1"),
+        ("e 1 0", "refused proof 27 1"),
+        ("e 1 3 0", "refused proof 26 1"),
+        ("b 1 3 0", "refused proof 26 1"),
+        ("c 1 0", "refused proof 29 1"),
+        ("c 2 0", "refused proof 26 1"),
+        ("s 1 0", "refused proof 30 1"),
+        ("l 1 0", "refused proof 32 1"),
+        ("a 1 0", "refused proof 33 1"),
+        ("a 1 -1 0", "refused proof 25 1"),
+        ("d 1 0", "open 1 1 1 0"),
+        ("d 2 0", "refused proof 26 1"),
+    ] {
+        cases.push(case(format!("step {step:?}"), program(RULE_1), proof(&[step]), line));
+    }
+    for (step, line) in [
+        ("s 2 0", "refused proof 30 2"),
+        ("l 2 0", "refused proof 31 2"),
+        ("l 1 2 0", "refused proof 31 2"),
+        ("c 2 1 3 0", "refused proof 26 2"),
+        ("c 2 0", "refused proof 29 2"),
+        ("e 2 0", "refused proof 27 2"),
+        ("b 4 -1 0", "refused proof 28 2"),
+        ("a 1 2 0", "open 1 2 2 3"),
+    ] {
+        let named = proof(&["b 2 -1 0", step]);
+        cases.push(case(format!("step 2 {step:?}"), program(&["1 0 1 1 0 1 -1", "1 1 1 1 0 1 1"]), named, line));
+    }
+    cases.push(case("c with a head too many", program(&["1 0 1 1 0 1 2"]), "b 3 2 0\nc 3 1 2 0\n", "refused proof 29 2"));
+    cases.push(case("c with the head twice", program(&["1 0 1 1 0 1 2"]), "b 3 2 0\nc 3 1 1 0\n", "refused proof 25 2"));
+    cases.push(case("no newline at the end", program(RULE_1), &proof(PROOF_1)[..proof(PROOF_1).len() - 1], "refused proof 22 5"));
+    cases.push(case("text after the proof", program(RULE_1), [proof(PROOF_1), b" ".to_vec()].concat(), "refused proof 22 6"));
+    cases.push(case("a step of 3,000 digits", program(RULE_1), format!("a {} 0\n", "9".repeat(3_000)), "refused proof 23 1"));
+    cases
+}
+
+/// Extensions that take the 16,384 words of the store to the last, and one word more.
+fn full_stores() -> Vec<Case> {
+    let rules = [choice(&count_to(64), &[])];
+    let mut text: String = (0..63).map(|place| extension_over(100 + place, 64)).collect();
+    text.push_str(&extension_over(200, 32));
+    let with = |more: &str| text.clone() + more;
+    vec![
+        case("a full store", program_text(&rules), &text, "open 64 1 64 4128"),
+        case("a full store and two words", program_text(&rules), with("e 201 0\n"), "refused proof 34 65"),
+        case("a full store and a deletion of nothing", program_text(&rules), with("d 1 0\n"), "open 64 1 65 4128"),
+        case("a full store with words used again", program_text(&rules), with("d 100 -1 0\ne 201 0\n"), "open 64 1 66 4128"),
+        case("and one word more", program_text(&rules), with("d 100 -1 0\ne 201 0\ne 202 0\n"), "refused proof 34 67"),
+        case("a refused step before the store", program_text(&rules), with("a 0\n"), "refused proof 33 65"),
+        case("a line too wide for the store", program_text(&rules), with("a 100 -1 0\n"), "refused proof 34 65"),
+    ]
+}
+
+fn extension_over(name: i32, count: i32) -> String {
+    let mut numbers = vec![name];
+    numbers.extend(1..=count);
+    line_of(b'e', &numbers)
+}
+
+/// Loop nogoods that are longer than any line.
+fn long_loops() -> Vec<Case> {
+    let mut cases = Vec::new();
+    for (count, line) in
+        [(64, "open 65 64 65 129"), (65, "open 66 65 66 131"), (66, "open 67 66 67 133"), (1_024, "open 1025 1024 1025 2049")]
+    {
+        let top = count + 1;
+        let rules: Vec<Rule> = (1..=count).map(|atom| normal(top, &[atom])).collect();
+        let mut text: String = (1..=count).map(|atom| line_of(b'b', &[top + atom, atom])).collect();
+        text.push_str(&line_of(b'l', &[top]));
+        cases.push(case(format!("a loop nogood of {top}"), program_text(&rules), text.clone(), line));
+        let mut most: Vec<i32> = vec![top];
+        most.extend((1..=count.min(64)).map(|atom| -(top + atom)));
+        text.push_str(&line_of(b'd', &most));
+        cases.push(case(format!("a deletion after a loop nogood of {top}"), program_text(&rules), text, ""));
+    }
+    cases
+}
+
+/// Rules that leave atom 1 no way to be true, and steps that say so by propagation and not by a nogood of atom 1 alone.
+const DEAD_END: &[&str] = &["1 1 2 1 2 0 0", "1 0 0 0 2 1 2", "1 0 0 0 2 1 -2"];
+const DEAD_END_STEPS: &str = "b 3 1 2 0\nb 4 1 -2 0\nc 3 0\nc 4 0\n";
+
+/// Names that are each equal to the one before, the first to an atom.
+fn chain(atom: i32, first: i32, last: i32) -> String {
+    proof_text(&lines::chain(atom, first, last))
+}
+
+/// Chains of extensions that propagation has to go along, with the order of the store and against it.
+fn long_chains() -> Vec<Case> {
+    let mut cases = Vec::new();
+    for links in [1, 3, 100, 2_600] {
+        let last = 4 + links;
+        let steps = String::from(DEAD_END_STEPS) + &chain(1, 5, last);
+        let with = |more: String| steps.clone() + &more + "\n";
+        let open = format!("open 2 3 {} {}", links + 5, 2 * links + 9);
+        let refused = format!("refused proof 33 {}", links + 5);
+        cases.push(case(format!("against the order, {links} links"), program(DEAD_END), with(format!("a {last} 0")), &open));
+        cases.push(case(format!("no contradiction over {links} links"), program(DEAD_END), with(format!("a -{last} 0")), &refused));
+        cases.push(case(format!("with the order, {links} links"), program(DEAD_END), with(format!("a 1 -{last} 0")), &open));
+        let elsewhere = chain(2, 5, last);
+        cases.push(case(
+            format!("a chain of {links} links elsewhere"),
+            program(DEAD_END),
+            String::from(DEAD_END_STEPS) + &elsewhere + &format!("a {last} 0\n"),
+            &refused,
+        ));
+        let cut = with(format!("d -{last} {} 0\nd {last} -{} 0\na {last} 0", last - 1, last - 1));
+        cases.push(case(format!("a cut chain of {links} links"), program(DEAD_END), cut, ""));
+    }
+    cases
+}
+
+/// Chains among more live words than the store of `verdict` has; a longer store holds them.
+fn chains_behind_many_words() -> Vec<Case> {
+    let rules = [choice(&count_to(64), &[]), constraint(&[1, 2]), constraint(&[1, -2])];
+    let wide: String = (0..65).map(|place| extension_over(2_000 + place, 64)).collect();
+    let steps = DEAD_END_STEPS.replace("b 3", "b 3000").replace("b 4", "b 3001").replace("c 3", "c 3000").replace("c 4", "c 3001")
+        + &chain(1, 65, 465);
+    let mut cases = Vec::new();
+    for last in ["a 465 0", "a -465 0", "a 1 -465 0", "a 465 2064 0", "a -2 2003 0", "a 3 -2003 0"] {
+        cases.push(case(
+            format!("{last} behind many words"),
+            program_text(&rules),
+            wide.clone() + &steps + last + "\n",
+            "refused proof 34 64",
+        ));
+        cases.push(case(format!("{last} before many words"), program_text(&rules), steps.clone() + &wide + last + "\n", ""));
+    }
+    cases
+}

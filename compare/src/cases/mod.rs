@@ -1,0 +1,9 @@
+//! Where the texts come from: fixed cases, cases at the limits, random proofs for programs, changes of them, and noise.
+
+pub mod changes;
+pub mod deep;
+pub mod fixed;
+pub mod guided;
+pub mod limits;
+pub mod noise;
+pub mod refutations;

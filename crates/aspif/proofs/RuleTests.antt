@@ -1,0 +1,32 @@
+-- Laws on the tests of a rule's kind and heads, and on its atoms.
+-- Assumes nothing.
+use mathlib.Core.Path.{_≡_, refl, sym}
+use mathlib.Core.List.{List, [], _∷_, nil≢cons, List·Memᴰ·head, List·Memᴰ·tail}
+use Prim.Native.Nat.{ℕ, _≤_}
+use native.Mathlib.Omega.{arith}
+use lib.Dec.{eqb, eqb·suc-zero}
+use lib.IntN.{ℤ}
+use lib.ListN.{length}
+use Rattle.words.specs.Lists.{_∈_}
+use Rattle.words.proofs.Lists.{Decides}
+use Rattle.aspif.specs.Rules.{Rule, isNormal, isEmpty, ruleTop, atoms}
+use Rattle.aspif.specs.declared.Kind.{Kind}
+use Rattle.aspif.specs.declared.Kind.the-variants.{Normal, Choice}
+
+pub normal-decides : (k : Kind) → Decides (isNormal k) (k ≡ Normal)
+normal-decides Normal = record { to = λ t. refl; from = λ p. tt }
+normal-decides Choice = record { to = λ t. absurd t; from = λ p. absurd (let z : _≡_ {A = ℕ} 0 1 = cc in omega arith) }
+
+pub empty-decides : (g : List ℤ) → Decides (isEmpty g) (g ≡ [])
+empty-decides [] = record { to = λ t. refl; from = λ p. tt }
+empty-decides (x ∷ g) = record { to = λ t. absurd t; from = λ p. nil≢cons (sym p) }
+
+-- no heads
+pub empty-length : (l : List ℤ) → eqb (length l) 0 ≡ isEmpty l
+empty-length [] = refl
+empty-length (x ∷ l) = eqb·suc-zero (length l)
+
+-- a rule of a program names no atom above its largest
+pub in-atoms : {r : Rule} {rs : List Rule} → r ∈ rs → ruleTop r ≤ atoms rs
+in-atoms (List·Memᴰ·head {xs = rs} p) = rw p (omega arith)
+in-atoms (List·Memᴰ·tail {xs = rs} i) = let h = in-atoms i in omega arith

@@ -1,0 +1,2 @@
+-- Sets of variables as lists and as marks.
+pub mod Marks

@@ -1,0 +1,36 @@
+-- What the functions on the store count on and leave. It serves private functions; no reader of a public contract needs it.
+-- Assumes nothing.
+use mathlib.Core.Path.{_≡_}
+use mathlib.Core.Bool.{true}
+use mathlib.Core.List.{List, _++_}
+use Prim.Native.Nat.{ℕ, _≤_, _<_}
+use lib.IntN.{ℤ}
+use lib.ListN.{length, drop}
+use Rattle.words.specs.Limits.{largest}
+use Rattle.words.specs.Lists.{_∈_}
+use Rattle.words.specs.Literals.{variable, distinct}
+use Rattle.nogoods.specs.Store.{liveWords, storeWords}
+use Rattle.nogoods.specs.declared.store.Added.{Added}
+use Rattle.nogoods.specs.declared.store.Added.the-variants.{Uses, Full}
+
+-- from before to after the words were written at the front, and the rest is as it was
+abbrev pub Written : List ℤ → List ℤ → List ℤ → Type 0
+Written words before after = after ≡ words ++ drop (length words) before
+
+-- What propagation may count on: a literal's variable is 1 to the largest, and no variable stands twice.
+pub record Literals (g : List ℤ) : Type 0 where
+  pub low : (x : ℤ) → x ∈ g → 1 ≤ variable x
+  pub high : (x : ℤ) → x ∈ g → variable x ≤ largest
+  pub once : distinct g ≡ true
+
+-- The store holds the live nogoods in its first `used` words, and 0 after them.
+pub record Holds (store : List ℤ) (used : ℕ) (live : List (List ℤ)) : Type 0 where
+  pub words : store ≡ storeWords (length store) live
+  pub extent : used ≡ length (liveWords live)
+  pub fits : used ≤ length store
+  pub literals : (g : List ℤ) → g ∈ live → Literals g
+
+-- "Do the live words after the step fit the store?", with these nogoods live then: the store holds them, or is too short
+abbrev pub Fits : List (List ℤ) → List ℤ → Added → Type 0
+Fits live after (Uses n) = Holds after n live
+Fits live after Full = length after < length (liveWords live)

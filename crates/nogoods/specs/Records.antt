@@ -1,0 +1,36 @@
+-- Nogoods' records one after another, as the loops read them: a record begins at r. Only private functions cite this file.
+-- Assumes nothing.
+use mathlib.Core.Path.{_≡_}
+use mathlib.Core.List.{List}
+use Prim.Native.Nat.{ℕ, _+_, _≤_}
+use lib.IntN.{ℤ, pos, natAbs}
+use lib.ListN.{length, take, drop, getD}
+use Rattle.words.specs.Lists.{_∈_}
+use Rattle.nogoods.specs.Store.{headerSize, liveWords}
+use Rattle.nogoods.specs.Keeps.{Literals}
+
+-- the words are those of the nogoods
+pub record Encodes (s : List ℤ) (live : List (List ℤ)) : Type 0 where
+  pub words : s ≡ liveWords live
+  pub literals : (g : List ℤ) → g ∈ live → Literals g
+
+-- the literal count
+abbrev pub countAt : List ℤ → ℕ → ℕ
+countAt s r = natAbs (getD s r (pos 0))
+
+-- where the record ends
+abbrev pub endAt : List ℤ → ℕ → ℕ
+endAt s r = r + headerSize + countAt s r
+
+-- the literals after the header
+abbrev pub nogoodAt : List ℤ → ℕ → List ℤ
+nogoodAt s r = take (countAt s r) (drop (r + headerSize) s)
+
+-- a record can be read, and its literals are those of a nogood
+pub record Readable (s : List ℤ) (r : ℕ) : Type 0 where
+  pub room : endAt s r ≤ length s
+  pub literals : Literals (nogoodAt s r)
+
+-- one of the nogoods stands at r
+abbrev pub Stands : List ℤ → ℕ → Type 0
+Stands s r = (live : List (List ℤ)) → Encodes s live → (nogoodAt s r ∈ live) × (endAt s r ≤ length s)

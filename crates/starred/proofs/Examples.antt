@@ -1,0 +1,87 @@
+-- The starred examples of document 01: verdicts, words and the set test's answers by computation. Assumes nothing.
+use mathlib.Core.Path.{_≡_, refl, sym, _∙_}
+use mathlib.Core.List.{List, [], _∷_}
+use Prim.Native.Nat.{ℕ}
+use native.Mathlib.Omega.{arith}
+use lib.IntN.{pos, negsuc}
+use lib.ListN.{length}
+use Rattle.words.specs.Limits.{entries}
+use Rattle.words.specs.Literals.{insert, insertAll}
+use Rattle.text.specs.Decimals.{decimals, decimal}
+use Rattle.text.specs.Line.{lineOf}
+use Rattle.aspif.specs.Rules.{Rule, programWords}
+use Rattle.aspif.specs.Reading.{shapeOf, program, readLines, readText, linesFrom}
+use Rattle.aspif.specs.Tables.{sizeAt, headsAt, bodyAt, shapeSound, soundAt, soundTable}
+use Rattle.aspif.specs.declared.Kind.the-variants.{Normal, Choice}
+use Rattle.marks.specs.Marks.{listed}
+use Rattle.answer_set.specs.SetTest.{giveHead, giveRule, least, yes, differs, verdictOf, asked, Answers}
+use Rattle.answer_set.specs.Claims.{Ready}
+use Rattle.answer_set.specs.declared.SetAnswer.{SetAnswer}
+use Rattle.answer_set.specs.declared.SetAnswer.the-variants.{Yes}
+use Rattle.answer_set.proofs.Answered.{yes-answer-set}
+use Rattle.drupe.specs.Texts.{stepsAt, stepsOf}
+use Rattle.checker.specs.Report.{lent, printed}
+use Rattle.checker.specs.Check.{course, check}
+use Rattle.starred.specs.Examples.{SetPasses, SetFails, Starred, Source000, LongLines}
+
+-- Which sets pass: the programs as they are read
+
+abbrev rules6 : List Rule
+rules6 = record { kind = Normal; heads = pos 1 ∷ []; body = pos 2 ∷ [] } ∷ record { kind = Normal; heads = pos 2 ∷ []; body = pos 1 ∷ [] } ∷ []
+
+abbrev rules7 : List Rule
+rules7 = record { kind = Choice; heads = pos 1 ∷ []; body = [] } ∷ []
+
+abbrev rules8 : List Rule
+rules8 = record { kind = Normal; heads = pos 1 ∷ []; body = negsuc 0 ∷ [] } ∷ record { kind = Normal; heads = pos 1 ∷ []; body = [] } ∷ []
+
+-- by what the set test computes: `yes-answer-set` says what its yes means
+passes : (text l : List ℕ) (P : List Rule) → readText lent text ≡ program P → Ready (programWords P) (length P) l P → verdictOf (listed l) P ≡ yes
+    → Answers l (asked (programWords P) (length P) l entries) Yes → SetPasses text l
+passes text l P e ready v a = record { P = P; read = e; answer = a; answerSet = yes-answer-set (programWords P) (length P) l P ready .0 v }
+
+-- the set test's own verdict is not yes
+fails : (text l : List ℕ) (P : List Rule) (r : SetAnswer) → readText lent text ≡ program P → Ready (programWords P) (length P) l P
+    → verdictOf (listed l) P ≡ differs → Answers l (asked (programWords P) (length P) l entries) r → SetFails text l r
+fails text l P r e ready v a =
+    record { P = P; read = e; answer = a; none = λ s. not-yes (sym v ∙ yes-answer-set (programWords P) (length P) l P ready .1 s) }
+  where
+    not-yes : differs ≡ yes → ⊥
+    not-yes p = let z : _≡_ {A = ℕ} 0 1 = cc in omega arith
+
+pub starred : Starred
+unfolding check course stepsOf stepsAt readText readLines linesFrom shapeOf lineOf insert insertAll printed decimal decimals asked soundTable soundAt shapeSound sizeAt headsAt bodyAt verdictOf least giveRule giveHead
+starred = record {
+  onePrints = refl;
+  one = refl;
+  oneFits = refl;
+  oneShort = refl;
+  two = refl;
+  twoPrints = refl;
+  three = refl;
+  threePrints = refl;
+  four = refl;
+  fourEmpty = passes _ [] [] refl (record { readable = refl; ascending = refl }) refl refl;
+  fourAdds = refl;
+  five = refl;
+  fiveWithout = refl;
+  sixEmpty = passes _ [] rules6 refl (record { readable = refl; ascending = refl }) refl refl;
+  sixOneTwo = fails _ (1 ∷ 2 ∷ []) rules6 _ refl (record { readable = refl; ascending = refl }) refl (1, refl, refl);
+  sevenEmpty = passes _ [] rules7 refl (record { readable = refl; ascending = refl }) refl refl;
+  sevenOne = passes _ (1 ∷ []) rules7 refl (record { readable = refl; ascending = refl }) refl refl;
+  seven = refl;
+  eightOne = passes _ (1 ∷ []) rules8 refl (record { readable = refl; ascending = refl }) refl refl;
+  minusZero = refl;
+  minusZeroPrints = refl;
+  largestAtom = refl;
+  tooLarge = refl;
+  leftOut = refl;
+}
+
+pub source000 : Source000
+unfolding check course stepsOf stepsAt readText readLines linesFrom shapeOf lineOf insert insertAll
+source000 = refl
+
+pub long-lines : LongLines
+unfolding decimal decimals
+long-lines = record { openLine = refl; programLine = refl }

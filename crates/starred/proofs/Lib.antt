@@ -1,0 +1,2 @@
+-- The starred examples of document 01, proved.
+pub mod Examples

@@ -1,0 +1,169 @@
+-- The starred examples 1 to 8 of document 01 and its 'Others', jointly in one statement over the definitions;
+-- proofs/Examples.antt proves it. Each field quotes its example.
+-- Assumes nothing.
+use mathlib.Core.Path.{_≡_}
+use mathlib.Core.List.{List, [], _∷_, _++_}
+use Prim.Native.Nat.{ℕ}
+use Prim.Native.String.{String}
+use lib.IntN.{ℤ, pos, negℤ}
+use lib.ListN.{length, replicate}
+use Rattle.words.specs.Limits.{entries}
+use Rattle.aspif.specs.Rules.{Rule, programWords}
+use Rattle.aspif.specs.Reading.{program, readText}
+use Rattle.aspif.specs.AnswerSets.{AnswerSet}
+use Rattle.answer_set.specs.SetTest.{asked, Answers}
+use Rattle.answer_set.specs.Claims.{Listed}
+use Rattle.answer_set.specs.declared.SetAnswer.{SetAnswer}
+use Rattle.answer_set.specs.declared.SetAnswer.the-variants.{Yes, Differs}
+use Rattle.checker.specs.Check.{check}
+use Rattle.checker.specs.Report.{verdictLine, lent, printed}
+use Rattle.text.specs.Strings.{lines}
+use Rattle.checker.specs.declared.Verdict.{Verdict}
+use Rattle.checker.specs.declared.Verdict.the-variants.{Inconsistent, Open, RefusedProgram, RefusedProof}
+
+-- Texts
+
+-- the program text of some rule lines: "The first line is `asp 1 0 0`, the last is `0`."
+abbrev pub rules : List String → List ℕ
+rules ls = lines ("asp 1 0 0" ∷ ls ++ ("0" ∷ []))
+
+-- "Starred example 1, files whole"
+abbrev pub program1 : List ℕ
+program1 = lines ("asp 1 0 0" ∷ "1 0 1 1 0 1 -1" ∷ "0" ∷ [])
+
+abbrev pub proof1 : List ℕ
+proof1 = lines ("b 2 -1 0" ∷ "c 2 1 0" ∷ "s 1 2 0" ∷ "a 1 0" ∷ "a 0" ∷ [])
+
+-- "example 1 with its second step `e 1 2 0`"
+abbrev pub proof3 : List ℕ
+proof3 = lines ("b 2 -1 0" ∷ "e 1 2 0" ∷ "s 1 2 0" ∷ "a 1 0" ∷ "a 0" ∷ [])
+
+-- "rules `1 0 1 1 0 1 2`, `1 0 1 2 0 1 1`, `1 0 0 0 1 -1`"
+abbrev pub program5 : List ℕ
+program5 = rules ("1 0 1 1 0 1 2" ∷ "1 0 1 2 0 1 1" ∷ "1 0 0 0 1 -1" ∷ [])
+
+-- "example 5's first two rules"
+abbrev pub program6 : List ℕ
+program6 = rules ("1 0 1 1 0 1 2" ∷ "1 0 1 2 0 1 1" ∷ [])
+
+abbrev pub program7 : List ℕ
+program7 = rules ("1 1 1 1 0 0" ∷ [])
+
+-- "example 1's rule with the fact `1 0 1 1 0 0`"
+abbrev pub program8 : List ℕ
+program8 = rules ("1 0 1 1 0 1 -1" ∷ "1 0 1 1 0 0" ∷ [])
+
+-- What is said of them
+
+abbrev pub verdict : List ℕ → List ℕ → Verdict
+verdict text proof = check text proof lent lent .verdict
+
+-- `inconsistent N R S K`
+abbrev pub inconsistent : ℕ → ℕ → ℕ → ℕ → Verdict
+inconsistent n r s k = Inconsistent (record { atoms = n; rules = r; steps = s; nogoods = k })
+
+-- `open N R S K`
+abbrev pub undecided : ℕ → ℕ → ℕ → ℕ → Verdict
+undecided n r s k = Open (record { atoms = n; rules = r; steps = s; nogoods = k })
+
+-- `refused program NUMBER LINE`
+abbrev pub refusedProgram : ℕ → ℕ → Verdict
+refusedProgram k n = RefusedProgram (record { number = k; line = n })
+
+-- `refused proof NUMBER STEP`
+abbrev pub refusedProof : ℕ → ℕ → Verdict
+refusedProof k n = RefusedProof (record { number = k; step = n })
+
+abbrev pub neg : ℕ → ℤ
+neg v = negℤ (pos v)
+
+-- example 1's rule: normal, one head, one body literal
+abbrev pub table1 : List ℤ
+table1 = pos 0 ∷ pos 1 ∷ pos 1 ∷ pos 1 ∷ neg 1 ∷ []
+
+-- "Store: 2 -1 -2, 2 1 2, 2 -1 2, 2 1 -2, 1 1, 0. These are 15 words"
+abbrev pub store1 : List ℤ
+store1 =
+    pos 2 ∷ neg 1 ∷ neg 2
+    ∷ pos 2 ∷ pos 1 ∷ pos 2
+    ∷ pos 2 ∷ neg 1 ∷ pos 2
+    ∷ pos 2 ∷ pos 1 ∷ neg 2
+    ∷ pos 1 ∷ pos 1
+    ∷ pos 0 ∷ []
+
+-- A set listed, and the program that a text holds: what the set test answers on the table of its words and 4,096 marks, and whether the
+-- set is an answer set.
+pub record SetPasses (text l : List ℕ) : Type 0 where
+  pub P : List Rule
+  pub read : readText lent text ≡ program P
+  pub answer : Answers l (asked (programWords P) (length P) l entries) Yes
+  pub answerSet : AnswerSet (Listed l) P
+
+pub record SetFails (text l : List ℕ) (r : SetAnswer) : Type 0 where
+  pub P : List Rule
+  pub read : readText lent text ≡ program P
+  pub answer : Answers l (asked (programWords P) (length P) l entries) r
+  pub none : ¬ AnswerSet (Listed l) P
+
+pub record Starred : Type 0 where
+  -- 1: "Prints `inconsistent 1 1 5 6`", with its store; "These are 15 words; a store of 14 gives 34 at step 5."
+  pub onePrints : printed program1 proof1 ≡ lines ("inconsistent 1 1 5 6" ∷ [])
+  pub one : check program1 proof1 lent lent
+      ≡ record { verdict = inconsistent 1 1 5 6; table = table1 ++ replicate 16379 (pos 0); store = store1 ++ replicate 16369 (pos 0) }
+  pub oneFits : check program1 proof1 5 15 ≡ record { verdict = inconsistent 1 1 5 6; table = table1; store = store1 }
+  pub oneShort : check program1 proof1 5 14
+      ≡ record { verdict = refusedProof 34 5; table = replicate 5 (pos 0); store = replicate 14 (pos 0) }
+  -- 2: "example 1 with `d 0` added: `open 1 1 6 5`"
+  pub two : verdict program1 (proof1 ++ lines ("d 0" ∷ [])) ≡ undecided 1 1 6 5
+  pub twoPrints : printed program1 (proof1 ++ lines ("d 0" ∷ [])) ≡ lines ("open 1 1 6 5" ∷ [])
+  -- 3: "27, step 2"
+  pub three : verdict program1 proof3 ≡ refusedProof 27 2
+  pub threePrints : printed program1 proof3 ≡ lines ("refused proof 27 2" ∷ [])
+  -- 4: "no rules, empty proof: `open 0 0 0 0`; the empty set passes. Proof `a 0`: 33, step 1."
+  pub four : verdict (rules []) [] ≡ undecided 0 0 0 0
+  pub fourEmpty : SetPasses (rules []) []
+  pub fourAdds : verdict (rules []) (lines ("a 0" ∷ [])) ≡ refusedProof 33 1
+  -- 5: "`inconsistent 2 3 4 5`. Without the `l` line: 33, step 3."
+  pub five : verdict program5 (lines ("b 3 -1 0" ∷ "c 3 0" ∷ "l 1 2 0" ∷ "a 0" ∷ [])) ≡ inconsistent 2 3 4 5
+  pub fiveWithout : verdict program5 (lines ("b 3 -1 0" ∷ "c 3 0" ∷ "a 0" ∷ [])) ≡ refusedProof 33 3
+  -- 6: "the empty set passes, {1, 2} does not"
+  pub sixEmpty : SetPasses program6 []
+  pub sixOneTwo : SetFails program6 (1 ∷ 2 ∷ []) (Differs 1)
+  -- 7: "both {} and {1} pass; proof `b 2 0`, `c 2 1 0`: 29, step 2"
+  pub sevenEmpty : SetPasses program7 []
+  pub sevenOne : SetPasses program7 (1 ∷ [])
+  pub seven : verdict program7 (lines ("b 2 0" ∷ "c 2 1 0" ∷ [])) ≡ refusedProof 29 2
+  -- 8: "{1} passes"
+  pub eightOne : SetPasses program8 (1 ∷ [])
+  -- "literal `-0`: 3"
+  pub minusZero : verdict (rules ("1 0 1 1 0 1 -0" ∷ [])) [] ≡ refusedProgram 3 2
+  pub minusZeroPrints : printed (rules ("1 0 1 1 0 1 -0" ∷ [])) [] ≡ lines ("refused program 3 2" ∷ [])
+  -- "atom 4,095 good, 4,096: 4"
+  pub largestAtom : verdict (rules ("1 0 1 4095 0 0" ∷ [])) [] ≡ undecided 4095 1 0 0
+  pub tooLarge : verdict (rules ("1 0 1 4096 0 0" ∷ [])) [] ≡ refusedProgram 4 2
+  -- "an `s` that leaves out one body: 30"
+  pub leftOut : verdict (rules ("1 0 1 1 0 1 2" ∷ "1 0 1 1 0 1 -2" ∷ [])) (lines ("b 3 2 0" ∷ "b 4 -2 0" ∷ "s 1 3 0" ∷ [])) ≡ refusedProof 30 3
+
+-- The worked example of source document 000: its example 1's eight rules, and the 26 lines of its figure 1. It is no starred one.
+
+abbrev pub program000 : List ℕ
+program000 =
+    rules (
+    "1 0 1 1 0 2 2 4" ∷ "1 0 1 2 0 2 1 4" ∷ "1 0 1 1 0 1 3" ∷ "1 0 1 2 0 2 3 4" ∷ "1 0 1 3 0 1 -4" ∷
+    "1 0 1 4 0 1 -3" ∷ "1 0 1 5 0 2 3 -5" ∷ "1 0 1 5 0 2 -1 -5" ∷ [])
+
+abbrev pub proof000 : List ℕ
+proof000 =
+    lines (
+    "b 6 3 0" ∷ "b 7 -3 0" ∷ "b 8 -4 0" ∷ "b 9 1 4 0" ∷ "b 10 2 4 0" ∷ "b 11 3 4 0" ∷ "b 12 -1 -5 0" ∷
+    "b 13 3 -5 0" ∷ "s 1 10 6 0" ∷ "c 8 3 0" ∷ "c 7 4 0" ∷ "c 9 2 0" ∷ "s 5 13 12 0" ∷ "l 1 2 0" ∷ "a -6 1 0" ∷
+    "s 3 8 0" ∷ "s 4 7 0" ∷ "s 2 9 11 0" ∷ "a 5 -12 0" ∷ "c 13 5 0" ∷ "a 1 0" ∷ "c 10 1 0" ∷ "c 6 1 0" ∷ "a 5 0" ∷
+    "c 12 5 0" ∷ "a 0" ∷ [])
+
+abbrev pub Source000 : Type 0
+Source000 = verdict program000 proof000 ≡ inconsistent 5 8 26 39
+
+-- lines with numbers of several digits, of which the starred examples have none
+pub record LongLines : Type 0 where
+  pub openLine : verdictLine (undecided 4095 1 0 0) ≡ lines ("open 4095 1 0 0" ∷ [])
+  pub programLine : verdictLine (refusedProgram 10 1025) ≡ lines ("refused program 10 1025" ∷ [])

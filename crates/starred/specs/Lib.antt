@@ -1,0 +1,2 @@
+-- The starred examples of document 01, stated.
+pub mod Examples
