@@ -1,27 +1,23 @@
--- The marks and the answer of specs/SetTest.antt are those of specs/AnswerSets.antt: `marks-least` and `yes-answer-set`.
+-- The marks and the answer of specs/SetTest.antt are those of crates/aspif/specs/AnswerSets.antt: `marks-least` and `yes-answer-set`.
 -- Assumes nothing.
 use mathlib.Core.Path.{_≡_, refl, sym, _∙_, subst}
 use mathlib.Core.Logic.{inl}
-use mathlib.Core.Bool.{Bool, true, false, cond, _||_, true≢false}
-use mathlib.Core.Option.{none, some, Option·some-injective, Option·none-ne-some}
-use mathlib.Core.List.{List, [], _∷_, nil≢cons, List·Memᴰ·head, List·Memᴰ·tail, Memᴰ·cast}
+use mathlib.Core.Bool.{Bool, true, false, cond, true≢false}
+use mathlib.Core.List.{List, [], _∷_, List·Memᴰ·head, List·Memᴰ·tail, Memᴰ·cast}
 use Prim.Native.Nat.{ℕ, zero, suc, _+_, _≤_, _<_}
 use native.Mathlib.Omega.{arith}
-use borrow.Author.Tests.{ltb-true, eqb-true, eqb-false}
-use lib.Dec.{T, eqb, ltb}
-use lib.IntN.{ℤ, pos, negsuc}
+use borrow.Author.Tests.{eqb-true, eqb-false}
+use lib.Dec.{T, eqb}
+use lib.IntN.{ℤ, pos}
 use lib.Signed.{ltZ}
 use lib.ListN.{length, drop, replicate, length-replicate}
 use Rattle.words.specs.Limits.{largest, entries}
 use Rattle.words.specs.Lists.{_∈_, all}
-use Rattle.words.specs.Literals.{variable, top}
 use Rattle.words.proofs.Lists.{Decides, itself, passed, failed, reworded, and-decides, not-decides, eqb-decides, any-decides, all-decides, same-test, and-left, and-right, or-false-left, or-false-right}
-use Rattle.aspif.specs.Rules.{Rule, isNormal, isEmpty, ruleTop, atoms}
-use Rattle.aspif.specs.declared.Kind.{Kind}
-use Rattle.aspif.specs.declared.Kind.the-variants.{Normal, Choice}
+use Rattle.aspif.specs.Rules.{Rule, atoms}
 use Rattle.words.proofs.Tops.{top-le}
 use Rattle.aspif.specs.AnswerSets.{Constraint, LeastModel, derive, Met, AnswerSet}
-use Rattle.aspif.specs.Tables.{headsSound, sizeAt, headsAt, shapeSound, soundAt, rulesAt, soundRules, soundTable, rulesOf}
+use Rattle.aspif.specs.Tables.{headsSound, sizeAt, headsAt, shapeSound, soundAt, rulesAt, soundRules}
 use Rattle.marks.specs.Marks.{listed, marked}
 use Rattle.answer_set.specs.SetTest.{rounds, least, isBroken, anyBelow, justOne, yes, differs, breaks, brokenFrom, differsAt, verdictOf}
 use Rattle.answer_set.specs.Claims.{Listed, Ready, MarksLeast, YesAnswerSet}

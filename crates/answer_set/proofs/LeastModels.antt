@@ -1,4 +1,4 @@
--- The rounds of specs/SetTest.antt reach the least model of specs/AnswerSets.antt: what they mark is in it, and once as many
+-- The rounds of specs/SetTest.antt reach the least model of crates/aspif/specs/AnswerSets.antt: what they mark is in it, and once as many
 -- rounds are over as there are atoms nothing is left to derive. Assumes nothing.
 use mathlib.Core.Path.{_≡_, refl, sym, _∙_, ap}
 use mathlib.Core.Logic.{_⊎_, inl, inr}

@@ -9,14 +9,14 @@ use native.Mathlib.Omega.{arith}
 use borrow.Author.Tests.{ltb-true}
 use lib.IntN.{ℤ, pos, negsuc}
 use lib.Signed.{ltZ}
-use lib.ListN.{length, drop, getD, set, drop-of-length-le}
+use lib.ListN.{length, drop, getD, drop-of-length-le}
 use lib.Seq.{drop-cons}
 use Rattle.words.specs.Literals.{variable}
-use Rattle.words.proofs.Lists.{one-less, none-left}
+use Rattle.words.proofs.Lists.{one-less, nothing-left}
 use Rattle.aspif.specs.Rules.{Rule}
 use Rattle.aspif.specs.declared.Kind.{Kind}
 use Rattle.answer_set.specs.SetTest.{literalHolds, giveHead, giveHeads, round, rounds, anyBelow}
-use Rattle.marks.specs.Marks.{Marking, markAll}
+use Rattle.marks.specs.Marks.{Marking}
 
 module _ (M S : ℕ → Bool) where
   -- a literal by its sign
@@ -44,7 +44,7 @@ module _ (M : ℕ → Bool) where
   rounds-on n rs m h = ap (λ k. rounds M k rs m) (one-less n h)
 
   pub rounds-end : (n : ℕ) (rs : List Rule) (m : List ℕ) → n ≤ 0 → rounds M n rs m ≡ m
-  rounds-end n rs m h = ap (λ k. rounds M k rs m) (none-left n h)
+  rounds-end n rs m h = ap (λ k. rounds M k rs m) (nothing-left n h)
 
   -- a round that changes nothing is the last
   pub rounds-still : (n : ℕ) (rs : List Rule) (m : List ℕ) → round M rs m ≡ m → rounds M n rs m ≡ m
@@ -65,4 +65,4 @@ module _ (f : ℕ → Bool) where
   below-here n h e = ap (anyBelow f) (one-less n h) ∙ rw e
 
   pub below-end : (n : ℕ) → n ≤ 0 → anyBelow f n ≡ false
-  below-end n h = ap (anyBelow f) (none-left n h)
+  below-end n h = ap (anyBelow f) (nothing-left n h)

@@ -1,23 +1,17 @@
 -- The contract of `test_set` from what its calls tell.
 -- Assumes nothing.
-use mathlib.Core.Path.{_≡_, refl, _∙_, fun-ext}
-use mathlib.Core.Bool.{Bool, true, false, cond, _||_, or-false, or-comm}
-use mathlib.Core.List.{List, [], _∷_, map}
-use Prim.Native.Nat.{ℕ, zero, suc, _+_, _≤_, _<_}
-use native.Mathlib.Omega.{arith}
-use borrow.Author.Tests.{leb-true, eqb-true, eqb-false, eq-eqb, ne-eqb}
-use lib.Dec.{eqb, ltb, leb}
-use lib.IntN.{ℤ, pos}
-use lib.Signed.{ltZ}
-use lib.ListN.{length, drop, set, replicate, length-set, length-replicate}
-use lib.Seq.{getD-set-same, getD-set-other}
-use Rattle.words.specs.Limits.{largest, entries}
-use Rattle.words.specs.Lists.{all, ascends}
-use Rattle.words.specs.Literals.{variable, top}
-use Rattle.aspif.specs.Rules.{Rule, ruleTop, atoms}
-use Rattle.words.proofs.Lists.{and-left, and-right}
-use Rattle.aspif.specs.Tables.{headsSound, sizeAt, headsAt, bodyAt, ruleAt, shapeSound, soundAt, rulesAt, soundRules, soundTable}
-use Rattle.marks.specs.Marks.{listed, marked, markAll}
+use mathlib.Core.Path.{_≡_, refl}
+use mathlib.Core.Bool.{Bool, true, false, cond}
+use mathlib.Core.List.{List}
+use Prim.Native.Nat.{ℕ, _+_}
+use borrow.Author.Tests.{eq-eqb, ne-eqb}
+use lib.IntN.{ℤ}
+use lib.ListN.{length, replicate}
+use Rattle.words.specs.Limits.{entries}
+use Rattle.words.specs.Lists.{ascends}
+use Rattle.aspif.specs.Rules.{Rule, atoms}
+use Rattle.aspif.specs.Tables.{rulesAt, soundTable}
+use Rattle.marks.specs.Marks.{listed}
 use Rattle.answer_set.specs.SetTest.{rounds, least, anyBelow, differs, brokenFrom, differsAt, verdictOf, Asked, refused, passed, asked, Says, Answers, marksOf, SetTested}
 use Rattle.answer_set.specs.declared.SetAnswer.{SetAnswer}
 use Rattle.answer_set.specs.declared.SetAnswer.the-variants.{Refused}

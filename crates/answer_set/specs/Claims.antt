@@ -1,6 +1,6 @@
--- How the executable definitions of specs/SetTest.antt stand to the program reader's definition and to specs/AnswerSets.antt, as
--- statements. proofs/Readable.antt proves the first, proofs/Answered.antt those on marks and answers, proofs/Service.antt those on
--- what the service answers.
+-- How the executable definitions of specs/SetTest.antt stand to the program reader's definition and to what an answer
+-- set is (crates/aspif/specs/AnswerSets.antt), as statements. proofs/Answered.antt proves those on marks and answers,
+-- proofs/Service.antt those on what the service answers.
 -- Assumes nothing.
 use mathlib.Core.Path.{_≡_}
 use mathlib.Core.Logic.{_↔_, _⊎_}

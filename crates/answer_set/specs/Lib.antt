@@ -1,4 +1,4 @@
--- What an answer set is, and what the set test answers.
+-- What the set test answers, and what that says of answer sets.
 pub mod SetTest
 pub mod Private
 pub mod Claims

@@ -2,9 +2,7 @@
 -- Assumes nothing.
 use mathlib.Core.Path.{_≡_}
 use mathlib.Core.Bool.{Bool, true, false}
-use mathlib.Core.List.{List, [], _∷_}
 use Prim.Native.Nat.{ℕ}
-use lib.ListN.{set}
 use Rattle.answer_set.specs.SetTest.{anyBelow}
 use Rattle.answer_set.specs.declared.answers.Search.{Search}
 use Rattle.answer_set.specs.declared.answers.Search.the-variants.{At, Nothing}

@@ -1,20 +1,18 @@
 -- The set test: document 01, 'Answer sets' and questions 41 to 43, in the paper's order. What is executable here is what the code
--- is held to; specs/Claims.antt says how it stands to the reader's own definition and to specs/AnswerSets.antt.
+-- is held to; specs/Claims.antt says how it stands to the reader's own definition and to crates/aspif/specs/AnswerSets.antt.
 -- Assumes nothing.
 use mathlib.Core.Path.{_≡_}
 use mathlib.Core.Bool.{Bool, true, false, cond, not, _&&_, _||_}
 use mathlib.Core.Option.{Option, none, some}
-use mathlib.Core.List.{List, [], _∷_, map}
+use mathlib.Core.List.{List, [], _∷_}
 use Prim.Native.Nat.{ℕ, zero, suc, _+_}
-use lib.Dec.{eqb, ltb, leb}
+use lib.Dec.{eqb}
 use lib.IntN.{ℤ, pos, negsuc}
-use lib.Signed.{ltZ, leZ}
-use lib.ListN.{length, take, drop, getD, set, replicate}
-use Rattle.words.specs.Limits.{largest, mostLiterals, mostRules, entries}
-use Rattle.words.specs.Lists.{any, all, ascends}
-use Rattle.words.specs.Literals.{variable, same}
-use Rattle.aspif.specs.Rules.{Rule, isNormal, isEmpty, atoms, tableWords}
-use Rattle.aspif.specs.Reading.{program, readLines}
+use lib.ListN.{length, set, replicate}
+use Rattle.words.specs.Limits.{entries}
+use Rattle.words.specs.Lists.{all, ascends}
+use Rattle.words.specs.Literals.{variable}
+use Rattle.aspif.specs.Rules.{Rule, isNormal, isEmpty, atoms}
 use Rattle.aspif.specs.declared.Kind.{Kind}
 use Rattle.aspif.specs.declared.Kind.the-variants.{Normal, Choice}
 use Rattle.answer_set.specs.declared.SetAnswer.{SetAnswer}

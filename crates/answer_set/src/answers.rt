@@ -86,7 +86,7 @@ fn first_broken(table: &[i32], rules: usize, inside: &[u8]) -> SetAnswer
 
 // The answer for a set M and the marks of the least model, with atoms from 1 to the number given.
 pub fn judge(table: &[i32], rules: usize, atoms: usize, inside: &[u8], marks: &[u8]) -> SetAnswer
-    requires { ⌜ (soundTable (now table) rules ≡ true) × (atoms ≤ largest) ⌝ }
+    requires program { ⌜ (soundTable (now table) rules ≡ true) × (atoms ≤ largest) ⌝ }
     ensures { λ r. ⌜ (let M = marked (now (inside .entry)) in
         let just = differsAt M (now (marks .entry)) in
         Says just (cond (anyBelow just (atoms + 1)) differs (brokenFrom M 1 (rulesAt rules (now (table .entry))))) r) ⌝ }

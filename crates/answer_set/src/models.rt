@@ -55,7 +55,7 @@ fn give_head(head: i32, kind: Kind, inside: &[u8], marks: &mut [u8]) -> bool
     false
 }
 
-// So for every head of a rule; whether a mark is new.
+// Every head that the rule gives is marked; whether a mark is new.
 fn give_heads(heads: &[i32], kind: Kind, inside: &[u8], marks: &mut [u8]) -> bool
     ensures { λ r. ⌜ Marking (giveHeads (marked (now (inside .entry))) kind (now (heads .entry)) (now (marks .entry)))
         (now (marks .entry)) (now (marks .exit)) r ⌝ }

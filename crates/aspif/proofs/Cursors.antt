@@ -6,19 +6,19 @@ use mathlib.Core.List.{List, [], _∷_}
 use Prim.Native.Nat.{ℕ, zero, suc, _+_, _-_, _≤_, _<_}
 use native.Mathlib.Omega.{arith}
 use borrow.Author.Tests.{leb-true}
-use lib.Dec.{eqb, leb, eqb·suc-zero}
+use lib.Dec.{leb}
 use lib.IntN.{ℤ, pos}
-use lib.Signed.{leZ, ltZ}
+use lib.Signed.{ltZ}
 use lib.ListN.{length, drop, getD, length-drop}
 use lib.Seq.{drop-drop}
 use mathlib.Core.Option.{some, none, Option·some-injective, Option·none-ne-some}
 use Rattle.words.proofs.Ascending.{top-ascends}
 use Rattle.words.specs.Lists.{all}
-use Rattle.words.specs.Literals.{variable, same}
+use Rattle.words.specs.Literals.{same}
 use Rattle.aspif.specs.Rules.{Rule, isCount, ruleTop, atoms}
 use Rattle.aspif.proofs.Counts.{count-small}
 use Rattle.words.specs.Limits.{mostLiterals, mostRules, largest}
-use Rattle.words.proofs.Lists.{and-left, and-right, one-less, none-left}
+use Rattle.words.proofs.Lists.{and-left, and-right, one-less, nothing-left}
 use Rattle.aspif.specs.Tables.{isHeaded, headsSound, bodySound, headCount, bodyCount, sizeAt, headsAt, bodyAt, ruleAt, shapeSound, soundAt, rulesAt, soundRules, soundTable, rulesOf}
 
 -- the counts are small, and the words are there
@@ -54,10 +54,10 @@ rules-on n ws h = ap (λ k. rulesAt k ws) (one-less n h)
 
 -- no rule is left
 pub sound-end : (n : ℕ) (ws : List ℤ) → n ≤ 0 → soundRules n ws ≡ all (same (pos 0)) ws
-sound-end n ws h = ap (λ k. soundRules k ws) (none-left n h)
+sound-end n ws h = ap (λ k. soundRules k ws) (nothing-left n h)
 
 pub no-rules : (n : ℕ) (ws : List ℤ) → n ≤ 0 → rulesAt n ws ≡ []
-no-rules n ws h = ap (λ k. rulesAt k ws) (none-left n h)
+no-rules n ws h = ap (λ k. rulesAt k ws) (nothing-left n h)
 
 -- a table that is let pass has few rules, and they are sound
 pub few-rules : (t : List ℤ) (n : ℕ) → soundTable t n ≡ true → n ≤ mostRules

@@ -1,8 +1,8 @@
 -- What the rules of a program that is read look like: `read-fits`. Written.antt shows that any rules that look so are read from
 -- some text. Assumes nothing.
-use mathlib.Core.Path.{_≡_, refl, sym, _∙_, ap, subst}
-use mathlib.Core.Bool.{Bool, true, false, cond, not, _&&_, _||_, true≢false}
-use mathlib.Core.List.{List, [], _∷_, _++_, map, append-nil, append-assoc, map-append, List·Memᴰ·append-cases, List·Memᴰ·eq-of-singleton}
+use mathlib.Core.Path.{_≡_, refl, _∙_, ap, subst}
+use mathlib.Core.Bool.{Bool, true, false, cond, not, _&&_, _||_}
+use mathlib.Core.List.{List, [], _∷_, _++_, append-nil, List·Memᴰ·append-cases, List·Memᴰ·eq-of-singleton}
 use mathlib.Core.Logic.{inl, inr}
 use Prim.Native.Nat.{ℕ, zero, suc, _+_, _-_, _≤_, _<_}
 use native.Mathlib.Omega.{arith}
@@ -12,7 +12,7 @@ use lib.IntN.{ℤ, pos}
 use lib.Signed.{ltZ}
 use lib.ListN.{length, take, drop, length-append, length-drop}
 use lib.Seq.{length-take-le}
-use Rattle.words.specs.Lists.{_∈_, all, concat}
+use Rattle.words.specs.Lists.{_∈_, all}
 use Rattle.words.specs.Literals.{has, rising, ascending}
 use Rattle.words.proofs.Lists.{Decides, itself, passed, failed, not-decides, all-decides, or-false-left, or-false-right, by-test, and-left, and-right}
 use Rattle.words.proofs.Literals.{has-decides, ascending→}

@@ -1,7 +1,6 @@
 -- Line after line without a bound on the turns: `line-by-line`. Each rule takes a byte at least, so the turns of the definition suffice.
 -- Assumes nothing.
 use mathlib.Core.Path.{_≡_, refl, sym, _∙_, ap, subst}
-use mathlib.Core.Bool.{true}
 use mathlib.Core.List.{List, [], _∷_, _++_}
 use Prim.Native.Nat.{ℕ, zero, suc, _+_, _-_, _≤_, _<_}
 use native.Mathlib.Omega.{arith}
@@ -9,7 +8,7 @@ use lib.ListN.{length, drop, length-drop}
 use Rattle.text.specs.Line.{lineOf}
 use Rattle.text.proofs.Lines.{bounds-of}
 use Rattle.aspif.specs.Rules.{Rule, programWords}
-use Rattle.aspif.specs.Reading.{Reading, refused, program, Turn, refuses, ends, adds, turnOf, linesFrom, header, readLines}
+use Rattle.aspif.specs.Reading.{Reading, Turn, refuses, ends, adds, linesFrom, header, readLines}
 use Rattle.aspif.specs.Claims.{turnAt, InTurn, LineByLine}
 use Rattle.aspif.specs.Claims as Claims
 use Rattle.aspif.proofs.Formed.{onward, lines-on}

@@ -1,13 +1,12 @@
 -- Question 41: the executable test says what the paper says, `table-read`. A rule that sound words hold is one that the reader
 -- forms, and the other way round; the text that is read is written from the rules. Assumes nothing.
 use mathlib.Core.Path.{_≡_, refl, sym, _∙_, ap, ap₂, subst}
-use mathlib.Core.Bool.{Bool, true, false, cond, _&&_, _||_, true≢false}
+use mathlib.Core.Bool.{Bool, true, false, _||_, true≢false}
 use mathlib.Core.Option.{some}
 use mathlib.Core.List.{List, [], _∷_, _++_, map, append-assoc, List·Memᴰ·head, List·Memᴰ·tail, Memᴰ·cast}
 use Prim.Native.Nat.{ℕ, zero, suc, _+_, _-_, _≤_}
 use native.Mathlib.Omega.{arith}
 use borrow.Author.Tests.{le-leb, le-ltb, ltb-false, not-true}
-use lib.Dec.{leb}
 use lib.IntN.{ℤ, pos, negsuc}
 use lib.Signed.{ltZ}
 use lib.ListN.{length, take, drop, getD, replicate, length-append, length-drop, length-replicate, take-append-drop}
@@ -18,10 +17,9 @@ use Rattle.words.specs.Literals.{variable, same, has}
 use Rattle.words.proofs.Lists.{itself, passed, failed, not-decides, all-decides, if-true, and-left, and-right}
 use Rattle.words.proofs.Literals.{same-decides, has-decides, variable-positive, positive}
 use Rattle.text.specs.Line.{anyOutside}
-use Rattle.aspif.specs.Rules.{Rule, suits, isCount, kindWord, ruleWords, programWords, tableWords}
+use Rattle.aspif.specs.Rules.{Rule, isCount, kindWord, ruleWords, programWords, tableWords}
 use Rattle.aspif.specs.declared.Kind.{Kind}
 use Rattle.aspif.specs.declared.Kind.the-variants.{Normal, Choice}
-use Rattle.aspif.specs.declared.rules.Shape.the-variants.{Wrong, Shaped}
 use Rattle.aspif.proofs.Formed.{Formed, FitsTable, inside-decides, read-fits}
 use Rattle.aspif.proofs.Written.{textOf, written-read}
 use Rattle.aspif.specs.Tables.{ReadAs, kindOf, isKind, isHeaded, headsSound, bodySound, headCount, bodyCount, sizeAt, headsAt, bodyAt, ruleAt, shapeSound, soundAt, rulesAt, soundRules, soundTable, rulesOf}

@@ -23,7 +23,7 @@ module _ (size : ℕ) where
   abbrev pub turnAt : List ℕ → List Rule → Turn
   turnAt s rs = turnOf (length rs) (size - length (programWords rs)) (length s) (lineOf s)
 
-  pub data InTurn : List ℕ → ℕ → List Rule → Reading → Type 0 where
+  pub data InTurn : List ℕ → (line : ℕ) → List Rule → Reading → Type 0 where
     refuses : {s : List ℕ} {line k : ℕ} {rs : List Rule} → turnAt s rs ≡ Reading.refuses k → InTurn s line rs (refused k line)
     ends : {s : List ℕ} {line : ℕ} {rs : List Rule} → turnAt s rs ≡ Reading.ends → InTurn s line rs (program rs)
     adds : {s : List ℕ} {line n : ℕ} {rs : List Rule} {r : Rule} {c : Reading} → turnAt s rs ≡ Reading.adds r n

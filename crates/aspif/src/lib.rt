@@ -31,7 +31,7 @@ pub enum ProgramReading {
 
 // Nothing of a text that is refused stays in the table.
 fn refuse(table: &mut [i32], refusal: ProgramRefusal) -> ProgramReading
-    ensures { λ r. ⌜ (r ≡ Refused refusal) × (now (table .exit) ≡ replicate (length (now (table .entry))) (pos 0)) ⌝ }
+    ensures zeroed { λ r. ⌜ (r ≡ Refused refusal) × (now (table .exit) ≡ replicate (length (now (table .entry))) (pos 0)) ⌝ }
 {
     words::zero_all(table);
     ProgramReading::Refused(refusal)

@@ -112,7 +112,7 @@ fn rule_shape(row: &[i32], count: usize) -> Shape
 
 // Question 8 of the heads, which ascend afterwards.
 fn sort_heads(part: &mut [i32]) -> bool
-    ensures { λ r. ⌜ (r ≡ headsGood (now (part .entry))) × (now (part .exit) ≡ ascending (now (part .entry))) ⌝ }
+    ensures sorted { λ r. ⌜ (r ≡ headsGood (now (part .entry))) × (now (part .exit) ≡ ascending (now (part .entry))) ⌝ }
 {
     let positive = words::all_positive(part);
     let distinct = words::sort_distinct(part);
@@ -121,7 +121,7 @@ fn sort_heads(part: &mut [i32]) -> bool
 
 // Question 8 of the body's literals, which ascend by atom afterwards.
 fn sort_body(part: &mut [i32]) -> bool
-    ensures { λ r. ⌜ (r ≡ bodyGood (now (part .entry))) × (now (part .exit) ≡ ascending (now (part .entry))) ⌝ }
+    ensures sorted { λ r. ⌜ (r ≡ bodyGood (now (part .entry))) × (now (part .exit) ≡ ascending (now (part .entry))) ⌝ }
 {
     let zero = words::contains(part, 0);
     let distinct = words::sort_distinct(part);
@@ -130,7 +130,7 @@ fn sort_body(part: &mut [i32]) -> bool
 
 // Question 8 of a rule line, whose heads and body ascend afterwards.
 fn sort_parts(row: &mut [i32], heads: usize, body: usize) -> bool
-    requires { ⌜ (heads ≤ mostLiterals) × (body ≤ mostLiterals) × (5 + heads + body ≤ length (now row)) ⌝ }
+    requires sizes { ⌜ (heads ≤ mostLiterals) × (body ≤ mostLiterals) × (5 + heads + body ≤ length (now row)) ⌝ }
     ensures { λ r. ⌜ Sorted (now (row .entry)) (now (row .exit)) heads body r ⌝ }
 {
     let after = 3 + heads;
@@ -156,7 +156,7 @@ fn kind_word(kind: Kind) -> i32
 
 // A rule's head kind, head count and body count at the front of the free words.
 fn write_counts(free: &mut [i32], kind: Kind, heads: usize, body: usize)
-    requires { ⌜ (heads ≤ mostLiterals) × (body ≤ mostLiterals) × (3 ≤ length (now free)) ⌝ }
+    requires sizes { ⌜ (heads ≤ mostLiterals) × (body ≤ mostLiterals) × (3 ≤ length (now free)) ⌝ }
     ensures { λ _. ⌜ now (free .exit) ≡ (kindWord kind ∷ pos heads ∷ pos body ∷ []) ++ drop 3 (now (free .entry)) ⌝ }
 {
     free[0] = kind_word(kind);
@@ -166,7 +166,7 @@ fn write_counts(free: &mut [i32], kind: Kind, heads: usize, body: usize)
 
 // The words of a rule at the front of the free words: its heads and body stand in the row as in the line.
 fn write_rule(free: &mut [i32], row: &[i32], kind: Kind, heads: usize, body: usize)
-    requires { ⌜ (heads ≤ mostLiterals) × (body ≤ mostLiterals) × (5 + heads + body ≤ length (now row))
+    requires sizes { ⌜ (heads ≤ mostLiterals) × (body ≤ mostLiterals) × (5 + heads + body ≤ length (now row))
         × (3 + heads + body ≤ length (now free)) ⌝ }
     ensures { λ _. ⌜ now (free .exit) ≡ rowWords (now (row .entry)) kind heads body
         ++ drop (3 + heads + body) (now (free .entry)) ⌝ }
@@ -189,7 +189,7 @@ fn add_rule(
     next: usize,
     rules: usize,
 ) -> LineTurn
-    requires { ⌜ (heads ≤ mostLiterals) × (body ≤ mostLiterals) × (5 + heads + body ≤ length (now row)) ⌝ }
+    requires sizes { ⌜ (heads ≤ mostLiterals) × (body ≤ mostLiterals) × (5 + heads + body ≤ length (now row)) ⌝ }
     ensures { λ r. ⌜ TurnTaken (room rules (length (now (free .entry)))
         (reads (rowRule (now (row .entry)) kind heads body)) next) (now (free .entry)) (now (free .exit)) r ⌝ }
 {

@@ -86,15 +86,15 @@ fn is_shaped(words: &[i32]) -> bool
 // How many words the rule at the front takes.
 pub fn rule_size(words: &[i32]) -> usize
     requires { ⌜ shapeSound (now words) ≡ true ⌝ }
-    ensures { λ r. ⌜ (r ≡ sizeAt (now (words .entry))) × (r ≤ length (now (words .entry))) ⌝ }
+    ensures size { λ r. ⌜ (r ≡ sizeAt (now (words .entry))) × (r ≤ length (now (words .entry))) ⌝ }
 {
     3 + size_at(words, 1) + size_at(words, 2)
 }
 
 // Where the rule after the one at i begins: how a loop over the table goes on.
 pub fn next_rule(table: &[i32], i: usize) -> usize
-    requires { ⌜ (i ≤ length (now table)) × (shapeSound (drop i (now table)) ≡ true) ⌝ }
-    ensures { λ r. ⌜ (r ≡ i + sizeAt (drop i (now (table .entry)))) × (r ≤ length (now (table .entry))) ⌝ }
+    requires here { ⌜ (i ≤ length (now table)) × (shapeSound (drop i (now table)) ≡ true) ⌝ }
+    ensures next { λ r. ⌜ (r ≡ i + sizeAt (drop i (now (table .entry)))) × (r ≤ length (now (table .entry))) ⌝ }
 {
     i + rule_size(&table[i..])
 }

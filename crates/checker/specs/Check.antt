@@ -31,7 +31,7 @@ thenStopped k n (through m z) = stopped k n
 
 module _ (P : List Rule) (size : ℕ) where
   -- Steps in their turn, after n that left the state z: each is accepted, and then "Do the live words after the step fit the store? 34."
-  abbrev pub runSteps : ℕ → State → List Step → Course
+  abbrev pub runSteps : (done : ℕ) → State → List Step → Course
   runSteps n z [] = through n z
   runSteps n z (t ∷ ts) =
       elim (step P z t) [
@@ -40,12 +40,12 @@ module _ (P : List Rule) (size : ℕ) where
       ]
 
   -- a text's steps; or those before the line that is refused, and then that refusal
-  abbrev pub runRead : ℕ → State → StepsRead → Course
+  abbrev pub runRead : (done : ℕ) → State → StepsRead → Course
   runRead n z (steps ts) = runSteps n z ts
   runRead n z (Texts.refused before k m) = thenStopped k m (runSteps n z before)
 
 -- the proof text's steps, from the start
-unfoldable pub course : List Rule → ℕ → List ℕ → Course
+unfoldable pub course : List Rule → (size : ℕ) → List ℕ → Course
 course P size text = runRead P size 0 start (stepsOf text)
 
 -- the verdict with N, R, S and K, every word of the table and every word of the store
@@ -55,7 +55,7 @@ pub record Checked : Type 0 where
   pub store : List ℤ
 
 -- N, R, S and K: "R rules, S steps, K live nogoods"
-abbrev pub countsOf : List Rule → ℕ → State → Counts
+abbrev pub countsOf : List Rule → (steps : ℕ) → State → Counts
 countsOf P n z = record { atoms = atoms P; rules = length P; steps = n; nogoods = length (z .live) }
 
 -- "inconsistent" where the empty nogood is live, and "open" where it is not
@@ -63,23 +63,23 @@ abbrev pub saying : Bool → Counts → Verdict
 saying b c = cond b (Inconsistent c) (Open c)
 
 -- "The empty nogood is looked for after the last step only". A refusal leaves table and store zero throughout.
-abbrev pub judged : ℕ → ℕ → List Rule → Course → Checked
+abbrev pub judged : (tableSize storeSize : ℕ) → List Rule → Course → Checked
 judged t s P (stopped k n) =
     record { verdict = RefusedProof (record { number = k; step = n }); table = replicate t (pos 0); store = replicate s (pos 0) }
 judged t s P (through n z) =
     record { verdict = saying (emptyLive z) (countsOf P n z); table = tableWords t P; store = storeWords s (z .live) }
 
-abbrev pub judgedReading : ℕ → ℕ → List ℕ → Reading → Checked
+abbrev pub judgedReading : (tableSize storeSize : ℕ) → (proof : List ℕ) → Reading → Checked
 judgedReading t s proof (refused k n) =
     record { verdict = RefusedProgram (record { number = k; line = n }); table = replicate t (pos 0); store = replicate s (pos 0) }
 judgedReading t s proof (program P) = judged t s P (course P s proof)
 
 -- the whole check of a program text and a proof text with a table of t words and a store of s words; "program before proof"
-unfoldable pub check : List ℕ → List ℕ → ℕ → ℕ → Checked
+unfoldable pub check : (text proof : List ℕ) → (tableSize storeSize : ℕ) → Checked
 check text proof t s = judgedReading t s proof (readText t text)
 
 -- the public contract of `check_texts`: the verdict with N, R, S and K, every word of the table and every word of the store, whatever
 -- the two texts and whatever the table and the store that are lent
-abbrev pub CheckedTexts : List ℕ → List ℕ → List ℤ → List ℤ → List ℤ → List ℤ → Verdict → Type 0
+abbrev pub CheckedTexts : (text proof : List ℕ) → (table store table′ store′ : List ℤ) → Verdict → Type 0
 CheckedTexts text proof table store table′ store′ r =
     record { verdict = r; table = table′; store = store′ } ≡ check text proof (length table) (length store)

@@ -29,7 +29,7 @@ use Rattle.checker.specs.declared.Verdict.the-variants.{Inconsistent, Op
 -- "The first "no" decides": `unread` is a line that fails one of questions 22 to 25, `unaccepted` a step that fails one of 26 to
 -- 33, `full` a step after which the live words do not fit the store, which is 34, and `good` a step that passes them all.
 module _ (P : List Rule) (size : ℕ) (text : List ℕ) where
-  pub data Runs : ℕ → ℕ → State → Course → Type 0 where
+  pub data Runs : (at done : ℕ) → State → Course → Type 0 where
     ends : {at n : ℕ} {z : State} → lineAt text at ≡ end → Runs at n z (through n z)
     unread : {at n k : ℕ} {z : State} → lineAt text at ≡ Lines.refused k → Runs at n z (stopped k (n + 1))
     unaccepted : {at n k after : ℕ} {z : State} {x : Letter} {zs : List ℤ} → lineAt text at ≡ line x zs after
@@ -47,14 +47,14 @@ StepByStep =
 
 -- The proof text's steps are ts, they run through, and after the last the empty nogood is live, or is not; the counts are those of
 -- the program, the steps and the live nogoods.
-abbrev pub Ended : List Rule → ℕ → List ℕ → Bool → Counts → Type 0
+abbrev pub Ended : List Rule → (size : ℕ) → (proof : List ℕ) → (empty : Bool) → Counts → Type 0
 Ended P size proof empty c =
     (ts : List Step) × (z : State) × (stepsOf proof ≡ steps ts) × (runSteps P size 0 start ts ≡ through (length ts) z)
     × (emptyLive z ≡ empty) × (c ≡ countsOf P (length ts) z)
 
 -- What `Ended` says, in the words of a writer: the proof is the text of the steps ts, and no reader is spoken of. That each step passes
 -- 22 to 25 need not be said, since a step that is accepted does.
-abbrev pub Written : List Rule → ℕ → List ℕ → Bool → Counts → Type 0
+abbrev pub Written : List Rule → (size : ℕ) → (proof : List ℕ) → (empty : Bool) → Counts → Type 0
 Written P size proof empty c =
     (ts : List Step) × (z : State) × (proof ≡ textOf ts) × (length proof ≤ longest) × (runSteps P size 0 start ts ≡ through (length ts) z)
     × (emptyLive z ≡ empty) × (c ≡ countsOf P (length ts) z)

@@ -84,7 +84,8 @@ pub fn write_line(verdict: Verdict, buffer: &mut [u8]) -> usize
 // is the line's length.
 pub fn check_line(program: &[u8], proof: &[u8], buffer: &mut [u8]) -> usize
     ensures size { λ r. ⌜ r ≡ length (printed (now (program .entry)) (now (proof .entry))) ⌝ }
-    ensures written { λ r. ⌜ now (buffer .exit) ≡ sets (now (buffer .entry)) 0 (printed (now (program .entry)) (now (proof .entry))) ⌝ }
+    ensures written { λ r. ⌜ now (buffer .exit)
+        ≡ sets (now (buffer .entry)) 0 (printed (now (program .entry)) (now (proof .entry))) ⌝ }
     ensures within { λ r. ⌜ r ≤ longestLine ⌝ }
 {
     let mut table = [0i32; LENT];

@@ -7,8 +7,8 @@ ghost use Rattle.marks.specs.Marks.{Marks, upTo};
 
 // The known variables as marks; by rule, the name of its body, 0 for none; how many words of the store are used.
 pub struct CheckingState {
-    pub known: [u8; CheckingState::ENTRIES],
-    pub names: [u16; CheckingState::RULES],
+    pub known: [u8; words::ENTRIES],
+    pub names: [u16; words::MOST_RULES],
     pub used: usize,
 }
 
@@ -16,23 +16,17 @@ impl CheckingState {
     // The largest variable.
     pub const LARGEST: usize = words::LARGEST;
 
-    // An entry for each variable, and one for 0.
-    pub const ENTRIES: usize = words::ENTRIES;
-
     // The most numbers of a line.
     pub const NUMBERS: usize = words::MOST_NUMBERS;
-
-    // The most rules of a program.
-    pub const RULES: usize = words::MOST_RULES;
 
     // "At the start there are no nogoods and no names, and the atoms alone are known."
     pub fn start(atoms: usize) -> CheckingState
         requires { ⌜ atoms ≤ largest ⌝ }
-        ensures { λ r. ⌜ Marks (r .known) (upTo atoms) × (r .names ≡ replicate mostRules 0) × (r .used ≡ 0) ⌝ }
+        ensures start { λ r. ⌜ Marks (r .known) (upTo atoms) × (r .names ≡ replicate mostRules 0) × (r .used ≡ 0) ⌝ }
     {
         CheckingState {
             known: marks::marks_to(atoms),
-            names: [0; CheckingState::RULES],
+            names: [0; words::MOST_RULES],
             used: 0,
         }
     }

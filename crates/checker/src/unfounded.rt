@@ -19,7 +19,7 @@ use nogoods::store;
 
 // One number of the nogood of an `l` step: h itself, or minus a name that is marked. How many literals there are then.
 fn gather_one(h: i32, found: &[u8], v: usize, row: &mut [i32], count: usize) -> usize
-    requires { ⌜ (1 ≤ v) × (v ≤ largest) × (count < v) × (length (now row) ≡ entries) ⌝ }
+    requires place { ⌜ (1 ≤ v) × (v ≤ largest) × (count < v) × (length (now row) ≡ entries) ⌝ }
     ensures within { λ n. ⌜ n ≤ v ⌝ }
     ensures words { λ n. ⌜ take n (now (row .exit))
         ≡ take count (now (row .entry)) ++ gathered (marked (now (found .entry))) h 1 v ⌝ }
@@ -43,7 +43,7 @@ fn gather(h: i32, found: &[u8], row: &mut [i32]) -> usize
 {
     let mut count = 0;
     let mut v = 1;
-    while v < CheckingState::ENTRIES {
+    while v < words::ENTRIES {
         count = gather_one(h, found, v, row, count);
         v += 1;
     }
@@ -80,7 +80,7 @@ pub fn loops(
     if marks::is_marked(&found, 0) {
         return Stepped::Fails(32);
     }
-    let mut row = [0i32; CheckingState::ENTRIES];
+    let mut row = [0i32; words::ENTRIES];
     let count = gather(numbers[0], &found, &mut row);
     outcomes::fitted(store::append(store, used, &row[..count]))
 }

@@ -1,13 +1,13 @@
 -- What the questions put to a line and to a state say, as facts that the soundness of the steps uses. Assumes nothing.
 use mathlib.Core.Path.{_≡_, refl}
 use mathlib.Core.Logic.{_⊎_, inl, _≢_}
-use mathlib.Core.List.{List, List·Memᴰ·head, List·Memᴰ·tail, Memᴰ·cast}
-use Prim.Native.Nat.{ℕ, _≤_, max}
+use mathlib.Core.List.{List, Memᴰ·cast}
+use Prim.Native.Nat.{ℕ, _≤_}
 use native.Mathlib.Omega.{arith}
 use lib.Dec.{T}
 use lib.IntN.{ℤ, pos}
 use Rattle.words.specs.Lists.{_∈_}
-use Rattle.words.specs.Literals.{variable, top}
+use Rattle.words.specs.Literals.{variable}
 use Rattle.words.proofs.Lists.{Decides, itself, reworded, and-decides, or-decides, any-decides, eqb-decides, leb-decides}
 use Rattle.words.proofs.Literals.{sameList-decides, variable-positive, positive}
 use Rattle.words.proofs.Tops.{top-le}

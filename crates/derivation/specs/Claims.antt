@@ -1,4 +1,4 @@
--- Demand 3 of the notice, part one, as statements; proofs/Sound.antt proves them.
+-- Demand 3 of the notice, part one, as statements; proofs/Sound.antt and proofs/Closure.antt prove them.
 -- Assumes nothing.
 use mathlib.Core.Path.{_≡_}
 use mathlib.Core.Logic.{_↔_}

@@ -136,7 +136,7 @@ abbrev pub readingOf : LineAt → LineReading
 readingOf l = record { answer = lineAnswer l; numbers = numbersOf l }
 
 -- an answered line ends past the position, within a text of n bytes, and has no more numbers than the array
-abbrev pub AnswerBounds : ℕ → ℕ → LineAnswer → Type 0
+abbrev pub AnswerBounds : (at size : ℕ) → LineAnswer → Type 0
 AnswerBounds at n End = Unit {0}
 AnswerBounds at n (Refused k) = Unit {0}
 AnswerBounds at n (Answered x count next) = (at < next) × (next ≤ n) × (count ≤ mostNumbers)

@@ -49,7 +49,7 @@ after t (steps ts) = steps (t ∷ ts)
 after t (refused ts k n) = refused (t ∷ ts) k n
 
 -- The steps from a position on, after n of them. Each line takes a byte at least, so one turn more than there are bytes is enough.
-unfoldable pub stepsAt : List ℕ → ℕ → ℕ → ℕ → StepsRead
+unfoldable pub stepsAt : List ℕ → (turns at done : ℕ) → StepsRead
 stepsAt text zero at n = refused [] 22 (n + 1)
 stepsAt text (suc turns) at n =
     elim (lineAt text at) [

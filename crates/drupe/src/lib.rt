@@ -111,7 +111,7 @@ fn refuse(number: u8) -> LineReading
 
 // Questions 24 and 25 of numbers that passed 23. They are left in another order.
 fn ask(letter: Letter, numbers: &mut [i32], next: usize) -> LineReading
-    requires { ⌜ (anyOutside (now numbers) ≡ false) × (length (now numbers) ≤ mostNumbers) ⌝ }
+    requires sizes { ⌜ (anyOutside (now numbers) ≡ false) × (length (now numbers) ≤ mostNumbers) ⌝ }
     ensures { λ r. ⌜ r ≡ readingOf (lineAsked letter (now (numbers .entry)) next) ⌝ }
 {
     if !is_signed(letter, numbers) {

@@ -24,7 +24,7 @@ pub struct ProofReader<'a> {
 
 // At the text's first line.
 pub fn start<'a>(text: &'a [u8]) -> ProofReader<'a>
-    ensures { λ r. ⌜ (r .text ≡ text .entry) × (r .at ≡ 0) ⌝ }
+    ensures start { λ r. ⌜ (r .text ≡ text .entry) × (r .at ≡ 0) ⌝ }
 {
     ProofReader { text, at: 0 }
 }

@@ -3,16 +3,16 @@
 use mathlib.Core.Path.{_≡_, refl, sym, _∙_, fun-ext, ap}
 use mathlib.Core.Bool.{Bool, true, false, true≢false, Bool·beq, _||_, or-assoc, or-comm, or-false}
 use mathlib.Core.List.{List, [], _∷_}
-use mathlib.Core.Logic.{_⊎_, inl, inr}
+use mathlib.Core.Logic.{inl, inr}
 use Prim.Native.Nat.{ℕ, zero, suc, _-_, _≤_, _<_, _+_}
 use native.Mathlib.Omega.{arith}
-use borrow.Author.Tests.{eq-eqb, ne-eqb, eqb-true, eqb-false, leb-true}
+use borrow.Author.Tests.{eqb-true, eqb-false, leb-true}
 use lib.Dec.{eqb, ltb, leb}
 use lib.ListN.{length, set, replicate, length-set, length-replicate, getD-replicate, drop, drop-of-length-le, getD}
 use lib.Seq.{getD-set-same, getD-set-other, drop-cons}
 use native.Mathlib.Numerals.{add-one}
 use Rattle.words.specs.Limits.{largest, entries}
-use Rattle.words.proofs.Lists.{Decides, passed, reworded, and-decides, and-right, and-left, or-swap, one-less, none-left}
+use Rattle.words.proofs.Lists.{Decides, passed, reworded, and-decides, and-right, and-left, or-swap, one-less, nothing-left}
 use Rattle.words.proofs.Places.{equal?}
 use Rattle.marks.specs.Marks.{listed, marked, Marks, upTo, agree, sameMarks, markAll}
 use Rattle.words.specs.Lists.{ascends}
@@ -78,7 +78,7 @@ pub upTo-on : (n : ℕ) → 0 < n → upTo n ≡ n ∷ upTo (n - 1)
 upTo-on n h = ap upTo (one-less n h) ∙ ap (λ k. k ∷ upTo (n - 1)) (sym (one-less n h))
 
 pub upTo-end : (n : ℕ) → n ≤ 0 → upTo n ≡ []
-upTo-end n h = ap upTo (none-left n h)
+upTo-end n h = ap upTo (nothing-left n h)
 
 -- The same sets
 
@@ -114,4 +114,4 @@ module _ (a b : List ℕ) where
 
   pub same-end : (n : ℕ) → n ≤ 0 → sameMarks n a b ≡ true
   unfolding sameMarks
-  same-end n h = ap (λ k. sameMarks k a b) (none-left n h)
+  same-end n h = ap (λ k. sameMarks k a b) (nothing-left n h)

@@ -17,8 +17,8 @@ use Rattle.words.proofs.Sorting.{length-ascending}
 use Rattle.words.proofs.Parts.{tail-of, mid-put, length-put}
 use Rattle.words.proofs.Segments.{record-append}
 use Rattle.derivation.specs.Steps.{definition}
-use Rattle.nogoods.specs.Store.{header, headerSize, nogoodWords, recordSize, liveWords}
-use Rattle.nogoods.specs.Keeps.{Literals, Written}
+use Rattle.nogoods.specs.Store.{recordHeader, headerSize, nogoodWords, recordSize, liveWords}
+use Rattle.nogoods.specs.Keeps.{Literals, WrittenFront}
 use Rattle.nogoods.specs.Definitions.{pair, pairSize, defined, definedSize}
 use Rattle.nogoods.proofs.Recorded.{header-same, record-size}
 use Rattle.nogoods.proofs.Stored.{written-next}
@@ -32,17 +32,17 @@ name-and-literals (x ∷ l) h k = k
 
 -- in a record w the name's complement y is put in the name's place, and the literals are sorted
 pub first-written : (numbers free w s : List ℤ) (y z : ℤ) (k : ℕ) → 1 ≤ length numbers → k ≡ length numbers → y ≡ z
-    → Written (nogoodWords numbers) free w → s ≡ ascending (take k (drop headerSize (set w headerSize y)))
-    → Written (nogoodWords (ascending (z ∷ drop 1 numbers))) free (putMid headerSize k (set w headerSize y) s)
+    → WrittenFront (nogoodWords numbers) free w → s ≡ ascending (take k (drop headerSize (set w headerSize y)))
+    → WrittenFront (nogoodWords (ascending (z ∷ drop 1 numbers))) free (putMid headerSize k (set w headerSize y) s)
 first-written [] free w s y z k h e r p q = absurd (omega arith)
 first-written (x ∷ l) free w s y z k h e r p q =
     let rest = drop (length (nogoodWords (x ∷ l))) free in
     let n : length (x ∷ l) ≡ length (ascending (z ∷ l)) = sym (length-ascending (z ∷ l)) in
     let m : length (nogoodWords (x ∷ l)) ≡ length (nogoodWords (ascending (z ∷ l))) = omega (arith, n) in
-    let u : set w headerSize y ≡ header (x ∷ l) ++ (y ∷ l ++ rest) = ap (λ (t : List ℤ). set t headerSize y) p in
+    let u : set w headerSize y ≡ recordHeader (x ∷ l) ++ (y ∷ l ++ rest) = ap (λ (t : List ℤ). set t headerSize y) p in
     let sorted : s ≡ ascending (z ∷ l) =
     q ∙ ap (λ (t : List ℤ). ascending (take k (drop headerSize t))) u ∙ ap ascending (take-at (y ∷ l) rest k (sym e) ∙ ap (λ (t : ℤ). t ∷ l) r) in
-    ap (λ (t : List ℤ). putMid headerSize k t s) u ∙ ap₂ (λ a b. header (x ∷ l) ++ (a ++ b)) sorted (drop-at (y ∷ l) rest k (sym e))
+    ap (λ (t : List ℤ). putMid headerSize k t s) u ∙ ap₂ (λ a b. recordHeader (x ∷ l) ++ (a ++ b)) sorted (drop-at (y ∷ l) rest k (sym e))
     ∙ ap₂ (λ a k. a ++ (ascending (z ∷ l) ++ drop k free)) (header-same (x ∷ l) (ascending (z ∷ l)) n) m
 
 -- the literals are sorted in their place
@@ -62,9 +62,9 @@ module _ (n : ℤ) where
   pairs-size (x ∷ l) = omega (arith, length-append (nogoodWords (pair n x)) (liveWords (map (pair n) l)), pair-record x, pairs-size l)
 
   -- one more pair, after those of the first i literals
-  pub pair-next : (l before free ys : List ℤ) (at i : ℕ) → i < length l → at ≡ pairSize * i → Written (liveWords (map (pair n) (take i l))) before free
-      → Written (nogoodWords (pair n (getD l i (pos 0)))) (take (length free - at) (drop at free)) ys
-      → Written (liveWords (map (pair n) (take (i + 1) l))) before (putMid at (length free - at) free ys)
+  pub pair-next : (l before free ys : List ℤ) (at i : ℕ) → i < length l → at ≡ pairSize * i → WrittenFront (liveWords (map (pair n) (take i l))) before free
+      → WrittenFront (nogoodWords (pair n (getD l i (pos 0)))) (take (length free - at) (drop at free)) ys
+      → WrittenFront (liveWords (map (pair n) (take (i + 1) l))) before (putMid at (length free - at) free ys)
   pair-next l before free ys at i h k e w =
       let done = map (pair n) (take i l) in
       let g = pair n (getD l i (pos 0)) in
@@ -77,9 +77,9 @@ module _ (n : ℤ) where
 
   -- all pairs, after the first nogood
   pub definition-written : (L before f ys : List ℤ) (end : ℕ) → end ≡ recordSize (n ∷ L)
-      → Written (nogoodWords (ascending (complement n ∷ L))) before f
-      → Written (liveWords (map (pair n) (ascending L))) (take (length f - end) (drop end f)) ys
-      → Written (liveWords (definition n L)) before (putMid end (length f - end) f ys)
+      → WrittenFront (nogoodWords (ascending (complement n ∷ L))) before f
+      → WrittenFront (liveWords (map (pair n) (ascending L))) (take (length f - end) (drop end f)) ys
+      → WrittenFront (liveWords (definition n L)) before (putMid end (length f - end) f ys)
   definition-written L before f ys end k e w =
       let g = ascending (complement n ∷ L) in
       let front : length (nogoodWords g) ≡ end = omega (arith, record-size g, length-ascending (complement n ∷ L)) in

@@ -12,17 +12,17 @@ use Rattle.words.specs.Limits.{largest}
 use Rattle.words.specs.Literals.{variable}
 use Rattle.words.proofs.Places.{in-at}
 use Rattle.words.proofs.Segments.{Segment, at-front, next, none-left}
-use Rattle.nogoods.specs.Store.{header, headerSize, nogoodWords, recordSize, liveWords}
+use Rattle.nogoods.specs.Store.{recordHeader, headerSize, nogoodWords, recordSize, liveWords}
 use Rattle.nogoods.specs.Keeps.{Holds}
 use Rattle.nogoods.specs.Records.{Encodes, countAt, endAt, nogoodAt, Readable, Stands}
 
 -- The sizes
 
-pub header-size : (g : List ℤ) → length (header g) ≡ headerSize
+pub header-size : (g : List ℤ) → length (recordHeader g) ≡ headerSize
 header-size g = refl
 
 -- a header depends on the count alone
-pub header-same : (g h : List ℤ) → length g ≡ length h → header g ≡ header h
+pub header-same : (g h : List ℤ) → length g ≡ length h → recordHeader g ≡ recordHeader h
 header-same g h e = rw e
 
 pub record-size : (g : List ℤ) → length (nogoodWords g) ≡ recordSize g
@@ -46,7 +46,7 @@ pub at-record : {s : List ℤ} {i e : ℕ} {left : List (List ℤ)} → Segment 
 at-record {s} {i} {e} S h =
     let t = next nogoodWords S h in
     let g = t .x in
-    let w : drop i s ≡ header g ++ (g ++ drop (i + length (nogoodWords g)) s) = t .here in
+    let w : drop i s ≡ recordHeader g ++ (g ++ drop (i + length (nogoodWords g)) s) = t .here in
     let z : i + 0 ≡ i = omega arith in
     let first : getD s i (pos 0) ≡ pos (length g) = rw z at (sym (getD-drop i s 0 (pos 0)) ∙ ap (λ (l : List ℤ). getD l 0 (pos 0)) w) in
     let n : countAt s i ≡ length g = ap natAbs first in

@@ -18,7 +18,7 @@ use Rattle.words.proofs.Parts.{put-next}
 use Rattle.words.proofs.Segments.{record-append}
 use Rattle.drupe.proofs.Lines.{drop-replicate}
 use Rattle.nogoods.specs.Store.{nogoodWords, recordSize, liveWords}
-use Rattle.nogoods.specs.Keeps.{Written, Literals, Holds}
+use Rattle.nogoods.specs.Keeps.{WrittenFront, Literals, Holds}
 use Rattle.nogoods.specs.Finds.{foundAt}
 use Rattle.nogoods.specs.declared.store.Found.the-variants.{At, Nothing}
 use Rattle.nogoods.proofs.Recorded.{record-size}
@@ -39,8 +39,8 @@ module _ {store : List ℤ} {used : ℕ} {live : List (List ℤ)} where
 -- Writing
 
 -- words at the front, and more words after them
-pub written-next : (a b before s ys : List ℤ) (at : ℕ) → length a ≡ at → Written a before s → Written b (take (length s - at) (drop at s)) ys
-    → Written (a ++ b) before (putMid at (length s - at) s ys)
+pub written-next : (a b before s ys : List ℤ) (at : ℕ) → length a ≡ at → WrittenFront a before s → WrittenFront b (take (length s - at) (drop at s)) ys
+    → WrittenFront (a ++ b) before (putMid at (length s - at) s ys)
 written-next a b before s ys at n w v =
     put-next a (drop (length a) before) b s ys at n w v
     ∙ ap (λ (t : List ℤ). a ++ (b ++ t)) (drop-drop (length b) (length a) before ∙ ap (λ (k : ℕ). drop k before) (sym (length-append a b)))
@@ -58,7 +58,7 @@ module _ {store : List ℤ} {used : ℕ} {live : List (List ℤ)} (H : Holds sto
   full h = omega (arith, more-words, H .fits)
 
   -- the words of gs are written at the front of the free tail
-  pub added : ((g : List ℤ) → g ∈ gs → Literals g) → (ys : List ℤ) → Written (liveWords gs) (take (length store - used) (drop used store)) ys
+  pub added : ((g : List ℤ) → g ∈ gs → Literals g) → (ys : List ℤ) → WrittenFront (liveWords gs) (take (length store - used) (drop used store)) ys
       → Holds (putMid used (length store - used) store ys) (used + size) (live ++ gs)
   added lits ys e =
       let free = length store - used in

@@ -14,8 +14,8 @@ use Rattle.nogoods.specs.declared.store.Added.{Added}
 use Rattle.nogoods.specs.declared.store.Added.the-variants.{Uses, Full}
 
 -- from before to after the words were written at the front, and the rest is as it was
-abbrev pub Written : List ℤ → List ℤ → List ℤ → Type 0
-Written words before after = after ≡ words ++ drop (length words) before
+abbrev pub WrittenFront : List ℤ → List ℤ → List ℤ → Type 0
+WrittenFront words before after = after ≡ words ++ drop (length words) before
 
 -- What propagation may count on: a literal's variable is 1 to the largest, and no variable stands twice.
 pub record Literals (g : List ℤ) : Type 0 where

@@ -8,8 +8,8 @@ use lib.ListN.{length, replicate}
 use Rattle.words.specs.Lists.{concat}
 
 -- A nogood's record: a header, then its literals. The header is the literal count.
-abbrev pub header : List ℤ → List ℤ
-header g = pos (length g) ∷ []
+abbrev pub recordHeader : List ℤ → List ℤ
+recordHeader g = pos (length g) ∷ []
 
 -- how many words a header has
 abbrev pub headerSize : ℕ
@@ -17,7 +17,7 @@ headerSize = 1
 
 -- "the literal count, then literals ascending by variable"
 abbrev pub nogoodWords : List ℤ → List ℤ
-nogoodWords g = header g ++ g
+nogoodWords g = recordHeader g ++ g
 
 -- how many words a nogood's record has
 abbrev pub recordSize : List ℤ → ℕ

@@ -7,7 +7,7 @@ ghost use lib.ListN.{length, drop, getD};
 ghost use Rattle.words.specs.Limits.{largest, mostNumbers};
 ghost use Rattle.words.specs.Literals.{variable, complement, ascending};
 ghost use Rattle.derivation.specs.Steps.{definition};
-ghost use Rattle.nogoods.specs.Keeps.{Literals, Holds, Fits, Written};
+ghost use Rattle.nogoods.specs.Keeps.{Literals, Holds, Fits, WrittenFront};
 ghost use Rattle.nogoods.specs.Store.{nogoodWords, liveWords, recordSize};
 ghost use Rattle.nogoods.specs.Definitions.{pair, pairSize, defined, definedSize};
 use crate::records::HEADER;
@@ -19,8 +19,8 @@ const PAIR: usize = HEADER + 2;
 
 // The name with a literal's complement, ascending, at the front of the free tail.
 fn write_pair(free: &mut [i32], name: i32, literal: i32)
-    requires { ⌜ (variable literal ≤ largest) × (pairSize ≤ length (now free)) ⌝ }
-    ensures { λ _. ⌜ Written (nogoodWords (pair name literal)) (now (free .entry)) (now (free .exit)) ⌝ }
+    requires room { ⌜ (variable literal ≤ largest) × (pairSize ≤ length (now free)) ⌝ }
+    ensures { λ _. ⌜ WrittenFront (nogoodWords (pair name literal)) (now (free .entry)) (now (free .exit)) ⌝ }
 {
     let mut pair = [name, words::complement_of(literal)];
     words::sort(&mut pair);
@@ -29,8 +29,8 @@ fn write_pair(free: &mut [i32], name: i32, literal: i32)
 
 // The name with each literal's complement, ascending, one record after another, at the front of the free tail.
 fn write_pairs(free: &mut [i32], name: i32, literals: &[i32])
-    requires { ⌜ Literals (now literals) × (pairSize * length (now literals) ≤ length (now free)) ⌝ }
-    ensures { λ _. ⌜ Written (liveWords (map (pair name) (now (literals .entry)))) (now (free .entry)) (now (free .exit)) ⌝ }
+    requires room { ⌜ Literals (now literals) × (pairSize * length (now literals) ≤ length (now free)) ⌝ }
+    ensures { λ _. ⌜ WrittenFront (liveWords (map (pair name) (now (literals .entry)))) (now (free .entry)) (now (free .exit)) ⌝ }
 {
     let mut at = 0;
     let mut i = 0;
@@ -46,7 +46,7 @@ fn write_first(free: &mut [i32], numbers: &[i32])
     requires numbers { ⌜ (variable (getD (now numbers) 0 (pos 0)) ≤ largest) × (1 ≤ length (now numbers)) ⌝ }
     requires room { ⌜ (length (now numbers) ≤ mostNumbers) × (recordSize (now numbers) ≤ length (now free)) ⌝ }
     ensures { λ _. ⌜ (let l = now (numbers .entry) in
-        Written (nogoodWords (ascending (complement (getD l 0 (pos 0)) ∷ drop 1 l))) (now (free .entry)) (now (free .exit))) ⌝ }
+        WrittenFront (nogoodWords (ascending (complement (getD l 0 (pos 0)) ∷ drop 1 l))) (now (free .entry)) (now (free .exit))) ⌝ }
 {
     let end = HEADER + numbers.len();
     store::write(free, numbers);
@@ -58,7 +58,7 @@ fn write_first(free: &mut [i32], numbers: &[i32])
 fn write_definition(free: &mut [i32], numbers: &mut [i32])
     requires numbers { ⌜ Literals (now numbers) × (1 ≤ length (now numbers)) × (length (now numbers) ≤ mostNumbers) ⌝ }
     requires room { ⌜ definedSize (length (now numbers)) ≤ length (now free) ⌝ }
-    ensures { λ _. ⌜ Written (liveWords (defined (now (numbers .entry)))) (now (free .entry)) (now (free .exit)) ⌝ }
+    ensures { λ _. ⌜ WrittenFront (liveWords (defined (now (numbers .entry)))) (now (free .entry)) (now (free .exit)) ⌝ }
 {
     let end = HEADER + numbers.len();
     let name = numbers[0];

@@ -8,7 +8,7 @@ ghost use Rattle.words.specs.Limits.{largest};
 ghost use Rattle.words.specs.Lists.{any, dropFirst};
 ghost use Rattle.words.specs.Literals.{sameList};
 ghost use Rattle.aspif.specs.Rules.{isEmpty};
-ghost use Rattle.nogoods.specs.Keeps.{Literals, Holds, Fits, Written};
+ghost use Rattle.nogoods.specs.Keeps.{Literals, Holds, Fits, WrittenFront};
 ghost use Rattle.nogoods.specs.Store.{nogoodWords, recordSize};
 ghost use Rattle.nogoods.specs.Finds.{foundAt};
 use crate::records;
@@ -28,8 +28,8 @@ pub enum Added {
 
 // The words of a nogood at the front of the free tail.
 pub fn write(free: &mut [i32], literals: &[i32])
-    requires { ⌜ (recordSize (now literals) ≤ length (now free)) × (length (now literals) ≤ largest) ⌝ }
-    ensures { λ _. ⌜ Written (nogoodWords (now (literals .entry))) (now (free .entry)) (now (free .exit)) ⌝ }
+    requires room { ⌜ (recordSize (now literals) ≤ length (now free)) × (length (now literals) ≤ largest) ⌝ }
+    ensures { λ _. ⌜ WrittenFront (nogoodWords (now (literals .entry))) (now (free .entry)) (now (free .exit)) ⌝ }
 {
     free[0] = literals.len() as i32;
     words::copy(&mut free[HEADER..], literals);

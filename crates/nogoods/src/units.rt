@@ -40,7 +40,7 @@ fn entry_of(word: i32) -> u8
 
 // What an assignment says of a literal.
 fn value_of(word: i32, assignment: &[u8; ENTRIES]) -> Value
-    requires { ⌜ (1 ≤ variable word) × (variable word ≤ largest) ⌝ }
+    requires within { ⌜ (1 ≤ variable word) × (variable word ≤ largest) ⌝ }
     ensures { λ r. ⌜ Valued (now (assignment .entry)) word r ⌝ }
 {
     let v = words::variable_of(word);

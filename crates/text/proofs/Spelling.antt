@@ -4,7 +4,7 @@ use mathlib.Core.Path.{_≡_, refl, sym, _∙_, ap, ap₂}
 use mathlib.Core.Bool.{Bool, true, false, cond, _&&_}
 use mathlib.Core.Option.{Option, none, some, Option·none-ne-some, Option·some-injective}
 use mathlib.Core.List.{List, [], _∷_, _++_, map, append-nil, append-assoc, tail-eq-of-cons-eq}
-use Prim.Native.Nat.{ℕ, zero, suc, _+_, _-_, _*_, _/_, _%_, _≤_, _<_}
+use Prim.Native.Nat.{ℕ, zero, suc, _+_, _-_, _*_, _/_, _%_, _<_}
 use native.Mathlib.Nat.{div-add-mod', mod-lt}
 use native.Mathlib.Omega.{arith}
 use borrow.Author.Tests.{eqb-true, leb-true}
@@ -14,7 +14,7 @@ use lib.Seq.{append-snoc}
 use Rattle.words.proofs.Lists.{zero-one, and-left, and-right}
 use Rattle.text.specs.Bytes.{byteOf, classOf}
 use Rattle.text.specs.Decimals.{digitByte, decimal, numberBytes}
-use Rattle.text.specs.Line.{digits, natural, nonNegative, negative, number, also, numbersIn, Words, unended, words, newWord, joined, cut, Line, broken, numbers, spanned, ofWords, lineOf}
+use Rattle.text.specs.Line.{digits, natural, nonNegative, negative, number, also, numbersIn, Words, unended, words, newWord, joined, cut, numbers, spanned, ofWords, lineOf}
 use Rattle.text.specs.declared.Letter.{Letter}
 use Rattle.text.specs.declared.Letter.the-variants.{Addition, Body, Completion, Deletion, Extension, Loop, Support}
 use Rattle.text.specs.declared.Class.{Class}

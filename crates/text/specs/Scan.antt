@@ -7,7 +7,7 @@ use mathlib.Core.List.{List, [], _∷_}
 use lib.Dec.{eqb, ltb}
 use lib.IntN.{ℤ, pos, negℤ}
 use lib.ListN.{set}
-use Rattle.words.specs.Limits.{largest}
+use Rattle.words.specs.Limits.{largest, entries}
 use Rattle.text.specs.declared.Class.{Class}
 use Rattle.text.specs.declared.Class.the-variants.{Newline, Space, Minus, Digit, Step, Other}
 use Rattle.text.specs.declared.State.{State}
@@ -20,7 +20,7 @@ use Rattle.text.specs.declared.LineRead.the-variants.{Numbers, Broken}
 
 -- one more digit, up to the cap
 abbrev pub moreOf : ℕ → ℕ → ℕ
-moreOf m d = min (m * 10 + d) (suc largest)
+moreOf m d = min (m * 10 + d) entries
 
 abbrev pub zeroOf : Bool → Action
 zeroOf true = Fail

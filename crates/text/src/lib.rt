@@ -1,5 +1,5 @@
 // Bytes to lines and numbers, for the program reader and the proof-line reader alike: document 01, 'Program text'.
-// The claim of `read_line` is `LineScanned` in specs/Line.antt. Module `writing` goes the other way.
+// The claim of `read_line` is `LineScanned` in specs/Scanned.antt. Module `writing` goes the other way.
 pub mod writing;
 
 ghost use mathlib.Core.Path.{_≡_};

@@ -230,5 +230,5 @@ pub one-less : (n : ℕ) → 0 < n → n ≡ suc (n - 1)
 one-less n h = omega arith
 
 -- a loop's number that is not above 0 is 0
-pub none-left : (n : ℕ) → n ≤ 0 → n ≡ 0
-none-left n h = omega arith
+pub nothing-left : (n : ℕ) → n ≤ 0 → n ≡ 0
+nothing-left n h = omega arith

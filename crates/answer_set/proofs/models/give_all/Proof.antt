@@ -8,7 +8,7 @@ use lib.IntN.{ℤ}
 use lib.ListN.{length, drop}
 use Rattle.aspif.specs.Rules.{Rule}
 use Rattle.words.proofs.Parts.{tail-of}
-use Rattle.aspif.specs.Tables.{sizeAt, ruleAt, rulesAt}
+use Rattle.aspif.specs.Tables.{ruleAt, rulesAt}
 use Rattle.marks.specs.Marks.{marked, Marking}
 use Rattle.answer_set.specs.SetTest.{giveRule, round}
 use Rattle.aspif.proofs.Cursors.{Cursor, AtRule, at-rule, no-rules}

@@ -1,7 +1,7 @@
 use mathlib.Core.Path.{_≡_, subst, _∙_}
 use mir.Facts.{toZ-ofZ}
 use Rattle.nogoods.specs.Store.{nogoodWords}
-use Rattle.nogoods.specs.Keeps.{Written}
+use Rattle.nogoods.specs.Keeps.{WrittenFront}
 use Rattle.nogoods.specs.Definitions.{pair}
 use borrow.Author.Needs.{needs, sfits-of}
 use Rattle.nogoods.proofs.definitions.write_pair.Statement.{statement}
@@ -16,7 +16,7 @@ returns c =
     let sorted : r .sort .last .0 ≡ pair (a .name) (a .literal) =
     r .sort .ensures
     ∙ rw (toZ-ofZ (s .fits .name), toZ-ofZ (sfits-of {z = k .result} (k .ok)), k .ensures, toZ-ofZ (s .fits .literal)) in
-    subst (λ l. Written (nogoodWords l) (a .free .now) (c .before .write .last .0)) sorted (c .before .write .ensures)
+    subst (λ l. WrittenFront (nogoodWords l) (a .free .now) (c .before .write .last .0)) sorted (c .before .write .ensures)
 
 pub write-pair-spec : {M : Type 1} → statement M
 write-pair-spec =
