@@ -10,7 +10,7 @@ use borrow.Author.Tests.{eq-eqb, ne-eqb}
 use lib.Dec.{eqb}
 use lib.ListN.{length, drop, getD, drop-of-length-le}
 use lib.Seq.{drop-cons}
-use Rattle.aspif.specs.Reading.{startsWith}
+use Rattle.text.specs.Strings.{startsWith}
 use Rattle.words.proofs.Lists.{and-right}
 
 module _ (front text : List ℕ) (i : ℕ) where

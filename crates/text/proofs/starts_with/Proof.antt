@@ -2,11 +2,11 @@ use Prim.Native.Nat.{_≤_, _-_}
 use lib.ListN.{length, drop}
 use mathlib.Core.Path.{_≡_, sym, _∙_}
 use native.Mathlib.Omega.{arith}
-use Rattle.aspif.specs.Reading.{startsWith}
-use Rattle.aspif.proofs.Fronts.{front-end, front-short, front-on, front-no}
+use Rattle.text.specs.Strings.{startsWith}
+use Rattle.text.proofs.Fronts.{front-end, front-short, front-on, front-no}
 use borrow.Author.Needs.{needs}
-use Rattle.aspif.proofs.lines.starts_with.Statement.{statement}
-use Rattle.aspif.proofs.lines.starts_with.Tie as tie
+use Rattle.text.proofs.starts_with.Statement.{statement}
+use Rattle.text.proofs.starts_with.Tie as tie
 
 abbrev Inv-loop : tie.InvT-loop
 Inv-loop text front i₀ i = (i ≤ length front) × (startsWith front text ≡ startsWith (drop i front) (drop i text))
