@@ -1,10 +1,10 @@
--- `aspif_cases::repeat` is safe and ends. Assumes nothing.
+-- `cases::repeat` is safe and ends. Assumes nothing.
 use mathlib.Core.Path.{_≡_}
 use Prim.Native.Nat.{_-_}
 use lib.ListN.{length}
 use borrow.Author.Needs.{needs}
-use Rattle.aspif_cases.proofs.repeat.Statement.{statement}
-use Rattle.aspif_cases.proofs.repeat.Tie as tie
+use Rattle.cases.proofs.repeat.Statement.{statement}
+use Rattle.cases.proofs.repeat.Tie as tie
 
 abbrev Inv-loop : tie.InvT-loop
 Inv-loop out₀ n part times m₀ i₀ out m i = length out ≡ length out₀

@@ -1,10 +1,10 @@
--- `aspif_cases::expand` is safe and ends. Assumes nothing.
+-- `cases::expand` is safe and ends. Assumes nothing.
 use mathlib.Core.Path.{_≡_}
 use Prim.Native.Nat.{_-_}
 use lib.ListN.{length}
 use borrow.Author.Needs.{needs}
-use Rattle.aspif_cases.proofs.expand.Statement.{statement}
-use Rattle.aspif_cases.proofs.expand.Tie as tie
+use Rattle.cases.proofs.expand.Statement.{statement}
+use Rattle.cases.proofs.expand.Tie as tie
 
 abbrev Inv-loop : tie.InvT-loop
 Inv-loop out₀ text n₀ at₀ out n at = length out ≡ length out₀

@@ -1,9 +1,9 @@
--- `aspif_cases::number_of` is safe and ends. Assumes nothing.
+-- `cases::number_of` is safe and ends. Assumes nothing.
 use Prim.Native.Nat.{_-_}
 use lib.ListN.{length}
 use borrow.Author.Needs.{needs}
-use Rattle.aspif_cases.proofs.number_of.Statement.{statement}
-use Rattle.aspif_cases.proofs.number_of.Tie as tie
+use Rattle.cases.proofs.number_of.Statement.{statement}
+use Rattle.cases.proofs.number_of.Tie as tie
 
 abbrev Inv-loop : tie.InvT-loop
 Inv-loop text v₀ i₀ v i = Unit {0}

@@ -1,23 +1,22 @@
--- `aspif_cases::nonzero` is safe and ends. Assumes nothing.
+-- `cases::nonzero_bytes` is safe and ends. Assumes nothing.
 use Prim.Native.Nat.{_≤_, _-_}
 use lib.ListN.{length}
 use borrow.Author.Needs.{needs}
-use Rattle.aspif_cases.proofs.nonzero.Statement.{statement}
-use Rattle.aspif_cases.proofs.nonzero.Tie as tie
+use Rattle.cases.proofs.nonzero_bytes.Statement.{statement}
+use Rattle.cases.proofs.nonzero_bytes.Tie as tie
 
 abbrev Inv-loop : tie.InvT-loop
-Inv-loop table count₀ i₀ count i = count ≤ i
+Inv-loop bytes count₀ i₀ count i = count ≤ i
 
 abbrev μ-loop : tie.MeasureT-loop
-μ-loop table count₀ i₀ count i = length table - i
+μ-loop bytes count₀ i₀ count i = length bytes - i
 
-pub nonzero-spec : {M : Type 1} → statement M
-nonzero-spec =
+pub nonzero-bytes-spec : {M : Type 1} → statement M
+nonzero-bytes-spec =
     tie.close
     (tie.spec
     Inv-loop
     μ-loop
-    (λ c. search needs)
     (λ c. search needs)
     (λ c. search needs)
     (λ c κs. search needs)

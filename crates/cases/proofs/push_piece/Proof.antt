@@ -1,10 +1,10 @@
--- `aspif_cases::push_piece` is safe and ends. Assumes nothing.
+-- `cases::push_piece` is safe and ends. Assumes nothing.
 use mathlib.Core.Path.{sym}
 use native.Mathlib.Omega.{arith}
 use lib.Seq.{length-take-le}
 use borrow.Author.Needs.{needs}
-use Rattle.aspif_cases.proofs.push_piece.Statement.{statement}
-use Rattle.aspif_cases.proofs.push_piece.Tie as tie
+use Rattle.cases.proofs.push_piece.Statement.{statement}
+use Rattle.cases.proofs.push_piece.Tie as tie
 
 slice-aggregate-push-all : tie.Need-slice-aggregate-push-all
 slice-aggregate-push-all c = sym (length-take-le _ _ (omega arith))
