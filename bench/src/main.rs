@@ -1,5 +1,6 @@
 //! The benchmark: the whole check through the static library beside an unverified checker, on inputs made from fixed seeds. Both
-//! must give the same verdict on each input. The last line is 'N passed, M failed'; the exit status is 0 where none failed.
+//! must give the same verdict on each input. Then the packet of the longest proof, written and read back. The last line is 'N passed, M
+//! failed'; the exit status is 0 where none failed.
 //!
 //! With `--once` each input is run once by each checker. Without arguments the times are medians of 31 repetitions; a number as
 //! the argument says how many others there are to be.
@@ -8,11 +9,13 @@
 
 mod cases;
 mod measure;
+mod packets;
 mod report;
 mod unverified;
 
 use cases::Input;
 use measure::Measured;
+use packets::Packed;
 use std::process::ExitCode;
 
 const REPETITIONS: usize = 31;
@@ -32,14 +35,15 @@ fn main() -> ExitCode {
     };
     let inputs = cases::all();
     let measured = measure::measure(&inputs, repetitions);
+    let packed = packets::measure(&inputs, repetitions);
     report::heading(repetitions);
-    let failed = report_all(&inputs, &measured);
+    let failed = report_all(&inputs, &measured, packed.as_ref());
     ExitCode::from(u8::from(failed > 0))
 }
 
-/// Reports every input. On how many the checkers differ.
-fn report_all(inputs: &[Input], measured: &[Measured]) -> usize {
-    let mut failed = 0;
+/// Reports every input and the packet. On how many inputs the checkers differ, and one more where the packet is not read back.
+fn report_all(inputs: &[Input], measured: &[Measured], packed: Option<&Packed>) -> usize {
+    let mut failed = usize::from(packed.is_none());
     for (input, measured) in inputs.iter().zip(measured) {
         if measured.verified == measured.unverified {
             report::row(input, measured);
@@ -48,6 +52,7 @@ fn report_all(inputs: &[Input], measured: &[Measured]) -> usize {
             report::difference(input, measured);
         }
     }
-    println!("{} passed, {failed} failed", inputs.len() - failed);
+    report::packet(packed);
+    println!("{} passed, {failed} failed", inputs.len() + 1 - failed);
     failed
 }

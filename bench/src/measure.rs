@@ -38,7 +38,7 @@ pub struct Measured {
     pub unverified_times: Times,
 }
 
-/// The median and the least of the times of a checker on an input.
+/// The median and the least of the times of a call on an input.
 pub struct Times {
     pub median: Duration,
     pub least: Duration,
@@ -76,13 +76,14 @@ fn summed_up(runs: &[Run]) -> Measured {
     }
 }
 
-fn timed(check: impl FnOnce() -> Answer) -> (Answer, Duration) {
+/// What a call answers, and its time.
+pub fn timed<A>(call: impl FnOnce() -> A) -> (A, Duration) {
     let start = Instant::now();
-    let answer = black_box(check());
+    let answer = black_box(call());
     (answer, start.elapsed())
 }
 
-fn times_of(mut times: Vec<Duration>) -> Times {
+pub fn times_of(mut times: Vec<Duration>) -> Times {
     times.sort_unstable();
     Times { median: times[times.len() / 2], least: times[0] }
 }

@@ -1,7 +1,8 @@
-//! What is printed: a row for each input.
+//! What is printed: a row for each input, and a line on the packet.
 
 use crate::cases::Input;
 use crate::measure::{Answer, Measured};
+use crate::packets::Packed;
 use aspdrupe::Verdict;
 use std::time::Duration;
 
@@ -39,6 +40,23 @@ pub fn row(input: &Input, measured: &Measured) {
 pub fn difference(input: &Input, measured: &Measured) {
     let (verified, unverified) = (line_of(&measured.verified), line_of(&measured.unverified));
     println!("FAILED: {}: verified '{verified}', unverified '{unverified}'", input.name);
+}
+
+/// The line on the packet of the longest proof.
+pub fn packet(packed: Option<&Packed>) {
+    let Some(packed) = packed else {
+        println!("FAILED: the packet of the longest proof is refused, or another pair is read back");
+        return;
+    };
+    println!(
+        "packet of {}: {} bytes; written in {:.3} ms (least {:.3}), read in {:.3} ms (least {:.3})",
+        packed.name,
+        packed.size,
+        milliseconds(packed.writing.median),
+        milliseconds(packed.writing.least),
+        milliseconds(packed.reading.median),
+        milliseconds(packed.reading.least),
+    );
 }
 
 /// The steps of a proof that was gone through.

@@ -1,5 +1,6 @@
-/* The four services of the proof checker for C: the program reader, the set test, the proof-line reader and the whole check over two
- * texts. The functions are in target/staticlib/libexports.a, which `rt staticlib exports` writes, for x86-64 Linux.
+/* The six services of the proof checker for C: the program reader, the set test, the proof-line reader, the whole check over two texts,
+ * and the writer and the reader of packets. The functions are in target/staticlib/libexports.a, which `rt staticlib exports` writes, for
+ * x86-64 Linux.
  *
  * Each function is proved to meet its contract (crates/exports/src/lib.rt and crates/exports/specs/) on every input: no text, no
  * number and no length is asked to be good. What the caller must see to is what C cannot say:
@@ -84,6 +85,25 @@ uint32_t aspdrupe_read_line(const uint8_t *text, size_t text_len, uint64_t posit
  * Line and step are counted from 1, and are 0 where the whole text is at fault. After a refusal table and store are 0 throughout. */
 uint32_t aspdrupe_check_texts(const uint8_t *program, size_t program_len, const uint8_t *proof, size_t proof_len, int32_t *table,
                               size_t table_len, int32_t *store, size_t store_len, uint64_t *answer, size_t answer_len);
+
+/* Writes a packet: a table, as aspdrupe_read_program leaves it with that number of rules, and a proof text, in one sequence of bytes with
+ * one form for each such pair. The proof is not checked against the program. An output of 13 + 4 * table_len + proof_len bytes holds
+ * every packet.
+ * Returns 0 where it is written: answer[0] is how many bytes it has; the output holds them and 0 after them.
+ * Otherwise returns 53 (a table that aspdrupe_test_set refuses with 41, or a proof text with a line that aspdrupe_read_line refuses) or
+ * 52 (the output is too short), asked in this order: the output is 0 throughout, and `answer` stays as it was. */
+uint32_t aspdrupe_write_packet(const int32_t *table, size_t table_len, uint64_t rules, const uint8_t *proof, size_t proof_len,
+                               uint8_t *packet, size_t packet_len, uint64_t *answer, size_t answer_len);
+
+/* Reads a packet back into a table and a proof text. The packet is all of the bytes given: zeros that the writer leaves after it are none
+ * of it. A table of packet_len / 4 words and a text of 65,535 bytes hold whatever a packet has.
+ * Returns 0 where it is read: answer[0] is the number of rules and answer[1] how many bytes the proof text has; the table holds the
+ * rules' words and the text its bytes, each with 0 after them. Written again, they are the same packet.
+ * Otherwise returns 51 (another mark or version), 52 (the lengths in it do not make up the bytes given), 53 (a table or a proof text that
+ * aspdrupe_write_packet refuses) or again 52 (the table or the text lent is too short), asked in this order: table and text are 0
+ * throughout, and `answer` stays as it was. */
+uint32_t aspdrupe_read_packet(const uint8_t *packet, size_t packet_len, int32_t *table, size_t table_len, uint8_t *proof,
+                              size_t proof_len, uint64_t *answer, size_t answer_len);
 
 #ifdef __cplusplus
 }

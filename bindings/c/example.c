@@ -1,12 +1,15 @@
-/* Checks a proof file against a program file, and prints the verdict with its numbers.
+/* Checks a proof file against a program file, and prints the verdict with its numbers. Where neither is refused, it then writes the program's
+ * table and the proof as a packet, reads that back, and prints how many bytes it has, and of how many rules and bytes of proof.
  *
  * Build and run, from the repository's root:
  *   rt staticlib exports
  *   cc -Wall -o target/example bindings/c/example.c target/staticlib/libexports.a
  *   target/example examples/starred-1/case.aspif examples/starred-1/case.drupe
- * prints: inconsistent 1 1 5 6 */
+ * prints: inconsistent 1 1 5 6
+ *         packet 57 1 35 */
 #include <inttypes.h>
 #include <stdio.h>
+#include <string.h>
 
 #include "aspdrupe.h"
 
@@ -16,8 +19,11 @@
 /* The words of the table and of the store. */
 #define WORDS 16384
 
-static uint8_t program[TEXT], proof[TEXT];
-static int32_t table[WORDS], store[WORDS];
+/* Enough for the packet of any table and text of these lengths. */
+#define PACKET (13 + 4 * WORDS + TEXT)
+
+static uint8_t program[TEXT], proof[TEXT], packet[PACKET], proof_back[TEXT];
+static int32_t table[WORDS], store[WORDS], table_back[WORDS];
 
 /* The front of a file, and how many bytes; 1 where it is read. */
 static int read_file(const char *path, uint8_t *text, size_t *size) {
@@ -33,6 +39,24 @@ static int read_file(const char *path, uint8_t *text, size_t *size) {
     return good;
 }
 
+/* Writes the packet of the table, with so many rules, and of the proof, and reads it back; 1 where the same comes back. */
+static int pack(uint64_t rules, size_t proof_size) {
+    uint64_t written[1], back[2];
+    uint32_t code = aspdrupe_write_packet(table, WORDS, rules, proof, proof_size, packet, PACKET, written, 1);
+    if (code != 0) {
+        printf("refused packet %" PRIu32 "\n", code);
+        return 0;
+    }
+    code = aspdrupe_read_packet(packet, (size_t)written[0], table_back, WORDS, proof_back, TEXT, back, 2);
+    if (code != 0) {
+        printf("refused packet %" PRIu32 "\n", code);
+        return 0;
+    }
+    printf("packet %" PRIu64 " %" PRIu64 " %" PRIu64 "\n", written[0], back[0], back[1]);
+    return back[0] == rules && back[1] == proof_size && memcmp(table, table_back, sizeof table) == 0 &&
+           memcmp(proof, proof_back, proof_size) == 0;
+}
+
 int main(int argc, char **argv) {
     size_t program_size, proof_size;
     uint64_t answer[ASPDRUPE_ANSWER] = {0};
@@ -44,10 +68,10 @@ int main(int argc, char **argv) {
     switch (aspdrupe_check_texts(program, program_size, proof, proof_size, table, WORDS, store, WORDS, answer, ASPDRUPE_ANSWER)) {
     case ASPDRUPE_INCONSISTENT:
         printf("inconsistent %" PRIu64 " %" PRIu64 " %" PRIu64 " %" PRIu64 "\n", answer[0], answer[1], answer[2], answer[3]);
-        break;
+        return !pack(answer[1], proof_size);
     case ASPDRUPE_OPEN:
         printf("open %" PRIu64 " %" PRIu64 " %" PRIu64 " %" PRIu64 "\n", answer[0], answer[1], answer[2], answer[3]);
-        break;
+        return !pack(answer[1], proof_size);
     case ASPDRUPE_REFUSED_PROGRAM:
         printf("refused program %" PRIu64 " %" PRIu64 "\n", answer[0], answer[1]);
         break;

@@ -33,6 +33,7 @@
 #define WORDS 16384
 #define RULES 1024
 #define PART 64
+#define PACKET (13 + 4 * WORDS + TEXT)
 
 struct text {
     uint8_t bytes[TEXT + 1];
@@ -114,11 +115,43 @@ static void make_full(void) {
     while (full_steps.size < TEXT - 60) put(&full_steps, "s 2 9 0\nd 2 -9 0\nl 8 0\nd 8 -9 0\nl 2 3 0\nd 2 0\n");
 }
 
+/* A table with its rule count, a proof text, and the packet of both. */
+struct packet {
+    int32_t table[WORDS];
+    uint64_t rules;
+    const struct text *proof;
+    uint8_t bytes[PACKET];
+    size_t size;
+};
+
+static struct packet wide_packet, full_packet, bad_packet;
+
+/* The packet of a program and a proof, made on the stack of the main thread. */
+static void make_packet(struct packet *packet, const struct text *program, const struct text *proof) {
+    uint64_t read[2], written[1];
+    if (aspdrupe_read_program(program->bytes, program->size, packet->table, WORDS, read, 2) != 0) stop("a program is refused");
+    packet->rules = read[1];
+    packet->proof = proof;
+    uint32_t code =
+        aspdrupe_write_packet(packet->table, WORDS, packet->rules, proof->bytes, proof->size, packet->bytes, PACKET, written, 1);
+    if (code != 0) stop("a packet is refused");
+    packet->size = (size_t)written[0];
+}
+
+/* Packets with as many numbers as a step may have, with as many words and steps as fit, and one that is refused at its last number. */
+static void make_packets(void) {
+    make_packet(&wide_packet, &wide_rules, &wide_steps);
+    make_packet(&full_packet, &full_rules, &full_steps);
+    bad_packet = full_packet;
+    bad_packet.bytes[bad_packet.size - 1] = 0x80;
+}
+
 static void make_inputs(void) {
     make_chain();
     make_wide();
     make_big();
     make_full();
+    make_packets();
     for (int i = 0; i < TEXT; i++) put(&newlines, "\n");
     put(&long_line, "a");
     while (long_line.size < TEXT - 10) put(&long_line, " -4095");
@@ -129,7 +162,7 @@ static void make_inputs(void) {
 
 /* What a call is lent, apart from the texts. */
 static int32_t table[WORDS], store[WORDS], numbers[ASPDRUPE_NUMBERS];
-static uint8_t marks[ASPDRUPE_MARKS];
+static uint8_t marks[ASPDRUPE_MARKS], bytes[PACKET], proof_text[TEXT];
 static uint64_t answer[ASPDRUPE_ANSWER];
 
 static uint32_t read_program(const struct text *text) {
@@ -145,6 +178,14 @@ static uint32_t check(const struct text *program, const struct text *proof) {
                                 ASPDRUPE_ANSWER);
 }
 
+static uint32_t write_packet(const struct packet *packet, const struct text *proof, size_t size) {
+    return aspdrupe_write_packet(packet->table, WORDS, packet->rules, proof->bytes, proof->size, bytes, size, answer, ASPDRUPE_ANSWER);
+}
+
+static uint32_t read_packet(const struct packet *packet, size_t text_size) {
+    return aspdrupe_read_packet(packet->bytes, packet->size, table, WORDS, proof_text, text_size, answer, ASPDRUPE_ANSWER);
+}
+
 static uint32_t read_full(void) { return read_program(&full_rules); }
 static uint32_t read_big(void) { return read_program(&big_rules); }
 static uint32_t read_wide(void) { return read_program(&wide_rules); }
@@ -156,6 +197,14 @@ static uint32_t check_wide(void) { return check(&wide_rules, &wide_steps); }
 static uint32_t check_full(void) { return check(&full_rules, &full_steps); }
 static uint32_t check_long(void) { return check(&one_rule, &long_line); }
 static uint32_t check_newlines(void) { return check(&newlines, &newlines); }
+static uint32_t write_full(void) { return write_packet(&full_packet, full_packet.proof, PACKET); }
+static uint32_t write_wide(void) { return write_packet(&wide_packet, wide_packet.proof, PACKET); }
+static uint32_t write_long(void) { return write_packet(&full_packet, &long_line, PACKET); }
+static uint32_t write_short(void) { return write_packet(&full_packet, full_packet.proof, full_packet.size - 1); }
+static uint32_t unpack_full(void) { return read_packet(&full_packet, TEXT); }
+static uint32_t unpack_wide(void) { return read_packet(&wide_packet, TEXT); }
+static uint32_t unpack_bad(void) { return read_packet(&bad_packet, TEXT); }
+static uint32_t unpack_short(void) { return read_packet(&full_packet, full_packet.proof->size - 1); }
 
 /* A chain of rules against their order: the least model takes as many rounds as there are rules. It is the set that is tested. */
 static uint32_t test_chain(void) {
@@ -193,6 +242,14 @@ static const struct call calls[] = {
     {"check_texts: full texts and table", check_full, ASPDRUPE_OPEN, {8, RULES, 8539, 7}},
     {"check_texts: a line of 65,530 bytes", check_long, ASPDRUPE_REFUSED_PROOF, {23, 1, 0, 0}},
     {"check_texts: newlines", check_newlines, ASPDRUPE_REFUSED_PROGRAM, {2, 1, 0, 0}},
+    {"write_packet: full table and text", write_full, 0, {111101, 0, 0, 0}},
+    {"write_packet: steps of 65 numbers", write_wide, 0, {1231, 0, 0, 0}},
+    {"write_packet: a line of 65,530 bytes", write_long, 53, {0, 0, 0, 0}},
+    {"write_packet: an output too short", write_short, 52, {0, 0, 0, 0}},
+    {"read_packet: full table and text", unpack_full, 0, {RULES, 65476, 0, 0}},
+    {"read_packet: steps of 65 numbers", unpack_wide, 0, {2, 1026, 0, 0}},
+    {"read_packet: refused at the last number", unpack_bad, 53, {0, 0, 0, 0}},
+    {"read_packet: a text too short", unpack_short, 52, {0, 0, 0, 0}},
 };
 
 #define CALLS (sizeof calls / sizeof *calls)

@@ -5,8 +5,9 @@ use inputs::rules::{program_text, Rule};
 use inputs::{programs, Pair, ROOM};
 
 use crate::cases::refutations::{go_on, refute, Author, Found};
-use crate::cases::{changes, deep, fixed, guided, limits, noise};
+use crate::cases::{self, changes, deep, fixed, guided, limits, noise};
 use crate::comparison::Comparison;
+use crate::packets;
 use crate::reference::check::{most_live_words, verdict_line};
 use crate::reference::models::{self, every_set};
 use crate::reference::program::{read, table_words, Program};
@@ -37,6 +38,11 @@ pub fn families() -> Vec<Family> {
         family("tables", 300, run_tables),
         family("lines", 200, run_lines),
         listed("hard", 7, run_hard),
+        listed("packets", packets::worked_cases(), packets::run_worked),
+        listed("packet-bytes", cases::packets::small_packets().len(), packets::run_bytes),
+        listed("packet-limits", 1, packets::run_limits),
+        listed("packet-limit-pairs", 1, packets::run_limit_pairs),
+        family("packet-pairs", 100, packets::run_pairs),
     ]
 }
 
@@ -163,7 +169,7 @@ fn run_wide_tables(comparison: &mut Comparison, _: u64) {
 }
 
 /// A small program read from a text of its own, with its numbers in a random order.
-fn small_program(random: &mut Random) -> (Vec<u8>, Program) {
+pub fn small_program(random: &mut Random) -> (Vec<u8>, Program) {
     let mut rules = programs::small(random);
     if random.percent(10) {
         programs::scatter(&mut rules, random);

@@ -1,4 +1,4 @@
-//! Holds the static library and the program `verdict` against a slow and plain reference written from document 01.
+//! Holds the static library and the program `verdict` against a slow and plain reference written from documents 01 and 02.
 //! From the repository's root, after `rt staticlib exports` and `rt check verdict`:
 //! cargo run --release --offline --package compare
 //! Usage: compare [--seed N] [--count N] [--verdict PATH|none] [--only FAMILY/INDEX]
@@ -13,6 +13,7 @@ mod brute;
 mod cases;
 mod comparison;
 mod families;
+mod packets;
 mod reference;
 mod shrink;
 mod tables;

@@ -22,7 +22,7 @@ pub fn changed(words: &[i32], count: usize, random: &mut Random) -> (Vec<i32>, u
 fn change_once(table: &mut Vec<i32>, rules: &mut usize, random: &mut Random) {
     let place = random.below(table.len() + 1);
     match random.below(7) {
-        0 => *rules = *random.pick(&[0, 1, *rules + 1, rules.saturating_sub(1), 1_024, 1_025, usize::MAX, 1 << 32]),
+        0 => *rules = *random.pick(&[0, 1, rules.wrapping_add(1), rules.saturating_sub(1), 1_024, 1_025, usize::MAX, 1 << 32]),
         1 => table.insert(place, *random.pick(&NOTABLE)),
         2 if place < table.len() => {
             table.remove(place);

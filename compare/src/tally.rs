@@ -18,6 +18,11 @@ impl Tally {
         self.count(format!("{service}: {}", kind(verdict)));
     }
 
+    /// What a service of packets comes to: the word where it is good, or a refusal's number.
+    pub fn packet(&mut self, service: &str, good: &str, refusal: Option<u8>) {
+        self.count(refusal.map_or(format!("{service}: {good}"), |number| format!("{service}: refused {number}")));
+    }
+
     /// What was never seen of all that a run has to see.
     pub fn missing(&self, with_binary: bool) -> Vec<String> {
         wanted(with_binary).into_iter().filter(|what| !self.seen.contains_key(what)).collect()
@@ -59,6 +64,8 @@ fn wanted(with_binary: bool) -> Vec<String> {
     wanted.push(String::from("read_line: end"));
     wanted.extend((21..=25).map(|number| format!("read_line: refused {number}")));
     wanted.extend(["yes", "differs", "broken", "refused 41", "refused 42", "refused 43"].map(|word| format!("test_set: {word}")));
+    wanted.extend(["written", "refused 52", "refused 53"].map(|word| format!("write_packet: {word}")));
+    wanted.extend(["read", "refused 51", "refused 52", "refused 53"].map(|word| format!("read_packet: {word}")));
     wanted.extend("abcdels".chars().map(|letter| format!("inconsistent by a proof with {letter}")));
     wanted.extend(["refuted", "answer set"].map(|word| format!("search: {word}")));
     wanted.extend(["program", "program with further constraints"].map(|what| format!("no answer set: {what}")));

@@ -1,6 +1,6 @@
 //! What the services answer.
 
-use crate::questions::{Letter, ProgramQuestion, ProofQuestion, SetQuestion};
+use crate::questions::{Letter, PacketQuestion, ProgramQuestion, ProofQuestion, SetQuestion};
 use std::fmt;
 
 /// Why a program text is refused. It is displayed as `refused program NUMBER LINE`.
@@ -90,6 +90,29 @@ pub enum Verdict {
     RefusedProgram(ProgramRefusal),
     /// The proof is refused.
     RefusedProof(ProofRefusal),
+}
+
+/// What the writer of packets says of a table and a proof text.
+#[derive(Debug, Clone, Copy, PartialEq, Eq, Hash)]
+pub enum PacketWriting {
+    /// The packet is written, and has so many bytes.
+    Written(usize),
+    /// It is refused, by [`PacketQuestion::Pair`] or for an output that is too short ([`PacketQuestion::Lengths`]).
+    Refused(PacketQuestion),
+}
+
+/// What the reader of packets says of a packet.
+#[derive(Debug, Clone, Copy, PartialEq, Eq, Hash)]
+pub enum PacketReading {
+    /// It is read back.
+    Read {
+        /// The number of rules.
+        rules: usize,
+        /// The bytes of the proof text.
+        bytes: usize,
+    },
+    /// It is refused.
+    Refused(PacketQuestion),
 }
 
 impl fmt::Display for ProgramRefusal {

@@ -1,7 +1,7 @@
 //! From what a function of the library returns and leaves, a code and numbers, to the answer of its service.
 
-use crate::answers::{Counts, LineAnswer, ProgramReading, ProgramRefusal, ProofRefusal, SetAnswer, Verdict};
-use crate::questions::{Letter, ProgramQuestion, ProofQuestion, SetQuestion, UnknownAnswer};
+use crate::answers::{Counts, LineAnswer, PacketReading, PacketWriting, ProgramReading, ProgramRefusal, ProofRefusal, SetAnswer, Verdict};
+use crate::questions::{Letter, PacketQuestion, ProgramQuestion, ProofQuestion, SetQuestion, UnknownAnswer};
 
 /// What the program reader returns.
 #[derive(Debug, Clone, Copy, PartialEq, Eq)]
@@ -34,6 +34,20 @@ enum CheckCode {
     Open,
     RefusedProgram,
     RefusedProof,
+}
+
+/// What the writer of packets returns.
+#[derive(Debug, Clone, Copy, PartialEq, Eq)]
+enum WritingCode {
+    Written,
+    Refused(PacketQuestion),
+}
+
+/// What the reader of packets returns.
+#[derive(Debug, Clone, Copy, PartialEq, Eq)]
+enum ReadingCode {
+    Read,
+    Refused(PacketQuestion),
 }
 
 fn unknown(wanted: &'static str, code: u32) -> UnknownAnswer {
@@ -95,6 +109,30 @@ impl TryFrom<u32> for CheckCode {
     }
 }
 
+impl TryFrom<u32> for WritingCode {
+    type Error = UnknownAnswer;
+
+    fn try_from(code: u32) -> Result<Self, UnknownAnswer> {
+        match code {
+            0 => Ok(WritingCode::Written),
+            52..=53 => PacketQuestion::try_from(u64::from(code)).map(WritingCode::Refused),
+            _ => Err(unknown("code of the writer of packets", code)),
+        }
+    }
+}
+
+impl TryFrom<u32> for ReadingCode {
+    type Error = UnknownAnswer;
+
+    fn try_from(code: u32) -> Result<Self, UnknownAnswer> {
+        match code {
+            0 => Ok(ReadingCode::Read),
+            51..=53 => PacketQuestion::try_from(u64::from(code)).map(ReadingCode::Refused),
+            _ => Err(unknown("code of the reader of packets", code)),
+        }
+    }
+}
+
 /// The program reader's answer.
 pub fn program_reading(code: u32, answer: [u64; 2]) -> Result<ProgramReading, UnknownAnswer> {
     let [first, second] = answer.map(|number| number as usize);
@@ -142,6 +180,23 @@ pub fn verdict(code: u32, answer: [u64; 4]) -> Result<Verdict, UnknownAnswer> {
     })
 }
 
+/// The answer of the writer of packets.
+pub fn packet_writing(code: u32, answer: u64) -> Result<PacketWriting, UnknownAnswer> {
+    Ok(match WritingCode::try_from(code)? {
+        WritingCode::Written => PacketWriting::Written(answer as usize),
+        WritingCode::Refused(question) => PacketWriting::Refused(question),
+    })
+}
+
+/// The answer of the reader of packets.
+pub fn packet_reading(code: u32, answer: [u64; 2]) -> Result<PacketReading, UnknownAnswer> {
+    let [rules, bytes] = answer.map(|number| number as usize);
+    Ok(match ReadingCode::try_from(code)? {
+        ReadingCode::Read => PacketReading::Read { rules, bytes },
+        ReadingCode::Refused(question) => PacketReading::Refused(question),
+    })
+}
+
 #[cfg(test)]
 mod tests {
     use super::*;
@@ -160,6 +215,8 @@ mod tests {
         assert_eq!(known::<SetCode>(), [0, 1, 2, 41, 42, 43]);
         assert_eq!(known::<LineCode>(), [0, 21, 22, 23, 24, 25, 97, 98, 99, 100, 101, 108, 115]);
         assert_eq!(known::<CheckCode>(), [0, 1, 2, 3]);
+        assert_eq!(known::<WritingCode>(), [0, 52, 53]);
+        assert_eq!(known::<ReadingCode>(), [0, 51, 52, 53]);
     }
 
     #[test]
@@ -168,6 +225,8 @@ mod tests {
         assert_eq!(set_answer(3, 1), Err(UnknownAnswer { wanted: "code of the set test", number: 3 }));
         assert_eq!(line_answer(26, [1, 1]), Err(UnknownAnswer { wanted: "code of the proof-line reader", number: 26 }));
         assert_eq!(verdict(4, [0; 4]), Err(UnknownAnswer { wanted: "code of the whole check", number: 4 }));
+        assert_eq!(packet_writing(51, 0), Err(UnknownAnswer { wanted: "code of the writer of packets", number: 51 }));
+        assert_eq!(packet_reading(54, [0; 2]), Err(UnknownAnswer { wanted: "code of the reader of packets", number: 54 }));
     }
 
     #[test]
@@ -185,6 +244,10 @@ mod tests {
         assert_eq!(program_reading(5, [7, 0]), Ok(ProgramReading::Refused(refusal)));
         assert_eq!(set_answer(2, 9), Ok(SetAnswer::Broken(9)));
         assert_eq!(line_answer(108, [2, 30]), Ok(LineAnswer::Line { letter: Letter::Loop, count: 2, next: 30 }));
+        assert_eq!(packet_writing(0, 57), Ok(PacketWriting::Written(57)));
+        assert_eq!(packet_reading(0, [1, 35]), Ok(PacketReading::Read { rules: 1, bytes: 35 }));
+        assert_eq!(packet_writing(53, 9), Ok(PacketWriting::Refused(PacketQuestion::Pair)));
+        assert_eq!(packet_reading(51, [9; 2]), Ok(PacketReading::Refused(PacketQuestion::Mark)));
         for (code, answer, line) in
             [(0, [1, 2, 3, 4], "inconsistent 1 2 3 4"), (1, [5, 6, 7, 8], "open 5 6 7 8"), (2, [10, 3, 0, 0], "refused program 10 3")]
         {

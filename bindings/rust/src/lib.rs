@@ -1,6 +1,6 @@
-//! The four services of the proof checker for Rust: the program reader, the set test, the proof-line reader and the whole check over
-//! two texts. The work is done by functions that are proved to meet their contracts on every input (`crates/exports`); here they
-//! are declared and wrapped, and their codes become enums. No input panics.
+//! The six services of the proof checker for Rust: the program reader, the set test, the proof-line reader, the whole check over two
+//! texts, and the writer and the reader of packets. The work is done by functions that are proved to meet their contracts on every input
+//! (`crates/exports`); here they are declared and wrapped, and their codes become enums. No input panics.
 //!
 //! Each function answers an [`UnknownAnswer`] where the library returns what its contract does not allow, which a library of the
 //! same version never does.
@@ -25,8 +25,8 @@ mod codes;
 mod questions;
 mod raw;
 
-pub use answers::{Counts, LineAnswer, ProgramReading, ProgramRefusal, ProofRefusal, SetAnswer, Verdict};
-pub use questions::{Letter, ProgramQuestion, ProofQuestion, SetQuestion, UnknownAnswer};
+pub use answers::{Counts, LineAnswer, PacketReading, PacketWriting, ProgramReading, ProgramRefusal, ProofRefusal, SetAnswer, Verdict};
+pub use questions::{Letter, PacketQuestion, ProgramQuestion, ProofQuestion, SetQuestion, UnknownAnswer};
 
 /// The most numbers of a proof line.
 pub const MOST_NUMBERS: usize = 65;
@@ -111,4 +111,60 @@ pub fn check_texts(program: &[u8], proof: &[u8], table: &mut [i32], store: &mut 
         )
     };
     codes::verdict(code, answer)
+}
+
+/// Writes a packet: a table that holds so many rules and a proof text, in one sequence of bytes with one form for each such pair. The
+/// proof is not checked against the program. The output then begins with the packet and has 0 after it; it is 0 throughout where the
+/// packet is refused. `13 + 4 * table.len() + proof.len()` bytes hold every packet.
+///
+/// ```
+/// use aspdrupe::{read_packet, write_packet, PacketReading, PacketWriting};
+///
+/// let (table, proof) = ([0, 1, 1, 1, -1], b"b 2 -1 0\nc 2 1 0\ns 1 2 0\na 1 0\na 0\n");
+/// let mut packet = vec![0; 13 + 4 * table.len() + proof.len()];
+/// let PacketWriting::Written(size) = write_packet(&table, 1, proof, &mut packet)? else { panic!("it is good") };
+///
+/// let (mut table_back, mut proof_back) = ([0; 5], [0; 35]);
+/// let reading = read_packet(&packet[..size], &mut table_back, &mut proof_back)?;
+/// assert_eq!(reading, PacketReading::Read { rules: 1, bytes: 35 });
+/// assert_eq!((table_back, &proof_back), (table, proof));
+/// # Ok::<(), aspdrupe::UnknownAnswer>(())
+/// ```
+pub fn write_packet(table: &[i32], rules: usize, proof: &[u8], packet: &mut [u8]) -> Result<PacketWriting, UnknownAnswer> {
+    let mut answer = [0; 1];
+    // SAFETY: as said above.
+    let code = unsafe {
+        raw::aspdrupe_write_packet(
+            table.as_ptr(),
+            table.len(),
+            rules as u64,
+            proof.as_ptr(),
+            proof.len(),
+            packet.as_mut_ptr(),
+            packet.len(),
+            answer.as_mut_ptr(),
+            answer.len(),
+        )
+    };
+    codes::packet_writing(code, answer[0])
+}
+
+/// Reads a packet back into a table and a proof text, which then hold the rules' words and the text, with 0 after them; both are 0
+/// throughout where the packet is refused. The packet is all of the slice: zeros after it are none of it.
+pub fn read_packet(packet: &[u8], table: &mut [i32], proof: &mut [u8]) -> Result<PacketReading, UnknownAnswer> {
+    let mut answer = [0; 2];
+    // SAFETY: as said above.
+    let code = unsafe {
+        raw::aspdrupe_read_packet(
+            packet.as_ptr(),
+            packet.len(),
+            table.as_mut_ptr(),
+            table.len(),
+            proof.as_mut_ptr(),
+            proof.len(),
+            answer.as_mut_ptr(),
+            answer.len(),
+        )
+    };
+    codes::packet_reading(code, answer)
 }

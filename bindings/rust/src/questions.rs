@@ -1,4 +1,4 @@
-//! What the library says in numbers, as enums: the questions that document 01 puts to the inputs, and the letters of proof lines.
+//! What the library says in numbers, as enums: the questions that documents 01 and 02 put to the inputs, and the letters of proof lines.
 
 use std::fmt;
 
@@ -106,6 +106,15 @@ numbered! {
 }
 
 numbered! {
+    /// A question put by the writer and the reader of packets. A refusal names the first that is answered no.
+    PacketQuestion, "question put to a packet" {
+        Mark = 51, "Does the packet begin with `RVP` and version 1?";
+        Lengths = 52, "Do the lengths make up the bytes given, and do the outputs hold what is written?";
+        Pair = 53, "Does the table pass question 41, and the proof text questions 21 to 25?";
+    }
+}
+
+numbered! {
     /// The letter of a proof line; its number is its byte.
     Letter, "letter of a proof line" {
         Addition = b'a', "a";
@@ -129,10 +138,11 @@ mod tests {
     }
 
     #[test]
-    fn numbers_of_document_01() {
+    fn numbers_of_the_documents() {
         assert_eq!(known(ProgramQuestion::number), (1..=11).collect::<Vec<_>>());
         assert_eq!(known(ProofQuestion::number), (21..=34).collect::<Vec<_>>());
         assert_eq!(known(SetQuestion::number), (41..=43).collect::<Vec<_>>());
+        assert_eq!(known(PacketQuestion::number), (51..=53).collect::<Vec<_>>());
         assert_eq!(known(Letter::number), b"abcdels".map(u64::from));
         assert_eq!(Letter::ALL.iter().map(Letter::to_string).collect::<String>(), "abcdels");
     }

@@ -41,6 +41,27 @@ extern "C" {
         answer: *mut u64,
         answer_len: usize,
     ) -> u32;
+    pub fn aspdrupe_write_packet(
+        table: *const i32,
+        table_len: usize,
+        rules: u64,
+        proof: *const u8,
+        proof_len: usize,
+        packet: *mut u8,
+        packet_len: usize,
+        answer: *mut u64,
+        answer_len: usize,
+    ) -> u32;
+    pub fn aspdrupe_read_packet(
+        packet: *const u8,
+        packet_len: usize,
+        table: *mut i32,
+        table_len: usize,
+        proof: *mut u8,
+        proof_len: usize,
+        answer: *mut u64,
+        answer_len: usize,
+    ) -> u32;
 }
 
 // What does not fit is not written, and what stands after an answer stays.
@@ -92,5 +113,73 @@ mod tests {
             left[size.min(65)..].fill(9);
             assert_eq!((code, answer, numbers), (98, [2, 9, 9], left));
         }
+    }
+
+    /// The packet of the program's table and the proof, in so many bytes: the code, and what is left in an answer of so many numbers.
+    fn written(rules: u64, packet: &mut [u8], size: usize) -> (u32, [u64; 3]) {
+        let table = [0, 1, 1, 1, -1];
+        let mut answer = [9u64; 3];
+        // SAFETY: as above.
+        let code = unsafe {
+            aspdrupe_write_packet(
+                table.as_ptr(),
+                table.len(),
+                rules,
+                PROOF.as_ptr(),
+                PROOF.len(),
+                packet.as_mut_ptr(),
+                packet.len(),
+                answer.as_mut_ptr(),
+                size,
+            )
+        };
+        (code, answer)
+    }
+
+    /// The same for a packet that is read back.
+    fn read(packet: &[u8], size: usize) -> (u32, [u64; 3]) {
+        let (mut table, mut proof) = ([7; 5], [7; 35]);
+        let mut answer = [9u64; 3];
+        // SAFETY: as above.
+        let code = unsafe {
+            aspdrupe_read_packet(
+                packet.as_ptr(),
+                packet.len(),
+                table.as_mut_ptr(),
+                table.len(),
+                proof.as_mut_ptr(),
+                proof.len(),
+                answer.as_mut_ptr(),
+                size,
+            )
+        };
+        (code, answer)
+    }
+
+    #[test]
+    fn packet_counts_that_do_not_fit() {
+        for size in 0..=3 {
+            let mut packet = [7; 57];
+            let mut left = [57, 9, 9];
+            left[size.min(1)..].fill(9);
+            assert_eq!(written(1, &mut packet, size), (0, left));
+            let mut left = [1, 35, 9];
+            left[size.min(2)..].fill(9);
+            assert_eq!(read(&packet, size), (0, left));
+        }
+    }
+
+    // "After a refusal .. `answer` stays as it was."
+    #[test]
+    fn packet_refusals_tell_no_numbers() {
+        let mut packet = [7; 57];
+        for (rules, length, code) in [(1, 56, 52), (0, 57, 53), (1 << 32 | 1, 57, 53)] {
+            assert_eq!(written(rules, &mut packet[..length], 3), (code, [9; 3]));
+        }
+        written(1, &mut packet, 3);
+        assert_eq!(read(&packet[..4], 3), (51, [9; 3]));
+        assert_eq!(read(&packet[..56], 3), (52, [9; 3]));
+        packet[55] = b'x';
+        assert_eq!(read(&packet, 3), (53, [9; 3]));
     }
 }

@@ -19,7 +19,7 @@ fn same_constants() {
 }
 
 /// Every service once. The inputs that go deepest are those of bindings/c/stack.c.
-fn call_all() -> [String; 4] {
+fn call_all() -> [String; 6] {
     let program = b"asp 1 0 0\n1 0 1 1 0 1 2\n1 0 1 2 0 1 1\n1 0 0 0 1 -1\n0\n";
     let proof = b"b 3 -1 0\nb 4 2 0\ns 1 4 0\nc 3 0\nl 1 2 0\na 0\n";
     let (mut table, mut store) = ([0; 16], [0; 32]);
@@ -27,13 +27,23 @@ fn call_all() -> [String; 4] {
     let set = test_set(&table, 3, &[], &mut [0; MARKS]);
     let line = read_line(proof, 0).map(|(line, _)| line);
     let verdict = check_texts(program, proof, &mut table, &mut store);
-    [format!("{read:?}"), format!("{set:?}"), format!("{line:?}"), verdict.unwrap().to_string()]
+    let mut packet = [0; 99];
+    let written = write_packet(&table, 3, proof, &mut packet);
+    let back = read_packet(&packet, &mut table, &mut [0; 43]);
+    let verdict = verdict.unwrap().to_string();
+    [format!("{read:?}"), format!("{set:?}"), format!("{line:?}"), verdict, format!("{written:?}"), format!("{back:?}")]
 }
 
 #[test]
 fn stack_of_a_thread() {
     let thread = std::thread::Builder::new().stack_size(STACK).spawn(call_all).unwrap();
-    let expected =
-        ["Ok(Read { atoms: 2, rules: 3 })", "Ok(Broken(3))", "Ok(Line { letter: Body, count: 2, next: 9 })", "inconsistent 2 3 6 8"];
+    let expected = [
+        "Ok(Read { atoms: 2, rules: 3 })",
+        "Ok(Broken(3))",
+        "Ok(Line { letter: Body, count: 2, next: 9 })",
+        "inconsistent 2 3 6 8",
+        "Ok(Written(99))",
+        "Ok(Read { rules: 3, bytes: 43 })",
+    ];
     assert_eq!(thread.join().unwrap(), expected);
 }

@@ -1,4 +1,4 @@
-//! The four services on document 01's starred examples and on buffers that are too small or empty.
+//! The six services on document 01's starred examples and on buffers that are too small or empty.
 
 use aspdrupe::*;
 
@@ -7,6 +7,13 @@ const PROGRAM: &[u8] = b"asp 1 0 0\n1 0 1 1 0 1 -1\n0\n";
 const PROOF: &[u8] = b"b 2 -1 0\nc 2 1 0\ns 1 2 0\na 1 0\na 0\n";
 const RULES: [i32; 5] = [0, 1, 1, 1, -1];
 const STORE: [i32; 15] = [2, -1, -2, 2, 1, 2, 2, -1, 2, 2, 1, -2, 1, 1, 0];
+
+// Its packet: mark and version, 5 words, 5 steps; the words; the steps.
+const PACKET: [u8; 57] = [
+    0x52, 0x56, 0x50, 1, 0, 5, 0, 0, 0, 5, 0, 0, 0, //
+    0, 0, 0, 0, 1, 0, 0, 0, 1, 0, 0, 0, 1, 0, 0, 0, 255, 255, 255, 255, //
+    b'b', 2, 2, 0, 255, 255, b'c', 2, 2, 0, 1, 0, b's', 2, 1, 0, 2, 0, b'a', 1, 1, 0, b'a', 0,
+];
 
 /// The verdict's line, the table and the store, for buffers of so many words.
 fn checked(program: &[u8], proof: &[u8], table: usize, store: usize) -> (String, Vec<i32>, Vec<i32>) {
@@ -113,6 +120,79 @@ fn lines_and_positions() {
     }
 }
 
+/// What the writer says, and every byte of an output of so many.
+fn packed(table: &[i32], rules: usize, proof: &[u8], size: usize) -> (PacketWriting, Vec<u8>) {
+    let mut packet = vec![7; size];
+    let writing = write_packet(table, rules, proof, &mut packet).unwrap();
+    (writing, packet)
+}
+
+/// What the reader says, with every word of a table and every byte of a text of so many.
+fn unpacked(packet: &[u8], words: usize, bytes: usize) -> (PacketReading, Vec<i32>, Vec<u8>) {
+    let (mut table, mut proof) = (vec![7; words], vec![7; bytes]);
+    let reading = read_packet(packet, &mut table, &mut proof).unwrap();
+    (reading, table, proof)
+}
+
+/// The same words or bytes with so many zeros after them.
+fn and_zeros<T: Copy + Default>(front: &[T], zeros: usize) -> Vec<T> {
+    [front, &vec![T::default(); zeros]].concat()
+}
+
+#[test]
+fn packet_of_starred_1() {
+    for more in [0, 1, 100] {
+        assert_eq!(packed(&RULES, 1, PROOF, 57 + more), (PacketWriting::Written(57), and_zeros(&PACKET, more)));
+        let read = PacketReading::Read { rules: 1, bytes: 35 };
+        assert_eq!(unpacked(&PACKET, 5 + more, 35 + more), (read, and_zeros(&RULES, more), and_zeros(PROOF, more)));
+        assert_eq!(packed(&and_zeros(&RULES, more), 1, PROOF, 57).0, PacketWriting::Written(57));
+    }
+}
+
+#[test]
+fn packets_that_are_not_written() {
+    let refused = |question, size| (PacketWriting::Refused(question), vec![0; size]);
+    assert_eq!(packed(&RULES, 1, PROOF, 56), refused(PacketQuestion::Lengths, 56));
+    for size in [0, 57] {
+        assert_eq!(packed(&RULES, 0, PROOF, size), refused(PacketQuestion::Pair, size));
+        assert_eq!(packed(&RULES, usize::MAX, PROOF, size), refused(PacketQuestion::Pair, size));
+        assert_eq!(packed(&RULES, 1, b"a 0", size), refused(PacketQuestion::Pair, size));
+    }
+    assert_eq!(packed(&[], 0, &[], 12), refused(PacketQuestion::Lengths, 12));
+}
+
+#[test]
+fn packets_that_are_not_read() {
+    let refused = |question, words, bytes| (PacketReading::Refused(question), vec![0; words], vec![0; bytes]);
+    for size in 0..57 {
+        let question = if size < 5 { PacketQuestion::Mark } else { PacketQuestion::Lengths };
+        assert_eq!(unpacked(&PACKET[..size], 5, 35), refused(question, 5, 35));
+    }
+    assert_eq!(unpacked(&and_zeros(&PACKET, 1), 5, 35), refused(PacketQuestion::Lengths, 5, 35));
+    assert_eq!(unpacked(&PACKET, 4, 35), refused(PacketQuestion::Lengths, 4, 35));
+    assert_eq!(unpacked(&PACKET, 5, 34), refused(PacketQuestion::Lengths, 5, 34));
+    for (place, byte, question) in [
+        (3, 2, PacketQuestion::Mark),
+        (5, 4, PacketQuestion::Lengths),
+        (9, 6, PacketQuestion::Lengths),
+        (13, 2, PacketQuestion::Pair),
+        (55, b'x', PacketQuestion::Pair),
+    ] {
+        let mut changed = PACKET;
+        changed[place] = byte;
+        assert_eq!(unpacked(&changed, 5, 35), refused(question, 5, 35), "byte {place}");
+    }
+}
+
+#[test]
+fn empty_packet() {
+    let empty = and_zeros(&PACKET[..5], 8);
+    assert_eq!(packed(&[], 0, &[], 13), (PacketWriting::Written(13), empty.clone()));
+    assert_eq!(packed(&[0; 3], 0, &[], 13).0, PacketWriting::Written(13));
+    assert_eq!(packed(&[0; 3], 1, &[], 25).0, PacketWriting::Written(25));
+    assert_eq!(unpacked(&empty, 0, 0), (PacketReading::Read { rules: 0, bytes: 0 }, vec![], vec![]));
+}
+
 #[test]
 fn nothing_lent() {
     assert_eq!(read_program(&[], &mut []), refused(ProgramQuestion::Header, 1));
@@ -121,6 +201,9 @@ fn nothing_lent() {
     assert_eq!(test_set(&[], 1, &[], &mut []), Ok(SetAnswer::Refused(SetQuestion::Table)));
     assert_eq!(test_set(&[], 0, &[], &mut [7; MARKS]), Ok(SetAnswer::Yes));
     assert_eq!(read_line(&[], 0), Ok((LineAnswer::End, [0; MOST_NUMBERS])));
+    assert_eq!(write_packet(&[], 0, &[], &mut []), Ok(PacketWriting::Refused(PacketQuestion::Lengths)));
+    assert_eq!(write_packet(&[], 1, &[], &mut []), Ok(PacketWriting::Refused(PacketQuestion::Pair)));
+    assert_eq!(read_packet(&[], &mut [], &mut []), Ok(PacketReading::Refused(PacketQuestion::Mark)));
     assert_eq!(checked(&[], &[], 0, 0).0, "refused program 2 1");
     assert_eq!(checked(b"asp 1 0 0\n0\n", &[], 0, 0).0, "open 0 0 0 0");
     assert_eq!(checked(PROGRAM, b"a 1 0\n", 5, 0).0, "refused proof 33 1");

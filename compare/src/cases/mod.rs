@@ -1,4 +1,4 @@
-//! Where the texts come from: fixed cases, cases at the limits, random proofs for programs, changes of them, and noise.
+//! Where the texts and packets come from: fixed cases, cases at the limits, random proofs for programs, changes of them, and noise.
 
 pub mod changes;
 pub mod deep;
@@ -6,4 +6,5 @@ pub mod fixed;
 pub mod guided;
 pub mod limits;
 pub mod noise;
+pub mod packets;
 pub mod refutations;

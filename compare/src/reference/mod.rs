@@ -1,4 +1,4 @@
-//! The slow and plain reference: every service of document 01 once more, written from its words.
+//! The slow and plain reference: every service of document 01, and the packets of document 02, once more, written from their words.
 //!
 //! Where its words left room for doubt, this is how they are read here:
 //! - A refused proof zeroes the table too: the whole check "is lent both texts and a table and a store to fill", and every refusal
@@ -11,12 +11,18 @@
 //! - Question 34 is asked of the words after the whole step, not between the nogoods that `b` and `e` add.
 //! - The table of the set test may be of any length that holds its rules, with zeros after them; more than 1,024 rules are 41.
 //! - A number of numbers above 65 leaves out the closing 0: "up to 65 nonzero numbers, a closing `0`".
+//! - A packet with mark and version but not both lengths is 52: the lengths are what is missing.
+//! - Lengths are the two counts at a packet's front and the count of each step; the head and body counts among the words are not. They
+//!   make up the bytes given where just the stated words and steps stand in them, and no byte more.
+//! - A packet does not send the rule count: it is the number of rules that its words fall into, with none left over.
+//! - The writer has no mark to test, so its order is 53, 52.
 
 pub mod check;
 pub mod closure;
 pub mod lines;
 pub mod models;
 pub mod numbers;
+pub mod packets;
 pub mod program;
 pub mod steps;
 
@@ -33,9 +39,9 @@ pub const RULE_LIMIT: usize = 1_024;
 /// The bytes of marks that the set test is lent.
 pub const MARKS: usize = 4_096;
 
-/// The words, and zeros up to the length that was lent.
-pub fn filled(mut words: Vec<i32>, room: usize) -> Vec<i32> {
-    words.resize(room, 0);
+/// The words or bytes, and zeros up to the length that was lent.
+pub fn filled<T: Clone + Default>(mut words: Vec<T>, room: usize) -> Vec<T> {
+    words.resize(room, T::default());
     words
 }
 

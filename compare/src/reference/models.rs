@@ -101,7 +101,7 @@ fn questions(table: &[i32], rule_count: usize, listed: &[u16], marks: usize) -> 
 }
 
 /// Question 41: the rules whose words the table holds, where it is one that the program reader leaves.
-fn rules_of(table: &[i32], rule_count: usize) -> Option<Vec<Rule>> {
+pub fn rules_of(table: &[i32], rule_count: usize) -> Option<Vec<Rule>> {
     if rule_count > RULE_LIMIT {
         return None;
     }
@@ -115,7 +115,8 @@ fn rules_of(table: &[i32], rule_count: usize) -> Option<Vec<Rule>> {
     rest.iter().all(|word| *word == 0).then_some(rules)
 }
 
-fn rule_at_front(words: &[i32]) -> Option<Rule> {
+/// The rule that the words begin with.
+pub fn rule_at_front(words: &[i32]) -> Option<Rule> {
     let (kind, head_count, body_count) = (*words.first()?, *words.get(1)?, *words.get(2)?);
     let most = match kind {
         0 => 0..=1,

@@ -75,6 +75,7 @@ pub record Cursor (t : List ℤ) (left i : ℕ) : Type 0 where
 
 -- the rule there, and the cursor after it
 pub record AtRule (t : List ℤ) (left i : ℕ) : Type 0 where
+  pub sound : soundAt (drop i t) ≡ true
   pub here : (i ≤ length t) × (shapeSound (drop i t) ≡ true)
   pub next : Cursor t (left - 1) (i + sizeAt (drop i t))
   pub rules : rulesAt left (drop i t) ≡ ruleAt (drop i t) ∷ rulesAt (left - 1) (drop (i + sizeAt (drop i t)) t)
@@ -87,6 +88,7 @@ at-rule {t} {left} {i} h c =
     let s = and-left (soundAt ws) _ e in
     let f = shaped ws (shape-of ws s) in
     record {
+      sound = s;
       here = (c .within, shape-of ws s);
       next = record {
         within = omega (arith, f .fits, length-drop i t, c .within);

@@ -21,7 +21,8 @@ use Rattle.text.specs.Line.{Line, broken, numbers, lineOf, outside, anyOutside}
 use Rattle.words.proofs.Segments.{record-append}
 use Rattle.aspif.specs.Rules.{Rule, suits, ruleWords, programWords}
 use Rattle.words.specs.Limits.{mostLiterals, mostRules}
-use Rattle.aspif.specs.Reading.{suited, isAt, isCountAt, bodyShape, headShape, shapeOf, headsGood, bodyGood, RuleRead, fails, reads, ruleOf, Turn, refuses, ends, adds, isLast, room, turnOf, linesFrom, Reading, refused, program, header, startsWith, readLines}
+use Rattle.aspif.specs.Reading.{suited, isAt, isCountAt, bodyShape, headShape, shapeOf, headsGood, bodyGood, RuleRead, fails, reads, ruleOf, Turn, refuses, ends, adds, isLast, room, turnOf, linesFrom, Reading, refused, program, header, readLines}
+use Rattle.text.specs.Strings.{startsWith}
 use Rattle.aspif.specs.declared.Kind.{Kind}
 use Rattle.aspif.specs.declared.Kind.the-variants.{Normal, Choice}
 use Rattle.aspif.specs.declared.rules.Shape.{Shape}

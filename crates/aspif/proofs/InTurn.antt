@@ -13,7 +13,7 @@ use Rattle.aspif.specs.Claims.{turnAt, InTurn, LineByLine}
 use Rattle.aspif.specs.Claims as Claims
 use Rattle.aspif.proofs.Formed.{onward, lines-on}
 use Rattle.aspif.proofs.Passes.{Room, turn-room}
-use Rattle.aspif.proofs.Fronts.{front-long}
+use Rattle.text.proofs.Fronts.{front-long}
 
 module _ (size : ℕ) where
   -- a rule's line takes bytes, and no more than there are

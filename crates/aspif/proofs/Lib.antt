@@ -3,7 +3,6 @@ pub mod Counts
 pub mod Rows
 pub mod Agree
 pub mod Passes
-pub mod Fronts
 pub mod Programs
 pub mod Formed
 pub mod Written

@@ -12,7 +12,8 @@ use borrow.Rule.Slice.PartMut.{putMid}
 use Rattle.words.specs.Limits.{longest}
 use Rattle.words.proofs.Parts.{put-tail, tail-of}
 use Rattle.aspif.specs.Rules.{programWords}
-use Rattle.aspif.specs.Reading.{header, startsWith, linesFrom, readLines, readText, Reading, refused, program, programAnswer, tableOf, ProgramRead}
+use Rattle.aspif.specs.Reading.{header, linesFrom, readLines, readText, Reading, refused, program, programAnswer, tableOf, ProgramRead}
+use Rattle.text.specs.Strings.{startsWith}
 use Rattle.aspif.specs.Turns.{linesTold, Front, LinesRead}
 use Rattle.aspif.specs.declared.ProgramRefusal.{ProgramRefusal}
 use Rattle.aspif.specs.declared.ProgramReading.{ProgramReading}

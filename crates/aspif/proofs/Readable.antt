@@ -101,16 +101,16 @@ module _ (r : Rule) (f : Formed r) (t : List ℤ) where
   body-at =
       ap (take b) (sym (drop-drop h 3 ws) ∙ ap (drop h) parts ∙ drop-append-seam (r .heads) (r .body ++ t)) ∙ take-append-seam (r .body) t
 
-  rule-at : ruleAt ws ≡ r
+  pub rule-at : ruleAt ws ≡ r
   rule-at = rw (kind-of-word (r .kind), heads-at, body-at)
 
-  rest-at : drop (sizeAt ws) ws ≡ t
+  pub rest-at : drop (sizeAt ws) ws ≡ t
   unfolding sizeAt
   rest-at =
       let e : 3 + h + b ≡ 3 + (h + b) = omega arith in
       ap (λ (n : ℕ). drop n ws) e ∙ sym (drop-drop (h + b) 3 ws) ∙ drop-at (r .heads ++ r .body) t (h + b) (length-append (r .heads) (r .body))
 
-  sound-words : soundAt ws ≡ true
+  pub sound-words : soundAt ws ≡ true
   unfolding soundAt shapeSound sizeAt
   sound-words =
       let n : length ws ≡ 3 + (h + b + length t) = omega (arith, length-append (r .heads ++ r .body) t, length-append (r .heads) (r .body)) in
@@ -131,7 +131,7 @@ all-zero zero = refl
 all-zero (suc n) = all-zero n
 
 -- a program that is formed and fits is what its table holds
-table-back : (size : ℕ) (rs : List Rule) → FitsTable size rs → rulesOf (tableWords size rs) (length rs) ≡ some rs
+pub table-back : (size : ℕ) (rs : List Rule) → FitsTable size rs → rulesOf (tableWords size rs) (length rs) ≡ some rs
 unfolding soundTable
 table-back size rs f =
     let k = rules-back (replicate (size - length (programWords rs)) (pos 0)) (all-zero (size - length (programWords rs))) rs (f .formed) in
@@ -166,7 +166,7 @@ module _ (ws : List ℤ) (s : soundAt ws ≡ true) where
   unfolding bodyAt
   length-body = let f = shaped ws (shape-of ws s) in length-take-le body (drop (3 + heads) ws) (omega (arith, length-drop (3 + heads) ws))
 
-  rule-formed : Formed (ruleAt ws)
+  pub rule-formed : Formed (ruleAt ws)
   rule-formed =
       let f = shaped ws (shape-of ws s) in
       let up = and-right (all (λ h. ltZ (pos 0) h) (headsAt ws)) _ (sorted .0) in
@@ -182,7 +182,7 @@ module _ (ws : List ℤ) (s : soundAt ws ≡ true) where
         body-in = ascends-inside (bodyAt ws) (sorted .1);
       }
 
-front-words : (ws : List ℤ) → soundAt ws ≡ true → ws ≡ ruleWords (ruleAt ws) ++ drop (sizeAt ws) ws
+pub front-words : (ws : List ℤ) → soundAt ws ≡ true → ws ≡ ruleWords (ruleAt ws) ++ drop (sizeAt ws) ws
 unfolding headsAt bodyAt sizeAt
 front-words [] s = absurd (let f = shaped [] (shape-of [] s) in omega arith)
 front-words (a ∷ []) s = absurd (let f = shaped (a ∷ []) (shape-of (a ∷ []) s) in omega arith)
@@ -232,10 +232,10 @@ module _ (table : List ℤ) (rules : ℕ) (s : soundTable table rules ≡ true) 
   long : length table ≡ length (programWords rs) + held .0
   long = ap length (held .1) ∙ length-append (programWords rs) (replicate (held .0) (pos 0)) ∙ ap (λ (n : ℕ). length (programWords rs) + n) (length-replicate (held .0) (pos 0))
 
-  table-words : table ≡ tableWords (length table) rs
+  pub table-words : table ≡ tableWords (length table) rs
   table-words = let k : length table - length (programWords rs) ≡ held .0 = omega (arith, long) in rw k (held .1)
 
-  table-fits : FitsTable (length table) rs
+  pub table-fits : FitsTable (length table) rs
   table-fits =
       record {
         formed = rules-formed rules table (sound-rules table rules s);

@@ -11,7 +11,8 @@ use lib.IntN.{ℤ}
 use lib.ListN.{length, drop}
 use Rattle.text.specs.Line.{lineOf}
 use Rattle.aspif.specs.Rules.{Rule, programWords}
-use Rattle.aspif.specs.Reading.{Reading, refused, program, Turn, turnOf, header, startsWith, readLines}
+use Rattle.aspif.specs.Reading.{Reading, refused, program, Turn, turnOf, header, readLines}
+use Rattle.text.specs.Strings.{startsWith}
 use Rattle.aspif.specs.Reading as Reading
 use Rattle.aspif.specs.Tables.{ReadAs, rulesOf}
 

@@ -1,7 +1,7 @@
 -- How a program text is read: document 01, 'Program text' and questions 1 to 11, in their order.
 -- Assumes nothing.
 use mathlib.Core.Path.{_≡_}
-use mathlib.Core.Bool.{Bool, true, false, cond, not, _&&_}
+use mathlib.Core.Bool.{Bool, cond, not, _&&_}
 use mathlib.Core.List.{List, [], _∷_, _++_}
 use Prim.Native.Nat.{ℕ, zero, suc, _+_, _-_}
 use lib.Dec.{eqb, ltb, leb}
@@ -11,6 +11,7 @@ use lib.ListN.{length, take, drop, getD, replicate}
 use Rattle.words.specs.Limits.{longest, mostRules}
 use Rattle.words.specs.Lists.{all}
 use Rattle.words.specs.Literals.{variable, same, has, distinct, ascending}
+use Rattle.text.specs.Strings.{startsWith}
 use Rattle.text.specs.Line.{Line, broken, numbers, lineOf, anyOutside}
 use Rattle.aspif.specs.Rules.{Rule, suits, isCount, atoms, ruleWords, programWords, tableWords}
 use Rattle.aspif.specs.declared.Kind.{Kind}
@@ -121,11 +122,6 @@ linesFrom size (suc turns) s line rs =
 -- `asp 1 0 0` and its newline
 abbrev pub header : List ℕ
 header = 97 ∷ 115 ∷ 112 ∷ 32 ∷ 49 ∷ 32 ∷ 48 ∷ 32 ∷ 48 ∷ 10 ∷ []
-
-abbrev pub startsWith : List ℕ → List ℕ → Bool
-startsWith [] s = true
-startsWith (x ∷ front) [] = false
-startsWith (x ∷ front) (b ∷ s) = eqb b x && startsWith front s
 
 -- "Is line 1 as said? 2." and the questions after it, with a table of `size` words: all but question 1
 unfoldable pub readLines : ℕ → List ℕ → Reading

@@ -44,7 +44,7 @@ pub fn read_program(text: &[u8], table: &mut [i32]) -> ProgramReading
     if words::LONGEST < text.len() {
         return refuse(table, ProgramRefusal { number: 1, line: 0 });
     }
-    if !lines::starts_with(text, b"asp 1 0 0\n") {
+    if !text::starts_with(text, b"asp 1 0 0\n") {
         return refuse(table, ProgramRefusal { number: 2, line: 1 });
     }
     let read = lines::read_lines(text, table);

@@ -8,7 +8,7 @@ ghost use lib.IntN.{pos};
 ghost use lib.ListN.{length, drop, getD};
 ghost use Rattle.words.specs.Literals.{same};
 ghost use Rattle.text.specs.Line.{lineOf};
-ghost use Rattle.aspif.specs.Reading.{turnOf, linesFrom, header, startsWith};
+ghost use Rattle.aspif.specs.Reading.{turnOf, linesFrom, header};
 ghost use Rattle.aspif.specs.Turns.{TurnTaken, LinesRead};
 use crate::ProgramRefusal;
 use crate::rules;
@@ -70,23 +70,6 @@ fn read_rule(rest: &[u8], free: &mut [i32], rules: usize) -> LineTurn
             rules::take_rule(free, &mut row, count, next, rules)
         }
     }
-}
-
-// The text begins with these bytes.
-pub fn starts_with(text: &[u8], front: &[u8]) -> bool
-    ensures { λ r. ⌜ r ≡ startsWith (now (front .entry)) (now (text .entry)) ⌝ }
-{
-    let mut i = 0;
-    while i < front.len() {
-        if text.len() <= i {
-            return false;
-        }
-        if text[i] != front[i] {
-            return false;
-        }
-        i += 1;
-    }
-    true
 }
 
 // The lines after the first, up to the line `0` or the first that is refused.

@@ -154,7 +154,7 @@ fn all_zero(words: &[i32]) -> bool
 }
 
 // A rule stands at the front.
-fn is_sound(words: &[i32]) -> bool
+pub fn is_sound(words: &[i32]) -> bool
     ensures { λ r. ⌜ r ≡ soundAt (now (words .entry)) ⌝ }
 {
     if is_shaped(words) {

@@ -4,28 +4,12 @@
 // words; or the number and the line of the refusal, and how many words are not 0.
 use aspif::ProgramReading;
 use cases::before;
+use cases::expand;
+use cases::nonzero;
+use cases::number_of;
 use cases::say;
 use cases::say_number;
 use libc::STDIN_FILENO;
-ghost use Prim.Native.Nat.{_≤_};
-
-// 1 for a word that is not 0.
-fn not_zero(word: i32) -> usize
-    ensures { λ r. ⌜ r ≤ 1 ⌝ }
-{
-    if word == 0 { 0 } else { 1 }
-}
-
-// How many words are not 0.
-fn nonzero(table: &[i32]) -> usize {
-    let mut count = 0;
-    let mut i = 0;
-    while i < table.len() {
-        count += not_zero(table[i]);
-        i += 1;
-    }
-    count
-}
 
 // What is read into the table, whose words are 7 before.
 fn answer(text: &[u8], table: &mut [i32]) {
@@ -51,77 +35,6 @@ fn answer(text: &[u8], table: &mut [i32]) {
         }
     }
     say(b"\n");
-}
-
-// The number with one digit more; another byte changes nothing.
-fn with_digit(v: usize, byte: u8) -> usize {
-    match byte {
-        b'0'..=b'9' => v % 10000 * 10 + (byte - b'0') as usize,
-        _ => v,
-    }
-}
-
-// The number whose digits stand in the text.
-fn number_of(text: &[u8]) -> usize {
-    let mut v = 0;
-    let mut i = 0;
-    while i < text.len() {
-        v = with_digit(v, text[i]);
-        i += 1;
-    }
-    v
-}
-
-// One byte more, where there is room.
-fn push(out: &mut [u8], n: usize, byte: u8) -> usize {
-    if n < out.len() {
-        out[n] = byte;
-        return n + 1;
-    }
-    n
-}
-
-// The part from `from` on.
-fn push_all(out: &mut [u8], n: usize, part: &[u8], from: usize) -> usize {
-    let mut m = n;
-    let mut i = from;
-    while i < part.len() {
-        m = push(out, m, part[i]);
-        i += 1;
-    }
-    m
-}
-
-// The part without its first byte, so many times.
-fn repeat(out: &mut [u8], n: usize, part: &[u8], times: usize) -> usize {
-    let mut m = n;
-    let mut i = 0;
-    while i < times {
-        m = push_all(out, m, part, 1);
-        i += 1;
-    }
-    m
-}
-
-// A part to be taken once and, after `{`, a number and a newline, one to be repeated.
-fn push_piece(out: &mut [u8], n: usize, piece: &[u8]) -> usize {
-    let open = before(piece, b'{');
-    let line = open + before(&piece[open..], b'\n');
-    let times = number_of(&piece[open..line]);
-    let m = push_all(out, n, &piece[..open], 0);
-    repeat(out, m, &piece[line..], times)
-}
-
-// The text without its first byte, with its parts repeated.
-fn expand(out: &mut [u8], text: &[u8]) -> usize {
-    let mut n = 0;
-    let mut at = 1;
-    while at < text.len() {
-        let end = at + before(&text[at..], b'}');
-        n = push_piece(out, n, &text[at..end]);
-        at = end + 1;
-    }
-    n
 }
 
 // What is answered of the text with its parts repeated, and of the table's first words.

@@ -1,19 +1,19 @@
 -- Laws of `lineAt` and its parts: which answer each test leads to, what the row keeps, and what an answered line passed.
 -- Assumes nothing.
-use mathlib.Core.Path.{_≡_, refl, sym, ap, subst}
+use mathlib.Core.Path.{_≡_, refl, sym, ap, _∙_, subst}
 use mathlib.Core.Bool.{Bool, true, false, cond, not, _&&_, _||_, true≢false}
 use mathlib.Core.Option.{Option, none, some}
 use mathlib.Core.List.{List, [], _∷_}
-use Prim.Native.Nat.{ℕ, zero, suc, _+_, _-_, _<_, _≤_}
+use Prim.Native.Nat.{ℕ, zero, suc, _+_, _-_, _<_, _≤_, max}
 use native.Mathlib.Omega.{arith}
 use lib.IntN.{ℤ, pos}
 use lib.Dec.{ltb, eqb}
 use lib.ListN.{length, take, drop, getD, replicate, length-replicate, length-drop, drop-of-length-le}
 use lib.Seq.{sets-eq, take-append-le}
-use borrow.Author.Tests.{le-ltb, lt-ltb, ltb-false, eq-eqb, ne-eqb}
-use Rattle.words.specs.Limits.{longest, mostNumbers}
+use borrow.Author.Tests.{le-ltb, lt-ltb, ltb-true, ltb-false, eq-eqb, ne-eqb}
+use Rattle.words.specs.Limits.{largest, longest, mostNumbers}
 use Rattle.words.specs.Lists.{all}
-use Rattle.words.specs.Literals.{distinct, same, has}
+use Rattle.words.specs.Literals.{distinct, same, has, top, variable}
 use Rattle.words.proofs.Lists.{if-true, failed, not-decides, and-left, and-right, or-false-right}
 use Rattle.words.proofs.Literals.{same-decides}
 use Rattle.text.specs.Bytes.{classOf}
@@ -22,7 +22,7 @@ use Rattle.text.proofs.Lines.{capped-all, Numbered, bounds-of}
 use Rattle.text.specs.declared.Letter.{Letter}
 use Rattle.text.specs.declared.Class.{Class}
 use Rattle.text.specs.declared.Class.the-variants.{Newline, Space, Minus, Digit, Step, Other}
-use Rattle.drupe.specs.Lines.{signsOf, isPositive, signed, lineRefusal, LineAt, end, refused, line, refusedOr, lineAsked, ofNumbers, isSpace, afterLetter, afterFirst, lineFrom, lineAt, lineAnswer, readingOf, AnswerBounds, ProofLineRead}
+use Rattle.drupe.specs.Lines.{signsOf, isPositive, signed, lineRefusal, allPassed, LineAt, end, refused, line, refusedOr, lineAsked, ofNumbers, isSpace, afterLetter, afterFirst, lineFrom, lineAt, lineAnswer, readingOf, AnswerBounds, ProofLineRead}
 use Rattle.drupe.specs.declared.Signs.{Signs}
 use Rattle.drupe.specs.declared.LineReading.{LineReading}
 
@@ -48,6 +48,29 @@ module _ (x : Letter) (zs : List ℤ) (next : ℕ) (inside : anyOutside zs ≡ f
 
   pub asked-line : signed (signsOf x) zs ≡ true → distinct zs ≡ true → lineAsked x zs next ≡ line x zs next
   asked-line e d = rw (inside, le-ltb mostNumbers (length zs) few, e, d)
+
+-- Questions 23 to 25 together
+
+outside-top : (zs : List ℤ) → anyOutside zs ≡ ltb largest (top zs)
+outside-top [] = refl
+outside-top (z ∷ zs) = ap (λ (t : Bool). outside z || t) (outside-top zs) ∙ by (ltb largest (variable z)) (ltb largest (top zs)) refl refl
+  where
+    by : (a b : Bool) → ltb largest (variable z) ≡ a → ltb largest (top zs) ≡ b → (a || b) ≡ ltb largest (max (variable z) (top zs))
+    by true b p q = sym (lt-ltb largest (max (variable z) (top zs)) (omega (arith, ltb-true largest (variable z) p)))
+    by false true p q = sym (lt-ltb largest (max (variable z) (top zs)) (omega (arith, ltb-true largest (top zs) q)))
+    by false false p q = sym (le-ltb largest (max (variable z) (top zs)) (omega (arith, ltb-false largest (variable z) p, ltb-false largest (top zs) q)))
+
+pub good-parts : (x : Letter) (zs : List ℤ) {a b s d : Bool} → ltb largest (top zs) ≡ a → ltb mostNumbers (length zs) ≡ b → signed (signsOf x) zs ≡ s → distinct zs ≡ d
+    → allPassed (lineRefusal x zs) ≡ (not b && (not a && (s && d)))
+good-parts x zs {a} {b} {s} {d} p q r e = rw (outside-top zs, p, q, r, e) (by a b s d)
+  where
+    by : (a b s d : Bool) → allPassed (cond (a || b) (some 23) (cond s (cond d none (some 25)) (some 24))) ≡ (not b && (not a && (s && d)))
+    by true true s d = refl
+    by true false s d = refl
+    by false true s d = refl
+    by false false true true = refl
+    by false false true false = refl
+    by false false false d = refl
 
 pub drop-replicate : {A : Type 0} (n m : ℕ) (a : A) → drop n (replicate m a) ≡ replicate (m - n) a
 drop-replicate zero m a = let e : m - 0 ≡ m = omega arith in rw e

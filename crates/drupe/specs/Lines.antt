@@ -62,6 +62,11 @@ lineRefusal x zs =
     cond (anyOutside zs || ltb mostNumbers (length zs)) (some 23)
     (cond (signed (signsOf x) zs) (cond (distinct zs) none (some 25)) (some 24))
 
+-- no question is answered no
+abbrev pub allPassed : Option ℕ → Bool
+allPassed none = true
+allPassed (some k) = false
+
 -- what stands at a position: the end, a refusal, or a line's letter with its numbers and the position after its newline
 pub data LineAt : Type 0 where
   end : LineAt

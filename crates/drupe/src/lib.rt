@@ -14,7 +14,7 @@ ghost use lib.ListN.{length};
 ghost use Rattle.words.specs.Limits.{longest, mostNumbers};
 ghost use Rattle.text.specs.Bytes.{classOf};
 ghost use Rattle.text.specs.Line.{anyOutside, lineOf};
-ghost use Rattle.drupe.specs.Lines.{ProofLineRead, afterLetter, lineAsked, isSpace, lineFrom, ofNumbers, placeOf, readingOf, refused, signed, signsOf};
+ghost use Rattle.drupe.specs.Lines.{ProofLineRead, afterLetter, allPassed, lineAsked, lineRefusal, isSpace, lineFrom, ofNumbers, placeOf, readingOf, refused, signed, signsOf};
 
 // What stands at a position: a line's letter, how many numbers it has and the position after its newline; the end; or the
 // number of the question that is answered no.
@@ -98,6 +98,22 @@ fn is_signed(letter: Letter, numbers: &[i32]) -> bool
     }
     let first = !signs.first | words::is_positive(numbers[0]);
     first & (!signs.later | words::all_positive(&numbers[1..]))
+}
+
+// Questions 23 to 25. The numbers are left in another order.
+pub fn is_good(letter: Letter, numbers: &mut [i32]) -> bool
+    ensures { λ r. ⌜ r ≡ allPassed (lineRefusal letter (now (numbers .entry))) ⌝ }
+{
+    if MOST_NUMBERS < numbers.len() {
+        return false;
+    }
+    if words::LARGEST < words::largest_variable(numbers) {
+        return false;
+    }
+    if !is_signed(letter, numbers) {
+        return false;
+    }
+    words::sort_distinct(numbers)
 }
 
 fn refuse(number: u8) -> LineReading

@@ -11,6 +11,10 @@ use Rattle.answer_set.specs.declared.SetAnswer.{SetAnswer}
 use Rattle.answer_set.specs.declared.SetAnswer.the-variants as Set
 use Rattle.drupe.specs.declared.LineAnswer.{LineAnswer}
 use Rattle.drupe.specs.declared.LineAnswer.the-variants as Line
+use Rattle.packets.specs.declared.PacketWriting.{PacketWriting}
+use Rattle.packets.specs.declared.PacketWriting.the-variants as Writing
+use Rattle.packets.specs.declared.PacketReading.{PacketReading}
+use Rattle.packets.specs.declared.PacketReading.the-variants as Reading
 use Rattle.checker.specs.declared.Counts.{Counts}
 use Rattle.checker.specs.declared.Verdict.{Verdict}
 use Rattle.checker.specs.declared.Verdict.the-variants.{Inconsistent, Open, RefusedProgram, RefusedProof}
@@ -57,6 +61,26 @@ abbrev pub lineNumbers : LineAnswer → List ℕ
 lineNumbers (Line.Line x count next) = count ∷ next ∷ []
 lineNumbers Line.End = []
 lineNumbers (Line.Refused n) = []
+
+-- The writer of packets: 0 with the packet's bytes; numbers 52 and 53
+
+abbrev pub writingCode : PacketWriting → ℕ
+writingCode (Writing.Written n) = 0
+writingCode (Writing.Refused k) = k
+
+abbrev pub writingNumbers : PacketWriting → List ℕ
+writingNumbers (Writing.Written n) = n ∷ []
+writingNumbers (Writing.Refused k) = []
+
+-- The reader of packets: 0 with the rule count and the bytes of the proof text; numbers 51 to 53
+
+abbrev pub readingCode : PacketReading → ℕ
+readingCode (Reading.Read rules bytes) = 0
+readingCode (Reading.Refused k) = k
+
+abbrev pub readingNumbers : PacketReading → List ℕ
+readingNumbers (Reading.Read rules bytes) = rules ∷ bytes ∷ []
+readingNumbers (Reading.Refused k) = []
 
 -- The whole check
 

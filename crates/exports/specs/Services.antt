@@ -1,19 +1,21 @@
--- What the four functions for C return and leave: some answer for which the service's own contract holds, told by its code and
+-- What the six functions for C return and leave: some answer for which the service's own contract holds, told by its code and
 -- numbers. A primed name is what a lent slice holds afterwards; `answer` is the buffer for the numbers.
 -- Assumes nothing.
 use mathlib.Core.Path.{_≡_}
 use mathlib.Core.List.{List}
 use Prim.Native.Nat.{ℕ}
 use lib.IntN.{ℤ}
+use lib.ListN.{length}
 use lib.Seq.{sets}
 use Rattle.aspif.specs.Reading.{ProgramRead}
 use Rattle.aspif.specs.declared.ProgramReading.{ProgramReading}
 use Rattle.answer_set.specs.SetTest.{SetTested}
 use Rattle.answer_set.specs.declared.SetAnswer.{SetAnswer}
 use Rattle.drupe.specs.Lines.{lineAt, lineAnswer, numbersOf}
+use Rattle.packets.specs.Packets.{reading, readingAnswer, tableLeft, textLeft, writing, writingAnswer, packetLeft}
 use Rattle.checker.specs.Check.{CheckedTexts}
 use Rattle.checker.specs.declared.Verdict.{Verdict}
-use Rattle.exports.specs.Codes.{Told, programCode, programNumbers, setCode, setNumbers, lineCode, lineNumbers, verdictCode, verdictNumbers}
+use Rattle.exports.specs.Codes.{Told, programCode, programNumbers, setCode, setNumbers, lineCode, lineNumbers, writingCode, writingNumbers, readingCode, readingNumbers, verdictCode, verdictNumbers}
 
 -- the program reader's answer and every word of the table
 pub record ProgramService (text : List ℕ) (table table′ : List ℤ) (answer answer′ : List ℕ) (result : ℕ) : Type 0 where
@@ -32,6 +34,17 @@ pub record SetService (table : List ℤ) (rules : ℕ) (set marks marks′ answe
 pub record LineService (text : List ℕ) (position : ℕ) (numbers numbers′ : List ℤ) (answer answer′ : List ℕ) (result : ℕ) : Type 0 where
   pub copied : numbers′ ≡ sets numbers 0 (numbersOf (lineAt text position))
   pub told : Told (lineCode (lineAnswer (lineAt text position))) (lineNumbers (lineAnswer (lineAt text position))) answer answer′ result
+
+-- The packet's bytes and 0 after them; all is said outright, as no answer is free.
+pub record WriteService (table : List ℤ) (rules : ℕ) (proof packet packet′ answer answer′ : List ℕ) (result : ℕ) : Type 0 where
+  pub bytes : packet′ ≡ packetLeft (length packet) (writing table rules proof (length packet))
+  pub told : (let w = writingAnswer (writing table rules proof (length packet)) in Told (writingCode w) (writingNumbers w) answer answer′ result)
+
+-- every word of the table and every byte of the proof text
+pub record ReadService (packet : List ℕ) (table table′ : List ℤ) (proof proof′ answer answer′ : List ℕ) (result : ℕ) : Type 0 where
+  pub words : table′ ≡ tableLeft (length table) (reading packet (length table) (length proof))
+  pub text : proof′ ≡ textLeft (length proof) (reading packet (length table) (length proof))
+  pub told : (let r = readingAnswer (reading packet (length table) (length proof)) in Told (readingCode r) (readingNumbers r) answer answer′ result)
 
 -- the verdict, every word of the table and every word of the store
 pub record CheckService (program proof : List ℕ) (table store table′ store′ : List ℤ) (answer answer′ : List ℕ) (result : ℕ) : Type 0 where

@@ -5,15 +5,19 @@ use aspif::ProgramReading;
 use checker::Counts;
 use checker::Verdict;
 use drupe::LineAnswer;
+use packets::PacketReading;
+use packets::PacketWriting;
 use text::writing;
 ghost use mathlib.Core.Path.{_≡_};
 ghost use mathlib.Core.List.{[], _∷_};
 ghost use lib.ListN.{set};
 ghost use lib.Seq.{sets};
-ghost use Rattle.exports.specs.Codes.{Told, programCode, programNumbers, setCode, setNumbers, lineCode, lineNumbers, verdictCode, verdictNumbers, countNumbers};
+ghost use Rattle.exports.specs.Codes.{Told, programCode, programNumbers, setCode, setNumbers, lineCode, lineNumbers, writingCode, writingNumbers, readingCode, readingNumbers, verdictCode, verdictNumbers, countNumbers};
 
 // The codes of the cases to which document 01 gives no number.
 const READ: u32 = 0;
+
+const WRITTEN: u32 = 0;
 
 const YES: u32 = 0;
 
@@ -105,6 +109,32 @@ pub fn tell_line(line: LineAnswer, answer: &mut [u64]) -> u32
         }
         LineAnswer::End => END,
         LineAnswer::Refused(number) => number as u32,
+    }
+}
+
+// The packet writer's answer.
+pub fn tell_writing(written: PacketWriting, answer: &mut [u64]) -> u32
+    ensures { λ r. ⌜ Told (writingCode written) (writingNumbers written) (now (answer .entry)) (now (answer .exit)) r ⌝ }
+{
+    match written {
+        PacketWriting::Written(bytes) => {
+            put(answer, 0, bytes);
+            WRITTEN
+        }
+        PacketWriting::Refused(number) => number as u32,
+    }
+}
+
+// The packet reader's answer.
+pub fn tell_reading(read: PacketReading, answer: &mut [u64]) -> u32
+    ensures { λ r. ⌜ Told (readingCode read) (readingNumbers read) (now (answer .entry)) (now (answer .exit)) r ⌝ }
+{
+    match read {
+        PacketReading::Read { rules, bytes } => {
+            put_two(answer, rules, bytes);
+            READ
+        }
+        PacketReading::Refused(number) => number as u32,
     }
 }
 

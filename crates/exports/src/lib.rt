@@ -1,9 +1,9 @@
-// The four services for programs in C and Rust, on numbers and slices. An answer's case is the code that is returned, and its
+// The six services for programs in C and Rust, on numbers and slices. An answer's case is the code that is returned, and its
 // numbers are put at the front of the lent `answer`, as many as fit; what the codes and numbers are is specs/Codes.antt, and what
 // each function returns and leaves is specs/Services.antt. bindings/c/aspdrupe.h declares the functions for C.
 mod answers;
 
-ghost use Rattle.exports.specs.Services.{ProgramService, SetService, LineService, CheckService};
+ghost use Rattle.exports.specs.Services.{ProgramService, SetService, LineService, WriteService, ReadService, CheckService};
 
 // Reads a program text into the table.
 #[no_mangle]
@@ -47,6 +47,38 @@ pub extern "C" fn aspdrupe_read_line(
     words::put_words(numbers, &row);
     let line = reading.answer;
     answers::tell_line(line, answer)
+}
+
+// Writes a packet from a table with its rule count and a proof text.
+#[no_mangle]
+pub extern "C" fn aspdrupe_write_packet(
+    table: &[i32],
+    rules: u64,
+    proof: &[u8],
+    packet: &mut [u8],
+    answer: &mut [u64],
+) -> u32
+    ensures { λ r. ⌜ WriteService (now (table .entry)) rules (now (proof .entry)) (now (packet .entry)) (now (packet .exit))
+        (now (answer .entry)) (now (answer .exit)) r ⌝ }
+{
+    let written = packets::write_packet(table, rules as usize, proof, packet);
+    answers::tell_writing(written, answer)
+}
+
+// Reads a packet into a table and a proof text.
+#[no_mangle]
+pub extern "C" fn aspdrupe_read_packet(
+    packet: &[u8],
+    table: &mut [i32],
+    proof: &mut [u8],
+    answer: &mut [u64],
+) -> u32
+    ensures { λ r. ⌜ ReadService (now (packet .entry)) (now (table .entry)) (now (table .exit)) (now (proof .entry))
+        (now (proof .exit))
+        (now (answer .entry)) (now (answer .exit)) r ⌝ }
+{
+    let read = packets::read_packet(packet, table, proof);
+    answers::tell_reading(read, answer)
 }
 
 // Checks a proof text against a program text.

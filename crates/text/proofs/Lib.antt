@@ -4,3 +4,4 @@ pub mod Bridge
 pub mod Decimals
 pub mod Puts
 pub mod Spelling
+pub mod Fronts

@@ -1,7 +1,7 @@
 -- The scanner that the loop of `read_line` follows: a state, and what a byte does to it. It serves the proof of
 -- `read_line` only: no reader of that contract needs it.
 -- Assumes nothing.
-use Prim.Native.Nat.{ℕ, suc, _+_, _*_, min}
+use Prim.Native.Nat.{ℕ, _+_, _*_, min}
 use mathlib.Core.Bool.{Bool, true, false, cond, not, _&&_, _||_}
 use mathlib.Core.List.{List, [], _∷_}
 use lib.Dec.{eqb, ltb}

@@ -5,6 +5,7 @@ pub mod writing;
 ghost use mathlib.Core.Path.{_≡_};
 ghost use lib.ListN.{set};
 ghost use Rattle.text.specs.Bytes.{classOf, letterOr};
+ghost use Rattle.text.specs.Strings.{startsWith};
 ghost use Rattle.text.specs.Scanned.{LineScanned};
 ghost use Rattle.text.specs.Scan.{actionOf, digitOf, endOf, firstOf, moreOf, seeing, valueOf};
 
@@ -236,4 +237,21 @@ pub fn read_line(text: &[u8], row: &mut [i32]) -> LineRead
         }
     }
     LineRead::Broken
+}
+
+// The text begins with these bytes.
+pub fn starts_with(text: &[u8], front: &[u8]) -> bool
+    ensures { λ r. ⌜ r ≡ startsWith (now (front .entry)) (now (text .entry)) ⌝ }
+{
+    let mut i = 0;
+    while i < front.len() {
+        if text.len() <= i {
+            return false;
+        }
+        if text[i] != front[i] {
+            return false;
+        }
+        i += 1;
+    }
+    true
 }

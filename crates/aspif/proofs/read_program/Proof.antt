@@ -1,9 +1,10 @@
-use Rattle.aspif.specs.Reading.{header, startsWith}
+use Rattle.aspif.specs.Reading.{header}
+use Rattle.text.specs.Strings.{startsWith}
 use mathlib.Core.Path.{_≡_, sym, _∙_}
 use mathlib.Core.Bool.{true}
 use native.Mathlib.Omega.{arith}
 use borrow.Author.Tests.{not-true, not-false}
-use Rattle.aspif.proofs.Fronts.{front-long}
+use Rattle.text.proofs.Fronts.{front-long}
 use Rattle.aspif.proofs.Programs.{read-long, read-other, read-refused, read-done, Done}
 use borrow.Author.Needs.{needs}
 use Rattle.aspif.proofs.read_program.Statement.{statement}

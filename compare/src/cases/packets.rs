@@ -1,0 +1,340 @@
+//! Packets with the answers that document 02 asks for, packets at the limits, and changes of packets. All are put together here byte by
+//! byte, and not by the writer.
+
+use inputs::random::Random;
+
+use super::fixed::{proof, PROOF_1};
+
+/// A packet, the words and bytes lent, and the rule count and the proof text that the reader must come to, or its refusal.
+pub struct ReaderCase {
+    pub name: String,
+    pub packet: Vec<u8>,
+    pub table: usize,
+    pub proof: usize,
+    pub answer: Result<(usize, Vec<u8>), u8>,
+}
+
+/// A table with a rule count, a proof text, the bytes lent, and the bytes that the packet must have, or the refusal.
+pub struct WriterCase {
+    pub name: &'static str,
+    pub table: Vec<i32>,
+    pub rules: usize,
+    pub proof: Vec<u8>,
+    pub packet: usize,
+    pub answer: Result<usize, u8>,
+}
+
+/// Enough words and bytes for every case but those at the limits.
+const ENOUGH: usize = 500;
+
+/// "the three bytes `RVP`, 16-bit version 1"
+const FRONT: [u8; 5] = [0x52, 0x56, 0x50, 0x01, 0x00];
+
+/// The words of starred example 1.
+pub const TABLE_1: [i32; 5] = [0, 1, 1, 1, -1];
+
+/// The packet of starred example 1.
+pub const PACKET_1: [u8; 57] = [
+    0x52, 0x56, 0x50, 0x01, 0x00, 0x05, 0x00, 0x00, 0x00, 0x05, 0x00, 0x00, 0x00, //
+    0x00, 0x00, 0x00, 0x00, 0x01, 0x00, 0x00, 0x00, 0x01, 0x00, 0x00, 0x00, 0x01, 0x00, 0x00, 0x00, 0xff, 0xff, 0xff, 0xff, //
+    0x62, 0x02, 0x02, 0x00, 0xff, 0xff, 0x63, 0x02, 0x02, 0x00, 0x01, 0x00, 0x73, 0x02, 0x01, 0x00, 0x02, 0x00, //
+    0x61, 0x01, 0x01, 0x00, 0x61, 0x00,
+];
+
+/// A packet that states these counts, with the bytes after them.
+fn stating(words: u32, steps: u32, rest: &[u8]) -> Vec<u8> {
+    [&FRONT, &words.to_le_bytes()[..], &steps.to_le_bytes(), rest].concat()
+}
+
+/// A packet of words alone.
+fn of_words(words: &[i32]) -> Vec<u8> {
+    let bytes: Vec<u8> = words.iter().flat_map(|word| word.to_le_bytes()).collect();
+    stating(words.len() as u32, 0, &bytes)
+}
+
+/// The bytes of a step, its count as it is or cut to a byte.
+fn step(letter: u8, numbers: &[i32]) -> Vec<u8> {
+    let mut bytes = vec![letter, numbers.len() as u8];
+    bytes.extend(numbers.iter().flat_map(|number| (*number as i16).to_le_bytes()));
+    bytes
+}
+
+/// A packet of one step alone.
+fn of_step(letter: u8, numbers: &[i32]) -> Vec<u8> {
+    stating(0, 1, &step(letter, numbers))
+}
+
+/// A packet of so many steps of one kind.
+fn of_steps(bytes: &[u8], count: usize) -> Vec<u8> {
+    stating(0, count as u32, &bytes.repeat(count))
+}
+
+fn numbers_to(last: i32) -> Vec<i32> {
+    (1..=last).collect()
+}
+
+fn refused(number: u8, name: &str, packet: Vec<u8>) -> ReaderCase {
+    ReaderCase { name: String::from(name), packet, table: ENOUGH, proof: ENOUGH, answer: Err(number) }
+}
+
+fn taken(rules: usize, text: &str, name: &str, packet: Vec<u8>) -> ReaderCase {
+    let answer = Ok((rules, text.as_bytes().to_vec()));
+    ReaderCase { name: String::from(name), packet, table: ENOUGH, proof: ENOUGH, answer }
+}
+
+/// The reader's worked cases.
+pub fn reader_cases() -> Vec<ReaderCase> {
+    let mut cases = vec![taken(1, "b 2 -1 0\nc 2 1 0\ns 1 2 0\na 1 0\na 0\n", "starred 1", PACKET_1.to_vec())];
+    cases.extend(marks());
+    cases.extend(lengths());
+    cases.extend(tables());
+    cases.extend(steps());
+    cases.extend(outputs());
+    cases
+}
+
+fn marks() -> Vec<ReaderCase> {
+    let zeros = [0; 8];
+    vec![
+        refused(51, "no bytes", Vec::new()),
+        refused(51, "four bytes", FRONT[..4].to_vec()),
+        refused(51, "another mark", [b"RVQ\x01\x00", &zeros[..]].concat()),
+        refused(51, "version 2", [b"RVP\x02\x00", &zeros[..]].concat()),
+        refused(51, "the version's bytes the other way", [b"RVP\x00\x01", &zeros[..]].concat()),
+    ]
+}
+
+fn lengths() -> Vec<ReaderCase> {
+    let after_front = |zeros: usize| [&FRONT[..], &vec![0; zeros]].concat();
+    vec![
+        refused(52, "mark and version alone", after_front(0)),
+        refused(52, "7 zeros", after_front(7)),
+        refused(52, "9 zeros", after_front(9)),
+        refused(52, "a step that is missing", stating(0, 1, &[])),
+        refused(52, "ffffffff words", stating(u32::MAX, 0, &[])),
+        refused(52, "a number that is cut", stating(0, 1, &[0x61, 0x01, 0x05])),
+        refused(52, "lengths before a letter that is none", stating(0, 1, &[0x78, 0x01])),
+        taken(0, "", "8 zeros", after_front(8)),
+        ReaderCase { table: 0, proof: 0, ..taken(0, "", "8 zeros, nothing lent", after_front(8)) },
+    ]
+}
+
+fn tables() -> Vec<ReaderCase> {
+    let mut last = of_words(&[0, 0, 1, 5]);
+    let end = last.len();
+    last[end - 4..].copy_from_slice(&[0x00, 0x00, 0x00, 0x80]);
+    vec![
+        taken(1, "", "3 zero words", of_words(&[0; 3])),
+        ReaderCase { table: 3_072, ..taken(1_024, "", "3,072 zero words", of_words(&[0; 3_072])) },
+        refused(53, "2 zero words", of_words(&[0; 2])),
+        ReaderCase { table: 3_075, ..refused(53, "3,075 zero words", of_words(&[0; 3_075])) },
+        refused(53, "head 4,096", of_words(&[0, 1, 0, 4_096])),
+        refused(53, "literals that do not ascend", of_words(&[0, 0, 2, 2, -1])),
+        refused(53, "a last word of 80000000", last),
+        ReaderCase { table: 0, ..refused(53, "2 zero words, no table lent", of_words(&[0; 2])) },
+    ]
+}
+
+fn steps() -> Vec<ReaderCase> {
+    let all: String = numbers_to(65).iter().map(|number| format!(" {number}")).collect();
+    let many = |count, name: &str| ReaderCase { proof: 65_535, ..refused(53, name, of_steps(&[0x61, 0x00], count)) };
+    let text = "a 0\n".repeat(16_383);
+    vec![
+        taken(0, "a 0\n", "a without numbers", of_step(b'a', &[])),
+        taken(0, "a -4095 0\n", "-4,095", of_step(b'a', &[-4_095])),
+        taken(0, "a 7 0\n", "a variable that is not known", of_step(b'a', &[7])),
+        taken(0, &format!("a{all} 0\n"), "65 numbers", of_step(b'a', &numbers_to(65))),
+        refused(53, "letter 78", of_step(0x78, &[])),
+        refused(53, "b without a number", of_step(0x62, &[])),
+        refused(53, "a number 0", of_step(b'a', &[0])),
+        refused(53, "4,096", of_step(b'a', &[4_096])),
+        refused(53, "-32,768", of_step(b'a', &[-32_768])),
+        refused(53, "c with -1", of_step(0x63, &[-1])),
+        refused(53, "a variable twice", of_step(b'a', &[1, -1])),
+        refused(53, "66 numbers", of_step(b'a', &numbers_to(66))),
+        ReaderCase { answer: Ok((0, text.into_bytes())), ..many(16_383, "16,383 steps") },
+        many(16_384, "16,384 steps"),
+        ReaderCase { proof: 10, ..many(16_384, "16,384 steps, 10 bytes lent") },
+    ]
+}
+
+fn outputs() -> Vec<ReaderCase> {
+    let starred = |name, table, text| ReaderCase { table, proof: text, ..refused(52, name, PACKET_1.to_vec()) };
+    let enough = ReaderCase { answer: Ok((1, proof(PROOF_1))), ..starred("starred 1, just enough lent", 5, 35) };
+    vec![
+        enough,
+        starred("starred 1, a table of 4 words", 4, 35),
+        starred("starred 1, a text of 34 bytes", 5, 34),
+        refused(52, "starred 1 and a zero", [&PACKET_1[..], &[0]].concat()),
+    ]
+}
+
+/// The writer's worked cases.
+pub fn writer_cases() -> Vec<WriterCase> {
+    let case = |name, table: &[i32], rules, text: &[u8], packet, answer| {
+        let (table, proof) = (table.to_vec(), text.to_vec());
+        WriterCase { name, table, rules, proof, packet, answer }
+    };
+    let text = &proof(PROOF_1);
+    let and_zeros = [&TABLE_1[..], &[0; 3]].concat();
+    vec![
+        case("starred 1", &TABLE_1, 1, text, 57, Ok(57)),
+        case("starred 1, an output of 56 bytes", &TABLE_1, 1, text, 56, Err(52)),
+        case("a rule count of 0", &TABLE_1, 0, text, 57, Err(53)),
+        case("a rule of zeros", &and_zeros, 2, b"", 45, Ok(45)),
+        case("zeros after the rules", &and_zeros, 1, text, 57, Ok(57)),
+        case("no newline at the end", &TABLE_1, 1, b"a 0", 57, Err(53)),
+        case("no newline at the end, no output", &TABLE_1, 1, b"a 0", 0, Err(53)),
+        case("nothing", &[], 0, b"", 13, Ok(13)),
+        case("nothing, an output of 12 bytes", &[], 0, b"", 12, Err(52)),
+    ]
+}
+
+/// Small packets of which every prefix and every change of a byte is tried.
+pub fn small_packets() -> Vec<Vec<u8>> {
+    let each_letter: Vec<u8> = b"abcdels".iter().flat_map(|letter| step(*letter, &[3, 4])).collect();
+    let words: Vec<u8> = [1, 2, 1, 1, 4_095, -7, 0, 0, 0].iter().flat_map(|word: &i32| word.to_le_bytes()).collect();
+    let limits = [step(b'a', &[-4_095, 4_094]), step(b'd', &[256, -255]), step(b'e', &[1])].concat();
+    vec![
+        PACKET_1.to_vec(),
+        stating(0, 0, &[]),
+        of_words(&[0; 3]),
+        stating(9, 3, &[words, limits].concat()),
+        stating(0, 7, &each_letter),
+        of_steps(&[0x61, 0x00], 3),
+    ]
+}
+
+/// Packets at the limits of what is counted and of what a number may be.
+pub fn limits() -> Vec<Vec<u8>> {
+    let mut packets = Vec::new();
+    packets.extend(count_limits());
+    packets.extend(word_limits());
+    packets.extend(step_limits());
+    packets.extend(text_limits());
+    packets
+}
+
+/// Counts of words and steps far above what is there, and such that four times the words is small in 32 bits.
+fn count_limits() -> Vec<Vec<u8>> {
+    let mut packets = Vec::new();
+    for count in [1, 2, 3, 255, 256, 65_535, 65_536, 0x3fff_ffff, 0x4000_0000, 0x4000_0001, 0x7fff_ffff, 0x8000_0000, u32::MAX] {
+        for rest in [&[][..], &[0; 12], &[0x61, 0x00, 0x61, 0x00], &[0x61, 0xff]] {
+            packets.extend([stating(count, 0, rest), stating(0, count, rest), stating(count, count, rest), stating(count, 1, rest)]);
+        }
+    }
+    packets
+}
+
+/// Rules at the limit of their number and of their size, and words at every limit in every place of a rule.
+fn word_limits() -> Vec<Vec<u8>> {
+    let mut packets: Vec<Vec<u8>> = [3_069, 3_071, 3_072, 3_073, 3_075].map(|words| of_words(&vec![0; words])).into();
+    let heads = numbers_to(64);
+    let body: Vec<i32> = (4_032..=4_095).map(|atom| -atom).collect();
+    let widest = [&[1, 64, 64][..], &heads, &body].concat();
+    packets.extend([1_024, 1_025].map(|rules| of_words(&widest.repeat(rules))));
+    let good = [1, 2, 2, 3, 4, 5, -6];
+    for word in [0, 1, -1, 2, 3, 4, 5, 6, 7, 63, 64, 65, 4_095, 4_096, -4_095, -4_096, 65_536, 65_537, i32::MAX, i32::MIN] {
+        for place in 0..good.len() {
+            let mut changed = good;
+            changed[place] = word;
+            packets.push(of_words(&changed));
+        }
+    }
+    packets.extend((0..good.len()).map(|count| of_words(&good[..count])));
+    for (kind, count) in [(0, 1), (0, 2), (1, 0), (1, 1), (1, 64), (1, 65)] {
+        packets.push(of_words(&[&[kind, count, 0][..], &numbers_to(count)].concat()));
+        packets.push(of_words(&[&[0, 0, count][..], &numbers_to(count)].concat()));
+    }
+    packets
+}
+
+/// Every byte as a letter; numbers of every size in the first and a later place, and 0 to 255 of them, after each letter.
+fn step_limits() -> Vec<Vec<u8>> {
+    let mut packets = Vec::new();
+    for letter in 0..=255 {
+        packets.extend([of_step(letter, &[]), of_step(letter, &[9]), of_step(letter, &[9, 8])]);
+    }
+    for letter in *b"abcdelsx" {
+        for number in [0, 1, 2, 3, 9, 10, 99, 100, 999, 1_000, 4_094, 4_095, 4_096, 4_097, 8_191, 32_767, 32_768] {
+            for signed in [number, -number] {
+                packets.extend([of_step(letter, &[signed]), of_step(letter, &[3, signed]), of_step(letter, &[signed, 3])]);
+            }
+        }
+        for count in [63, 64, 65, 66, 67, 127, 128, 255] {
+            packets.push(of_step(letter, &numbers_to(count)));
+        }
+    }
+    packets
+}
+
+/// Steps whose text has 65,534 to 65,536 bytes, and many more.
+fn text_limits() -> Vec<Vec<u8>> {
+    let short = [0x61, 0x00].repeat(16_382);
+    let with = |numbers: &[i32]| stating(0, 16_383, &[&short[..], &step(b'a', numbers)].concat());
+    let mut packets = vec![with(&[1]), with(&[10]), with(&[100]), with(&[-10])];
+    packets.extend([16_382, 16_384, 20_000].map(|count| of_steps(&[0x61, 0x00], count)));
+    packets.extend([168, 169, 170].map(|count| of_steps(&step(b'd', &(4_031..=4_095).map(|number| -number).collect::<Vec<_>>()), count)));
+    packets
+}
+
+/// The packet with a byte or two changed, put in or taken out, cut off, doubled, or with a count changed.
+pub fn changed(packet: &[u8], random: &mut Random) -> Vec<u8> {
+    let mut packet = packet.to_vec();
+    for _ in 0..random.between(1, 2) {
+        change_once(&mut packet, random);
+    }
+    packet
+}
+
+fn change_once(packet: &mut Vec<u8>, random: &mut Random) {
+    let place = random.below(packet.len() + 1);
+    let byte = *random.pick(&[0, 1, 2, 3, 0x0f, 0x10, 0x40, 0x41, 0x42, 0x61, 0x63, 0x6c, 0x78, 0x7f, 0x80, 0xf0, 0xff]);
+    match random.below(8) {
+        0 => packet.insert(place, byte),
+        1 if place < packet.len() => {
+            packet.remove(place);
+        }
+        2 => packet.truncate(place),
+        3 if packet.len() > 13 => {
+            let count = *random.pick(&[5, 9]);
+            packet[count] = packet[count].wrapping_add(*random.pick(&[1, 255]));
+        }
+        4 if place < packet.len() => packet[place] ^= 1 << random.below(8),
+        5 if place + 1 < packet.len() => packet.swap(place, place + 1),
+        _ if place < packet.len() => packet[place] = byte,
+        _ => packet.push(byte),
+    }
+}
+
+#[cfg(test)]
+mod tests {
+    use super::*;
+    use crate::reference::packets::{read, write};
+
+    #[test]
+    fn reference_reads_as_the_documents_ask() {
+        for case in reader_cases() {
+            let found = read(&case.packet, case.table, case.proof);
+            let answer = found.answer.map(|(rules, bytes)| (rules, found.proof[..bytes].to_vec()));
+            assert_eq!(answer, case.answer, "{}", case.name);
+        }
+    }
+
+    #[test]
+    fn reference_writes_as_the_documents_ask() {
+        for case in writer_cases() {
+            let found = write(&case.table, case.rules, &case.proof, case.packet);
+            assert_eq!(found.answer, case.answer, "{}", case.name);
+        }
+        assert_eq!(write(&TABLE_1, 1, &proof(PROOF_1), 57).packet, PACKET_1);
+    }
+
+    #[test]
+    fn limits_are_met_on_both_sides() {
+        let answers: Vec<Result<(usize, usize), u8>> = limits().iter().map(|packet| read(packet, 200_000, 65_535).answer).collect();
+        for answer in [Ok((1_024, 0)), Ok((0, 65_534)), Ok((0, 65_535)), Err(52), Err(53)] {
+            assert!(answers.contains(&answer), "{answer:?}");
+        }
+    }
+}

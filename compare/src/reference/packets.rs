@@ -1,0 +1,189 @@
+//! Case packets, Change 1 of document 02: the writer and the reader with their questions 51 to 53.
+
+use super::filled;
+use super::lines::{read_line, Answer, Line};
+use super::models::{rule_at_front, rules_of};
+use super::program::{table_words, Rule};
+use super::RULE_LIMIT;
+
+/// "the three bytes `RVP`, 16-bit version 1"
+const FRONT: [u8; 5] = *b"RVP\x01\x00";
+
+/// What the writer answers, the packet's bytes or a refusal's number, and every byte of the output lent.
+#[derive(Clone, Debug, PartialEq, Eq)]
+pub struct Written {
+    pub answer: Result<usize, u8>,
+    pub packet: Vec<u8>,
+}
+
+/// What the reader answers, the rule count and the bytes of the proof text or a refusal's number, and every word and byte lent.
+#[derive(Clone, Debug, PartialEq, Eq)]
+pub struct Read {
+    pub answer: Result<(usize, usize), u8>,
+    pub table: Vec<i32>,
+    pub proof: Vec<u8>,
+}
+
+/// The writer, lent an output of `room` bytes. "Outputs are 0 past what is written. A refusal zeroes whatever was lent to be filled."
+pub fn write(table: &[i32], rule_count: usize, proof: &[u8], room: usize) -> Written {
+    match packet_within(table, rule_count, proof, room) {
+        Ok(packet) => Written { answer: Ok(packet.len()), packet: filled(packet, room) },
+        Err(number) => Written { answer: Err(number), packet: vec![0; room] },
+    }
+}
+
+fn packet_within(table: &[i32], rule_count: usize, proof: &[u8], room: usize) -> Result<Vec<u8>, u8> {
+    let rules = rules_of(table, rule_count).ok_or(53)?;
+    let steps = lines_of(proof).ok_or(53)?;
+    let packet = bytes_of(&table_words(&rules), &steps);
+    if packet.len() > room {
+        return Err(52);
+    }
+    Ok(packet)
+}
+
+/// "the number of table words in use and the number of steps, 32 bits each, those words, and each step as a letter byte, a count byte and
+/// its 16-bit signed numbers without the closing 0; all little-endian"
+fn bytes_of(words: &[i32], steps: &[Line]) -> Vec<u8> {
+    let mut packet = FRONT.to_vec();
+    packet.extend((words.len() as u32).to_le_bytes());
+    packet.extend((steps.len() as u32).to_le_bytes());
+    packet.extend(words.iter().flat_map(|word| word.to_le_bytes()));
+    for step in steps {
+        packet.extend([step.letter, step.numbers.len() as u8]);
+        packet.extend(step.numbers.iter().flat_map(|number| (*number as i16).to_le_bytes()));
+    }
+    packet
+}
+
+/// The lines of a proof text that 21 to 25 let pass.
+fn lines_of(text: &[u8]) -> Option<Vec<Line>> {
+    let mut lines = Vec::new();
+    let mut position = 0;
+    loop {
+        match read_line(text, position) {
+            Answer::End => return Some(lines),
+            Answer::Refused(_) => return None,
+            Answer::Line(line) => {
+                position = line.next;
+                lines.push(line);
+            }
+        }
+    }
+}
+
+/// The reader, lent a table and a text of so many words and bytes.
+pub fn read(packet: &[u8], table_room: usize, proof_room: usize) -> Read {
+    match pair_within(packet, table_room, proof_room) {
+        Ok((rules, text)) => {
+            Read { answer: Ok((rules.len(), text.len())), table: filled(table_words(&rules), table_room), proof: filled(text, proof_room) }
+        }
+        Err(number) => Read { answer: Err(number), table: vec![0; table_room], proof: vec![0; proof_room] },
+    }
+}
+
+fn pair_within(packet: &[u8], table_room: usize, proof_room: usize) -> Result<(Vec<Rule>, Vec<u8>), u8> {
+    let rest = packet.strip_prefix(&FRONT).ok_or(51)?;
+    let (words, steps) = parts(rest).ok_or(52)?;
+    let rules = rules_in(&words).ok_or(53)?;
+    let text: Vec<u8> = steps.iter().flat_map(|(letter, numbers)| line_text(*letter, numbers)).collect();
+    lines_of(&text).ok_or(53)?;
+    if words.len() > table_room || text.len() > proof_room {
+        return Err(52);
+    }
+    Ok((rules, text))
+}
+
+/// A step as it stands in a packet: its letter byte, which may be none, and its numbers.
+type Step = (u8, Vec<i16>);
+
+/// The words and the steps, where the lengths make up the bytes after mark and version.
+fn parts(mut rest: &[u8]) -> Option<(Vec<i32>, Vec<Step>)> {
+    let word_count = take_count(&mut rest)?;
+    let step_count = take_count(&mut rest)?;
+    let words = take(&mut rest, 4 * word_count)?;
+    let words = words.chunks_exact(4).map(|word| i32::from_le_bytes([word[0], word[1], word[2], word[3]])).collect();
+    let mut steps = Vec::new();
+    for _ in 0..step_count {
+        let front = take(&mut rest, 2)?;
+        let numbers = take(&mut rest, 2 * usize::from(front[1]))?;
+        steps.push((front[0], numbers.chunks_exact(2).map(|number| i16::from_le_bytes([number[0], number[1]])).collect()));
+    }
+    rest.is_empty().then_some((words, steps))
+}
+
+/// So many bytes off the front.
+fn take<'a>(rest: &mut &'a [u8], count: usize) -> Option<&'a [u8]> {
+    let (front, others) = rest.split_at_checked(count)?;
+    *rest = others;
+    Some(front)
+}
+
+/// 32 bits off the front.
+fn take_count(rest: &mut &[u8]) -> Option<usize> {
+    let bytes = take(rest, 4)?;
+    Some(u32::from_le_bytes([bytes[0], bytes[1], bytes[2], bytes[3]]) as usize)
+}
+
+/// Question 41 of the words with the number of rules that they fall into.
+fn rules_in(words: &[i32]) -> Option<Vec<Rule>> {
+    let mut rest = words;
+    let mut rules = Vec::new();
+    while !rest.is_empty() {
+        let rule = rule_at_front(rest)?;
+        rest = &rest[rule.words().len()..];
+        rules.push(rule);
+    }
+    (rules.len() <= RULE_LIMIT).then_some(rules)
+}
+
+/// "A line is the letter, a space, up to 65 nonzero numbers, a closing `0`, newline."
+fn line_text(letter: u8, numbers: &[i16]) -> Vec<u8> {
+    let mut text = vec![letter];
+    for number in numbers.iter().chain(&[0]) {
+        text.extend(format!(" {number}").bytes());
+    }
+    text.push(b'\n');
+    text
+}
+
+#[cfg(test)]
+mod tests {
+    use super::*;
+
+    const TABLE: [i32; 5] = [0, 1, 1, 1, -1];
+    const PROOF: &[u8] = b"b 2 -1 0\nc 2 1 0\ns 1 2 0\na 1 0\na 0\n";
+
+    #[test]
+    fn starred_example_1() {
+        let written = write(&TABLE, 1, PROOF, 60);
+        assert_eq!(written.answer, Ok(57));
+        assert_eq!(written.packet[..17], *b"RVP\x01\x00\x05\x00\x00\x00\x05\x00\x00\x00\x00\x00\x00\x00");
+        assert_eq!(
+            written.packet[29..],
+            *b"\xff\xff\xff\xffb\x02\x02\x00\xff\xffc\x02\x02\x00\x01\x00s\x02\x01\x00\x02\x00a\x01\x01\x00a\x00\0\0\0"
+        );
+        let back = read(&written.packet[..57], 6, 36);
+        assert_eq!(back.answer, Ok((1, 35)));
+        assert_eq!((back.table, back.proof), (filled(TABLE.to_vec(), 6), filled(PROOF.to_vec(), 36)));
+    }
+
+    #[test]
+    fn refusals_leave_zeros() {
+        let short = write(&TABLE, 1, PROOF, 56);
+        assert_eq!(short, Written { answer: Err(52), packet: vec![0; 56] });
+        let packet = write(&TABLE, 1, PROOF, 57).packet;
+        for (bytes, words, text, number) in [(4, 5, 35, 51), (56, 5, 35, 52), (57, 4, 35, 52), (57, 5, 34, 52)] {
+            assert_eq!(read(&packet[..bytes], words, text), Read { answer: Err(number), table: vec![0; words], proof: vec![0; text] });
+        }
+    }
+
+    #[test]
+    fn letters_that_are_none() {
+        for letter in 0..=255 {
+            let packet = [&FRONT[..], &[0, 0, 0, 0, 1, 0, 0, 0, letter, 1, 5, 0]].concat();
+            let expected = if b"abcdels".contains(&letter) { Ok((0, 6)) } else { Err(53) };
+            assert_eq!(read(&packet, 0, 6).answer, expected, "{letter}");
+        }
+    }
+}

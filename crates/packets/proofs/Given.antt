@@ -1,0 +1,149 @@
+-- What the reader gives, and what stands in its outputs.
+-- Assumes nothing.
+use mathlib.Core.Path.{_≡_, refl, sym, _∙_, ap, ap₂, subst}
+use mathlib.Core.Bool.{Bool, true, false, cond, _&&_}
+use mathlib.Core.Option.{Option, none, some}
+use mathlib.Core.List.{List, _++_}
+use Prim.Native.Nat.{ℕ, _+_, _-_, _<_, _≤_}
+use native.Mathlib.Omega.{arith}
+use borrow.Author.Tests.{le-leb, lt-leb}
+use lib.Dec.{leb}
+use lib.IntN.{ℤ, pos}
+use lib.ListN.{length, drop, replicate, length-replicate}
+use lib.Seq.{sets, sets-eq}
+use Rattle.words.specs.Limits.{mostRules}
+use Rattle.words.proofs.Lists.{zero-one}
+use Rattle.aspif.specs.Rules.{Rule}
+use Rattle.text.specs.Strings.{startsWith}
+use Rattle.drupe.specs.Texts.{Step, textOf}
+use Rattle.drupe.proofs.Lines.{drop-replicate}
+use Rattle.packets.specs.Bytes.{numbersFrom}
+use Rattle.packets.specs.Packets.{mark, packetWords, wordCount, stepCount, wordPart, stepPart, lengthsFit, rulesIn, stepsIn, PacketRead, refused, pair, paired, ifHeld, partsRead, reading, filled, ReadLeaves}
+use Rattle.packets.specs.Parts.{counted, TextTold, Parts, Given, Zeros}
+use Rattle.packets.specs.declared.PacketReading.{PacketReading}
+use Rattle.packets.specs.declared.reader.Part.{Part}
+use Rattle.packets.proofs.RuleParts.{rules-there}
+
+-- elements written at the front of zeros that hold them
+pub zeros-front : {A : Type 0} (z : A) (n : ℕ) (l : List A) → length l ≤ n → sets (replicate n z) 0 l ≡ filled z n l
+zeros-front z n l h =
+    sets-eq l (replicate n z) 0 (omega (arith, length-replicate n z)) ∙ ap (λ t. l ++ t) (let e : 0 + length l ≡ length l = omega arith in rw e (drop-replicate (length l) n z))
+
+-- The outputs' lengths
+
+module _ (P : List Rule) (ts : List Step) (tableSize textSize : ℕ) where
+  pub table-short : tableSize < length (packetWords P) → ifHeld tableSize textSize (pair P ts) ≡ refused 52
+  table-short h = rw (lt-leb (length (packetWords P)) tableSize h)
+
+  pub text-short : textSize < length (textOf ts) → ifHeld tableSize textSize (pair P ts) ≡ refused 52
+  text-short h = rw (lt-leb (length (textOf ts)) textSize h) (by (leb (length (packetWords P)) tableSize))
+    where
+      by : (t : Bool) → cond (t && false) (pair P ts) (refused 52) ≡ refused 52
+      by true = refl
+      by false = refl
+
+  both-held : length (packetWords P) ≤ tableSize → length (textOf ts) ≤ textSize → ifHeld tableSize textSize (pair P ts) ≡ pair P ts
+  both-held h k = rw (le-leb (length (packetWords P)) tableSize h, le-leb (length (textOf ts)) textSize k)
+
+-- the words are written, and the text stands
+pub given : (words new : List ℤ) (rules bytes count : ℕ) (table : List ℤ) (proof : List ℕ) (P : List Rule) (ts : List Step)
+    → Parts words rules bytes table proof P ts → new ≡ words → length words ≡ count → count ≤ length table → bytes ≤ length proof
+    → ReadLeaves (ifHeld (length table) (length proof) (pair P ts)) table (new ++ drop count table) proof proof (PacketReading.Read rules bytes)
+given words new rules bytes count table proof P ts k e q h l =
+    let w = ap length (k .words-of) in
+    let m = ap (drop count) (k .table-of) ∙ drop-replicate count (length table) (pos 0) in
+    let n : length table - count ≡ length table - length (packetWords P) = ap (λ (j : ℕ). length table - j) (sym q ∙ w) in
+    rw (both-held P ts (length table) (length proof) (omega arith) (omega (arith, k .bytes-of))) (record {
+      answer = ap₂ PacketReading.Read (k .rules-of) (k .bytes-of);
+      words = ap₂ (λ (a b : List ℤ). a ++ b) (e ∙ k .words-of) (m ∙ ap (λ (j : ℕ). replicate j (pos 0)) n);
+      text = k .text-of ∙ zeros-front 0 (length proof) (textOf ts) (omega (arith, k .bytes-of));
+    })
+
+-- Both parts
+
+counted-none : (o : Option (List Rule)) {r : Part} → r ≡ Part.Refused → r ≡ counted 0 o → o ≡ none
+counted-none none e c = refl
+counted-none (some P) e c = absurd (zero-one (let q = sym e ∙ c in cc))
+
+counted-some : (o : Option (List Rule)) {r : Part} {n : ℕ} → r ≡ Part.Taken n → r ≡ counted 0 o → (P : List Rule) × ((o ≡ some P) × (n ≡ length P))
+counted-some none e c = absurd (zero-one (let q = sym e ∙ c in cc))
+counted-some (some P) {n = n} e c = let q = sym e ∙ c in let m : n ≡ 0 + length P = cc in (P, (refl, omega arith))
+
+text-none : (o : Option (List Step)) (before after : List ℕ) {r : Part} → r ≡ Part.Refused → TextTold o before after r → o ≡ none
+text-none none before after e t = refl
+text-none (some ts) before after e t = absurd (zero-one (let q = sym e ∙ t .0 in cc))
+
+text-some : (o : Option (List Step)) (before after : List ℕ) {r : Part} {n : ℕ} → r ≡ Part.Taken n → TextTold o before after r
+    → (ts : List Step) × ((o ≡ some ts) × ((n ≡ length (textOf ts)) × (after ≡ sets before 0 (textOf ts))))
+text-some none before after e t = absurd (zero-one (let q = sym e ∙ t in cc))
+text-some (some ts) before after {n = n} e t = let q = sym e ∙ t .0 in let m : n ≡ length (textOf ts) = cc in (ts, (refl, (m, t .1)))
+
+-- only the outputs' lengths count
+pub read-kept : {read : PacketRead} {table table₁ table′ : List ℤ} {proof proof₁ proof′ : List ℕ} {r : PacketReading} → length table₁ ≡ length table → length proof₁ ≡ length proof
+    → ReadLeaves read table₁ table′ proof₁ proof′ r → ReadLeaves read table table′ proof proof′ r
+read-kept {read} p q a = record { answer = a .answer; words = rw p at (a .words); text = rw q at (a .text) }
+
+module _ (count : ℕ) (part : List ℕ) (steps : ℕ) (bytes : List ℕ) where
+  abbrev ws : List ℤ
+  ws = numbersFrom 4 count part
+
+  pub no-rules : (t p : ℕ) {r : Part} → r ≡ Part.Refused → r ≡ counted 0 (rulesIn ws) → partsRead count part steps bytes t p ≡ refused 53
+  unfolding partsRead
+  no-rules t p e c = rw (counted-none (rulesIn ws) e c)
+
+  pub no-steps : (t p : ℕ) (before after : List ℕ) {r : Part} → r ≡ Part.Refused → TextTold (stepsIn steps bytes) before after r → partsRead count part steps bytes t p ≡ refused 53
+  unfolding partsRead
+  no-steps t p before after e c = rw (text-none (stepsIn steps bytes) before after e c) (by (rulesIn ws))
+    where
+      by : (o : Option (List Rule)) → ifHeld t p (paired o none) ≡ refused 53
+      by none = refl
+      by (some P) = refl
+
+  pub both : (table table′ : List ℤ) (proof after proof′ : List ℕ) (rules n : ℕ) {r s : Part} (answer : PacketReading) → Zeros (pos 0) table → Zeros 0 proof → length after ≡ length proof
+      → r ≡ Part.Taken rules → r ≡ counted 0 (rulesIn ws) → s ≡ Part.Taken n → TextTold (stepsIn steps bytes) proof after s
+      → Given ws rules n table table′ after proof′ answer
+      → ReadLeaves (partsRead count part steps bytes (length table) (length proof)) table table′ proof proof′ answer
+  unfolding partsRead rulesIn
+  both table table′ proof after proof′ rules n answer z y l p c q t g =
+      let a = counted-some (rulesIn ws) p c in
+      let b = text-some (stepsIn steps bytes) proof after q t in
+      let e : after ≡ sets (replicate (length after) 0) 0 (textOf (b .0)) = b .1 .1 .1 ∙ ap (λ (k : List ℕ). sets k 0 (textOf (b .0))) (y ∙ ap (λ (k : ℕ). replicate k 0) (sym l)) in
+      let k : Parts ws rules n table after (a .0) (b .0) = record {
+        words-of = rules-there mostRules ws (a .0) (a .1 .0) .words;
+        rules-of = a .1 .1;
+        bytes-of = b .1 .1 .0;
+        table-of = z;
+        text-of = e;
+      } in
+      let x = subst (λ (m : ℕ). ReadLeaves (ifHeld (length table) m (pair (a .0) (b .0))) table table′ after proof′ answer) l (g (a .0) (b .0) k) in
+      rw (a .1 .0, b .1 .0) (read-kept {table = table} {proof = proof} refl l x)
+
+-- The whole packet
+
+module _ (packet : List ℕ) (t p : ℕ) where
+  pub no-mark : startsWith mark packet ≡ false → reading packet t p ≡ refused 51
+  unfolding reading
+  no-mark e = rw e
+
+  module _ (m : startsWith mark packet ≡ true) where
+    pub no-lengths : lengthsFit packet ≡ false → reading packet t p ≡ refused 52
+    unfolding reading
+    no-lengths e = rw (m, e)
+
+    pub parts-left : lengthsFit packet ≡ true → reading packet t p ≡ partsRead (wordCount packet) (wordPart packet) (stepCount packet) (stepPart packet) t p
+    unfolding reading
+    parts-left e = rw (m, e)
+
+    -- the parts of a packet whose lengths fit, read into outputs of the same lengths
+    pub whole-read : lengthsFit packet ≡ true → (count : ℕ) (part : List ℕ) (steps : ℕ) (bytes : List ℕ) → count ≡ wordCount packet → part ≡ wordPart packet → steps ≡ stepCount packet → bytes ≡ stepPart packet
+        → {table table₁ table′ : List ℤ} {proof proof₁ proof′ : List ℕ} {r : PacketReading} → length table₁ ≡ t → length proof₁ ≡ p → length table ≡ t → length proof ≡ p
+        → ReadLeaves (partsRead count part steps bytes (length table₁) (length proof₁)) table₁ table′ proof₁ proof′ r → ReadLeaves (reading packet t p) table table′ proof proof′ r
+    whole-read f count part steps bytes a b c d {table} {proof = proof} l k x y q =
+        let e = parts-left f in
+        rw e (read-kept {table = table} {proof = proof} (l ∙ sym x) (k ∙ sym y) (rw (a, b, c, d, l, k) at q))
+
+-- a list that was made of zeros is zeros
+pub zeros-made : {A : Type 0} (z : A) {l : List A} {n : ℕ} → l ≡ replicate n z → Zeros z l × (length l ≡ n)
+zeros-made z {l} {n} e =
+    let k : length l ≡ n = ap length e ∙ length-replicate n z in
+    (e ∙ ap (λ m. replicate m z) (sym k), k)

@@ -1,0 +1,105 @@
+-- `packets::writer::put_lines` meets its contract. After a turn the steps before the position are put.
+-- Assumes nothing.
+use mathlib.Core.Path.{_≡_, sym}
+use Prim.Native.Nat.{_-_, _≤_}
+use native.Mathlib.Omega.{arith}
+use lib.ListN.{length, take}
+use lib.Seq.{length-take-le}
+use borrow.Author.Needs.{needs}
+use Rattle.words.specs.Limits.{mostNumbers}
+use Rattle.drupe.specs.Lines.{line, lineAt}
+use Rattle.drupe.proofs.Lines.{passed-line}
+use Rattle.packets.proofs.Writes.{put-length, line-told, line-room, Stepping, stepping-start, stepping-on, stepping-end, stepping-refused}
+use Rattle.packets.proofs.writer.put_lines.Statement.{statement}
+use Rattle.packets.proofs.writer.put_lines.Tie as tie
+
+abbrev Inv-loop : tie.InvT-loop
+Inv-loop buffer₀ at text position₀ steps₀ end₀ buffer position steps end = Stepping text buffer₀ buffer at position steps end
+
+abbrev μ-loop : tie.MeasureT-loop
+μ-loop buffer₀ at text position₀ steps₀ end₀ buffer position steps end = length text - position
+
+loop-holds : tie.Need-loop-holds Inv-loop μ-loop
+loop-holds c = stepping-start _ _ (c .before .before .pre .0)
+
+-- no byte is added
+same : (c : tie.At-loop Inv-loop μ-loop) → length (c .loop .buffer) ≡ length (c .before .before .before .args .buffer .now)
+same c = put-length (c .loop .inv .put)
+
+-- the line that was read
+module _ (c : tie.After-answer Inv-loop μ-loop) where
+  abbrev l : tie.At-loop Inv-loop μ-loop
+  l = c .before .before .before .before
+
+  abbrev a : tie.Start Inv-loop μ-loop
+  a = l .before .before .before
+
+  there : (let g = c .answer .given .0 in lineAt (a .args .text .now) (l .loop .position) ≡ line (g .0) (take (g .1 .0) (c .before .before .before .step-at .result .numbers)) (g .1 .1 .0))
+  there = line-told (c .before .before .before .step-at .ensures) (c .answer .given .1)
+
+  room : (let g = c .answer .given .0 in (g .1 .0 ≤ mostNumbers) × (g .1 .0 ≤ length (c .before .before .before .step-at .result .numbers)))
+  room = line-room (c .before .before .before .step-at .ensures) (c .answer .given .1)
+
+same-length : tie.Need-same-length Inv-loop μ-loop
+same-length c = same (c .before .before .before .before)
+
+returns : tie.Need-returns Inv-loop μ-loop
+returns c = stepping-end (c .before .before .before .before .loop .inv) (line-told (c .before .before .before .step-at .ensures) (c .enum-told .given .1))
+
+same-length-2 : tie.Need-same-length-2 Inv-loop μ-loop
+same-length-2 c = same (c .before .before .before .before)
+
+returns-2 : tie.Need-returns-2 Inv-loop μ-loop
+returns-2 c = stepping-refused (c .before .before .before .before .loop .inv) _ (line-told (c .before .before .before .step-at .ensures) (c .enum-told2 .given .1))
+
+array-share-prefix-numbers : tie.Need-array-share-prefix-numbers Inv-loop μ-loop
+array-share-prefix-numbers c = room (c .before .before) .1
+
+slice-aggregate-put-step : tie.Need-slice-aggregate-put-step Inv-loop μ-loop
+slice-aggregate-put-step c = sym (length-take-le _ _ (room (c .before .before .before) .1))
+
+put-step-requires : tie.Need-put-step-requires Inv-loop μ-loop
+put-step-requires c κs =
+    let d = c .before .before .before in
+    let S = l d .loop .inv in
+    (rw (length-take-le _ _ (room d .1)) (room d .0), omega (arith, S .near, S .within, a d .pre .0, a d .pre .1))
+
+add-steps : tie.Need-add-steps Inv-loop μ-loop
+add-steps c =
+    let d = c .before .before .before .before .before .before in
+    let S = l d .loop .inv in
+    record { fits = omega (arith, S .few, S .within, a d .pre .0) }
+
+loop-less : tie.Need-loop-less Inv-loop μ-loop
+loop-less c =
+    let d = c .before .before .before .before .before .before in
+    let u = passed-line (a d .args .text .now) (l d .loop .position) (there d) in
+    omega (arith, u .0, u .1)
+
+loop-again : tie.Need-loop-again Inv-loop μ-loop
+loop-again c =
+    let d = c .before .before .before .before .before .before in
+    let p = c .before .before .put-step .ensures in
+    stepping-on (l d .loop .inv) (there d) (p .0) (p .1)
+
+pub put-lines-spec : {M : Type 1} → statement M
+put-lines-spec =
+    tie.close
+    (tie.spec
+    Inv-loop
+    μ-loop
+    loop-holds
+    (λ c κs. search needs)
+    (λ c. search needs)
+    same-length
+    returns
+    (λ c. search needs)
+    same-length-2
+    returns-2
+    (λ c. search needs)
+    array-share-prefix-numbers
+    slice-aggregate-put-step
+    put-step-requires
+    add-steps
+    loop-less
+    loop-again)

@@ -1,0 +1,254 @@
+-- Case packets: Change 1. The pair is the rules P of a table and the steps ts of a proof text; `packetOf P ts` is its one byte form,
+-- and `writing` and `reading` are what the writer and the reader come to, question by question.
+-- Assumes nothing.
+use mathlib.Core.Path.{_≡_}
+use mathlib.Core.Bool.{Bool, true, false, cond, not, _&&_}
+use mathlib.Core.Option.{Option, none, some}
+use mathlib.Core.List.{List, [], _∷_, _++_, map}
+use Prim.Native.Nat.{ℕ, zero, suc, _+_, _-_, _*_}
+use lib.Dec.{leb}
+use lib.IntN.{ℤ, pos}
+use lib.ListN.{length, take, drop, replicate}
+use Rattle.words.specs.Limits.{longest, mostRules}
+use Rattle.words.specs.Lists.{concat}
+use Rattle.words.specs.Literals.{has}
+use Rattle.text.specs.Bytes.{byteOf, classOf}
+use Rattle.text.specs.declared.Letter.{Letter}
+use Rattle.text.specs.declared.Class.{Class}
+use Rattle.text.specs.declared.Class.the-variants as Class
+use Rattle.aspif.specs.Rules.{Rule, kindWord, programWords, tableWords}
+use Rattle.text.specs.Strings.{startsWith}
+use Rattle.aspif.specs.Tables.{ruleAt, sizeAt, soundAt, rulesOf}
+use Rattle.drupe.specs.Lines.{allPassed, lineRefusal}
+use Rattle.drupe.specs.Texts.{Step, StepsRead, steps, textOf, stepsOf}
+use Rattle.drupe.specs.Texts as Texts
+use Rattle.packets.specs.Bytes.{little, value, bytesOf, numbersFrom}
+use Rattle.packets.specs.declared.PacketWriting.{PacketWriting}
+use Rattle.packets.specs.declared.PacketWriting.the-variants as Writing
+use Rattle.packets.specs.declared.PacketReading.{PacketReading}
+use Rattle.packets.specs.declared.PacketReading.the-variants as Reading
+
+-- The bytes of a pair
+
+-- "the three bytes `RVP`, 16-bit version 1"
+abbrev pub mark : List ℕ
+mark = 82 ∷ 86 ∷ 80 ∷ 1 ∷ 0 ∷ []
+
+-- A rule's words in a packet: "head kind, head count, body count, heads ascending, body literals ascending by atom". They are
+-- written out here and not taken from the table's layout, since "Packets keep the old table".
+abbrev pub packetRule : Rule → List ℤ
+packetRule r = kindWord (r .kind) ∷ pos (length (r .heads)) ∷ pos (length (r .body)) ∷ (r .heads ++ r .body)
+
+-- the "table words in use"
+abbrev pub packetWords : List Rule → List ℤ
+packetWords P = concat (map packetRule P)
+
+-- "each step as a letter byte, a count byte and its 16-bit signed numbers without the closing 0"
+abbrev pub stepBytes : Step → List ℕ
+stepBytes t = byteOf (t .letter) ∷ length (t .numbers) ∷ bytesOf 2 (t .numbers)
+
+abbrev pub stepsBytes : List Step → List ℕ
+stepsBytes ts = concat (map stepBytes ts)
+
+-- "then the number of table words in use and the number of steps, 32 bits each"
+abbrev pub packetHeader : List Rule → List Step → List ℕ
+packetHeader P ts = mark ++ (little 4 (length (packetWords P)) ++ little 4 (length ts))
+
+-- ".. those words, and each step"
+unfoldable pub packetOf : List Rule → List Step → List ℕ
+packetOf P ts = packetHeader P ts ++ (bytesOf 4 (packetWords P) ++ stepsBytes ts)
+
+-- What stands in the bytes of a packet
+
+-- "the number of table words in use and the number of steps", as the packet states them
+module _ (packet : List ℕ) where
+  abbrev pub wordCount : ℕ
+  wordCount = value (take 4 (drop 5 packet))
+
+  abbrev pub stepCount : ℕ
+  stepCount = value (take 4 (drop 9 packet))
+
+  -- the bytes of "those words", and of the steps after them
+  abbrev pub wordPart : List ℕ
+  wordPart = take (4 * wordCount) (drop 13 packet)
+
+  abbrev pub stepPart : List ℕ
+  stepPart = drop (13 + 4 * wordCount) packet
+
+-- so many steps, each of 2 bytes and of 2 more for each of its numbers, make up the bytes
+unfoldable pub fills : ℕ → List ℕ → Bool
+fills zero [] = true
+fills zero (b ∷ bs) = false
+fills (suc n) [] = false
+fills (suc n) (x ∷ []) = false
+fills (suc n) (x ∷ c ∷ bs) = leb (2 * c) (length bs) && fills n (drop (2 * c) bs)
+
+-- 52: "lengths that don't make up the bytes given". Both counts are there, and the words and just the stated steps make up the rest.
+unfoldable pub lengthsFit : List ℕ → Bool
+lengthsFit packet =
+    leb 13 (length packet) && (leb (13 + 4 * wordCount packet) (length packet) && fills (stepCount packet) (stepPart packet))
+
+-- Rules. "a table that 41 .. would refuse": a rule stands at the front of a packet's words, so many words long. A packet's words are
+-- those of the table today, so question 41's tests of one rule are cited; where the table's layout changes, these three stay as they
+-- are now.
+
+abbrev pub rulePasses : List ℤ → Bool
+rulePasses ws = soundAt ws
+
+abbrev pub ruleSize : List ℤ → ℕ
+ruleSize ws = sizeAt ws
+
+abbrev pub ruleIn : List ℤ → Rule
+ruleIn ws = ruleAt ws
+
+abbrev pub ruleBefore : Rule → Option (List Rule) → Option (List Rule)
+ruleBefore r none = none
+ruleBefore r (some P) = some (r ∷ P)
+
+-- the rules, rule after rule off the words until none is left, and so many at most
+unfoldable pub rulesFrom : ℕ → List ℤ → Option (List Rule)
+rulesFrom zero [] = some []
+rulesFrom zero (w ∷ ws) = none
+rulesFrom (suc n) [] = some []
+rulesFrom (suc n) (w ∷ ws) =
+    cond (rulePasses (w ∷ ws)) (ruleBefore (ruleIn (w ∷ ws)) (rulesFrom n (drop (ruleSize (w ∷ ws)) (w ∷ ws)))) none
+
+-- "At most 1,024 rules."
+unfoldable pub rulesIn : List ℤ → Option (List Rule)
+rulesIn ws = rulesFrom mostRules ws
+
+-- Steps. "a proof text that 21 to 25 would refuse"
+
+-- the letter whose byte it is
+abbrev pub letterIn : Class → Option Letter
+letterIn (Class.Step x) = some x
+letterIn Class.Newline = none
+letterIn Class.Space = none
+letterIn Class.Minus = none
+letterIn (Class.Digit d) = none
+letterIn Class.Other = none
+
+-- questions 22 to 25 of a step's line
+unfoldable pub stepPasses : Step → Bool
+stepPasses t = not (has (pos 0) (t .numbers)) && allPassed (lineRefusal (t .letter) (t .numbers))
+
+abbrev pub stepBefore : Step → Option (List Step) → Option (List Step)
+stepBefore t none = none
+stepBefore t (some ts) = some (t ∷ ts)
+
+-- a letter, its numbers and the steps after them
+abbrev pub stepWith : Option Letter → List ℤ → Option (List Step) → Option (List Step)
+stepWith none zs o = none
+stepWith (some x) zs o =
+    cond (stepPasses (record { letter = x; numbers = zs })) (stepBefore (record { letter = x; numbers = zs }) o) none
+
+-- so many steps
+unfoldable pub stepsFrom : ℕ → List ℕ → Option (List Step)
+stepsFrom zero bs = some []
+stepsFrom (suc n) [] = none
+stepsFrom (suc n) (x ∷ []) = none
+stepsFrom (suc n) (x ∷ c ∷ bs) = stepWith (letterIn (classOf x)) (numbersFrom 2 c bs) (stepsFrom n (drop (2 * c) bs))
+
+-- "At most 65,535 bytes? 21.", of the text that the steps stand for
+abbrev pub ifShort : Option (List Step) → Option (List Step)
+ifShort none = none
+ifShort (some ts) = cond (leb (length (textOf ts)) longest) (some ts) none
+
+unfoldable pub stepsIn : ℕ → List ℕ → Option (List Step)
+stepsIn n bs = ifShort (stepsFrom n bs)
+
+-- What the reader comes to
+
+-- the pair, or the number of a refusal
+pub data PacketRead : Type 0 where
+  refused : ℕ → PacketRead
+  pair : List Rule → List Step → PacketRead
+
+-- "a table that 41 or a proof text that 21 to 25 would refuse 53"
+abbrev pub paired : Option (List Rule) → Option (List Step) → PacketRead
+paired none o = refused 53
+paired (some P) none = refused 53
+paired (some P) (some ts) = pair P ts
+
+-- "and last an output too short, again 52": the table outside the packet has its own words
+abbrev pub ifHeld : ℕ → ℕ → PacketRead → PacketRead
+ifHeld tableSize textSize (refused k) = refused k
+ifHeld tableSize textSize (pair P ts) =
+    cond (leb (length (programWords P)) tableSize && leb (length (textOf ts)) textSize) (pair P ts) (refused 52)
+
+-- of the bytes of the words and of the steps, with so many of either
+unfoldable pub partsRead : ℕ → List ℕ → ℕ → List ℕ → ℕ → ℕ → PacketRead
+partsRead words wordBytes count bytes tableSize textSize =
+    ifHeld tableSize textSize (paired (rulesIn (numbersFrom 4 words wordBytes)) (stepsIn count bytes))
+
+-- "A wrong or missing mark or version is 51, lengths that don't make up the bytes given 52, .. tested in this order"
+unfoldable pub reading : List ℕ → ℕ → ℕ → PacketRead
+reading packet tableSize textSize =
+    cond (startsWith mark packet)
+    (cond (lengthsFit packet) (partsRead (wordCount packet) (wordPart packet) (stepCount packet) (stepPart packet) tableSize textSize) (refused 52))
+    (refused 51)
+
+-- the answer: the rule count, which "Outside the packet" stands with the table, and the bytes of the proof text
+abbrev pub readingAnswer : PacketRead → PacketReading
+readingAnswer (refused k) = Reading.Refused k
+readingAnswer (pair P ts) = Reading.Read (length P) (length (textOf ts))
+
+-- "Outputs are 0 past what is written. A refusal zeroes whatever was lent to be filled."
+abbrev pub filled : {A : Type 0} → A → ℕ → List A → List A
+filled z size l = l ++ replicate (size - length l) z
+
+-- every word of the lent table
+abbrev pub tableLeft : ℕ → PacketRead → List ℤ
+tableLeft size (refused k) = replicate size (pos 0)
+tableLeft size (pair P ts) = tableWords size P
+
+-- every byte of the lent proof text
+abbrev pub textLeft : ℕ → PacketRead → List ℕ
+textLeft size (refused k) = replicate size 0
+textLeft size (pair P ts) = filled 0 size (textOf ts)
+
+-- The contract of `read_packet`. A primed name is what a lent slice holds afterwards.
+pub record ReadLeaves (read : PacketRead) (table table′ : List ℤ) (proof proof′ : List ℕ) (r : PacketReading) : Type 0 where
+  pub answer : r ≡ readingAnswer read
+  pub words : table′ ≡ tableLeft (length table) read
+  pub text : proof′ ≡ textLeft (length proof) read
+
+abbrev pub ReadPacket : List ℕ → List ℤ → List ℤ → List ℕ → List ℕ → PacketReading → Type 0
+ReadPacket packet table table′ proof proof′ r = ReadLeaves (reading packet (length table) (length proof)) table table′ proof proof′ r
+
+-- What the writer comes to
+
+-- the packet's bytes, or the number of a refusal
+pub data PacketWritten : Type 0 where
+  unwritten : ℕ → PacketWritten
+  written : List ℕ → PacketWritten
+
+abbrev pub stepsTaken : StepsRead → Option (List Step)
+stepsTaken (steps ts) = some ts
+stepsTaken (Texts.refused before k n) = none
+
+-- the bytes, where the output holds them
+abbrev pub held : ℕ → PacketRead → PacketWritten
+held size (refused k) = unwritten k
+held size (pair P ts) = cond (leb (length (packetOf P ts)) size) (written (packetOf P ts)) (unwritten 52)
+
+-- The writer has no mark to test, so 53 comes first, and then 52.
+unfoldable pub writing : List ℤ → ℕ → List ℕ → ℕ → PacketWritten
+writing table rules proof size = held size (paired (rulesOf table rules) (stepsTaken (stepsOf proof)))
+
+abbrev pub writingAnswer : PacketWritten → PacketWriting
+writingAnswer (unwritten k) = Writing.Refused k
+writingAnswer (written bs) = Writing.Written (length bs)
+
+-- every byte of the lent output
+abbrev pub packetLeft : ℕ → PacketWritten → List ℕ
+packetLeft size (unwritten k) = replicate size 0
+packetLeft size (written bs) = filled 0 size bs
+
+pub record WritingLeaves (w : PacketWritten) (packet packet′ : List ℕ) (r : PacketWriting) : Type 0 where
+  pub answer : r ≡ writingAnswer w
+  pub bytes : packet′ ≡ packetLeft (length packet) w
+
+-- the contract of `write_packet`
+abbrev pub WrittenPacket : List ℤ → ℕ → List ℕ → List ℕ → List ℕ → PacketWriting → Type 0
+WrittenPacket table rules proof packet packet′ r = WritingLeaves (writing table rules proof (length packet)) packet packet′ r
