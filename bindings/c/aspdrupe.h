@@ -58,8 +58,8 @@ uint32_t aspdrupe_read_program(const uint8_t *text, size_t text_len, int32_t *ta
 
 /* Tests whether a set of atoms is an answer set of the program that a table holds, as aspdrupe_read_program leaves it with that
  * number of rules. The set is ascending; there are ASPDRUPE_MARKS marks.
- * Returns ASPDRUPE_YES; or ASPDRUPE_DIFFERS, where answer[0] is an atom that lies in just one of the set and the least model of its
- * reduct; or ASPDRUPE_BROKEN, where the two are equal and answer[0] is the number of the first broken constraint, counted from 1.
+ * Returns ASPDRUPE_YES; or ASPDRUPE_DIFFERS, where answer[0] is the lowest atom that lies in just one of the set and the least model of
+ * its reduct; or ASPDRUPE_BROKEN, where the two are equal and answer[0] is the number of the first broken constraint, counted from 1.
  * The marks then hold 1 at each atom of the least model, atom v at marks[v], and 0 elsewhere.
  * Otherwise returns 41 (no such table), 42 (no such set) or 43 (not ASPDRUPE_MARKS marks): all marks are 0. Where no number is
  * named, `answer` stays as it was. */

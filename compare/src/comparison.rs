@@ -156,8 +156,8 @@ impl Comparison {
         let (expected, expected_marks) = models::test_set(table, rules, set, marks_room);
         let mut marks = vec![self.random.below(256) as u8; marks_room];
         let answered = aspdrupe::test_set(table, rules, set, &mut marks);
-        let good = marks == expected_marks && answered.is_ok_and(|answer| set_answer_fits(&answer, &expected, set));
-        self.tally.count(format!("test_set: {}", set_kind(&expected)));
+        let good = marks == expected_marks && answered.as_ref().map(set_answer_in_reference_form) == Ok(expected);
+        self.tally.count(format!("test_set: {}", set_kind(&expected, set)));
         self.settle(good, || {
             let told = if marks == expected_marks { "" } else { ", and the marks differ" };
             let used = table.iter().rposition(|word| *word != 0).map_or(0, |last| last + 1);
@@ -294,21 +294,22 @@ fn line_answer_fits(answer: &aspdrupe::LineAnswer, numbers: &[i32], expected: &l
     good && numbers == filled(listed.to_vec(), LINE_LIMIT)
 }
 
-/// Whether the answer is the expected one; the atom shown has to lie in just one of the two sets.
-fn set_answer_fits(answered: &aspdrupe::SetAnswer, expected: &models::Answer, set: &[u16]) -> bool {
-    match (answered, expected) {
-        (aspdrupe::SetAnswer::Yes, models::Answer::Yes) => true,
-        (aspdrupe::SetAnswer::Differs(atom), models::Answer::Differs { least }) => least.contains(&i32::from(*atom)) != set.contains(atom),
-        (aspdrupe::SetAnswer::Broken(rule), models::Answer::Broken(number)) => rule == number,
-        (aspdrupe::SetAnswer::Refused(question), models::Answer::Refused(number)) => question.number() == *number,
-        _ => false,
+/// The library's answer to the set test as the reference would say it.
+fn set_answer_in_reference_form(answer: &aspdrupe::SetAnswer) -> models::Answer {
+    match *answer {
+        aspdrupe::SetAnswer::Yes => models::Answer::Yes,
+        aspdrupe::SetAnswer::Differs(atom) => models::Answer::Differs(i32::from(atom)),
+        aspdrupe::SetAnswer::Broken(rule) => models::Answer::Broken(rule),
+        aspdrupe::SetAnswer::Refused(question) => models::Answer::Refused(question.number()),
     }
 }
 
-fn set_kind(answer: &models::Answer) -> String {
+/// The answer's kind; of an atom shown, which of the two it lies in.
+fn set_kind(answer: &models::Answer, set: &[u16]) -> String {
     match answer {
         models::Answer::Yes => String::from("yes"),
-        models::Answer::Differs { .. } => String::from("differs"),
+        models::Answer::Differs(atom) if set.iter().any(|listed| i32::from(*listed) == *atom) => String::from("differs, in the set only"),
+        models::Answer::Differs(_) => String::from("differs, in the model only"),
         models::Answer::Broken(_) => String::from("broken"),
         models::Answer::Refused(number) => format!("refused {number}"),
     }
@@ -366,12 +367,23 @@ mod tests {
     }
 
     #[test]
-    fn atoms_that_may_be_shown() {
-        let expected = models::Answer::Differs { least: [2, 3].into() };
-        let fits = |answer| set_answer_fits(&answer, &expected, &[1, 2]);
-        assert_eq!([1, 2, 3, 4].map(|atom| fits(SetAnswer::Differs(atom))), [true, false, true, false]);
-        assert!(!fits(SetAnswer::Yes) && !fits(SetAnswer::Broken(1)));
-        assert!(!set_answer_fits(&SetAnswer::Refused(SetQuestion::Set), &models::Answer::Refused(41), &[]));
+    fn set_answers_that_differ() {
+        let said = |answer| set_answer_in_reference_form(&answer);
+        let expected = models::Answer::Differs(1);
+        assert_eq!([0, 1, 2, 4_095].map(|atom| said(SetAnswer::Differs(atom)) == expected), [false, true, false, false]);
+        assert!(said(SetAnswer::Yes) != expected && said(SetAnswer::Broken(1)) != expected);
+        assert_eq!(said(SetAnswer::Yes), models::Answer::Yes);
+        assert_eq!(said(SetAnswer::Broken(3)), models::Answer::Broken(3));
+        assert_eq!(said(SetAnswer::Refused(SetQuestion::Set)), models::Answer::Refused(42));
+    }
+
+    #[test]
+    fn kinds_of_set_answers() {
+        let kind = |answer| set_kind(&answer, &[1, 3]);
+        assert_eq!(kind(models::Answer::Differs(3)), "differs, in the set only");
+        assert_eq!(kind(models::Answer::Differs(2)), "differs, in the model only");
+        assert_eq!(kind(models::Answer::Broken(2)), "broken");
+        assert_eq!(kind(models::Answer::Refused(43)), "refused 43");
     }
 
     #[test]

@@ -134,7 +134,7 @@ fn run_fixed_set(comparison: &mut Comparison, index: u64) {
     };
     let table = table_words(&program.rules);
     let (answer, _) = models::test_set(&table, program.rules.len(), case.set, MARKS);
-    comparison.settle((answer == models::Answer::Yes) == case.passes, || format!("{}: the reference says {answer:?}", case.name));
+    comparison.settle(answer == case.answer, || format!("{}: the reference says {answer:?}, not {:?}", case.name, case.answer));
     comparison.test_set(&table, program.rules.len(), case.set, MARKS);
     comparison.test_set(&filled(table, ROOM), program.rules.len(), case.set, MARKS);
 }

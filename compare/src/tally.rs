@@ -63,7 +63,8 @@ fn wanted(with_binary: bool) -> Vec<String> {
     wanted.extend("abcdels".chars().map(|letter| format!("read_line: {letter}")));
     wanted.push(String::from("read_line: end"));
     wanted.extend((21..=25).map(|number| format!("read_line: refused {number}")));
-    wanted.extend(["yes", "differs", "broken", "refused 41", "refused 42", "refused 43"].map(|word| format!("test_set: {word}")));
+    wanted.extend(["yes", "broken", "refused 41", "refused 42", "refused 43"].map(|word| format!("test_set: {word}")));
+    wanted.extend(["set", "model"].map(|which| format!("test_set: differs, in the {which} only")));
     wanted.extend(["written", "refused 52", "refused 53"].map(|word| format!("write_packet: {word}")));
     wanted.extend(["read", "refused 51", "refused 52", "refused 53"].map(|word| format!("read_packet: {word}")));
     wanted.extend("abcdels".chars().map(|letter| format!("inconsistent by a proof with {letter}")));
@@ -87,5 +88,14 @@ mod tests {
         assert!(!left.contains(&String::from("check_texts: refused program 03")));
         assert!(left.contains(&String::from("check_texts: refused program 11")));
         assert_eq!(tally.missing(true).len(), left.len() + 27 - 1);
+    }
+
+    #[test]
+    fn atoms_of_both_sides_are_wanted() {
+        let mut tally = Tally::default();
+        let sides = ["test_set: differs, in the set only", "test_set: differs, in the model only"].map(String::from);
+        assert!(sides.iter().all(|side| tally.missing(false).contains(side)));
+        tally.count(sides[0].clone());
+        assert!(!tally.missing(false).contains(&sides[0]) && tally.missing(false).contains(&sides[1]));
     }
 }

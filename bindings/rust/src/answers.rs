@@ -40,7 +40,7 @@ pub enum ProgramReading {
 pub enum SetAnswer {
     /// It is an answer set.
     Yes,
-    /// An atom that lies in just one of the set and the least model.
+    /// The lowest atom that lies in just one of the set and the least model.
     Differs(u16),
     /// The first broken constraint's rule number, counted from 1.
     Broken(usize),

@@ -86,6 +86,24 @@ fn sets() {
 }
 
 #[test]
+fn lowest_atoms() {
+    let mut marks = [7; MARKS];
+    // a loop, which gives neither of its atoms
+    let circle = [0, 1, 1, 1, 2, 0, 1, 1, 2, 1];
+    assert_eq!(test_set(&circle, 2, &[1, 2], &mut marks), Ok(SetAnswer::Differs(1)));
+    assert_eq!(test_set(&circle, 2, &[2], &mut marks), Ok(SetAnswer::Differs(2)));
+    // 1 and 2 are in the set only, 3 is in the model only
+    assert_eq!(test_set(&[0, 1, 0, 3], 1, &[1, 2], &mut marks), Ok(SetAnswer::Differs(1)));
+    // 2 is in the model only, 3 in the set only
+    let given = [0, 1, 0, 1, 0, 1, 0, 2, 0, 1, 1, 3, -1];
+    assert_eq!(test_set(&given, 3, &[1, 3], &mut marks), Ok(SetAnswer::Differs(2)));
+    assert_eq!(marks[..4], [0, 1, 1, 0]);
+    // atom 1 differs, and rule 3 is broken too
+    let broken = [0, 1, 0, 2, 0, 1, 0, 1, 0, 0, 1, 2];
+    assert_eq!(test_set(&broken, 3, &[2], &mut marks), Ok(SetAnswer::Differs(1)));
+}
+
+#[test]
 fn lines_of_starred_1() {
     let mut at = 0;
     let mut seen = Vec::new();

@@ -1,7 +1,9 @@
-//! The starred examples of document 01, its 'Others', what it calls tempting, and the worked example of source 000, each with the
-//! line or the answer that the document asks for.
+//! The starred examples of document 01, its 'Others', what it calls tempting, the worked example of source 000, and the set test's
+//! worked cases, each with the line or the answer that the document asks for.
 
 use inputs::{Pair, ROOM};
+
+use crate::reference::models::Answer::{self, Broken, Differs, Yes};
 
 /// Two texts and the line that a table and a store of so many words must lead to.
 pub struct Case {
@@ -12,12 +14,12 @@ pub struct Case {
     pub line: String,
 }
 
-/// A program, a set of atoms, and whether it is an answer set.
+/// A program, a set of atoms, and the set test's answer.
 pub struct SetCase {
     pub name: &'static str,
     pub program: Vec<u8>,
     pub set: &'static [u16],
-    pub passes: bool,
+    pub answer: Answer,
 }
 
 pub const RULE_1: &[&str] = &["1 0 1 1 0 1 -1"];
@@ -136,17 +138,44 @@ fn source() -> Case {
 }
 
 pub fn set_cases() -> Vec<SetCase> {
-    let case = |name, rules: &[&str], set, passes| SetCase { name, program: program(rules), set, passes };
+    let mut cases = starred_sets();
+    cases.extend(lowest_atoms());
+    cases
+}
+
+fn set_case(name: &'static str, rules: &[&str], set: &'static [u16], answer: Answer) -> SetCase {
+    SetCase { name, program: program(rules), set, answer }
+}
+
+fn starred_sets() -> Vec<SetCase> {
     vec![
-        case("starred 1, empty", RULE_1, &[], false),
-        case("starred 1, full", RULE_1, &[1], false),
-        case("starred 4", &[], &[], true),
-        case("starred 5, empty", RULES_5, &[], false),
-        case("starred 6, empty", RULES_6, &[], true),
-        case("starred 6, {1, 2}", RULES_6, &[1, 2], false),
-        case("starred 7, empty", RULES_7, &[], true),
-        case("starred 7, {1}", RULES_7, &[1], true),
-        case("starred 8, {1}", RULES_8, &[1], true),
-        case("starred 8, empty", RULES_8, &[], false),
+        set_case("starred 1, empty", RULE_1, &[], Differs(1)),
+        set_case("starred 1, full", RULE_1, &[1], Differs(1)),
+        set_case("starred 4", &[], &[], Yes),
+        set_case("starred 5, empty", RULES_5, &[], Broken(3)),
+        set_case("starred 6, empty", RULES_6, &[], Yes),
+        set_case("starred 6, {1, 2}", RULES_6, &[1, 2], Differs(1)),
+        set_case("starred 7, empty", RULES_7, &[], Yes),
+        set_case("starred 7, {1}", RULES_7, &[1], Yes),
+        set_case("starred 8, {1}", RULES_8, &[1], Yes),
+        set_case("starred 8, empty", RULES_8, &[], Differs(1)),
+    ]
+}
+
+/// The eight worked cases of Change 2, and one with an atom of the model below one of the set.
+fn lowest_atoms() -> Vec<SetCase> {
+    let unless_2 = &["1 0 1 1 0 0", "1 0 1 2 0 0", "1 0 1 3 0 1 -2"];
+    let unless_1 = &["1 0 1 1 0 0", "1 0 1 2 0 0", "1 0 1 3 0 1 -1"];
+    let broken_too = &["1 0 1 2 0 0", "1 0 1 1 0 0", "1 0 0 0 1 2"];
+    vec![
+        set_case("a loop, {1, 2}", RULES_6, &[1, 2], Differs(1)),
+        set_case("a loop, {2}", RULES_6, &[2], Differs(2)),
+        set_case("1, 2 and 3 all differ", &["1 0 1 3 0 0"], &[1, 2], Differs(1)),
+        set_case("the lowest in the model only", &["1 0 1 1 0 0", "1 1 1 2 0 0"], &[2], Differs(1)),
+        set_case("2 in the model only, 1 and 3 in both", unless_2, &[1, 3], Differs(2)),
+        set_case("the highest atom alone", &["1 0 1 4095 0 1 4095"], &[4_095], Differs(4_095)),
+        set_case("an atom before a broken constraint", broken_too, &[2], Differs(1)),
+        set_case("a broken constraint where nothing differs", &["1 1 3 1 2 3 0 0", "1 0 0 0 1 1"], &[1, 3], Broken(2)),
+        set_case("2 in the model only, 3 in the set only", unless_1, &[1, 3], Differs(2)),
     ]
 }

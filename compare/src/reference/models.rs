@@ -58,11 +58,11 @@ pub fn answer_set_over(rules: &[Rule], atoms: &[i32]) -> Option<Set> {
     every_set(atoms).find(|set| is_answer_set(rules, set))
 }
 
-/// What the set test answers. A set that differs comes with the least model, so that any atom shown can be tried.
-#[derive(Clone, Debug, PartialEq, Eq)]
+/// What the set test answers: of a set that differs from the least model, the atom shown.
+#[derive(Clone, Copy, Debug, PartialEq, Eq)]
 pub enum Answer {
     Yes,
-    Differs { least: Set },
+    Differs(i32),
     Broken(usize),
     Refused(u8),
 }
@@ -75,16 +75,21 @@ pub fn test_set(table: &[i32], rule_count: usize, listed: &[u16], marks: usize) 
             let set: Set = listed.iter().map(|atom| i32::from(*atom)).collect();
             let least = least_model(&rules, &set);
             let marked = (0..MARKS as i32).map(|atom| u8::from(least.contains(&atom))).collect();
-            (judged(&rules, &set, least), marked)
+            (judged(&rules, &set, &least), marked)
         }
     }
 }
 
-fn judged(rules: &[Rule], set: &Set, least: Set) -> Answer {
-    if least != *set {
-        return Answer::Differs { least };
+/// "The atom shown becomes the lowest that lies in just one of the set and the least model."
+fn lowest_apart(set: &Set, least: &Set) -> Option<i32> {
+    set.symmetric_difference(least).copied().min()
+}
+
+fn judged(rules: &[Rule], set: &Set, least: &Set) -> Answer {
+    match lowest_apart(set, least) {
+        Some(atom) => Answer::Differs(atom),
+        None => broken_constraint(rules, set).map_or(Answer::Yes, Answer::Broken),
     }
-    broken_constraint(rules, set).map_or(Answer::Yes, Answer::Broken)
 }
 
 fn questions(table: &[i32], rule_count: usize, listed: &[u16], marks: usize) -> Result<Vec<Rule>, u8> {
@@ -161,6 +166,24 @@ mod tests {
         assert_eq!(answer_set_over(&one, &[1]), None);
         let eight = [rule(false, &[1], &[-1]), rule(false, &[1], &[])];
         assert_eq!(answer_set_over(&eight, &[1]), Some(set(&[1])));
+    }
+
+    #[test]
+    fn lowest_of_those_apart() {
+        assert_eq!(lowest_apart(&set(&[]), &set(&[])), None);
+        assert_eq!(lowest_apart(&set(&[1, 3]), &set(&[1, 3])), None);
+        assert_eq!(lowest_apart(&set(&[1, 3]), &set(&[1, 2])), Some(2));
+        assert_eq!(lowest_apart(&set(&[1, 2]), &set(&[1, 3])), Some(2));
+        assert_eq!(lowest_apart(&set(&[4_095]), &set(&[])), Some(4_095));
+    }
+
+    #[test]
+    fn constraints_after_atoms() {
+        let rules = [rule(false, &[2], &[]), rule(false, &[1], &[]), rule(false, &[], &[2])];
+        let judge = |listed: &[i32]| judged(&rules, &set(listed), &least_model(&rules, &set(listed)));
+        assert_eq!(judge(&[2]), Answer::Differs(1));
+        assert_eq!(judge(&[1, 2]), Answer::Broken(3));
+        assert_eq!(judged(&rules[..2], &set(&[1, 2]), &set(&[1, 2])), Answer::Yes);
     }
 
     #[test]

@@ -3,6 +3,7 @@
 use mathlib.Core.Path.{_≡_, refl, sym, _∙_, subst}
 use mathlib.Core.Logic.{inl}
 use mathlib.Core.Bool.{Bool, true, false, cond, true≢false}
+use mathlib.Core.Option.{Option, none, some}
 use mathlib.Core.List.{List, [], _∷_, List·Memᴰ·head, List·Memᴰ·tail, Memᴰ·cast}
 use Prim.Native.Nat.{ℕ, zero, suc, _+_, _≤_, _<_}
 use native.Mathlib.Omega.{arith}
@@ -19,11 +20,12 @@ use Rattle.words.proofs.Tops.{top-le}
 use Rattle.aspif.specs.AnswerSets.{Constraint, LeastModel, derive, Met, AnswerSet}
 use Rattle.aspif.specs.Tables.{headsSound, sizeAt, headsAt, shapeSound, soundAt, rulesAt, soundRules}
 use Rattle.marks.specs.Marks.{listed, marked}
-use Rattle.answer_set.specs.SetTest.{rounds, least, isBroken, anyBelow, justOne, yes, differs, breaks, brokenFrom, differsAt, verdictOf}
+use Rattle.answer_set.specs.SetTest.{rounds, least, isBroken, lowestFrom, justOne, yes, differs, breaks, brokenFrom, differsAt, verdictOf, shown}
 use Rattle.answer_set.specs.Claims.{Listed, Ready, MarksLeast, YesAnswerSet}
 use Rattle.words.proofs.Ascending.{ascends-in}
 use Rattle.aspif.proofs.Cursors.{sound-rules, atoms-small, rules-of}
 use Rattle.marks.proofs.Sets.{none-marked}
+use Rattle.answer_set.proofs.Marking.{lowest-none, none-lowest}
 use Rattle.answer_set.proofs.LeastModels.{Bits, Head, met-decides, rounds-decide, rounds-bits, rounds-length}
 use Rattle.words.proofs.Literals.{positive}
 use Rattle.aspif.proofs.RuleTests.{normal-decides, in-atoms, empty-decides}
@@ -83,7 +85,7 @@ module _ (table : List ℤ) (rules : ℕ) (l : List ℕ) (rs : List Rule) (ready
   fits : atoms rs < entries
   fits = let h = few in omega arith
 
-  model : (v : ℕ) → Decides (marked (least (listed l) rs) v) (LeastModel (Listed l) rs v)
+  pub model : (v : ℕ) → Decides (marked (least (listed l) rs) v) (LeastModel (Listed l) rs v)
   unfolding least
   model = in-model entries fits
 
@@ -100,24 +102,12 @@ marks-least table rules l rs h =
 
 -- The answer
 
-below-all : (f : ℕ → Bool) (n : ℕ) → anyBelow f n ≡ false → (v : ℕ) → v < n → f v ≡ false
-below-all f zero e v h = absurd (omega arith)
-below-all f (suc n) e v h = by (eqb v n) refl (λ k. below-all f n (or-false-right (f n) _ e) v k)
-  where
-    by : (b : Bool) → eqb v n ≡ b → (v < n → f v ≡ false) → f v ≡ false
-    by true p k = rw (eqb-true v n p) (or-false-left (f n) _ e)
-    by false p k = let q = eqb-false v n p in k (omega arith)
-
-below-none : (f : ℕ → Bool) (n : ℕ) → ((v : ℕ) → v < n → f v ≡ false) → anyBelow f n ≡ false
-below-none f zero g = refl
-below-none f (suc n) g = rw (g n (omega arith)) (below-none f n (λ v h. g v (omega arith)))
-
-just-one : (a b : Bool) → justOne a b ≡ false → a ≡ b
+pub just-one : (a b : Bool) → justOne a b ≡ false → a ≡ b
 just-one true true e = refl
 just-one true false e = e
 just-one false b e = sym e
 
-same-both : (b : Bool) → justOne b b ≡ false
+pub same-both : (b : Bool) → justOne b b ≡ false
 same-both true = refl
 same-both false = refl
 
@@ -141,25 +131,25 @@ broken-decides l r =
     (met-decides (listed l) (Listed l) (listed-decides l) (listed l) (Listed l) (listed-decides l) (r .body))
 
 module _ (table : List ℤ) (rules : ℕ) (l : List ℕ) (rs : List Rule) (ready : Ready table rules l rs) where
-  abbrev f : ℕ → Bool
-  f = differsAt (listed l) (least (listed l) rs)
+  abbrev pub differing : ℕ → Bool
+  differing = differsAt (listed l) (least (listed l) rs)
 
-  least-small : {v : ℕ} → LeastModel (Listed l) rs v → v ≤ atoms rs
+  pub least-small : {v : ℕ} → LeastModel (Listed l) rs v → v ≤ atoms rs
   least-small (derive {h = h} r i taken g below) = heads table rules l rs ready r i (pos h) (g .0) .high
 
-  verdict : verdictOf (listed l) rs ≡ yes → (anyBelow f (atoms rs + 1) ≡ false) × (brokenFrom (listed l) 1 rs ≡ yes)
+  verdict : verdictOf (listed l) rs ≡ yes → (lowestFrom differing (atoms rs + 1) 0 ≡ none) × (brokenFrom (listed l) 1 rs ≡ yes)
   unfolding verdictOf
-  verdict = by (anyBelow f (atoms rs + 1)) refl
+  verdict = by (lowestFrom differing (atoms rs + 1) 0) refl
     where
-      by : (b : Bool) → anyBelow f (atoms rs + 1) ≡ b → cond b differs (brokenFrom (listed l) 1 rs) ≡ yes → (anyBelow f (atoms rs + 1) ≡ false) × (brokenFrom (listed l) 1 rs ≡ yes)
-      by true e p = absurd (let z : _≡_ {A = ℕ} 0 1 = cc in omega arith)
-      by false e p = (e, p)
+      by : (o : Option ℕ) → lowestFrom differing (atoms rs + 1) 0 ≡ o → shown o (brokenFrom (listed l) 1 rs) ≡ yes → (lowestFrom differing (atoms rs + 1) 0 ≡ none) × (brokenFrom (listed l) 1 rs ≡ yes)
+      by (some v) e p = absurd (let z : _≡_ {A = ℕ} 0 1 = cc in omega arith)
+      by none e p = (e, p)
 
   answers : verdictOf (listed l) rs ≡ yes → AnswerSet (Listed l) rs
   answers e =
       let w = verdict e in
       let same : (v : ℕ) → v ≤ atoms rs → listed l v ≡ marked (least (listed l) rs) v =
-      λ v h. just-one _ _ (below-all f (atoms rs + 1) (w .0) v (omega arith)) in
+      λ v h. just-one _ _ (lowest-none differing (atoms rs + 1) 0 (w .0) v (omega arith) (omega arith)) in
       record {
         least = λ v. (
           λ i. model table rules l rs ready v .to (subst T (same v (ascends-in 0 (atoms rs) (ready .ascending) i .1)) (listed-decides l v .from i)),
@@ -168,13 +158,13 @@ module _ (table : List ℤ) (rules : ℕ) (l : List ℕ) (rs : List Rule) (ready
         kept = λ r i c met. true≢false (sym (passed _ .to (broken-decides l r .from (c, met))) ∙ no-broken (listed l) 1 rs (w .1) i);
       }
 
-  agree : AnswerSet (Listed l) rs → (v : ℕ) → f v ≡ false
+  agree : AnswerSet (Listed l) rs → (v : ℕ) → differing v ≡ false
   agree s v = rw (same-test (listed-decides l v) (model table rules l rs ready v) (s .least v .0) (s .least v .1)) (same-both (marked (least (listed l) rs) v))
 
   answered-yes : AnswerSet (Listed l) rs → verdictOf (listed l) rs ≡ yes
   unfolding verdictOf
   answered-yes s =
-      rw (below-none f (atoms rs + 1) (λ v h. agree s v), none-broken (listed l) 1 rs (λ r i. failed _ (not-decides (broken-decides l r) .from (λ p. s .kept r i (p .0) (p .1)))))
+      rw (none-lowest differing (atoms rs + 1) 0 (λ v h k. agree s v), none-broken (listed l) 1 rs (λ r i. failed _ (not-decides (broken-decides l r) .from (λ p. s .kept r i (p .0) (p .1)))))
 
 pub yes-answer-set : YesAnswerSet
 yes-answer-set table rules l rs h = (answers table rules l rs h, answered-yes table rules l rs h)

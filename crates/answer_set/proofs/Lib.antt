@@ -4,3 +4,4 @@ pub mod Tested
 pub mod LeastModels
 pub mod Answered
 pub mod Service
+pub mod Shown

@@ -1,7 +1,9 @@
--- Laws on marks: literals and bodies under them, and what the rounds of `close` do to them.
+-- Laws on marks: literals and bodies under them, what the rounds of `close` do to them, and the lowest number that passes a test.
 -- Assumes nothing.
 use mathlib.Core.Path.{_≡_, refl, sym, _∙_, ap}
-use mathlib.Core.Bool.{Bool, true, false, not, true≢false}
+use mathlib.Core.Bool.{Bool, true, false, cond, not, true≢false}
+use mathlib.Core.Logic.{inl, inr}
+use mathlib.Core.Option.{none, some, Option·some-injective, Option·none-ne-some}
 use mathlib.Core.List.{List}
 use Prim.Native.Nat.{ℕ, zero, suc, _+_, _-_, _<_, _≤_}
 use native.Mathlib.Numerals.{add-one}
@@ -13,9 +15,10 @@ use lib.ListN.{length, drop, getD, drop-of-length-le}
 use lib.Seq.{drop-cons}
 use Rattle.words.specs.Literals.{variable}
 use Rattle.words.proofs.Lists.{one-less, nothing-left}
+use Rattle.words.proofs.Places.{equal?}
 use Rattle.aspif.specs.Rules.{Rule}
 use Rattle.aspif.specs.declared.Kind.{Kind}
-use Rattle.answer_set.specs.SetTest.{literalHolds, giveHead, giveHeads, round, rounds, anyBelow}
+use Rattle.answer_set.specs.SetTest.{literalHolds, giveHead, giveHeads, round, rounds, lowestFrom}
 use Rattle.marks.specs.Marks.{Marking}
 
 module _ (M S : ℕ → Bool) where
@@ -57,12 +60,63 @@ module _ (M : ℕ → Bool) where
 
 -- The loop of `differing`
 
+module _ (f : ℕ → Bool) (n i : ℕ) where
+  -- the number at i passes
+  pub lowest-here : i < n → f i ≡ true → lowestFrom f (n - i) i ≡ some i
+  lowest-here h e = ap (λ k. lowestFrom f k i) (one-less (n - i) (omega arith)) ∙ rw e
+
+  -- it does not, and those after it decide
+  pub lowest-on : i < n → f i ≡ false → lowestFrom f (n - i) i ≡ lowestFrom f (n - (i + 1)) (i + 1)
+  lowest-on h e =
+      let p : n - i - 1 ≡ n - (i + 1) = omega arith in
+      ap (λ k. lowestFrom f k i) (one-less (n - i) (omega arith)) ∙ rw (e, p)
+
+  pub lowest-end : n ≤ i → lowestFrom f (n - i) i ≡ none
+  lowest-end h = ap (λ k. lowestFrom f k i) (nothing-left (n - i) (omega arith))
+
+-- What is found: a number that passes, and nothing below it does
+pub record Lowest (f : ℕ → Bool) (n v w : ℕ) : Type 0 where
+  pub low : v ≤ w
+  pub high : w < v + n
+  pub here : f w ≡ true
+  pub below : (u : ℕ) → v ≤ u → u < w → f u ≡ false
+
 module _ (f : ℕ → Bool) where
-  pub below-on : (n : ℕ) → 0 < n → f (n - 1) ≡ false → anyBelow f n ≡ anyBelow f (n - 1)
-  below-on n h e = ap (anyBelow f) (one-less n h) ∙ rw e
+  pub lowest-some : (n v w : ℕ) → lowestFrom f n v ≡ some w → Lowest f n v w
+  lowest-some zero v w e = absurd (Option·none-ne-some w e)
+  lowest-some (suc n) v w e = by (f v) refl e (lowest-some n (v + 1) w)
+    where
+      by : (b : Bool) → f v ≡ b → cond b (some v) (lowestFrom f n (v + 1)) ≡ some w → (lowestFrom f n (v + 1) ≡ some w → Lowest f n (v + 1) w) → Lowest f (suc n) v w
+      by true p q g =
+          let s = Option·some-injective _ _ q in
+          record { low = omega arith; high = omega arith; here = rw (← s) p; below = λ u h k. absurd (omega (arith, s)) }
+      by false p q g =
+          let r = g q in
+          record {
+            low = omega (arith, r .low);
+            high = omega (arith, r .high);
+            here = r .here;
+            below = λ u h k. elim (equal? u v) [ inl e ↦ rw e p | inr d ↦ r .below u (omega (arith, d)) k ];
+          }
 
-  pub below-here : (n : ℕ) → 0 < n → f (n - 1) ≡ true → anyBelow f n ≡ true
-  below-here n h e = ap (anyBelow f) (one-less n h) ∙ rw e
+  pub lowest-none : (n v : ℕ) → lowestFrom f n v ≡ none → (u : ℕ) → v ≤ u → u < v + n → f u ≡ false
+  lowest-none zero v e u h k = absurd (omega arith)
+  lowest-none (suc n) v e u h k = by (f v) refl e (lowest-none n (v + 1))
+    where
+      by : (b : Bool) → f v ≡ b → cond b (some v) (lowestFrom f n (v + 1)) ≡ none
+          → (lowestFrom f n (v + 1) ≡ none → (u : ℕ) → v + 1 ≤ u → u < v + 1 + n → f u ≡ false) → f u ≡ false
+      by true p q g = absurd (Option·none-ne-some v (sym q))
+      by false p q g = elim (equal? u v) [ inl e ↦ rw e p | inr d ↦ g q u (omega (arith, d)) (omega arith) ]
 
-  pub below-end : (n : ℕ) → n ≤ 0 → anyBelow f n ≡ false
-  below-end n h = ap (anyBelow f) (nothing-left n h)
+  -- and the other way round
+  pub none-lowest : (n v : ℕ) → ((u : ℕ) → v ≤ u → u < v + n → f u ≡ false) → lowestFrom f n v ≡ none
+  none-lowest zero v g = refl
+  none-lowest (suc n) v g = rw (g v (omega arith) (omega arith)) (none-lowest n (v + 1) (λ u h k. g u (omega arith) (omega arith)))
+
+  pub lowest-is : (n v w : ℕ) → Lowest f n v w → lowestFrom f n v ≡ some w
+  lowest-is zero v w r = absurd (omega (arith, r .low, r .high))
+  lowest-is (suc n) v w r = elim (equal? w v) [
+    | inl e ↦ rw (ap f (sym e) ∙ r .here) (ap some (sym e))
+    | inr d ↦ rw (r .below v (omega arith) (omega (arith, r .low, d)))
+        (lowest-is n (v + 1) w (record { low = omega (arith, r .low, d); high = omega (arith, r .high); here = r .here; below = λ u h k. r .below u (omega arith) k }))
+  ]

@@ -1,6 +1,6 @@
 -- What the service's answers say: `table-refused` of refusal 41, `service-yes` of yes.
 -- Assumes nothing.
-use mathlib.Core.Path.{_≡_, refl, subst}
+use mathlib.Core.Path.{_≡_, refl, _∙_, ap}
 use mathlib.Core.Bool.{Bool, true, false, cond}
 use mathlib.Core.Option.{Option, none, some}
 use mathlib.Core.List.{List}
@@ -15,7 +15,7 @@ use Rattle.aspif.specs.Tables.{ReadAs, ReadTable, rulesOf}
 use Rattle.words.specs.Lists.{ascends}
 use Rattle.marks.specs.Marks.{listed}
 use Rattle.words.specs.Limits.{entries}
-use Rattle.answer_set.specs.SetTest.{least, SetVerdict, yes, differs, breaks, differsAt, verdictOf, Asked, refused, passed, askedOf, asked, Says, Answers}
+use Rattle.answer_set.specs.SetTest.{least, SetVerdict, yes, differs, breaks, differsAt, verdictOf, Asked, refused, passed, askedOf, asked, saidOf, setAnswer}
 use Rattle.answer_set.specs.Claims.{TableRefused, Listed, ServiceYes}
 use Rattle.answer_set.specs.declared.SetAnswer.the-variants.{Yes}
 use Rattle.answer_set.proofs.Answered.{yes-answer-set}
@@ -44,13 +44,13 @@ table-refused table rules l n = (there, back (rulesOf table rules) refl)
 
 -- The answer yes
 
-says-yes : (just : ℕ → Bool) (v : SetVerdict) → Says just v Yes → v ≡ yes
-says-yes just yes e = refl
-says-yes just differs e = absurd (let f = e .1 in let z : _≡_ {A = ℕ} 0 1 = cc in omega arith)
-says-yes just (breaks k) e = absurd (let z : _≡_ {A = ℕ} 0 1 = cc in omega arith)
+said-yes : (v : SetVerdict) → Yes ≡ saidOf v → v ≡ yes
+said-yes yes e = refl
+said-yes (differs v) e = absurd (let z : _≡_ {A = ℕ} 0 1 = cc in omega arith)
+said-yes (breaks k) e = absurd (let z : _≡_ {A = ℕ} 0 1 = cc in omega arith)
 
 -- no refusal is yes
-not-yes : (l : List ℕ) (k : ℕ) → Answers l (refused k) Yes → ⊥
+not-yes : (l : List ℕ) (k : ℕ) → Yes ≡ setAnswer l (refused k) → ⊥
 not-yes l k e = let z : _≡_ {A = ℕ} 0 1 = cc in omega arith
 
 record Passes (o : Option (List Rule)) (l : List ℕ) (n : ℕ) : Type 0 where
@@ -60,12 +60,12 @@ record Passes (o : Option (List Rule)) (l : List ℕ) (n : ℕ) : Type 0 where
   marks : n ≡ entries
   verdict : verdictOf (listed l) rs ≡ yes
 
-yes-passes : (o : Option (List Rule)) (l : List ℕ) (n : ℕ) → Answers l (askedOf o l n) Yes → Passes o l n
+yes-passes : (o : Option (List Rule)) (l : List ℕ) (n : ℕ) → Yes ≡ setAnswer l (askedOf o l n) → Passes o l n
 yes-passes none l n a = absurd (not-yes l 41 a)
 yes-passes (some rs) l n a = by (ascends 0 (atoms rs) l) refl (eqb n entries) refl a
   where
-    by : (b : Bool) → ascends 0 (atoms rs) l ≡ b → (c : Bool) → eqb n entries ≡ c → Answers l (cond b (cond c (passed rs) (refused 43)) (refused 42)) Yes → Passes (some rs) l n
-    by true p true q a = record { rs = rs; is = refl; ascending = p; marks = eqb-true n entries q; verdict = says-yes _ _ a }
+    by : (b : Bool) → ascends 0 (atoms rs) l ≡ b → (c : Bool) → eqb n entries ≡ c → Yes ≡ setAnswer l (cond b (cond c (passed rs) (refused 43)) (refused 42)) → Passes (some rs) l n
+    by true p true q a = record { rs = rs; is = refl; ascending = p; marks = eqb-true n entries q; verdict = said-yes _ a }
     by true p false q a = absurd (not-yes l 43 a)
     by false p c q a = absurd (not-yes l 42 a)
 
@@ -84,4 +84,4 @@ service-yes table rules l before after r t = (there, back)
         let h = table-read table rules rs .1 (p .1) in
         let e : askedOf (rulesOf table rules) l (length before) ≡ passed rs = rw (h, p .2, eq-eqb (length before) entries (p .3)) in
         let v = yes-answer-set table rules l rs (record { readable = h; ascending = p .2 }) .1 (p .4) in
-        subst (λ (v : SetVerdict). Says (differsAt (listed l) (least (listed l) rs)) v r) v (subst (λ (q : Asked). Answers l q r) e (t .answer))
+        t .answer ∙ ap (setAnswer l) e ∙ ap saidOf v

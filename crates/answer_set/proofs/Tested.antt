@@ -12,7 +12,7 @@ use Rattle.words.specs.Lists.{ascends}
 use Rattle.aspif.specs.Rules.{Rule, atoms}
 use Rattle.aspif.specs.Tables.{rulesAt, soundTable}
 use Rattle.marks.specs.Marks.{listed}
-use Rattle.answer_set.specs.SetTest.{rounds, least, anyBelow, differs, brokenFrom, differsAt, verdictOf, Asked, refused, passed, asked, Says, Answers, marksOf, SetTested}
+use Rattle.answer_set.specs.SetTest.{rounds, least, lowestFrom, brokenFrom, differsAt, verdictOf, Asked, refused, passed, asked, saidOf, setAnswer, marksOf, SetTested, shown}
 use Rattle.answer_set.specs.declared.SetAnswer.{SetAnswer}
 use Rattle.answer_set.specs.declared.SetAnswer.the-variants.{Refused}
 
@@ -23,7 +23,7 @@ module _ (table : List ℤ) (rules : ℕ) (l before after : List ℕ) where
   rs = rulesAt rules table
 
   -- by what is asked
-  settle : (q : Asked) (r : SetAnswer) → asked table rules l (length before) ≡ q → Answers l q r → after ≡ marksOf l q (length before)
+  settle : (q : Asked) (r : SetAnswer) → asked table rules l (length before) ≡ q → r ≡ setAnswer l q → after ≡ marksOf l q (length before)
       → SetTested table rules l before after r
   settle q r e a m = record { answer = rw e a; marks = rw e m }
 
@@ -43,7 +43,7 @@ module _ (table : List ℤ) (rules : ℕ) (l before after : List ℕ) where
   pub tested : soundTable table rules ≡ true → ascends 0 (atoms rs) l ≡ true → length before ≡ entries
       → {M : ℕ → Bool} {N : ℕ} {zeros : List ℕ} {r : SetAnswer} → M ≡ listed l → N ≡ atoms rs → zeros ≡ replicate (length before) 0
       → after ≡ rounds M N rs zeros
-      → Says (differsAt M after) (cond (anyBelow (differsAt M after) (N + 1)) differs (brokenFrom M 1 rs)) r
+      → r ≡ saidOf (shown (lowestFrom (differsAt M after) (N + 1) 0) (brokenFrom M 1 rs))
       → SetTested table rules l before after r
   unfolding asked least verdictOf
   tested s a n {r} e i z m t =

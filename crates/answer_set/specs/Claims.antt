@@ -7,7 +7,7 @@ use mathlib.Core.Logic.{_↔_, _⊎_}
 use mathlib.Core.Bool.{true}
 use mathlib.Core.Option.{some}
 use mathlib.Core.List.{List}
-use Prim.Native.Nat.{ℕ}
+use Prim.Native.Nat.{ℕ, _<_}
 use lib.IntN.{ℤ}
 use lib.ListN.{length, getD}
 use Rattle.words.specs.Lists.{_∈_, ascends}
@@ -16,9 +16,9 @@ use Rattle.aspif.specs.AnswerSets.{LeastModel, AnswerSet}
 use Rattle.aspif.specs.Tables.{ReadAs, ReadTable, rulesOf}
 use Rattle.words.specs.Limits.{entries}
 use Rattle.marks.specs.Marks.{listed}
-use Rattle.answer_set.specs.SetTest.{least, verdictOf, yes, refused, asked, SetTested}
+use Rattle.answer_set.specs.SetTest.{least, verdictOf, yes, refused, asked, SetTested, passed, setAnswer}
 use Rattle.answer_set.specs.declared.SetAnswer.{SetAnswer}
-use Rattle.answer_set.specs.declared.SetAnswer.the-variants.{Yes}
+use Rattle.answer_set.specs.declared.SetAnswer.the-variants.{Yes, Differs}
 
 -- question 41 is answered no exactly where there is no program that the reader reads so
 abbrev pub TableRefused : Type 0
@@ -46,6 +46,18 @@ MarksLeast = (table : List ℤ) (rules : ℕ) (l : List ℕ) (rs : List Rule) �
 abbrev pub YesAnswerSet : Type 0
 YesAnswerSet =
     (table : List ℤ) (rules : ℕ) (l : List ℕ) (rs : List Rule) → Ready table rules l rs → (verdictOf (listed l) rs ≡ yes) ↔ AnswerSet (Listed l) rs
+
+-- v lies in just one of two sets
+abbrev pub JustOne : (ℕ → Type 0) → (ℕ → Type 0) → ℕ → Type 0
+JustOne A B v = (A v × ¬ B v) ⊎ (B v × ¬ A v)
+
+-- "The atom shown becomes the lowest that lies in just one of the set and the least model": of a table and a set that pass 41 and 42,
+-- the answer is `Differs v` exactly where v lies in just one of the two and every smaller number in both or in neither
+abbrev pub LowestShown : Type 0
+LowestShown =
+    (table : List ℤ) (rules : ℕ) (l : List ℕ) (rs : List Rule) → Ready table rules l rs → (v : ℕ)
+    → (setAnswer l (passed rs) ≡ Differs v)
+    ↔ (JustOne (Listed l) (LeastModel (Listed l) rs) v × ((u : ℕ) → u < v → Listed l u ↔ LeastModel (Listed l) rs u))
 
 -- the service: its contract holds of the answer yes exactly where questions 41 to 43 are passed and the set is an answer set
 abbrev pub ServiceYes : Type 0

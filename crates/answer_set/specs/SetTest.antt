@@ -71,22 +71,27 @@ module _ (M : ℕ → Bool) where
 
 -- The answer
 
--- some number below n passes
-abbrev pub anyBelow : (ℕ → Bool) → ℕ → Bool
-anyBelow f zero = false
-anyBelow f (suc n) = f n || anyBelow f n
+-- the lowest of the n numbers from v on that passes
+abbrev pub lowestFrom : (ℕ → Bool) → (n v : ℕ) → Option ℕ
+lowestFrom f zero v = none
+lowestFrom f (suc n) v = cond (f v) (some v) (lowestFrom f n (v + 1))
 
 -- one of the two holds
 abbrev pub justOne : Bool → Bool → Bool
 justOne true b = not b
 justOne false b = b
 
--- "yes; or no with an atom that lies in just one of M and the least model ..; or, where the two are equal, the lowest rule
--- number, counted from 1, of a broken constraint"
+-- "yes; or no with" "the lowest" atom "that lies in just one of the set and the least model" (Change 2); "or, where the two are equal,
+-- the lowest rule number, counted from 1, of a broken constraint"
 pub data SetVerdict : Type 0 where
   yes : SetVerdict
-  differs : SetVerdict
-  breaks : ℕ → SetVerdict
+  differs : (atom : ℕ) → SetVerdict
+  breaks : (rule : ℕ) → SetVerdict
+
+-- an atom that differs decides, and else what is said of the constraints
+abbrev pub shown : Option ℕ → SetVerdict → SetVerdict
+shown none v = v
+shown (some a) v = differs a
 
 module _ (M : ℕ → Bool) where
   -- the lowest broken constraint, of rules of which the first has the number k
@@ -99,7 +104,7 @@ module _ (M : ℕ → Bool) where
   differsAt m v = justOne (M v) (marked m v)
 
   unfoldable pub verdictOf : List Rule → SetVerdict
-  verdictOf rs = cond (anyBelow (differsAt (least M rs)) (atoms rs + 1)) differs (brokenFrom 1 rs)
+  verdictOf rs = shown (lowestFrom (differsAt (least M rs)) (atoms rs + 1) 0) (brokenFrom 1 rs)
 
 -- The three questions, in their order
 
@@ -117,15 +122,15 @@ asked table rules l marks = askedOf (rulesOf table rules) l marks
 
 -- What the service answers and leaves
 
--- of the atom that is shown, only that it lies in just one of the two
-abbrev pub Says : (ℕ → Bool) → SetVerdict → SetAnswer → Type 0
-Says just yes r = r ≡ Yes
-Says just differs r = (v : ℕ) × (r ≡ Differs v) × (just v ≡ true)
-Says just (breaks k) r = r ≡ Broken k
+-- document 01's values for each case
+abbrev pub saidOf : SetVerdict → SetAnswer
+saidOf yes = Yes
+saidOf (differs v) = Differs v
+saidOf (breaks k) = Broken k
 
-abbrev pub Answers : List ℕ → Asked → SetAnswer → Type 0
-Answers l (refused k) r = r ≡ Refused k
-Answers l (passed rs) r = Says (differsAt (listed l) (least (listed l) rs)) (verdictOf (listed l) rs) r
+abbrev pub setAnswer : List ℕ → Asked → SetAnswer
+setAnswer l (refused k) = Refused k
+setAnswer l (passed rs) = saidOf (verdictOf (listed l) rs)
 
 -- "The marks afterwards hold 1 at each atom of the least model and 0 elsewhere"; "Every refusal zeroes the whole of the .. marks"
 abbrev pub marksOf : List ℕ → Asked → ℕ → List ℕ
@@ -134,5 +139,5 @@ marksOf l (passed rs) marks = least (listed l) rs
 
 -- the public contract: the answer and every mark
 pub record SetTested (table : List ℤ) (rules : ℕ) (l before after : List ℕ) (r : SetAnswer) : Type 0 where
-  pub answer : Answers l (asked table rules l (length before)) r
+  pub answer : r ≡ setAnswer l (asked table rules l (length before))
   pub marks : after ≡ marksOf l (asked table rules l (length before)) (length before)

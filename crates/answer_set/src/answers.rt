@@ -1,12 +1,12 @@
 // The answer on a set, once the least model is marked.
 ghost use mathlib.Core.Path.{_≡_};
-ghost use mathlib.Core.Bool.{Bool, true, cond};
-ghost use Prim.Native.Nat.{ℕ, _+_, _≤_};
+ghost use mathlib.Core.Bool.{true};
+ghost use Prim.Native.Nat.{_+_, _≤_};
 ghost use Rattle.words.specs.Limits.{largest, entries};
 ghost use Rattle.aspif.specs.Tables.{ruleAt, shapeSound, rulesAt, soundTable};
 ghost use Rattle.marks.specs.Marks.{marked};
-ghost use Rattle.answer_set.specs.SetTest.{isConstraint, isBroken, anyBelow, justOne, differs, brokenFrom, differsAt, Says};
-ghost use Rattle.answer_set.specs.Private.{Finds};
+ghost use Rattle.answer_set.specs.SetTest.{isConstraint, isBroken, lowestFrom, justOne, shown, brokenFrom, differsAt, saidOf};
+ghost use Rattle.answer_set.specs.Private.{searched};
 use crate::SetAnswer;
 use crate::models;
 use aspif::Kind;
@@ -25,17 +25,17 @@ fn just_one(a: bool, b: bool) -> bool
     if a { !b } else { b }
 }
 
-// A number below n that lies in just one of M and the least model, if there is one.
+// The lowest number below n that lies in just one of M and the least model, if there is one.
 fn differing(inside: &[u8], marks: &[u8], n: usize) -> Search
     requires { ⌜ n ≤ entries ⌝ }
-    ensures { λ r. ⌜ Finds (differsAt (marked (now (inside .entry))) (now (marks .entry))) n r ⌝ }
+    ensures { λ r. ⌜ r ≡ searched (lowestFrom (differsAt (marked (now (inside .entry))) (now (marks .entry))) n 0) ⌝ }
 {
-    let mut i = n;
-    while 0 < i {
-        i -= 1;
+    let mut i = 0;
+    while i < n {
         if just_one(marks::is_marked(inside, i), marks::is_marked(marks, i)) {
             return Search::At(i as u16);
         }
+        i += 1;
     }
     Search::Nothing
 }
@@ -66,8 +66,7 @@ fn is_broken(words: &[i32], inside: &[u8]) -> bool
 // The lowest broken constraint, or yes.
 fn first_broken(table: &[i32], rules: usize, inside: &[u8]) -> SetAnswer
     requires { ⌜ soundTable (now table) rules ≡ true ⌝ }
-    ensures { λ r. ⌜ ((just : ℕ → Bool) → Says just (brokenFrom (marked (now (inside .entry))) 1
-        (rulesAt rules (now (table .entry)))) r) ⌝ }
+    ensures { λ r. ⌜ r ≡ saidOf (brokenFrom (marked (now (inside .entry))) 1 (rulesAt rules (now (table .entry)))) ⌝ }
 {
     let mut number = 1;
     let mut left = rules;
@@ -88,8 +87,8 @@ fn first_broken(table: &[i32], rules: usize, inside: &[u8]) -> SetAnswer
 pub fn judge(table: &[i32], rules: usize, atoms: usize, inside: &[u8], marks: &[u8]) -> SetAnswer
     requires program { ⌜ (soundTable (now table) rules ≡ true) × (atoms ≤ largest) ⌝ }
     ensures { λ r. ⌜ (let M = marked (now (inside .entry)) in
-        let just = differsAt M (now (marks .entry)) in
-        Says just (cond (anyBelow just (atoms + 1)) differs (brokenFrom M 1 (rulesAt rules (now (table .entry))))) r) ⌝ }
+        r ≡ saidOf (shown (lowestFrom (differsAt M (now (marks .entry))) (atoms + 1) 0)
+        (brokenFrom M 1 (rulesAt rules (now (table .entry)))))) ⌝ }
 {
     let found = differing(inside, marks, atoms + 1);
     match found {

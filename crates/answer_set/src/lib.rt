@@ -9,7 +9,7 @@ use aspif::tables;
 // What the set test says of a set.
 pub enum SetAnswer {
     Yes,
-    // An atom that lies in just one of the set and the least model.
+    // The lowest atom that lies in just one of the set and the least model.
     Differs(u16),
     // The lowest broken constraint's rule number, counted from 1.
     Broken(usize),

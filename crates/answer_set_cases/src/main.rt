@@ -1,4 +1,4 @@
-// Worked cases of the set test: document 01's starred examples 4, 6, 7 and 8, constraints, and questions 41 to 43 at their edges.
+// Worked cases of the set test: document 01's starred examples 4, 6, 7 and 8, the lowest atom that differs, constraints, and questions 41 to 43 at their edges.
 // A line for each case: its name, the answer, and how many marks are 1 afterwards.
 use answer_set::SetAnswer;
 use cases::say;
@@ -19,7 +19,11 @@ fn ones(marks: &[u8]) -> usize {
 fn say_answer(answer: SetAnswer) {
     match answer {
         SetAnswer::Yes => say(b" yes"),
-        SetAnswer::Differs(_) => say(b" no, an atom differs"),
+        SetAnswer::Differs(v) => {
+            say(b" no, atom");
+            say_number(v as usize);
+            say(b" differs");
+        }
         SetAnswer::Broken(k) => {
             say(b" no, broken constraint");
             say_number(k);
@@ -57,6 +61,31 @@ fn starred() {
     let with_fact = [0i32, 1, 1, 1, -1, 0, 1, 0, 1, 0];
     case(b"8 {1}", &with_fact, 2, &[1]);
     case(b"8 {}", &with_fact, 2, &[]);
+}
+
+fn lowest() {
+    let loop_of_two = [0i32, 1, 1, 1, 2, 0, 1, 1, 2, 1];
+    case(b"lowest {2}", &loop_of_two, 2, &[2]);
+    case(b"lowest of three", &[0, 1, 0, 3], 1, &[1, 2]);
+    let fact_and_choice = [0i32, 1, 0, 1, 1, 1, 0, 2];
+    case(b"lowest in the model only", &fact_and_choice, 2, &[2]);
+    let negated = [0i32, 1, 0, 1, 0, 1, 0, 2, 0, 1, 1, 3, -2];
+    case(b"lowest in the model, between others", &negated, 3, &[1, 3]);
+    case(
+        b"lowest is the highest atom",
+        &[0, 1, 1, 4095, 4095],
+        1,
+        &[4095],
+    );
+    let facts_and_constraint = [0i32, 1, 0, 2, 0, 1, 0, 1, 0, 0, 1, 2];
+    case(
+        b"lowest before a constraint",
+        &facts_and_constraint,
+        3,
+        &[2],
+    );
+    let chosen = [1i32, 3, 0, 1, 2, 3, 0, 0, 1, 1];
+    case(b"nothing differs", &chosen, 2, &[1, 3]);
 }
 
 fn constraints() {
@@ -120,6 +149,7 @@ fn mark_counts() {
 
 fn main() {
     starred();
+    lowest();
     constraints();
     rule_counts();
     shapes();

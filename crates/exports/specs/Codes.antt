@@ -35,7 +35,7 @@ abbrev pub programNumbers : ProgramReading → List ℕ
 programNumbers (Program.Read n rules) = n ∷ rules ∷ []
 programNumbers (Program.Refused r) = r .line ∷ 0 ∷ []
 
--- The set test: "yes; or no with an atom ..; or .. the lowest rule number"; numbers 41 to 43
+-- The set test: "yes; or no with" the lowest "atom ..; or .. the lowest rule number"; numbers 41 to 43
 
 abbrev pub setCode : SetAnswer → ℕ
 setCode Set.Yes = 0

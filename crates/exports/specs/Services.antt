@@ -1,5 +1,5 @@
--- What the six functions for C return and leave: some answer for which the service's own contract holds, told by its code and
--- numbers. A primed name is what a lent slice holds afterwards; `answer` is the buffer for the numbers.
+-- What the six functions for C return and leave: an answer told by its code and numbers. Of the program reader and of the whole check
+-- it is the one for which the service's own contract holds, which is an equation; of the others it is said outright. A primed name is what a lent slice holds afterwards; `answer` is the buffer for the numbers.
 -- Assumes nothing.
 use mathlib.Core.Path.{_≡_}
 use mathlib.Core.List.{List}
@@ -9,8 +9,7 @@ use lib.ListN.{length}
 use lib.Seq.{sets}
 use Rattle.aspif.specs.Reading.{ProgramRead}
 use Rattle.aspif.specs.declared.ProgramReading.{ProgramReading}
-use Rattle.answer_set.specs.SetTest.{SetTested}
-use Rattle.answer_set.specs.declared.SetAnswer.{SetAnswer}
+use Rattle.answer_set.specs.SetTest.{asked, setAnswer, marksOf}
 use Rattle.drupe.specs.Lines.{lineAt, lineAnswer, numbersOf}
 use Rattle.packets.specs.Packets.{reading, readingAnswer, tableLeft, textLeft, writing, writingAnswer, packetLeft}
 use Rattle.checker.specs.Check.{CheckedTexts}
@@ -23,11 +22,10 @@ pub record ProgramService (text : List ℕ) (table table′ : List ℤ) (answer 
   pub read : ProgramRead text table table′ reading
   pub told : Told (programCode reading) (programNumbers reading) answer answer′ result
 
--- the set test's answer and every mark
+-- every mark, and the set test's answer; all is said outright, as no answer is free
 pub record SetService (table : List ℤ) (rules : ℕ) (set marks marks′ answer answer′ : List ℕ) (result : ℕ) : Type 0 where
-  pub said : SetAnswer
-  pub tested : SetTested table rules set marks marks′ said
-  pub told : Told (setCode said) (setNumbers said) answer answer′ result
+  pub left : marks′ ≡ marksOf set (asked table rules set (length marks)) (length marks)
+  pub told : (let a = setAnswer set (asked table rules set (length marks)) in Told (setCode a) (setNumbers a) answer answer′ result)
 
 -- What stands at the position, and the array of 65 numbers at the front of the lent ones, as many as fit. No answer is free, so
 -- all is said outright.

@@ -14,7 +14,7 @@ use Rattle.aspif.specs.Reading.{shapeOf, program, readLines, readText, linesFro
 use Rattle.aspif.specs.Tables.{sizeAt, headsAt, bodyAt, shapeSound, soundAt, soundTable}
 use Rattle.aspif.specs.declared.Kind.the-variants.{Normal, Choice}
 use Rattle.marks.specs.Marks.{listed}
-use Rattle.answer_set.specs.SetTest.{giveHead, giveRule, least, yes, differs, verdictOf, asked, Answers}
+use Rattle.answer_set.specs.SetTest.{giveHead, giveRule, least, yes, differs, verdictOf, asked, setAnswer}
 use Rattle.answer_set.specs.Claims.{Ready}
 use Rattle.answer_set.specs.declared.SetAnswer.{SetAnswer}
 use Rattle.answer_set.specs.declared.SetAnswer.the-variants.{Yes}
@@ -37,16 +37,16 @@ rules8 = record { kind = Normal; heads = pos 1 ∷ []; body = negsuc 0 ∷ [] } 
 
 -- by what the set test computes: `yes-answer-set` says what its yes means
 passes : (text l : List ℕ) (P : List Rule) → readText lent text ≡ program P → Ready (programWords P) (length P) l P → verdictOf (listed l) P ≡ yes
-    → Answers l (asked (programWords P) (length P) l entries) Yes → SetPasses text l
+    → setAnswer l (asked (programWords P) (length P) l entries) ≡ Yes → SetPasses text l
 passes text l P e ready v a = record { P = P; read = e; answer = a; answerSet = yes-answer-set (programWords P) (length P) l P ready .0 v }
 
 -- the set test's own verdict is not yes
 fails : (text l : List ℕ) (P : List Rule) (r : SetAnswer) → readText lent text ≡ program P → Ready (programWords P) (length P) l P
-    → verdictOf (listed l) P ≡ differs → Answers l (asked (programWords P) (length P) l entries) r → SetFails text l r
-fails text l P r e ready v a =
-    record { P = P; read = e; answer = a; none = λ s. not-yes (sym v ∙ yes-answer-set (programWords P) (length P) l P ready .1 s) }
+    → {v : ℕ} → verdictOf (listed l) P ≡ differs v → setAnswer l (asked (programWords P) (length P) l entries) ≡ r → SetFails text l r
+fails text l P r e ready d a =
+    record { P = P; read = e; answer = a; none = λ s. not-yes (sym d ∙ yes-answer-set (programWords P) (length P) l P ready .1 s) }
   where
-    not-yes : differs ≡ yes → ⊥
+    not-yes : {v : ℕ} → differs v ≡ yes → ⊥
     not-yes p = let z : _≡_ {A = ℕ} 0 1 = cc in omega arith
 
 pub starred : Starred
@@ -66,7 +66,7 @@ starred = record {
   five = refl;
   fiveWithout = refl;
   sixEmpty = passes _ [] rules6 refl (record { readable = refl; ascending = refl }) refl refl;
-  sixOneTwo = fails _ (1 ∷ 2 ∷ []) rules6 _ refl (record { readable = refl; ascending = refl }) refl (1, refl, refl);
+  sixOneTwo = fails _ (1 ∷ 2 ∷ []) rules6 _ refl (record { readable = refl; ascending = refl }) refl refl;
   sevenEmpty = passes _ [] rules7 refl (record { readable = refl; ascending = refl }) refl refl;
   sevenOne = passes _ (1 ∷ []) rules7 refl (record { readable = refl; ascending = refl }) refl refl;
   seven = refl;

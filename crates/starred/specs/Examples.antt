@@ -11,7 +11,7 @@ use Rattle.words.specs.Limits.{entries}
 use Rattle.aspif.specs.Rules.{Rule, programWords}
 use Rattle.aspif.specs.Reading.{program, readText}
 use Rattle.aspif.specs.AnswerSets.{AnswerSet}
-use Rattle.answer_set.specs.SetTest.{asked, Answers}
+use Rattle.answer_set.specs.SetTest.{asked, setAnswer}
 use Rattle.answer_set.specs.Claims.{Listed}
 use Rattle.answer_set.specs.declared.SetAnswer.{SetAnswer}
 use Rattle.answer_set.specs.declared.SetAnswer.the-variants.{Yes, Differs}
@@ -96,13 +96,13 @@ store1 =
 pub record SetPasses (text l : List ℕ) : Type 0 where
   pub P : List Rule
   pub read : readText lent text ≡ program P
-  pub answer : Answers l (asked (programWords P) (length P) l entries) Yes
+  pub answer : setAnswer l (asked (programWords P) (length P) l entries) ≡ Yes
   pub answerSet : AnswerSet (Listed l) P
 
 pub record SetFails (text l : List ℕ) (r : SetAnswer) : Type 0 where
   pub P : List Rule
   pub read : readText lent text ≡ program P
-  pub answer : Answers l (asked (programWords P) (length P) l entries) r
+  pub answer : setAnswer l (asked (programWords P) (length P) l entries) ≡ r
   pub none : ¬ AnswerSet (Listed l) P
 
 pub record Starred : Type 0 where

@@ -56,7 +56,7 @@ is-broken-requires : tie.Need-is-broken-requires Inv-loop μ-loop
 is-broken-requires c κs = rw (tail-of (i c) (t c)) (at c .here .1)
 
 returns : tie.Need-returns Inv-loop μ-loop
-returns c = λ just. let d = c .before .before in rw (whole d, tells (c .before) ∙ c .if1 .taken) refl
+returns c = let d = c .before .before in rw (whole d, tells (c .before) ∙ c .if1 .taken) refl
 
 next-rule-requires : tie.Need-next-rule-requires Inv-loop μ-loop
 next-rule-requires c κs = at (c .before .before) .here
@@ -74,7 +74,7 @@ loop-again c =
     rw (c .next-rule .ensures .0) (at d .next, omega (arith, l .inv .1, d .before .loop-test .taken), whole d ∙ rw (tells (c .before .before) ∙ c .before .if1 .left))
 
 returns-2 : tie.Need-returns-2 Inv-loop μ-loop
-returns-2 c = λ just. let l = c .before .loop in rw (l .inv .2, no-rules (l .left) (drop (l .i) (c .before .before .before .args .table .now)) (c .loop-test .left)) refl
+returns-2 c = let l = c .before .loop in rw (l .inv .2, no-rules (l .left) (drop (l .i) (c .before .before .before .args .table .now)) (c .loop-test .left)) refl
 
 pub first-broken-spec : {M : Type 1} → statement M
 first-broken-spec =

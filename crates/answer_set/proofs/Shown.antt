@@ -1,0 +1,99 @@
+-- The atom that is shown is the lowest that lies in just one of the set and the least model: `lowest-shown`.
+-- Assumes nothing.
+use mathlib.Core.Path.{_≡_, sym, ap, subst}
+use mathlib.Core.Logic.{_↔_, _⊎_, inl, inr}
+use mathlib.Core.Bool.{Bool, true, false, cond}
+use mathlib.Core.Option.{Option, none, some}
+use mathlib.Core.List.{List, [], _∷_}
+use Prim.Native.Nat.{ℕ, _+_, _≤_, _<_}
+use native.Mathlib.Omega.{arith}
+use lib.Dec.{T}
+use lib.IntN.{ℤ}
+use Rattle.words.proofs.Lists.{Decides, same-test}
+use Rattle.words.proofs.Lists as Lists
+use Rattle.words.proofs.Ascending.{ascends-in}
+use Rattle.aspif.specs.Rules.{Rule, atoms}
+use Rattle.aspif.specs.AnswerSets.{LeastModel}
+use Rattle.marks.specs.Marks.{listed, marked}
+use Rattle.answer_set.specs.SetTest.{least, isBroken, lowestFrom, justOne, SetVerdict, yes, differs, breaks, shown, brokenFrom, verdictOf, passed, saidOf, setAnswer}
+use Rattle.answer_set.specs.Claims.{Listed, Ready, JustOne, LowestShown}
+use Rattle.answer_set.specs.declared.SetAnswer.the-variants.{Differs}
+use Rattle.answer_set.proofs.Marking.{lowest-some, lowest-is}
+use Rattle.answer_set.proofs.Answered.{listed-decides, model, just-one, same-both, differing, least-small}
+
+-- a test of just one of two things
+just-decides : {a b : Bool} {A B : Type 0} → Decides a A → Decides b B → Decides (justOne a b) ((A × ¬ B) ⊎ (B × ¬ A))
+just-decides {a = true} {b = true} i j = record {
+  to = λ t. absurd t;
+  from = λ s. elim s [ inl p ↦ absurd (p .1 (j .to tt)) | inr p ↦ absurd (p .1 (i .to tt)) ];
+}
+just-decides {a = true} {b = false} i j = record { to = λ t. inl (i .to tt, λ x. j .from x); from = λ s. tt }
+just-decides {a = false} {b = true} i j = record { to = λ t. inr (j .to tt, λ x. i .from x); from = λ s. tt }
+just-decides {a = false} {b = false} i j = record { to = λ t. absurd t; from = λ s. elim s [ inl p ↦ i .from (p .0) | inr p ↦ j .from (p .0) ] }
+
+said-differs : (v : SetVerdict) {a : ℕ} → saidOf v ≡ Differs a → v ≡ differs a
+said-differs yes e = absurd (let z : _≡_ {A = ℕ} 0 1 = cc in omega arith)
+said-differs (differs b) e = cc
+said-differs (breaks k) e = absurd (let z : _≡_ {A = ℕ} 0 1 = cc in omega arith)
+
+module _ (table : List ℤ) (rules : ℕ) (l : List ℕ) (rs : List Rule) (ready : Ready table rules l rs) (v : ℕ) where
+  abbrev g : ℕ → Bool
+  g = differing table rules l rs ready
+
+  tells : (u : ℕ) → Decides (g u) (JustOne (Listed l) (LeastModel (Listed l) rs) u)
+  tells u = just-decides (listed-decides l u) (model table rules l rs ready u)
+
+  -- the numbers that are the same in both
+  same-there : (u : ℕ) → g u ≡ false → Listed l u ↔ LeastModel (Listed l) rs u
+  same-there u e =
+      let p = just-one (listed l u) (marked (least (listed l) rs) u) e in
+      (λ i. model table rules l rs ready u .to (subst T p (listed-decides l u .from i)), λ d. listed-decides l u .to (subst T (sym p) (model table rules l rs ready u .from d)))
+
+  same-back : (u : ℕ) → Listed l u ↔ LeastModel (Listed l) rs u → g u ≡ false
+  same-back u e = rw (same-test (listed-decides l u) (model table rules l rs ready u) (e .0) (e .1)) (same-both (marked (least (listed l) rs) u))
+
+  lowest : verdictOf (listed l) rs ≡ differs v → lowestFrom g (atoms rs + 1) 0 ≡ some v
+  unfolding verdictOf
+  lowest = by (lowestFrom g (atoms rs + 1) 0)
+    where
+      from-broken : (k : ℕ) (P : List Rule) → brokenFrom (listed l) k P ≡ differs v → ⊥
+      from-broken k [] e = let z : _≡_ {A = ℕ} 0 1 = cc in omega arith
+      from-broken k (r ∷ P) e = each (isBroken (listed l) r) e (from-broken (k + 1) P)
+        where
+          each : (b : Bool) → cond b (breaks k) (brokenFrom (listed l) (k + 1) P) ≡ differs v → (brokenFrom (listed l) (k + 1) P ≡ differs v → ⊥) → ⊥
+          each true e h = let z : _≡_ {A = ℕ} 0 1 = cc in omega arith
+          each false e h = h e
+
+      by : (o : Option ℕ) → shown o (brokenFrom (listed l) 1 rs) ≡ differs v → o ≡ some v
+      by none e = absurd (from-broken 1 rs e)
+      by (some w) e = cc
+
+  is-lowest : lowestFrom g (atoms rs + 1) 0 ≡ some v → verdictOf (listed l) rs ≡ differs v
+  unfolding verdictOf
+  is-lowest e = ap (λ (o : Option ℕ). shown o (brokenFrom (listed l) 1 rs)) e
+
+  -- v is an atom, wherever it lies
+  small : JustOne (Listed l) (LeastModel (Listed l) rs) v → v ≤ atoms rs
+  small (inl p) = ascends-in 0 (atoms rs) (ready .ascending) (p .0) .1
+  small (inr p) = least-small table rules l rs ready (p .0)
+
+  shown-lowest : (setAnswer l (passed rs) ≡ Differs v) ↔ (JustOne (Listed l) (LeastModel (Listed l) rs) v × ((u : ℕ) → u < v → Listed l u ↔ LeastModel (Listed l) rs u))
+  shown-lowest = (there, back)
+    where
+      there : setAnswer l (passed rs) ≡ Differs v → JustOne (Listed l) (LeastModel (Listed l) rs) v × ((u : ℕ) → u < v → Listed l u ↔ LeastModel (Listed l) rs u)
+      there e =
+          let w = lowest-some g (atoms rs + 1) 0 v (lowest (said-differs _ e)) in
+          (tells v .to (Lists.passed _ .from (w .here)), λ u h. same-there u (w .below u (omega arith) h))
+
+      back : JustOne (Listed l) (LeastModel (Listed l) rs) v × ((u : ℕ) → u < v → Listed l u ↔ LeastModel (Listed l) rs u) → setAnswer l (passed rs) ≡ Differs v
+      back p =
+          ap saidOf
+          (is-lowest (lowest-is g (atoms rs + 1) 0 v (record {
+            low = omega arith;
+            high = omega (arith, small (p .0));
+            here = Lists.passed _ .to (tells v .from (p .0));
+            below = λ u h k. same-back u (p .1 u k);
+          })))
+
+pub lowest-shown : LowestShown
+lowest-shown table rules l rs ready v = shown-lowest table rules l rs ready v
