@@ -1,4 +1,4 @@
-//! The packet of the longest proof among the inputs: how long it takes to write it and to read it back.
+//! The packet of the longest proof among the inputs that have one: how long it takes to write it and to read it back.
 
 use crate::cases::Input;
 use crate::measure::{timed, times_of, Times};
@@ -27,7 +27,7 @@ struct Case<'a> {
 
 /// Writes and reads the packet so many times. None where it is refused, or another table or text is read back.
 pub fn measure(inputs: &[Input], repetitions: usize) -> Option<Packed> {
-    let longest = inputs.iter().max_by_key(|input| input.texts.proof.len())?;
+    let longest = inputs.iter().filter(|input| input.packs).max_by_key(|input| input.texts.proof.len())?;
     let mut table = vec![0; ROOM];
     let Ok(ProgramReading::Read { rules, .. }) = aspdrupe::read_program(&longest.texts.program, &mut table) else { return None };
     let case = Case { table, rules, proof: &longest.texts.proof };

@@ -25,8 +25,8 @@ extern "C" {
 
 /* A thread with a stack of so many bytes has enough for any call, with what the C library takes of a thread's stack for itself. What your
  * own code and its thread-local variables take comes on top. The need does not grow with the texts: the whole check was measured at
- * 153 KB, the other services at 12 KB or less (bindings/c/stack.c). Some C libraries give a thread less by default: musl 128 KB. */
-#define ASPDRUPE_STACK 196608
+ * 268 KB, the other services at 12 KB or less (bindings/c/stack.c). Some C libraries give a thread less by default: musl 128 KB. */
+#define ASPDRUPE_STACK 327680
 
 /* The most numbers that an answer has. */
 #define ASPDRUPE_ANSWER 4
@@ -50,16 +50,18 @@ extern "C" {
 
 /* Reads a program text.
  * Returns 0 where it is read: answer[0] is N, the largest atom, and answer[1] the number of rules; the table holds the rules' words
- * and 0 after them.
- * Otherwise returns the number of the question that the text fails, 1 to 11: answer[0] is the line, counted from 1, or 0 where the
- * whole text is at fault, and answer[1] is 0; the table is 0 throughout. */
+ * and 0 after them. The words of a rule are its head kind, head count, body kind and body count, with body kind 1 the bound, then the heads
+ * ascending, and the literals ascending by atom, with body kind 1 each with its weight behind it.
+ * Otherwise returns the number of the question that the text fails, 1 to 11, 54 or 55: answer[0] is the line, counted from 1, or 0 where
+ * the whole text is at fault, and answer[1] is 0; the table is 0 throughout. */
 uint32_t aspdrupe_read_program(const uint8_t *text, size_t text_len, int32_t *table, size_t table_len, uint64_t *answer,
                                size_t answer_len);
 
 /* Tests whether a set of atoms is an answer set of the program that a table holds, as aspdrupe_read_program leaves it with that
  * number of rules. The set is ascending; there are ASPDRUPE_MARKS marks.
  * Returns ASPDRUPE_YES; or ASPDRUPE_DIFFERS, where answer[0] is the lowest atom that lies in just one of the set and the least model of
- * its reduct; or ASPDRUPE_BROKEN, where the two are equal and answer[0] is the number of the first broken constraint, counted from 1.
+ * its reduct; or ASPDRUPE_BROKEN, where the two are equal and answer[0] is the number of the first broken constraint, counted from 1. A rule
+ * with weights is taken for the plain rules that it stands for, and counted once.
  * The marks then hold 1 at each atom of the least model, atom v at marks[v], and 0 elsewhere.
  * Otherwise returns 41 (no such table), 42 (no such set) or 43 (not ASPDRUPE_MARKS marks): all marks are 0. Where no number is
  * named, `answer` stays as it was. */
@@ -80,25 +82,27 @@ uint32_t aspdrupe_read_line(const uint8_t *text, size_t text_len, uint64_t posit
  * Returns ASPDRUPE_INCONSISTENT or ASPDRUPE_OPEN where both are good: answer[0] to answer[3] are N, the largest atom, the number of
  * rules, the number of steps, and the number of live nogoods after the last step; the table holds the rules' words and the store
  * the live nogoods' words, each with 0 after them. ASPDRUPE_INCONSISTENT means that the program has no answer set.
- * Returns ASPDRUPE_REFUSED_PROGRAM: answer[0] is the number of the question that the program fails, 1 to 11, and answer[1] the line.
+ * Returns ASPDRUPE_REFUSED_PROGRAM: answer[0] is the number of the question that the program fails, 1 to 11, 54 or 55, and answer[1] the
+ * line.
  * Returns ASPDRUPE_REFUSED_PROOF: answer[0] is the number of the question that the proof fails, 21 to 34, and answer[1] the step.
  * Line and step are counted from 1, and are 0 where the whole text is at fault. After a refusal table and store are 0 throughout. */
 uint32_t aspdrupe_check_texts(const uint8_t *program, size_t program_len, const uint8_t *proof, size_t proof_len, int32_t *table,
                               size_t table_len, int32_t *store, size_t store_len, uint64_t *answer, size_t answer_len);
 
 /* Writes a packet: a table, as aspdrupe_read_program leaves it with that number of rules, and a proof text, in one sequence of bytes with
- * one form for each such pair. The proof is not checked against the program. An output of 13 + 4 * table_len + proof_len bytes holds
- * every packet.
+ * one form for each such pair. The proof is not checked against the program. A packet holds the rules' words without their body kinds, and
+ * no weights. An output of 13 + 4 * table_len + proof_len bytes holds every packet.
  * Returns 0 where it is written: answer[0] is how many bytes it has; the output holds them and 0 after them.
- * Otherwise returns 53 (a table that aspdrupe_test_set refuses with 41, or a proof text with a line that aspdrupe_read_line refuses) or
- * 52 (the output is too short), asked in this order: the output is 0 throughout, and `answer` stays as it was. */
+ * Otherwise returns 53 (a table that aspdrupe_test_set refuses with 41 or with a rule of body kind 1, or a proof text with a line that
+ * aspdrupe_read_line refuses) or 52 (the output is too short), asked in this order: the output is 0 throughout, and `answer` stays as it
+ * was. */
 uint32_t aspdrupe_write_packet(const int32_t *table, size_t table_len, uint64_t rules, const uint8_t *proof, size_t proof_len,
                                uint8_t *packet, size_t packet_len, uint64_t *answer, size_t answer_len);
 
 /* Reads a packet back into a table and a proof text. The packet is all of the bytes given: zeros that the writer leaves after it are none
- * of it. A table of packet_len / 4 words and a text of 65,535 bytes hold whatever a packet has.
+ * of it. A table of packet_len / 3 words and a text of 65,535 bytes hold whatever a packet has.
  * Returns 0 where it is read: answer[0] is the number of rules and answer[1] how many bytes the proof text has; the table holds the
- * rules' words and the text its bytes, each with 0 after them. Written again, they are the same packet.
+ * rules' words, each rule with body kind 0, and the text its bytes, each with 0 after them. Written again, they are the same packet.
  * Otherwise returns 51 (another mark or version), 52 (the lengths in it do not make up the bytes given), 53 (a table or a proof text that
  * aspdrupe_write_packet refuses) or again 52 (the table or the text lent is too short), asked in this order: table and text are 0
  * throughout, and `answer` stays as it was. */

@@ -1,5 +1,6 @@
 /* Checks a proof file against a program file, and prints the verdict with its numbers. Where neither is refused, it then writes the program's
- * table and the proof as a packet, reads that back, and prints how many bytes it has, and of how many rules and bytes of proof.
+ * table and the proof as a packet, reads that back, and prints how many bytes it has, and of how many rules and bytes of proof. A program
+ * with weights has no packet: 53.
  *
  * Build and run, from the repository's root:
  *   rt staticlib exports

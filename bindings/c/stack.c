@@ -28,11 +28,12 @@
 #define PLENTY ((size_t)1 << 20)
 #define PATTERN 0xA5
 
-/* The limits of document 01. */
+/* The limits of documents 01 and 02. */
 #define TEXT 65535
 #define WORDS 16384
 #define RULES 1024
 #define PART 64
+#define WEIGHTED 12
 #define PACKET (13 + 4 * WORDS + TEXT)
 
 struct text {
@@ -64,6 +65,8 @@ static void put_range(struct text *text, int first, int last) {
 /* ---- The inputs ---- */
 
 static struct text newlines, long_line, one_rule, chain, wide_rules, wide_steps, big_rules, full_rules, full_steps;
+static struct text weight_rules, weight_steps, many_weights;
+static int32_t weight_table[WORDS];
 
 /* One rule, and a chain of definitions of which the last name is refuted only at the chain's far end. */
 static void make_chain(void) {
@@ -109,10 +112,42 @@ static void make_big(void) {
 /* As many rules as there may be, in a table that they fill, and the steps that go through all of them until the text is nearly full. */
 static void make_full(void) {
     put(&full_rules, "asp 1 0 0\n");
-    for (int i = 0; i < RULES; i++) put(&full_rules, "1 1 7 2 3 4 5 6 7 8 0 6 2 3 4 5 6 7\n");
+    for (int i = 0; i < RULES; i++) put(&full_rules, "1 1 7 2 3 4 5 6 7 8 0 5 2 3 4 5 6\n");
     put(&full_rules, "0\n");
-    put(&full_steps, "b 9 2 3 4 5 6 7 0\n");
+    put(&full_steps, "b 9 2 3 4 5 6 0\n");
     while (full_steps.size < TEXT - 60) put(&full_steps, "s 2 9 0\nd 2 -9 0\nl 8 0\nd 8 -9 0\nl 2 3 0\nd 2 0\n");
+}
+
+/* How many rules with twelve weights and one head fill the table. */
+#define WEIGHT_RULES (WORDS / (6 + 2 * WEIGHTED))
+
+/* Rules with as many weights as there may be, whose bodies are all of their literals but one, and steps that go through all of them; and a
+ * line with more weights, as many as are read before it is refused. */
+static void make_weights(void) {
+    put(&weight_rules, "asp 1 0 0\n");
+    for (int i = 0; i < WEIGHT_RULES; i++) {
+        put(&weight_rules, "1 0 1 13 1 %d %d", WEIGHTED - 1, WEIGHTED);
+        for (int atom = 1; atom <= WEIGHTED; atom++) put(&weight_rules, " %d 1", -atom);
+        put(&weight_rules, "\n");
+    }
+    put(&weight_rules, "0\n");
+    for (int left = 1; left <= WEIGHTED; left++) {
+        put(&weight_steps, "b %d", 13 + left);
+        for (int atom = 1; atom <= WEIGHTED; atom++) {
+            if (atom != left) put(&weight_steps, " %d", -atom);
+        }
+        put(&weight_steps, " 0\n");
+    }
+    put(&weight_steps, "c 14 13 0\ns 13");
+    put_range(&weight_steps, 14, 13 + WEIGHTED);
+    put(&weight_steps, " 0\nl 13 0\n");
+    put(&many_weights, "asp 1 0 0\n1 1 64");
+    put_range(&many_weights, 1, PART);
+    put(&many_weights, " 1 4095 64");
+    for (int atom = 1; atom <= PART; atom++) put(&many_weights, " %d 4095", -atom);
+    put(&many_weights, "\n0\n");
+    uint64_t read[2];
+    if (aspdrupe_read_program(weight_rules.bytes, weight_rules.size, weight_table, WORDS, read, 2) != 0) stop("a program is refused");
 }
 
 /* A table with its rule count, a proof text, and the packet of both. */
@@ -151,6 +186,7 @@ static void make_inputs(void) {
     make_wide();
     make_big();
     make_full();
+    make_weights();
     make_packets();
     for (int i = 0; i < TEXT; i++) put(&newlines, "\n");
     put(&long_line, "a");
@@ -189,12 +225,15 @@ static uint32_t read_packet(const struct packet *packet, size_t text_size) {
 static uint32_t read_full(void) { return read_program(&full_rules); }
 static uint32_t read_big(void) { return read_program(&big_rules); }
 static uint32_t read_wide(void) { return read_program(&wide_rules); }
+static uint32_t read_weights(void) { return read_program(&weight_rules); }
+static uint32_t read_many(void) { return read_program(&many_weights); }
 static uint32_t read_newlines(void) { return read_program(&newlines); }
 static uint32_t line_wide(void) { return read_line(&wide_steps); }
 static uint32_t line_long(void) { return read_line(&long_line); }
 static uint32_t check_chain(void) { return check(&one_rule, &chain); }
 static uint32_t check_wide(void) { return check(&wide_rules, &wide_steps); }
 static uint32_t check_full(void) { return check(&full_rules, &full_steps); }
+static uint32_t check_weights(void) { return check(&weight_rules, &weight_steps); }
 static uint32_t check_long(void) { return check(&one_rule, &long_line); }
 static uint32_t check_newlines(void) { return check(&newlines, &newlines); }
 static uint32_t write_full(void) { return write_packet(&full_packet, full_packet.proof, PACKET); }
@@ -212,13 +251,23 @@ static uint32_t test_chain(void) {
     size_t at = 0;
     for (size_t i = 0; i < RULES; i++) set[i] = (uint16_t)(i + 1);
     for (int atom = RULES; atom > 1; atom--) {
-        const int32_t rule[] = {0, 1, 1, atom, atom - 1};
-        for (size_t i = 0; i < 5; i++) table[at++] = rule[i];
+        const int32_t rule[] = {0, 1, 0, 1, atom, atom - 1};
+        for (size_t i = 0; i < 6; i++) table[at++] = rule[i];
     }
-    const int32_t fact[] = {0, 1, 0, 1};
-    for (size_t i = 0; i < 4; i++) table[at++] = fact[i];
+    const int32_t fact[] = {0, 1, 0, 0, 1};
+    for (size_t i = 0; i < 5; i++) table[at++] = fact[i];
     while (at < WORDS) table[at++] = 0;
     return aspdrupe_test_set(table, WORDS, RULES, set, RULES, marks, ASPDRUPE_MARKS, answer, ASPDRUPE_ANSWER);
+}
+
+/* Every rule gives its head from all of its bodies. */
+static uint32_t test_weights(void) {
+    static const uint16_t set[] = {13};
+    return aspdrupe_test_set(weight_table, WORDS, WEIGHT_RULES, set, 1, marks, ASPDRUPE_MARKS, answer, ASPDRUPE_ANSWER);
+}
+
+static uint32_t write_weights(void) {
+    return aspdrupe_write_packet(weight_table, WORDS, WEIGHT_RULES, chain.bytes, chain.size, bytes, PACKET, answer, ASPDRUPE_ANSWER);
 }
 
 /* A call with the code and the numbers that it must answer, the others left 0. */
@@ -233,20 +282,25 @@ static const struct call calls[] = {
     {"read_program: 1,024 rules", read_full, 0, {8, RULES, 0, 0}},
     {"read_program: rules of 64 heads", read_big, 0, {1063, 190, 0, 0}},
     {"read_program: 64 heads, 64 literals", read_wide, 0, {128, 2, 0, 0}},
+    {"read_program: rules with 12 weights", read_weights, 0, {13, WEIGHT_RULES, 0, 0}},
+    {"read_program: 64 heads, 64 weights", read_many, 55, {2, 0, 0, 0}},
     {"read_program: newlines", read_newlines, 2, {1, 0, 0, 0}},
     {"test_set: a chain of 1,024 rules", test_chain, ASPDRUPE_YES, {0, 0, 0, 0}},
+    {"test_set: rules with 12 weights", test_weights, ASPDRUPE_YES, {0, 0, 0, 0}},
     {"read_line: 65 numbers", line_wide, 'b', {65, 229, 0, 0}},
     {"read_line: a line of 65,530 bytes", line_long, 23, {0, 0, 0, 0}},
     {"check_texts: a chain of definitions", check_chain, ASPDRUPE_INCONSISTENT, {1, 1, 2605, 4806}},
     {"check_texts: lines of 65 numbers", check_wide, ASPDRUPE_OPEN, {128, 2, 8, 134}},
-    {"check_texts: full texts and table", check_full, ASPDRUPE_OPEN, {8, RULES, 8539, 7}},
+    {"check_texts: full texts and table", check_full, ASPDRUPE_OPEN, {8, RULES, 8545, 6}},
+    {"check_texts: rules with 12 weights", check_weights, ASPDRUPE_OPEN, {13, WEIGHT_RULES, 15, 147}},
     {"check_texts: a line of 65,530 bytes", check_long, ASPDRUPE_REFUSED_PROOF, {23, 1, 0, 0}},
     {"check_texts: newlines", check_newlines, ASPDRUPE_REFUSED_PROGRAM, {2, 1, 0, 0}},
-    {"write_packet: full table and text", write_full, 0, {111101, 0, 0, 0}},
+    {"write_packet: full table and text", write_full, 0, {107035, 0, 0, 0}},
     {"write_packet: steps of 65 numbers", write_wide, 0, {1231, 0, 0, 0}},
+    {"write_packet: rules with weights", write_weights, 53, {0, 0, 0, 0}},
     {"write_packet: a line of 65,530 bytes", write_long, 53, {0, 0, 0, 0}},
     {"write_packet: an output too short", write_short, 52, {0, 0, 0, 0}},
-    {"read_packet: full table and text", unpack_full, 0, {RULES, 65476, 0, 0}},
+    {"read_packet: full table and text", unpack_full, 0, {RULES, 65520, 0, 0}},
     {"read_packet: steps of 65 numbers", unpack_wide, 0, {2, 1026, 0, 0}},
     {"read_packet: refused at the last number", unpack_bad, 53, {0, 0, 0, 0}},
     {"read_packet: a text too short", unpack_short, 52, {0, 0, 0, 0}},

@@ -8,7 +8,7 @@ use inputs::{Pair, ROOM};
 use crate::binary::Binary;
 use crate::brute;
 use crate::reference::check::{check, verdict_line, Counts, Verdict};
-use crate::reference::program::{read, table_words, Rule};
+use crate::reference::program::{read, table_words, InputRule};
 use crate::reference::{filled, lines, models, packets, LINE_LIMIT};
 use crate::shrink::{cut, shrunk};
 use crate::tally::Tally;
@@ -23,7 +23,7 @@ pub struct Comparison {
     pub random: Random,
     pub binary: Option<Binary>,
     place: String,
-    refuted: HashSet<Vec<Rule>>,
+    refuted: HashSet<Vec<InputRule>>,
 }
 
 impl Comparison {
@@ -89,16 +89,17 @@ impl Comparison {
             self.settle(false, || format!("inconsistent, but the program is refused: {}", cut(text)));
             return;
         };
-        if program.atoms > brute::MOST_ATOMS || !self.refuted.insert(program.rules.clone()) {
+        if !brute::is_small(&program) || !self.refuted.insert(program.rules.clone()) {
             return;
         }
-        let found = brute::answer_set(&program.rules, program.atoms);
+        let found = brute::answer_set(&program, program.atoms);
         self.settle(found.is_none(), || format!("inconsistent, but {found:?} is an answer set of {}", cut(text)));
-        self.tally.count(String::from("no answer set: program"));
+        let kind = if program.rules.iter().any(InputRule::has_weights) { "program with weights" } else { "program" };
+        self.tally.count(format!("no answer set: {kind}"));
         for _ in 0..3 {
             let wider = brute::with_further_constraints(&program, &mut self.random);
             let found = brute::answer_set(&wider, program.atoms);
-            self.settle(found.is_none(), || format!("inconsistent, but {found:?} is an answer set of {wider:?}"));
+            self.settle(found.is_none(), || format!("inconsistent, but {found:?} is an answer set of {:?}", wider.rules));
             self.tally.count(String::from("no answer set: program with further constraints"));
         }
     }

@@ -5,7 +5,7 @@ use inputs::rules::{program_text, Rule};
 use inputs::{programs, Pair, ROOM};
 
 use crate::cases::refutations::{go_on, refute, Author, Found};
-use crate::cases::{self, changes, deep, fixed, guided, limits, noise};
+use crate::cases::{self, changes, deep, fixed, guided, limits, noise, weights};
 use crate::comparison::Comparison;
 use crate::packets;
 use crate::reference::check::{most_live_words, verdict_line};
@@ -32,6 +32,8 @@ pub fn families() -> Vec<Family> {
         listed("limits", limits::cases().len(), run_limit),
         listed("wide-tables", 1, run_wide_tables),
         family("refutation", 100, run_refutation),
+        family("weights", 60, run_weights),
+        family("weight-lines", 300, run_weight_lines),
         family("guided", 200, run_guided),
         family("deep", 60, run_deep),
         family("noise", 300, run_noise),
@@ -53,8 +55,8 @@ const HEAVY: usize = 25_000;
 fn rooms(pair: &Pair) -> Vec<(usize, usize)> {
     let many = ROOM;
     let Ok(program) = read(&pair.program, usize::MAX) else {
-        // 1,024 constraints without a literal take 3,072 words.
-        return vec![(many, many), (60, 20), (0, 0), (5, 3), (3_071, 3), (3_072, 0), (3_075, 9)];
+        // 1,024 constraints without a literal take 4,096 words.
+        return vec![(many, many), (60, 20), (0, 0), (5, 3), (4_095, 3), (4_096, 0), (4_100, 9)];
     };
     let table = table_words(&program.rules).len();
     let store = most_live_words(&program, &pair.proof);
@@ -120,7 +122,7 @@ fn run_fixed(comparison: &mut Comparison, index: u64) {
     comparison.settle(line == case.line, || format!("{}: the reference says {line:?}, document 01 {:?}", case.name, case.line));
     if case.name == "starred 1" {
         let mut store = vec![7; fixed::STORE_1.len()];
-        let answered = aspdrupe::check_texts(&case.pair.program, &case.pair.proof, &mut [0; 5], &mut store);
+        let answered = aspdrupe::check_texts(&case.pair.program, &case.pair.proof, &mut [0; 6], &mut store);
         comparison.settle(answered.is_ok() && store == fixed::STORE_1, || format!("starred 1: the store is {store:?}"));
     }
     compare_all(comparison, &case.pair);
@@ -168,15 +170,23 @@ fn run_wide_tables(comparison: &mut Comparison, _: u64) {
     }
 }
 
-/// A small program read from a text of its own, with its numbers in a random order.
+/// A small program read from a text of its own, with its numbers in a random order; now and then some of its rules have weights.
 pub fn small_program(random: &mut Random) -> (Vec<u8>, Program) {
     let mut rules = programs::small(random);
+    if random.percent(30) {
+        programs::weigh(&mut rules, random);
+    }
+    in_any_order(rules, random)
+}
+
+/// The rules read from a text, with their numbers in a random order.
+fn in_any_order(mut rules: Vec<Rule>, random: &mut Random) -> (Vec<u8>, Program) {
     if random.percent(10) {
         programs::scatter(&mut rules, random);
     }
     for rule in &mut rules {
         random.shuffle(&mut rule.heads);
-        random.shuffle(&mut rule.body);
+        rule.body.shuffle(random);
     }
     readable(&rules)
 }
@@ -187,11 +197,35 @@ fn readable(rules: &[Rule]) -> (Vec<u8>, Program) {
     (text, program)
 }
 
-/// A program with what the search wrote for it, and changes of both.
 fn run_refutation(comparison: &mut Comparison, _: u64) {
     let (text, program) = small_program(&mut comparison.random);
-    let mut author = Author::of(&program);
-    let found = refute(&mut author, &mut comparison.random);
+    compare_refuted(comparison, text, &program);
+}
+
+/// A program whose rules have weights, with a refutation or, for one in three, with steps that know it.
+fn run_weights(comparison: &mut Comparison, index: u64) {
+    let rules = programs::weights(&mut comparison.random);
+    let (text, program) = in_any_order(rules, &mut comparison.random);
+    if !index.is_multiple_of(3) {
+        compare_refuted(comparison, text, &program);
+        return;
+    }
+    let pair = Pair::of(text, guided::proof(&program, &mut comparison.random, 60));
+    compare_some(comparison, &pair, 20);
+    compare_changed(comparison, &pair, 3);
+}
+
+/// Lines of rules with weights, damaged or at a limit.
+fn run_weight_lines(comparison: &mut Comparison, _: u64) {
+    let pair = weights::pair(&mut comparison.random);
+    compare_some(comparison, &pair, 10);
+}
+
+/// A program with what the search wrote for it, and changes of both. All bodies are named, or some of them, or only those that are needed.
+fn compare_refuted(comparison: &mut Comparison, text: Vec<u8>, program: &Program) {
+    let mut author = Author::of(program);
+    let at_first = if program.plain.len() > 100 { 0 } else { *comparison.random.pick(&[100, 100, 50, 0]) };
+    let found = refute(&mut author, &mut comparison.random, at_first);
     comparison.tally.count(format!("search: {}", found.kind()));
     if found == Found::Refutation && comparison.random.percent(25) {
         go_on(&mut author, &mut comparison.random);
@@ -199,7 +233,7 @@ fn run_refutation(comparison: &mut Comparison, _: u64) {
     let pair = Pair::of(text, author.text());
     compare_some(comparison, &pair, 30);
     compare_lines(comparison, &pair.proof, 60);
-    compare_sets(comparison, &program);
+    compare_sets(comparison, program);
     compare_changed(comparison, &pair, 12);
 }
 
@@ -287,7 +321,7 @@ fn run_hard(comparison: &mut Comparison, index: u64) {
     };
     let (text, program) = readable(&rules);
     let mut author = Author::of(&program);
-    let found = refute(&mut author, &mut comparison.random);
+    let found = refute(&mut author, &mut comparison.random, 100);
     comparison.tally.count(format!("search: {}", found.kind()));
     let pair = Pair::of(text, author.text());
     compare_all(comparison, &pair);

@@ -74,17 +74,17 @@ fn compare_pair(comparison: &mut Comparison, pair: &Pair) {
 /// The reader on a packet, and where it is taken the writer on what it gives: "A packet has one byte form for each such pair." Answers the
 /// words in use, the rule count and the text.
 fn compare_packet(comparison: &mut Comparison, packet: &[u8]) -> Option<(Vec<i32>, usize, Vec<u8>)> {
-    let words = packet.len() / 4;
-    let found = comparison.read_packet(packet, words, TEXT_LIMIT);
+    // A rule has three words or more in a packet, and one more in the table.
+    let found = comparison.read_packet(packet, packet.len() / 3, TEXT_LIMIT);
     let (rules, bytes) = found.answer.ok()?;
-    let stated = u32::from_le_bytes([packet[5], packet[6], packet[7], packet[8]]) as usize;
-    for table in around(stated) {
+    let words = rules + u32::from_le_bytes([packet[5], packet[6], packet[7], packet[8]]) as usize;
+    for table in around(words) {
         comparison.read_packet(packet, table, bytes);
     }
     for text in around(bytes) {
-        comparison.read_packet(packet, stated, text);
+        comparison.read_packet(packet, words, text);
     }
-    let (table, text) = (found.table[..stated].to_vec(), found.proof[..bytes].to_vec());
+    let (table, text) = (found.table[..words].to_vec(), found.proof[..bytes].to_vec());
     let again = comparison.write_packet(&table, rules, &text, packet.len());
     comparison.settle(again.packet == packet, || String::from("the pair of a packet has another packet"));
     Some((table, rules, text))
@@ -105,8 +105,8 @@ fn compare_changed(comparison: &mut Comparison, packet: &[u8], words: usize, byt
 pub fn run_bytes(comparison: &mut Comparison, index: u64) {
     let packet = &packets::small_packets()[index as usize];
     let found = read(packet, ROOM, TEXT_LIMIT);
-    let (_, bytes) = found.answer.unwrap_or_default();
-    let words = usize::from(packet[5]);
+    let (rules, bytes) = found.answer.unwrap_or_default();
+    let words = rules + usize::from(packet[5]);
     for place in 0..packet.len() {
         compare_changed(comparison, &packet[..place], words, bytes);
         let (before, after) = packet.split_at(place);

@@ -5,8 +5,30 @@ use inputs::random::Random;
 use crate::reference::filled;
 
 /// Words that matter in a table.
-const NOTABLE: [i32; 20] =
-    [0, 1, -1, 2, -2, 3, 63, 64, 65, -64, 4_094, 4_095, 4_096, -4_095, -4_096, i32::MAX, i32::MIN, i32::MIN + 1, 65_536, 1 << 16 | 1];
+const NOTABLE: [i32; 22] = [
+    0,
+    1,
+    -1,
+    2,
+    -2,
+    3,
+    12,
+    13,
+    63,
+    64,
+    65,
+    -64,
+    4_094,
+    4_095,
+    4_096,
+    -4_095,
+    -4_096,
+    i32::MAX,
+    i32::MIN,
+    i32::MIN + 1,
+    65_536,
+    1 << 16 | 1,
+];
 
 /// The table of a program with a word changed, put in, taken out or doubled, or another rule count.
 pub fn changed(words: &[i32], count: usize, random: &mut Random) -> (Vec<i32>, usize) {
@@ -53,36 +75,60 @@ pub fn any_set(atoms: i32, random: &mut Random) -> Vec<u16> {
 pub fn wide() -> Vec<(Vec<i32>, usize)> {
     let mut tables = Vec::new();
     for rules in [0, 1, 2, 1_023, 1_024, 1_025] {
-        for words in [0, 2, 3, 5, 6, 3_069, 3_071, 3_072, 3_075, 100_000] {
+        for words in [0, 3, 4, 6, 8, 4_092, 4_095, 4_096, 4_100, 100_000] {
             tables.push((vec![0; words], rules));
         }
     }
     for heads in [0, 1, 2, 63, 64, 65, 66] {
         for kind in [0, 1, 2, -1] {
-            let mut table = vec![kind, heads, 0];
+            let mut table = vec![kind, heads, 0, 0];
             table.extend(1..=heads);
             tables.push((table, 1));
         }
     }
-    for count in [0, 1, 63, 64, 65, 66] {
-        let mut table = vec![0, 1, count, 4_095];
+    for count in [0, 1, 12, 13, 63, 64, 65, 66] {
+        let mut table = vec![0, 1, 0, count, 4_095];
         table.extend((1..=count).map(|atom| if atom % 2 == 0 { -atom } else { atom }));
         tables.push((table, 1));
     }
-    tables.extend([4_094, 4_095, 4_096, 4_097, 65_537, -1, -4_095, i32::MIN, i32::MAX].map(|head| (vec![0, 1, 0, head], 1)));
-    tables.extend([4_094, 4_095, 4_096, -4_095, -4_096, 0, 65_537, i32::MIN, i32::MAX].map(|literal| (vec![0, 0, 1, literal], 1)));
-    tables.extend([-1, 65, 4_096, i32::MIN, i32::MAX].map(|count| (vec![1, count, 0, 1, 0, 0, 0, 0], 1)));
-    tables.extend([-1, 65, 4_096, i32::MIN, i32::MAX].map(|count| (vec![0, 1, count, 1, 0, 0, 0, 0], 1)));
-    tables.extend([usize::MAX, usize::MAX / 3, 1 << 32, 1 << 63, (1 << 32) + 1].map(|rules| (vec![0; 9], rules)));
+    tables.extend([4_094, 4_095, 4_096, 4_097, 65_537, -1, -4_095, i32::MIN, i32::MAX].map(|head| (vec![0, 1, 0, 0, head], 1)));
+    tables.extend([4_094, 4_095, 4_096, -4_095, -4_096, 0, 65_537, i32::MIN, i32::MAX].map(|literal| (vec![0, 0, 0, 1, literal], 1)));
+    tables.extend([-1, 65, 4_096, i32::MIN, i32::MAX].map(|count| (vec![1, count, 0, 0, 1, 0, 0, 0, 0], 1)));
+    tables.extend([-1, 65, 4_096, i32::MIN, i32::MAX].map(|count| (vec![0, 1, 0, count, 1, 0, 0, 0, 0], 1)));
+    tables.extend([usize::MAX, usize::MAX / 3, 1 << 32, 1 << 63, (1 << 32) + 1].map(|rules| (vec![0; 12], rules)));
+    tables.extend(with_weights());
     tables.extend(filled_with_rules());
+    tables
+}
+
+/// Rules with weights: counts and body kinds at the limits, words at every limit in every place, words that are missing, and bounds that
+/// nothing and that everything reaches.
+fn with_weights() -> Vec<(Vec<i32>, usize)> {
+    let even = |count: i32, bound: i32| {
+        let mut table = vec![0, 1, 1, count, bound, 4_095];
+        table.extend((1..=count).flat_map(|atom| [if atom % 2 == 0 { -atom } else { atom }, 1]));
+        (table, 1)
+    };
+    let mut tables: Vec<(Vec<i32>, usize)> = [-1, 0, 1, 11, 12, 13, 64, 65].map(|count| even(count, 6)).into();
+    tables.extend([0, 1, 12, 13, 4_095].map(|bound| even(12, bound)));
+    let good = [1, 2, 1, 2, 5, 3, 4, -1, 2, 4_095, 3];
+    for word in NOTABLE {
+        for place in 0..good.len() {
+            let mut table = good.to_vec();
+            table[place] = word;
+            tables.push((table, 1));
+        }
+    }
+    tables.extend((0..=good.len()).map(|count| (good[..count].to_vec(), 1)));
+    tables.push((good.repeat(1_024), 1_024));
     tables
 }
 
 /// 1,024 rules with both heads and bodies: a chain of all atoms, and rules of 64 heads and 64 literals, which no text could hold.
 fn filled_with_rules() -> Vec<(Vec<i32>, usize)> {
-    let mut chain = vec![0, 1, 0, 1_024];
-    chain.extend((1..1_024).flat_map(|atom| [0, 1, 1, atom, atom + 1]));
-    let mut widest = vec![1, 64, 64];
+    let mut chain = vec![0, 1, 0, 0, 1_024];
+    chain.extend((1..1_024).flat_map(|atom| [0, 1, 0, 1, atom, atom + 1]));
+    let mut widest = vec![1, 64, 0, 64];
     widest.extend(4_032..=4_095);
     widest.extend((3_000..3_064).map(|atom| -atom));
     vec![(chain, 1_024), (widest.repeat(1_024), 1_024), (widest.repeat(1_025), 1_025)]

@@ -50,16 +50,19 @@ fn padded(word: &str) -> String {
     word.parse::<u8>().map_or(String::from(word), |number| format!("{number:02}"))
 }
 
+/// The questions that a program can fail.
+const PROGRAM_QUESTIONS: [u8; 13] = [1, 2, 3, 4, 5, 6, 7, 8, 9, 10, 11, 54, 55];
+
 fn wanted(with_binary: bool) -> Vec<String> {
     let mut wanted = Vec::new();
     let services: &[&str] = if with_binary { &["check_texts", "verdict"] } else { &["check_texts"] };
     for service in services {
         wanted.extend(["inconsistent", "open"].map(|word| format!("{service}: {word}")));
-        wanted.extend((1..=11).map(|number| format!("{service}: refused program {number:02}")));
+        wanted.extend(PROGRAM_QUESTIONS.map(|number| format!("{service}: refused program {number:02}")));
         wanted.extend((21..=34).map(|number| format!("{service}: refused proof {number}")));
     }
     wanted.push(String::from("read_program: read"));
-    wanted.extend((1..=11).map(|number| format!("read_program: refused {number:02}")));
+    wanted.extend(PROGRAM_QUESTIONS.map(|number| format!("read_program: refused {number:02}")));
     wanted.extend("abcdels".chars().map(|letter| format!("read_line: {letter}")));
     wanted.push(String::from("read_line: end"));
     wanted.extend((21..=25).map(|number| format!("read_line: refused {number}")));
@@ -69,7 +72,7 @@ fn wanted(with_binary: bool) -> Vec<String> {
     wanted.extend(["read", "refused 51", "refused 52", "refused 53"].map(|word| format!("read_packet: {word}")));
     wanted.extend("abcdels".chars().map(|letter| format!("inconsistent by a proof with {letter}")));
     wanted.extend(["refuted", "answer set"].map(|word| format!("search: {word}")));
-    wanted.extend(["program", "program with further constraints"].map(|what| format!("no answer set: {what}")));
+    wanted.extend(["program", "program with weights", "program with further constraints"].map(|what| format!("no answer set: {what}")));
     wanted
 }
 
@@ -87,7 +90,7 @@ mod tests {
         assert_eq!(left.len() + 1, all.len());
         assert!(!left.contains(&String::from("check_texts: refused program 03")));
         assert!(left.contains(&String::from("check_texts: refused program 11")));
-        assert_eq!(tally.missing(true).len(), left.len() + 27 - 1);
+        assert_eq!(tally.missing(true).len(), left.len() + 29 - 1);
     }
 
     #[test]

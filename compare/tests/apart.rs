@@ -24,7 +24,7 @@ fn reference_stands_apart() {
         }
         files += 1;
     }
-    assert_eq!(files, 9);
+    assert_eq!(files, 10);
 }
 
 #[test]

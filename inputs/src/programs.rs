@@ -1,7 +1,7 @@
 //! Programs: random small ones of several flavours, and a few known hard ones.
 
 use crate::random::Random;
-use crate::rules::{choice, constraint, normal, Rule};
+use crate::rules::{choice, constraint, largest_atom, normal, weighted, Body, Rule};
 
 /// A random small program of a random flavour.
 pub fn small(random: &mut Random) -> Vec<Rule> {
@@ -20,11 +20,68 @@ pub fn small(random: &mut Random) -> Vec<Rule> {
 pub fn scatter(rules: &mut [Rule], random: &mut Random) {
     let mut numbers: Vec<i32> = (1..=12).collect();
     random.shuffle(&mut numbers);
-    let moved = |literal: &mut i32| *literal = numbers[literal.unsigned_abs() as usize - 1] * literal.signum();
+    let moved = |literal: i32| numbers[literal.unsigned_abs() as usize - 1] * literal.signum();
     for rule in rules {
-        rule.heads.iter_mut().for_each(moved);
-        rule.body.iter_mut().for_each(moved);
+        rule.heads.iter_mut().for_each(|head| *head = moved(*head));
+        rule.body.replace(moved);
     }
+}
+
+/// Gives the bodies of some rules weights, with a few literals more.
+pub fn weigh(rules: &mut [Rule], random: &mut Random) {
+    let atoms = largest_atom(rules).max(1);
+    for rule in rules {
+        if random.percent(40) {
+            let mut literals = rule.body.literals();
+            for literal in random.literals(3, atoms) {
+                if !literals.contains(&literal) && !literals.contains(&-literal) {
+                    literals.push(literal);
+                }
+            }
+            rule.body = weight_body(&literals, random);
+        }
+    }
+}
+
+/// Literals with weights of a random size, some of them 0, and a bound of every kind: 0, one that a single literal reaches, one that only all
+/// of them reach or just miss, and any between.
+pub fn weight_body(literals: &[i32], random: &mut Random) -> Body {
+    let largest = *random.pick(&[1, 2, 3, 3, 3, 9, 4_095]);
+    let pairs: Vec<(i32, i32)> = literals.iter().map(|literal| (*literal, random.between(0, largest))).collect();
+    let sum: i32 = pairs.iter().map(|(_, weight)| weight).sum();
+    let bound = match random.below(10) {
+        0 => 0,
+        1 => sum,
+        2 => sum + 1,
+        3 => pairs.first().map_or(1, |(_, weight)| *weight),
+        _ => random.between(0, sum),
+    };
+    Body::Weights { bound: bound.min(4_095), pairs }
+}
+
+/// Atoms that are chosen and atoms that follow by weights, and weight constraints that ask for much of them and for little.
+pub fn weights(random: &mut Random) -> Vec<Rule> {
+    let atoms = if random.percent(4) { 12 } else { random.between(2, 6) };
+    let chosen = random.between(1, atoms);
+    let mut rules = vec![choice(&(1..=chosen).collect::<Vec<_>>(), &[])];
+    for head in chosen + 1..=atoms {
+        let length = random.between(1, 4) as usize;
+        let body = weight_body(&literals(random, length, atoms, 25), random);
+        rules.push(Rule { choice: random.percent(20), heads: vec![head], body });
+    }
+    for _ in 0..random.between(1, 3) {
+        let length = random.between(2, atoms) as usize;
+        let negated = *random.pick(&[0, 100, 50]);
+        let pairs: Vec<(i32, i32)> =
+            literals(random, length, atoms, negated).into_iter().map(|literal| (literal, random.between(1, 4))).collect();
+        let sum: i32 = pairs.iter().map(|(_, weight)| weight).sum();
+        rules.push(weighted(&[], random.between(sum / 3 + 1, sum), &pairs));
+    }
+    if random.percent(40) {
+        rules.push(constraint(&random.literals(2, atoms)));
+    }
+    random.shuffle(&mut rules);
+    rules
 }
 
 /// Rules of all kinds: so many in a hundred are facts, constraints and choice rules, and so many literals are negated.
@@ -150,7 +207,6 @@ pub fn crowded(random: &mut Random) -> Vec<Rule> {
 #[cfg(test)]
 mod tests {
     use super::*;
-    use crate::rules::largest_atom;
 
     #[test]
     fn pigeons_and_holes() {
@@ -170,10 +226,31 @@ mod tests {
             assert!(!rules.is_empty() && largest_atom(&rules) <= 12);
             scatter(&mut rules, &mut random);
             for rule in rules {
-                assert!(different(&rule.heads) && different(&rule.body), "{rule:?}");
+                assert!(different(&rule.heads) && different(&rule.body.literals()), "{rule:?}");
                 assert!(if rule.choice { !rule.heads.is_empty() } else { rule.heads.len() < 2 }, "{rule:?}");
             }
         }
+    }
+
+    #[test]
+    fn weights_are_well_formed() {
+        let (mut nothing, mut all, mut missed) = (0, 0, 0);
+        for index in 0..500 {
+            let mut random = Random::of(3, "weights", index);
+            let mut rules = if index % 2 == 0 { small(&mut random) } else { weights(&mut random) };
+            weigh(&mut rules, &mut random);
+            scatter(&mut rules, &mut random);
+            for rule in rules {
+                let Body::Weights { bound, pairs } = &rule.body else { continue };
+                assert!(different(&rule.body.literals()) && pairs.len() <= 12, "{rule:?}");
+                let sum: i32 = pairs.iter().map(|(_, weight)| weight).sum();
+                assert!((0..=4_095).contains(bound) && pairs.iter().all(|(_, weight)| (0..=4_095).contains(weight)), "{rule:?}");
+                nothing += usize::from(*bound == 0);
+                all += usize::from(*bound == sum);
+                missed += usize::from(*bound > sum);
+            }
+        }
+        assert!(nothing > 100 && all > 100 && missed > 100, "{nothing} {all} {missed}");
     }
 
     fn different(literals: &[i32]) -> bool {

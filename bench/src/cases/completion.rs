@@ -6,8 +6,7 @@ use inputs::rules::{largest_atom, Rule};
 /// The different bodies, as sets, in the order in which they come up.
 pub fn bodies_of(rules: &[Rule]) -> Vec<Vec<i32>> {
     let mut bodies = Vec::new();
-    for rule in rules {
-        let body = sorted(&rule.body);
+    for body in rules.iter().flat_map(Rule::bodies) {
         if !bodies.contains(&body) {
             bodies.push(body);
         }
@@ -15,28 +14,30 @@ pub fn bodies_of(rules: &[Rule]) -> Vec<Vec<i32>> {
     bodies
 }
 
-fn sorted(body: &[i32]) -> Vec<i32> {
-    let mut body = body.to_vec();
-    body.sort_by_key(|literal| literal.abs());
-    body
-}
-
-/// The name that a body gets: the first number above the atoms for the first body, and so on.
+/// The name that a body, ascending by atom, gets: the first number above the atoms for the first body, and so on.
 pub fn name_of(atoms: i32, bodies: &[Vec<i32>], body: &[i32]) -> i32 {
-    let place = bodies.iter().position(|known| *known == sorted(body));
+    let place = bodies.iter().position(|known| known == body);
     atoms + 1 + place.expect("each body is in the list") as i32
 }
 
-/// A `b` line for each body, a `c` line for each normal rule, and an `s` line for each atom.
+/// A `b` line for each body.
+pub fn definitions(atoms: i32, bodies: &[Vec<i32>]) -> Vec<Line> {
+    bodies.iter().map(|body| Line::with(b'b', name_of(atoms, bodies, body), body)).collect()
+}
+
+/// The words that the nogoods of a body's definition take in the store.
+pub fn definition_words(body: &[i32]) -> usize {
+    2 + 4 * body.len()
+}
+
+/// A `b` line for each body, a `c` line for each normal rule and each of its bodies, and an `s` line for each atom.
 pub fn completion(rules: &[Rule]) -> Vec<Line> {
     let atoms = largest_atom(rules);
     let bodies = bodies_of(rules);
-    let mut lines = Vec::new();
-    for body in &bodies {
-        lines.push(Line::with(b'b', name_of(atoms, &bodies, body), body));
-    }
+    let mut lines = definitions(atoms, &bodies);
     for rule in rules.iter().filter(|rule| !rule.choice) {
-        lines.push(Line::with(b'c', name_of(atoms, &bodies, &rule.body), &rule.heads));
+        let line = |body: &Vec<i32>| Line::with(b'c', name_of(atoms, &bodies, body), &rule.heads);
+        lines.extend(rule.bodies().iter().map(line));
     }
     for atom in 1..=atoms {
         lines.push(Line::with(b's', atom, &supports(rules, atoms, &bodies, atom)));
@@ -47,11 +48,21 @@ pub fn completion(rules: &[Rule]) -> Vec<Line> {
 /// The names of the different bodies of the rules with the atom in the head.
 pub fn supports(rules: &[Rule], atoms: i32, bodies: &[Vec<i32>], atom: i32) -> Vec<i32> {
     let mut names = Vec::new();
-    for rule in rules.iter().filter(|rule| rule.heads.contains(&atom)) {
-        let name = name_of(atoms, bodies, &rule.body);
+    for body in rules.iter().filter(|rule| rule.heads.contains(&atom)).flat_map(Rule::bodies) {
+        let name = name_of(atoms, bodies, &body);
         if !names.contains(&name) {
             names.push(name);
         }
     }
+    names
+}
+
+/// The names of the external bodies of a set of atoms.
+pub fn externals(rules: &[Rule], atoms: i32, bodies: &[Vec<i32>], set: &[i32]) -> Vec<i32> {
+    let with_head = rules.iter().filter(|rule| rule.heads.iter().any(|head| set.contains(head)));
+    let external = with_head.flat_map(Rule::bodies).filter(|body| !body.iter().any(|literal| set.contains(literal)));
+    let mut names: Vec<i32> = external.map(|body| name_of(atoms, bodies, &body)).collect();
+    names.sort_unstable();
+    names.dedup();
     names
 }

@@ -5,21 +5,25 @@ mod completion;
 mod pigeons;
 mod refutations;
 mod searched;
+mod slow;
+mod weights;
 mod wide;
 
 use inputs::lines::{proof_text, Line};
-use inputs::rules::{program_text, Rule};
+use inputs::rules::{program_text, Body, Rule};
 use inputs::Pair;
 
-/// One input.
+/// One input, and whether it has a packet, which holds no weights.
 pub struct Input {
     pub name: String,
     pub texts: Pair,
+    pub packs: bool,
 }
 
 impl Input {
     fn of(name: impl Into<String>, rules: &[Rule], lines: &[Line]) -> Input {
-        Input { name: name.into(), texts: Pair::of(program_text(rules), proof_text(lines)) }
+        let packs = rules.iter().all(|rule| matches!(rule.body, Body::Plain(_)));
+        Input { name: name.into(), texts: Pair::of(program_text(rules), proof_text(lines)), packs }
     }
 }
 
@@ -30,5 +34,11 @@ pub fn all() -> Vec<Input> {
     inputs.extend(searched::inputs());
     inputs.push(chain::input());
     inputs.push(wide::input());
+    inputs.extend(weights::inputs());
     inputs
+}
+
+/// The inputs that were made to be slow.
+pub fn slow() -> Vec<Input> {
+    slow::inputs()
 }

@@ -1,7 +1,7 @@
 //! As many rules and table words as there may be, and thousands of `l` and `s` lines until the store is full: each of them is a
 //! question about the whole program.
 
-use super::completion::{bodies_of, name_of, supports};
+use super::completion::{bodies_of, definition_words, definitions, externals, supports};
 use super::Input;
 use inputs::lines::{line_of, proof_text, Line};
 use inputs::random::Random;
@@ -10,7 +10,7 @@ use inputs::{ROOM, TEXT_LIMIT};
 
 /// The rules; with one head and so many body literals each they fill the table.
 const RULES: usize = 1_024;
-const LITERALS: usize = ROOM / RULES - 4;
+const LITERALS: usize = ROOM / RULES - 5;
 
 /// The different bodies, and the atoms that they are over.
 const BODIES: usize = 64;
@@ -35,10 +35,9 @@ fn rules(random: &mut Random) -> Vec<Rule> {
 fn proof(rules: &[Rule], random: &mut Random) -> Vec<Line> {
     let atoms = largest_atom(rules);
     let bodies = bodies_of(rules);
-    let define = |body: &Vec<i32>| Line::with(b'b', name_of(atoms, &bodies, body), body);
-    let mut lines: Vec<Line> = bodies.iter().map(define).collect();
+    let mut lines = definitions(atoms, &bodies);
     let mut bytes = proof_text(&lines).len();
-    let mut words: usize = bodies.iter().map(|body| 4 * body.len() + 2).sum();
+    let mut words: usize = bodies.iter().map(|body| definition_words(body)).sum();
     for turn in 0.. {
         let (line, size) = match turn % 2 {
             0 => support_line(rules, atoms, &bodies, turn / 2),
@@ -65,10 +64,6 @@ fn support_line(rules: &[Rule], atoms: i32, bodies: &[Vec<i32>], turn: usize) ->
 fn loop_line(rules: &[Rule], atoms: i32, bodies: &[Vec<i32>], random: &mut Random) -> (Line, usize) {
     let count = 1 + random.below(3);
     let set = random.different(count, INNER);
-    let is_external =
-        |rule: &&Rule| rule.heads.iter().any(|head| set.contains(head)) && !rule.body.iter().any(|literal| set.contains(literal));
-    let mut names: Vec<i32> = rules.iter().filter(is_external).map(|rule| name_of(atoms, bodies, &rule.body)).collect();
-    names.sort_unstable();
-    names.dedup();
+    let names = externals(rules, atoms, bodies, &set);
     (Line::of(b'l', &set), NOGOOD_WORDS + 1 + names.len())
 }

@@ -7,6 +7,7 @@ mod lines;
 pub mod nogoods;
 mod program;
 mod steps;
+mod weights;
 
 use aspdrupe::{Counts, ProgramRefusal, ProofRefusal, UnknownAnswer, Verdict};
 use steps::Checking;
@@ -76,11 +77,11 @@ mod tests {
 
     #[test]
     fn starred_1_to_3() {
-        assert_eq!(line(RULE, PROOF, 5, 15), "inconsistent 1 1 5 6");
-        assert_eq!(line(RULE, PROOF, 5, 14), "refused proof 34 5");
-        assert_eq!(line(RULE, PROOF, 4, 15), "refused program 10 2");
-        assert_eq!(line(RULE, &format!("{PROOF}d 0\n"), 5, 15), "open 1 1 6 5");
-        assert_eq!(line(RULE, &PROOF.replace("c 2 1 0", "e 1 2 0"), 5, 15), "refused proof 27 2");
+        assert_eq!(line(RULE, PROOF, 6, 15), "inconsistent 1 1 5 6");
+        assert_eq!(line(RULE, PROOF, 6, 14), "refused proof 34 5");
+        assert_eq!(line(RULE, PROOF, 5, 15), "refused program 10 2");
+        assert_eq!(line(RULE, &format!("{PROOF}d 0\n"), 6, 15), "open 1 1 6 5");
+        assert_eq!(line(RULE, &PROOF.replace("c 2 1 0", "e 1 2 0"), 6, 15), "refused proof 27 2");
     }
 
     #[test]
@@ -92,6 +93,44 @@ mod tests {
         assert_eq!(line(loops, "b 3 -1 0\nc 3 0\na 0\n", 99, 99), "refused proof 33 3");
         assert_eq!(line("1 1 1 1 0 0\n", "b 2 0\nc 2 1 0\n", 99, 99), "refused proof 29 2");
         assert_eq!(line(&format!("{RULE}1 0 1 1 0 0\n"), PROOF, 99, 99), "refused proof 30 3");
+    }
+
+    #[test]
+    fn weight_lines() {
+        for (rule, expected) in [
+            ("1 0 1 1 1 3 2 2 2 3 2", "open 3 1 0 0"),
+            ("1 0 1 1 1 1 2 2 1 9 0", "open 9 1 0 0"),
+            ("1 0 1 1 1", "refused program 6 2"),
+            ("1 0 1 1 1 3", "refused program 6 2"),
+            ("1 0 1 1 1 3 2 2 2 3", "refused program 6 2"),
+            ("1 0 1 1 1 3 1 2 2 3", "refused program 6 2"),
+            ("1 0 2 1 2 1 -1 0", "refused program 54 2"),
+            ("1 0 2 1 2 1 1 0", "refused program 7 2"),
+            ("1 0 1 1 1 1 2 2 1 -2 1", "refused program 8 2"),
+            ("1 0 1 1 2 1 0", "refused program 5 2"),
+        ] {
+            assert_eq!(line(&format!("{rule}\n"), "", 10, 0), expected, "{rule}");
+        }
+        assert_eq!(line("1 0 1 1 1 3 2 2 2 3 2\n", "", 9, 0), "refused program 10 2");
+        let many = |count: i32| format!("1 0 0 1 6 {count}{}\n", (1..=count).map(|atom| format!(" {atom} 1")).collect::<String>());
+        let lines = [12, 13, 64, 65].map(|count| line(&many(count), "", 99, 0));
+        assert_eq!(lines, ["open 12 1 0 0", "refused program 55 2", "refused program 55 2", "refused program 6 2"]);
+    }
+
+    #[test]
+    fn weight_steps() {
+        let sum = "1 0 1 1 1 3 3 2 2 3 2 4 1\n";
+        let named = "b 5 2 3 0\nb 6 2 4 0\nb 7 3 4 0\n";
+        assert_eq!(line(sum, "b 5 2 3 4 0\n", 99, 99), "refused proof 28 1");
+        assert_eq!(line(sum, "b 5 2 3 0\nb 6 3 2 0\n", 99, 99), "refused proof 28 2");
+        assert_eq!(line(sum, &format!("{named}s 1 5 6 7 0\n"), 99, 99), "open 4 1 4 10");
+        assert_eq!(line(sum, &format!("{named}s 1 5 6 0\n"), 99, 99), "refused proof 30 4");
+        assert_eq!(line("1 1 1 1 1 1 1 2 1\n", "b 3 2 0\nc 3 1 0\n", 99, 99), "refused proof 29 2");
+        assert_eq!(line("1 0 1 1 1 2 3 1 1 2 1 3 1\n", "l 1 0\n", 99, 99), "refused proof 32 1");
+        assert_eq!(line("1 0 1 1 1 2 3 1 1 2 1 3 1\n", "b 4 2 3 0\nl 1 0\n", 99, 99), "open 3 1 2 4");
+        let rules = "1 1 3 1 2 3 0 0\n1 0 0 1 4 3 1 3 2 2 3 2\n1 0 0 0 1 -1\n1 0 0 0 1 -2\n";
+        let proof = "b 4 1 2 0\nb 5 -1 0\nb 6 -2 0\nc 4 0\nc 5 0\nc 6 0\na 0\n";
+        assert_eq!(line(rules, proof, 99, 99), "inconsistent 3 4 7 11");
     }
 
     #[test]

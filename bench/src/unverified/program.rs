@@ -1,11 +1,13 @@
-//! The program reader, questions 1 to 11.
+//! The program reader, questions 1 to 11, 54 and 55.
 
 use super::bodies::Rules;
+use super::weights::Weights;
 use super::{LARGEST, LONGEST};
 
-/// The most rules, and the most heads or body literals of one.
+/// The most rules, the most heads or body literals of one, and the most literals with weights.
 const MOST_RULES: usize = 1_024;
 const MOST_PARTS: i32 = 64;
+const MOST_WEIGHTED: usize = 12;
 
 /// The rules of a program, or the refusal's number and the line.
 pub fn read(text: &[u8], table_words: usize) -> Result<Rules, (u8, usize)> {
@@ -14,7 +16,7 @@ pub fn read(text: &[u8], table_words: usize) -> Result<Rules, (u8, usize)> {
     }
     let mut rest = text.strip_prefix(b"asp 1 0 0\n").ok_or((2, 1))?;
     let mut reading = Reading { rules: Rules::none(), words: 0, room: table_words, seen: vec![0; LARGEST + 1], stamp: 0 };
-    let mut numbers = Vec::with_capacity(2 * MOST_PARTS as usize + 5);
+    let mut numbers = Vec::with_capacity(3 * MOST_PARTS as usize + 6);
     let mut line = 1;
     loop {
         line += 1;
@@ -46,26 +48,51 @@ impl Reading {
         if !suits {
             return Err(7);
         }
-        if heads.iter().any(|&h| h <= 0) || !self.all_different(heads) {
+        if heads.iter().any(|&h| h <= 0) || !self.all_different(heads.iter().copied()) {
             return Err(8);
         }
-        if body.contains(&0) || !self.all_different(body) {
+        match body {
+            Body::Plain(literals) => self.plain(kind == 0, heads, literals),
+            Body::Weights(bound, pairs) => self.weights(kind == 0, heads, bound, pairs),
+        }
+    }
+
+    fn plain(&mut self, normal: bool, heads: &[i32], literals: &mut [i32]) -> Result<(), u8> {
+        if literals.contains(&0) || !self.all_different(literals.iter().copied()) {
             return Err(8);
         }
+        self.take(4 + heads.len() + literals.len())?;
+        literals.sort_unstable_by_key(|literal| literal.unsigned_abs());
+        self.rules.add(normal, heads, literals);
+        Ok(())
+    }
+
+    fn weights(&mut self, normal: bool, heads: &[i32], bound: i32, numbers: &[i32]) -> Result<(), u8> {
+        let mut pairs: Vec<(i32, i32)> = numbers.chunks_exact(2).map(|pair| (pair[0], pair[1])).collect();
+        let literals = || pairs.iter().map(|pair| pair.0);
+        if literals().any(|literal| literal == 0) || !self.all_different(literals()) {
+            return Err(8);
+        }
+        self.take(5 + heads.len() + numbers.len())?;
+        pairs.sort_unstable_by_key(|pair| pair.0.unsigned_abs());
+        self.rules.add_weights(normal, heads, Weights { bound, pairs: pairs.into() });
+        Ok(())
+    }
+
+    /// Room for a rule of so many words, or the refusal's number.
+    fn take(&mut self, words: usize) -> Result<(), u8> {
         if self.rules.count == MOST_RULES {
             return Err(9);
         }
-        self.words += 3 + heads.len() + body.len();
+        self.words += words;
         if self.words > self.room {
             return Err(10);
         }
-        body.sort_unstable_by_key(|literal| literal.unsigned_abs());
-        self.rules.add(kind == 0, heads, body);
         Ok(())
     }
 
     /// No atom is named twice.
-    fn all_different(&mut self, literals: &[i32]) -> bool {
+    fn all_different(&mut self, literals: impl Iterator<Item = i32>) -> bool {
         self.stamp += 1;
         for literal in literals {
             let seen = &mut self.seen[literal.unsigned_abs() as usize];
@@ -78,32 +105,58 @@ impl Reading {
     }
 }
 
+/// The numbers of a body: literals, or a bound and literals each with its weight.
+enum Body<'a> {
+    Plain(&'a mut [i32]),
+    Weights(i32, &'a mut [i32]),
+}
+
 /// The head kind, the heads and the body of a rule's numbers, or the refusal's number.
-fn split(numbers: &mut [i32]) -> Result<(i32, &mut [i32], &mut [i32]), u8> {
+fn split(numbers: &mut [i32]) -> Result<(i32, &mut [i32], Body<'_>), u8> {
     let (kind, rest) = match numbers {
         [1, kind @ (0 | 1), rest @ ..] => (*kind, rest),
         _ => return Err(5),
     };
-    let (heads, rest) = counted(rest).ok_or(6)?;
-    let rest = match rest {
-        [0, rest @ ..] => rest,
+    let (heads, rest) = counted(rest, 1).ok_or(6)?;
+    let (body, rest) = match rest {
+        [0, rest @ ..] => {
+            let (literals, rest) = counted(rest, 1).ok_or(6)?;
+            (Body::Plain(literals), rest)
+        }
+        [1, bound, rest @ ..] => {
+            let (pairs, rest) = counted(rest, 2).ok_or(6)?;
+            (Body::Weights(*bound, pairs), rest)
+        }
+        [1] => return Err(6),
         _ => return Err(5),
     };
-    let (body, rest) = counted(rest).ok_or(6)?;
-    if rest.is_empty() {
-        Ok((kind, heads, body))
-    } else {
-        Err(6)
+    if !rest.is_empty() {
+        return Err(6);
     }
+    if let Body::Weights(bound, pairs) = &body {
+        weights_good(*bound, pairs)?;
+    }
+    Ok((kind, heads, body))
 }
 
-/// A count, as many numbers as it says, and what follows.
-fn counted(numbers: &mut [i32]) -> Option<(&mut [i32], &mut [i32])> {
+/// Bound and weights are not negative, and the literals not too many; or the refusal's number.
+fn weights_good(bound: i32, pairs: &[i32]) -> Result<(), u8> {
+    if bound < 0 || pairs.chunks_exact(2).any(|pair| pair[1] < 0) {
+        return Err(54);
+    }
+    if pairs.len() > 2 * MOST_WEIGHTED {
+        return Err(55);
+    }
+    Ok(())
+}
+
+/// A count, so many times as many numbers as it says, and what follows.
+fn counted(numbers: &mut [i32], times: usize) -> Option<(&mut [i32], &mut [i32])> {
     let (count, rest) = numbers.split_first_mut()?;
-    if !(0..=MOST_PARTS).contains(count) || rest.len() < *count as usize {
+    if !(0..=MOST_PARTS).contains(count) || rest.len() < times * *count as usize {
         return None;
     }
-    Some(rest.split_at_mut(*count as usize))
+    Some(rest.split_at_mut(times * *count as usize))
 }
 
 /// The numbers of a line without its newline, or the refusal's number.

@@ -60,7 +60,7 @@ impl TryFrom<u32> for ProgramCode {
     fn try_from(code: u32) -> Result<Self, UnknownAnswer> {
         match code {
             0 => Ok(ProgramCode::Read),
-            1..=11 => ProgramQuestion::try_from(u64::from(code)).map(ProgramCode::Refused),
+            1..=11 | 54 | 55 => ProgramQuestion::try_from(u64::from(code)).map(ProgramCode::Refused),
             _ => Err(unknown("code of the program reader", code)),
         }
     }
@@ -211,7 +211,7 @@ mod tests {
 
     #[test]
     fn known_codes() {
-        assert_eq!(known::<ProgramCode>(), (0..=11).collect::<Vec<_>>());
+        assert_eq!(known::<ProgramCode>(), (0..=11).chain([54, 55]).collect::<Vec<_>>());
         assert_eq!(known::<SetCode>(), [0, 1, 2, 41, 42, 43]);
         assert_eq!(known::<LineCode>(), [0, 21, 22, 23, 24, 25, 97, 98, 99, 100, 101, 108, 115]);
         assert_eq!(known::<CheckCode>(), [0, 1, 2, 3]);

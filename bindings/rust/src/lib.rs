@@ -8,7 +8,7 @@
 //! ```
 //! let program = b"asp 1 0 0\n1 0 1 1 0 1 -1\n0\n";
 //! let proof = b"b 2 -1 0\nc 2 1 0\ns 1 2 0\na 1 0\na 0\n";
-//! let (mut table, mut store) = ([0; 5], [0; 15]);
+//! let (mut table, mut store) = ([0; 6], [0; 15]);
 //! let verdict = aspdrupe::check_texts(program, proof, &mut table, &mut store)?;
 //! assert_eq!(verdict.to_string(), "inconsistent 1 1 5 6");
 //! # Ok::<(), aspdrupe::UnknownAnswer>(())
@@ -36,12 +36,22 @@ pub const MARKS: usize = 4096;
 
 /// The bytes of stack with which a thread has enough for any call, as `std::thread::Builder::stack_size` takes them. What your own
 /// code takes comes on top.
-pub const STACK: usize = 196_608;
+pub const STACK: usize = 327_680;
 
 // Each call below hands over what its slices point to, with their lengths. A slice is valid for its length, an empty one has a
 // pointer that is aligned and not null, and Rust lets no other argument overlap one that is written: nothing more is asked.
 
 /// Reads a program text into the table, which then holds the rules' words with 0 after them; 0 throughout where it is refused.
+///
+/// The words of a rule are the head kind, the head count, the body kind and the body count, with body kind 1 the bound, then the heads
+/// ascending, and the literals ascending by atom, with body kind 1 each with its weight behind it.
+///
+/// ```
+/// let mut table = [0; 10];
+/// aspdrupe::read_program(b"asp 1 0 0\n1 0 1 1 1 3 2 3 2 -2 4\n0\n", &mut table)?;
+/// assert_eq!(table, [0, 1, 1, 2, 3, 1, -2, 4, 3, 2]);
+/// # Ok::<(), aspdrupe::UnknownAnswer>(())
+/// ```
 pub fn read_program(text: &[u8], table: &mut [i32]) -> Result<ProgramReading, UnknownAnswer> {
     let mut answer = [0; 2];
     // SAFETY: as said above.
@@ -115,16 +125,17 @@ pub fn check_texts(program: &[u8], proof: &[u8], table: &mut [i32], store: &mut 
 
 /// Writes a packet: a table that holds so many rules and a proof text, in one sequence of bytes with one form for each such pair. The
 /// proof is not checked against the program. The output then begins with the packet and has 0 after it; it is 0 throughout where the
-/// packet is refused. `13 + 4 * table.len() + proof.len()` bytes hold every packet.
+/// packet is refused. `13 + 4 * table.len() + proof.len()` bytes hold every packet. A packet has no place for body kinds: a table with a
+/// rule of body kind 1 is refused.
 ///
 /// ```
 /// use aspdrupe::{read_packet, write_packet, PacketReading, PacketWriting};
 ///
-/// let (table, proof) = ([0, 1, 1, 1, -1], b"b 2 -1 0\nc 2 1 0\ns 1 2 0\na 1 0\na 0\n");
+/// let (table, proof) = ([0, 1, 0, 1, 1, -1], b"b 2 -1 0\nc 2 1 0\ns 1 2 0\na 1 0\na 0\n");
 /// let mut packet = vec![0; 13 + 4 * table.len() + proof.len()];
 /// let PacketWriting::Written(size) = write_packet(&table, 1, proof, &mut packet)? else { panic!("it is good") };
 ///
-/// let (mut table_back, mut proof_back) = ([0; 5], [0; 35]);
+/// let (mut table_back, mut proof_back) = ([0; 6], [0; 35]);
 /// let reading = read_packet(&packet[..size], &mut table_back, &mut proof_back)?;
 /// assert_eq!(reading, PacketReading::Read { rules: 1, bytes: 35 });
 /// assert_eq!((table_back, &proof_back), (table, proof));
@@ -150,7 +161,8 @@ pub fn write_packet(table: &[i32], rules: usize, proof: &[u8], packet: &mut [u8]
 }
 
 /// Reads a packet back into a table and a proof text, which then hold the rules' words and the text, with 0 after them; both are 0
-/// throughout where the packet is refused. The packet is all of the slice: zeros after it are none of it.
+/// throughout where the packet is refused. The packet is all of the slice: zeros after it are none of it. `packet.len() / 3` words hold
+/// the table of every packet.
 pub fn read_packet(packet: &[u8], table: &mut [i32], proof: &mut [u8]) -> Result<PacketReading, UnknownAnswer> {
     let mut answer = [0; 2];
     // SAFETY: as said above.

@@ -60,19 +60,21 @@ macro_rules! numbered {
 }
 
 numbered! {
-    /// A question put to a program text. A refusal names the first that is answered no.
+    /// A question put to a program text. A refusal names the first that is answered no; 54 and 55 are asked right after 6.
     ProgramQuestion, "question put to a program text" {
         Length = 1, "Has the text at most 65,535 bytes?";
         Header = 2, "Is line 1 `asp 1 0 0`?";
         Numbers = 3, "Is there a line, ended, of well-formed numbers?";
         Range = 4, "Are all numbers from -4,095 to 4,095?";
-        Kinds = 5, "Is the statement kind 1, the head kind 0 or 1, and the body kind 0?";
-        Counts = 6, "Are both counts there, 0 to 64, and matched by what follows?";
+        Kinds = 5, "Is the statement kind 1, the head kind 0 or 1, and the body kind 0 or 1?";
+        Counts = 6, "Are both counts and a bound there, the counts 0 to 64, and matched by what follows?";
         HeadCount = 7, "Does the head count suit the head kind?";
         Literals = 8, "Are heads positive and distinct, literals nonzero with no atom twice?";
         RuleCount = 9, "Are there fewer than 1,024 rules before it?";
         Table = 10, "Does the table hold the rule?";
         End = 11, "Does the text end after the line `0`?";
+        Weights = 54, "Are bound and weights 0 to 4,095?";
+        WeightCount = 55, "Has a body with weights at most 12 literals?";
     }
 }
 
@@ -110,7 +112,7 @@ numbered! {
     PacketQuestion, "question put to a packet" {
         Mark = 51, "Does the packet begin with `RVP` and version 1?";
         Lengths = 52, "Do the lengths make up the bytes given, and do the outputs hold what is written?";
-        Pair = 53, "Does the table pass question 41, and the proof text questions 21 to 25?";
+        Pair = 53, "Does the table pass question 41 and have no weights, and the proof text questions 21 to 25?";
     }
 }
 
@@ -139,7 +141,7 @@ mod tests {
 
     #[test]
     fn numbers_of_the_documents() {
-        assert_eq!(known(ProgramQuestion::number), (1..=11).collect::<Vec<_>>());
+        assert_eq!(known(ProgramQuestion::number), (1..=11).chain([54, 55]).collect::<Vec<_>>());
         assert_eq!(known(ProofQuestion::number), (21..=34).collect::<Vec<_>>());
         assert_eq!(known(SetQuestion::number), (41..=43).collect::<Vec<_>>());
         assert_eq!(known(PacketQuestion::number), (51..=53).collect::<Vec<_>>());
@@ -149,7 +151,7 @@ mod tests {
 
     #[test]
     fn other_numbers_are_errors() {
-        for number in [0, 12, 21, 257, 1 << 32 | 1, u64::MAX] {
+        for number in [0, 12, 21, 53, 56, 257, 1 << 32 | 1, u64::MAX] {
             let unknown = UnknownAnswer { wanted: "question put to a program text", number };
             assert_eq!(ProgramQuestion::try_from(number), Err(unknown));
         }

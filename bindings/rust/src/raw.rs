@@ -76,7 +76,7 @@ mod tests {
     fn counts_that_do_not_fit() {
         for size in 0..6 {
             let mut answer = [9u64; 6];
-            let mut table = [7; 5];
+            let mut table = [7; 6];
             let mut store = [7; 15];
             // SAFETY: the slices are valid for these lengths and do not overlap.
             let code = unsafe {
@@ -117,7 +117,7 @@ mod tests {
 
     /// The packet of the program's table and the proof, in so many bytes: the code, and what is left in an answer of so many numbers.
     fn written(rules: u64, packet: &mut [u8], size: usize) -> (u32, [u64; 3]) {
-        let table = [0, 1, 1, 1, -1];
+        let table = [0, 1, 0, 1, 1, -1];
         let mut answer = [9u64; 3];
         // SAFETY: as above.
         let code = unsafe {
@@ -138,7 +138,7 @@ mod tests {
 
     /// The same for a packet that is read back.
     fn read(packet: &[u8], size: usize) -> (u32, [u64; 3]) {
-        let (mut table, mut proof) = ([7; 5], [7; 35]);
+        let (mut table, mut proof) = ([7; 6], [7; 35]);
         let mut answer = [9u64; 3];
         // SAFETY: as above.
         let code = unsafe {

@@ -22,7 +22,7 @@ fn same_constants() {
 fn call_all() -> [String; 6] {
     let program = b"asp 1 0 0\n1 0 1 1 0 1 2\n1 0 1 2 0 1 1\n1 0 0 0 1 -1\n0\n";
     let proof = b"b 3 -1 0\nb 4 2 0\ns 1 4 0\nc 3 0\nl 1 2 0\na 0\n";
-    let (mut table, mut store) = ([0; 16], [0; 32]);
+    let (mut table, mut store) = ([0; 20], [0; 32]);
     let read = read_program(program, &mut table);
     let set = test_set(&table, 3, &[], &mut [0; MARKS]);
     let line = read_line(proof, 0).map(|(line, _)| line);

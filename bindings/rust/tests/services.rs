@@ -1,14 +1,14 @@
-//! The six services on document 01's starred examples and on buffers that are too small or empty.
+//! The six services on document 01's starred examples, on rules with weights, and on buffers that are too small or empty.
 
 use aspdrupe::*;
 
 // Starred example 1.
 const PROGRAM: &[u8] = b"asp 1 0 0\n1 0 1 1 0 1 -1\n0\n";
 const PROOF: &[u8] = b"b 2 -1 0\nc 2 1 0\ns 1 2 0\na 1 0\na 0\n";
-const RULES: [i32; 5] = [0, 1, 1, 1, -1];
+const RULES: [i32; 6] = [0, 1, 0, 1, 1, -1];
 const STORE: [i32; 15] = [2, -1, -2, 2, 1, 2, 2, -1, 2, 2, 1, -2, 1, 1, 0];
 
-// Its packet: mark and version, 5 words, 5 steps; the words; the steps.
+// Its packet: mark and version, 5 words, 5 steps; the words without the body kind; the steps.
 const PACKET: [u8; 57] = [
     0x52, 0x56, 0x50, 1, 0, 5, 0, 0, 0, 5, 0, 0, 0, //
     0, 0, 0, 0, 1, 0, 0, 0, 1, 0, 0, 0, 1, 0, 0, 0, 255, 255, 255, 255, //
@@ -32,20 +32,20 @@ fn refused(question: ProgramQuestion, line: usize) -> Result<ProgramReading, Unk
 
 #[test]
 fn starred_1() {
-    assert_eq!(checked(PROGRAM, PROOF, 5, 15), (line("inconsistent 1 1 5 6"), RULES.to_vec(), STORE.to_vec()));
-    assert_eq!(checked(PROGRAM, PROOF, 5, 14), (line("refused proof 34 5"), vec![0; 5], vec![0; 14]));
-    assert_eq!(checked(PROGRAM, PROOF, 4, 15), (line("refused program 10 2"), vec![0; 4], vec![0; 15]));
+    assert_eq!(checked(PROGRAM, PROOF, 6, 15), (line("inconsistent 1 1 5 6"), RULES.to_vec(), STORE.to_vec()));
+    assert_eq!(checked(PROGRAM, PROOF, 6, 14), (line("refused proof 34 5"), vec![0; 6], vec![0; 14]));
+    assert_eq!(checked(PROGRAM, PROOF, 5, 15), (line("refused program 10 2"), vec![0; 5], vec![0; 15]));
 }
 
 #[test]
 fn starred_2() {
     let proof = [PROOF, b"d 0\n"].concat();
-    assert_eq!(checked(PROGRAM, &proof, 5, 15), (line("open 1 1 6 5"), RULES.to_vec(), STORE.to_vec()));
+    assert_eq!(checked(PROGRAM, &proof, 6, 15), (line("open 1 1 6 5"), RULES.to_vec(), STORE.to_vec()));
 }
 
 #[test]
 fn verdicts_as_enums() {
-    let (mut table, mut store) = ([7; 5], [7; 15]);
+    let (mut table, mut store) = ([7; 6], [7; 15]);
     let counts = Counts { atoms: 1, rules: 1, steps: 5, nogoods: 6 };
     assert_eq!(check_texts(PROGRAM, PROOF, &mut table, &mut store), Ok(Verdict::Inconsistent(counts)));
     let refusal = ProofRefusal { question: ProofQuestion::Addition, step: 1 };
@@ -56,13 +56,48 @@ fn verdicts_as_enums() {
 
 #[test]
 fn programs() {
-    let mut table = [7; 7];
+    let mut table = [7; 8];
     assert_eq!(read_program(PROGRAM, &mut table), Ok(ProgramReading::Read { atoms: 1, rules: 1 }));
-    assert_eq!(table, [0, 1, 1, 1, -1, 0, 0]);
-    let mut short = [7; 4];
+    assert_eq!(table, [0, 1, 0, 1, 1, -1, 0, 0]);
+    let mut short = [7; 5];
     assert_eq!(read_program(PROGRAM, &mut short), refused(ProgramQuestion::Table, 2));
-    assert_eq!(short, [0; 4]);
+    assert_eq!(short, [0; 5]);
     assert_eq!(read_program(&[b'\n'; 65_536], &mut short), refused(ProgramQuestion::Length, 0));
+}
+
+#[test]
+fn programs_with_weights() {
+    // bound 5 with the literals 4, -2 and 3 of weights 3, 2 and 4
+    let mut table = [7; 12];
+    assert_eq!(read_program(b"asp 1 0 0\n1 0 0 1 5 3 4 3 -2 2 3 4\n0\n", &mut table), Ok(ProgramReading::Read { atoms: 4, rules: 1 }));
+    assert_eq!(table, [0, 0, 1, 3, 5, -2, 2, 3, 4, 4, 3, 0]);
+    assert_eq!(read_program(b"asp 1 0 0\n1 0 1 1 1 3 1 2 -1\n0\n", &mut table), refused(ProgramQuestion::Weights, 2));
+    assert_eq!(table, [0; 12]);
+    let many = format!("asp 1 0 0\n1 0 0 1 6 13{}\n0\n", (1..=13).map(|atom| format!(" {atom} 1")).collect::<String>());
+    assert_eq!(read_program(many.as_bytes(), &mut table), refused(ProgramQuestion::WeightCount, 2));
+    assert_eq!(checked(many.as_bytes(), b"", 99, 9).0, "refused program 55 2");
+}
+
+#[test]
+fn steps_with_weights() {
+    let program = b"asp 1 0 0\n1 1 3 1 2 3 0 0\n1 0 0 1 4 3 1 3 2 2 3 2\n1 0 0 0 1 -1\n1 0 0 0 1 -2\n0\n";
+    let proof = b"b 4 1 2 0\nb 5 -1 0\nb 6 -2 0\nc 4 0\nc 5 0\nc 6 0\na 0\n";
+    assert_eq!(checked(program, proof, 28, 50).0, "inconsistent 3 4 7 11");
+    // 1, 2 and 3 reach the bound, but are no minimal set
+    assert_eq!(checked(program, b"b 4 1 2 3 0\n", 28, 50).0, "refused proof 28 1");
+}
+
+#[test]
+fn sets_with_weights() {
+    let mut marks = [7; MARKS];
+    // the choice over 2 and 3, and 1 where the weights 2, 2 and 1 of 2, 3 and 4 reach 3
+    let sum = [1, 2, 0, 0, 2, 3, 0, 1, 1, 3, 3, 1, 2, 2, 3, 2, 4, 1];
+    assert_eq!(test_set(&sum, 2, &[1, 2, 3], &mut marks), Ok(SetAnswer::Yes));
+    assert_eq!(test_set(&sum, 2, &[2], &mut marks), Ok(SetAnswer::Yes));
+    assert_eq!(test_set(&sum, 2, &[2, 3], &mut marks), Ok(SetAnswer::Differs(1)));
+    for words in [&[0, 0, 1, 1, 1, 1, -1][..], &[0, 0, 1, 1, 1, 1, 4_096], &[0, 0, 2, 1, 1, 1, 1], &[0, 0, 1, 0]] {
+        assert_eq!(test_set(words, 1, &[], &mut marks), Ok(SetAnswer::Refused(SetQuestion::Table)), "{words:?}");
+    }
 }
 
 #[test]
@@ -74,10 +109,10 @@ fn sets() {
     assert_eq!(test_set(&RULES, 1, &[1], &mut marks), Ok(SetAnswer::Differs(1)));
     assert_eq!(marks, [0; MARKS]);
     // starred example 7, `1 1 1 1 0 0`: both pass
-    assert_eq!(test_set(&[1, 1, 0, 1], 1, &[], &mut marks), Ok(SetAnswer::Yes));
-    assert_eq!(test_set(&[1, 1, 0, 1], 1, &[1], &mut marks), Ok(SetAnswer::Yes));
+    assert_eq!(test_set(&[1, 1, 0, 0, 1], 1, &[], &mut marks), Ok(SetAnswer::Yes));
+    assert_eq!(test_set(&[1, 1, 0, 0, 1], 1, &[1], &mut marks), Ok(SetAnswer::Yes));
     // the same with a constraint that asks for atom 1
-    let asks = [1, 1, 0, 1, 0, 0, 1, -1];
+    let asks = [1, 1, 0, 0, 1, 0, 0, 0, 1, -1];
     assert_eq!(test_set(&asks, 2, &[], &mut marks), Ok(SetAnswer::Broken(2)));
     assert_eq!(test_set(&asks, 2, &[1], &mut marks), Ok(SetAnswer::Yes));
     assert_eq!(test_set(&asks, usize::MAX, &[], &mut marks), Ok(SetAnswer::Refused(SetQuestion::Table)));
@@ -89,17 +124,17 @@ fn sets() {
 fn lowest_atoms() {
     let mut marks = [7; MARKS];
     // a loop, which gives neither of its atoms
-    let circle = [0, 1, 1, 1, 2, 0, 1, 1, 2, 1];
+    let circle = [0, 1, 0, 1, 1, 2, 0, 1, 0, 1, 2, 1];
     assert_eq!(test_set(&circle, 2, &[1, 2], &mut marks), Ok(SetAnswer::Differs(1)));
     assert_eq!(test_set(&circle, 2, &[2], &mut marks), Ok(SetAnswer::Differs(2)));
     // 1 and 2 are in the set only, 3 is in the model only
-    assert_eq!(test_set(&[0, 1, 0, 3], 1, &[1, 2], &mut marks), Ok(SetAnswer::Differs(1)));
+    assert_eq!(test_set(&[0, 1, 0, 0, 3], 1, &[1, 2], &mut marks), Ok(SetAnswer::Differs(1)));
     // 2 is in the model only, 3 in the set only
-    let given = [0, 1, 0, 1, 0, 1, 0, 2, 0, 1, 1, 3, -1];
+    let given = [0, 1, 0, 0, 1, 0, 1, 0, 0, 2, 0, 1, 0, 1, 3, -1];
     assert_eq!(test_set(&given, 3, &[1, 3], &mut marks), Ok(SetAnswer::Differs(2)));
     assert_eq!(marks[..4], [0, 1, 1, 0]);
     // atom 1 differs, and rule 3 is broken too
-    let broken = [0, 1, 0, 2, 0, 1, 0, 1, 0, 0, 1, 2];
+    let broken = [0, 1, 0, 0, 2, 0, 1, 0, 0, 1, 0, 0, 0, 1, 2];
     assert_eq!(test_set(&broken, 3, &[2], &mut marks), Ok(SetAnswer::Differs(1)));
 }
 
@@ -162,7 +197,7 @@ fn packet_of_starred_1() {
     for more in [0, 1, 100] {
         assert_eq!(packed(&RULES, 1, PROOF, 57 + more), (PacketWriting::Written(57), and_zeros(&PACKET, more)));
         let read = PacketReading::Read { rules: 1, bytes: 35 };
-        assert_eq!(unpacked(&PACKET, 5 + more, 35 + more), (read, and_zeros(&RULES, more), and_zeros(PROOF, more)));
+        assert_eq!(unpacked(&PACKET, 6 + more, 35 + more), (read, and_zeros(&RULES, more), and_zeros(PROOF, more)));
         assert_eq!(packed(&and_zeros(&RULES, more), 1, PROOF, 57).0, PacketWriting::Written(57));
     }
 }
@@ -177,6 +212,10 @@ fn packets_that_are_not_written() {
         assert_eq!(packed(&RULES, 1, b"a 0", size), refused(PacketQuestion::Pair, size));
     }
     assert_eq!(packed(&[], 0, &[], 12), refused(PacketQuestion::Lengths, 12));
+    // a rule with weights
+    for size in [0, 99] {
+        assert_eq!(packed(&[0, 0, 1, 0, 0], 1, &[], size), refused(PacketQuestion::Pair, size));
+    }
 }
 
 #[test]
@@ -184,11 +223,11 @@ fn packets_that_are_not_read() {
     let refused = |question, words, bytes| (PacketReading::Refused(question), vec![0; words], vec![0; bytes]);
     for size in 0..57 {
         let question = if size < 5 { PacketQuestion::Mark } else { PacketQuestion::Lengths };
-        assert_eq!(unpacked(&PACKET[..size], 5, 35), refused(question, 5, 35));
+        assert_eq!(unpacked(&PACKET[..size], 6, 35), refused(question, 6, 35));
     }
-    assert_eq!(unpacked(&and_zeros(&PACKET, 1), 5, 35), refused(PacketQuestion::Lengths, 5, 35));
-    assert_eq!(unpacked(&PACKET, 4, 35), refused(PacketQuestion::Lengths, 4, 35));
-    assert_eq!(unpacked(&PACKET, 5, 34), refused(PacketQuestion::Lengths, 5, 34));
+    assert_eq!(unpacked(&and_zeros(&PACKET, 1), 6, 35), refused(PacketQuestion::Lengths, 6, 35));
+    assert_eq!(unpacked(&PACKET, 5, 35), refused(PacketQuestion::Lengths, 5, 35));
+    assert_eq!(unpacked(&PACKET, 6, 34), refused(PacketQuestion::Lengths, 6, 34));
     for (place, byte, question) in [
         (3, 2, PacketQuestion::Mark),
         (5, 4, PacketQuestion::Lengths),
@@ -198,7 +237,7 @@ fn packets_that_are_not_read() {
     ] {
         let mut changed = PACKET;
         changed[place] = byte;
-        assert_eq!(unpacked(&changed, 5, 35), refused(question, 5, 35), "byte {place}");
+        assert_eq!(unpacked(&changed, 6, 35), refused(question, 6, 35), "byte {place}");
     }
 }
 
@@ -206,8 +245,8 @@ fn packets_that_are_not_read() {
 fn empty_packet() {
     let empty = and_zeros(&PACKET[..5], 8);
     assert_eq!(packed(&[], 0, &[], 13), (PacketWriting::Written(13), empty.clone()));
-    assert_eq!(packed(&[0; 3], 0, &[], 13).0, PacketWriting::Written(13));
-    assert_eq!(packed(&[0; 3], 1, &[], 25).0, PacketWriting::Written(25));
+    assert_eq!(packed(&[0; 4], 0, &[], 13).0, PacketWriting::Written(13));
+    assert_eq!(packed(&[0; 4], 1, &[], 25).0, PacketWriting::Written(25));
     assert_eq!(unpacked(&empty, 0, 0), (PacketReading::Read { rules: 0, bytes: 0 }, vec![], vec![]));
 }
 
@@ -224,5 +263,5 @@ fn nothing_lent() {
     assert_eq!(read_packet(&[], &mut [], &mut []), Ok(PacketReading::Refused(PacketQuestion::Mark)));
     assert_eq!(checked(&[], &[], 0, 0).0, "refused program 2 1");
     assert_eq!(checked(b"asp 1 0 0\n0\n", &[], 0, 0).0, "open 0 0 0 0");
-    assert_eq!(checked(PROGRAM, b"a 1 0\n", 5, 0).0, "refused proof 33 1");
+    assert_eq!(checked(PROGRAM, b"a 1 0\n", 6, 0).0, "refused proof 33 1");
 }

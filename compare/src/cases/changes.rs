@@ -2,13 +2,15 @@
 
 use inputs::random::Random;
 
-/// Numbers at the limits of document 01, as they may be written in a text.
-const NOTABLE: [&str; 18] = [
+/// Numbers at the limits of documents 01 and 02, as they may be written in a text.
+const NOTABLE: [&str; 20] = [
     "0",
     "1",
     "-1",
     "2",
     "-2",
+    "12",
+    "13",
     "64",
     "65",
     "66",

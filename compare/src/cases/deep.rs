@@ -65,10 +65,10 @@ pub fn proof(program: &Program, random: &mut Random) -> Vec<u8> {
 /// Bodies, completion and support, the rules in a random order.
 fn write_chain(author: &mut Author, random: &mut Random) {
     let program = author.program;
-    let mut order: Vec<usize> = (0..program.rules.len()).collect();
+    let mut order: Vec<usize> = (0..program.plain.len()).collect();
     random.shuffle(&mut order);
     for index in order {
-        let rule = &program.rules[index];
+        let rule = &program.plain[index];
         let Some(name) = author.named(random, &rule.body) else { return };
         if !rule.choice {
             let mut numbers = vec![name];

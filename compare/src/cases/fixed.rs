@@ -1,5 +1,5 @@
-//! The starred examples of document 01, its 'Others', what it calls tempting, the worked example of source 000, and the set test's
-//! worked cases, each with the line or the answer that the document asks for.
+//! The starred examples of document 01, its 'Others', what it calls tempting, the worked example of source 000, the worked cases of weight
+//! bodies, and the set test's worked cases, each with the line or the answer that the document asks for.
 
 use inputs::{Pair, ROOM};
 
@@ -55,6 +55,8 @@ pub fn cases() -> Vec<Case> {
     let mut cases = starred();
     cases.extend(others());
     cases.extend(tempting());
+    cases.extend(weight_lines());
+    cases.extend(weight_steps());
     cases.push(source());
     cases
 }
@@ -64,7 +66,7 @@ fn starred() -> Vec<Case> {
     second.push("d 0");
     let mut third = PROOF_1.to_vec();
     third[1] = "e 1 2 0";
-    let enough = Case { store: 15, table: 5, ..case("starred 1, just enough", RULE_1, PROOF_1, "inconsistent 1 1 5 6") };
+    let enough = Case { store: 15, table: 6, ..case("starred 1, just enough", RULE_1, PROOF_1, "inconsistent 1 1 5 6") };
     let short = Case { store: 14, ..case("starred 1, a store of 14", RULE_1, PROOF_1, "refused proof 34 5") };
     vec![
         case("starred 1", RULE_1, PROOF_1, "inconsistent 1 1 5 6"),
@@ -124,6 +126,80 @@ fn tempting() -> Vec<Case> {
     ]
 }
 
+/// Rule lines with weights, alone in a program.
+fn weight_lines() -> Vec<Case> {
+    let many = |count: i32, last: &str| {
+        let pairs: String = (1..count).map(|atom| format!("{atom} 1 ")).collect();
+        format!("1 0 0 1 6 {count} {pairs}{last}")
+    };
+    let mut cases: Vec<Case> = [
+        ("1 0 1 1 1 3 2 2 2 3 2", "open 3 1 0 0"),
+        ("1 0 0 1 5 3 4 3 -2 2 3 4", "open 4 1 0 0"),
+        ("1 1 2 7 6 1 1 1 2 1", "open 7 1 0 0"),
+        ("1 0 1 1 1 0 0", "open 1 1 0 0"),
+        ("1 0 1 1 1 1 2 2 1 9 0", "open 9 1 0 0"),
+        ("1 0 1 1 1", "refused program 6 2"),
+        ("1 0 1 1 1 3", "refused program 6 2"),
+        ("1 0 1 1 1 3 2 2 2 3", "refused program 6 2"),
+        ("1 0 1 1 1 3 1 2 2 3", "refused program 6 2"),
+        ("1 0 1 1 1 3 -1", "refused program 6 2"),
+        ("1 0 1 1 1 4095 1 2 4095", "open 2 1 0 0"),
+        ("1 0 1 1 1 4096 1 2 4095", "refused program 4 2"),
+        ("1 0 1 1 1 -1 1 2 4095", "refused program 54 2"),
+        ("1 0 1 1 1 4095 1 2 -1", "refused program 54 2"),
+        ("1 0 1 1 1 4095 1 2 4096", "refused program 4 2"),
+        ("1 0 2 1 2 1 -1 0", "refused program 54 2"),
+        ("1 0 2 1 2 1 1 0", "refused program 7 2"),
+        ("1 0 1 1 1 1 2 2 1 -2 1", "refused program 8 2"),
+        ("1 0 1 1 2 1 0", "refused program 5 2"),
+        (&many(12, "12 1"), "open 12 1 0 0"),
+        (&many(13, "13 1"), "refused program 55 2"),
+        (&many(64, "64 1"), "refused program 55 2"),
+        (&many(65, "65 1"), "refused program 6 2"),
+        (&many(13, "13 -1"), "refused program 54 2"),
+        (&many(13, "1 1"), "refused program 55 2"),
+    ]
+    .map(|(rule, line)| case("a rule with weights", &[rule], &[], line))
+    .into();
+    let table = |words, line| Case { table: words, ..case("the table of a rule with weights", &["1 0 1 1 1 3 2 2 2 3 2"], &[], line) };
+    cases.extend([table(10, "open 3 1 0 0"), table(9, "refused program 10 2")]);
+    cases
+}
+
+/// A rule with three minimal sets.
+const SUM: &str = "1 0 1 1 1 3 3 2 2 3 2 4 1";
+
+/// The choice over 1 to 3, and the constraint that the weights of those chosen stay below 4.
+const CHOICE: &str = "1 1 3 1 2 3 0 0";
+const SUM_BELOW_4: &str = "1 0 0 1 4 3 1 3 2 2 3 2";
+
+/// Steps over rules with weights.
+fn weight_steps() -> Vec<Case> {
+    let named = ["b 5 2 3 0", "b 6 2 4 0", "b 7 3 4 0"];
+    let circle = "1 0 1 1 1 2 3 1 1 2 1 3 1";
+    let refuted = ["b 4 1 2 0", "b 5 -1 0", "b 6 -2 0", "c 4 0", "c 5 0", "c 6 0", "a 0"];
+    let with = |step| [&named[..], &[step]].concat();
+    vec![
+        case("a minimal set is named", &[SUM], &["b 5 2 3 0"], "open 4 1 1 3"),
+        case("all literals are no minimal set", &[SUM], &["b 5 2 3 4 0"], "refused proof 28 1"),
+        case("one literal does not reach the bound", &[SUM], &["b 5 2 0"], "refused proof 28 1"),
+        case("a minimal set twice", &[SUM], &["b 5 2 3 0", "b 6 3 2 0"], "refused proof 28 2"),
+        case("support by all minimal sets", &[SUM], &with("s 1 5 6 7 0"), "open 4 1 4 10"),
+        case("support that leaves out a minimal set", &[SUM], &with("s 1 5 6 0"), "refused proof 30 4"),
+        case("completion by a minimal set", &[SUM], &with("c 6 1 0"), "open 4 1 4 10"),
+        case("a bound that is not reached supports nothing", &["1 0 1 1 1 9 1 2 4"], &["s 1 0"], "open 2 1 1 1"),
+        case("completion of a choice with weights", &["1 1 1 1 1 1 1 2 1"], &["b 3 2 0", "c 3 1 0"], "refused proof 29 2"),
+        case("an external minimal set without a name", &[circle], &["l 1 0"], "refused proof 32 1"),
+        case("an external minimal set with a name", &[circle], &["b 4 2 3 0", "l 1 0"], "open 3 1 2 4"),
+        case("a refutation", &[CHOICE, SUM_BELOW_4, "1 0 0 0 1 -1", "1 0 0 0 1 -2"], &refuted, "inconsistent 3 4 7 11"),
+        case("bound 0 is the empty body", &["1 0 1 1 1 0 1 2 4"], &["b 3 0", "c 3 1 0", "s 1 3 0"], "open 2 1 3 3"),
+        case("weight 0 stands in no body", &["1 0 1 1 1 2 2 2 2 3 0"], &["b 4 2 0", "s 1 4 0"], "open 3 1 2 3"),
+        case("weight 0 added to a body", &["1 0 1 1 1 2 2 2 2 3 0"], &["b 4 2 3 0"], "refused proof 28 1"),
+        case("one body of two rules", &[SUM, "1 0 1 4 0 2 2 3"], &["b 5 3 2 0", "c 5 1 0", "c 5 4 0", "s 4 5 0"], "open 4 2 4 6"),
+        case("an atom of weight 0 is known", &["1 0 0 1 9 1 7 0"], &["e 8 -7 0", "l 7 0", "s 6 0"], "open 7 1 3 4"),
+    ]
+}
+
 fn source() -> Case {
     Case {
         name: "worked example of source 000",
@@ -140,6 +216,7 @@ fn source() -> Case {
 pub fn set_cases() -> Vec<SetCase> {
     let mut cases = starred_sets();
     cases.extend(lowest_atoms());
+    cases.extend(weight_sets());
     cases
 }
 
@@ -178,4 +255,49 @@ fn lowest_atoms() -> Vec<SetCase> {
         set_case("a broken constraint where nothing differs", &["1 1 3 1 2 3 0 0", "1 0 0 0 1 1"], &[1, 3], Broken(2)),
         set_case("2 in the model only, 3 in the set only", unless_1, &[1, 3], Differs(2)),
     ]
+}
+
+/// Sets of programs with weights.
+fn weight_sets() -> Vec<SetCase> {
+    let sum = &["1 1 2 2 3 0 0", SUM];
+    let broken = &[CHOICE, "1 0 0 0 2 2 3", SUM_BELOW_4];
+    vec![
+        set_case("2 and 3 reach the bound", sum, &[1, 2, 3], Yes),
+        set_case("2 does not reach the bound", sum, &[2], Yes),
+        set_case("the head of a reached bound is missing", sum, &[2, 3], Differs(1)),
+        set_case("a head that supports itself by its weight", &["1 1 1 2 0 0", "1 0 1 1 1 3 2 1 2 2 2"], &[1, 2], Differs(1)),
+        set_case("a broken weight constraint", broken, &[1, 2], Broken(3)),
+        set_case("a plain constraint before it", broken, &[2, 3], Broken(2)),
+        set_case("no constraint is broken", broken, &[1], Yes),
+        set_case("a bound that is never reached", &[CHOICE, "1 0 0 1 8 3 1 3 2 2 3 2"], &[1, 2, 3], Yes),
+        set_case("bound 0", &["1 0 1 1 1 0 0"], &[1], Yes),
+        set_case("bound 0 of a constraint", &["1 0 0 1 0 1 1 5"], &[], Broken(1)),
+        set_case("negated literals", &["1 0 1 1 1 2 2 -2 1 -3 1"], &[1], Yes),
+    ]
+}
+
+#[cfg(test)]
+mod tests {
+    use super::*;
+    use crate::reference::check::{check, verdict_line};
+    use crate::reference::models::test_set;
+    use crate::reference::program::{read, table_words};
+    use crate::reference::MARKS;
+
+    #[test]
+    fn reference_says_what_the_documents_ask() {
+        for case in cases() {
+            let ending = check(&case.pair.program, &case.pair.proof, case.table, case.store);
+            assert_eq!(verdict_line(&ending.verdict), case.line, "{}: {}", case.name, String::from_utf8_lossy(&case.pair.program));
+        }
+    }
+
+    #[test]
+    fn reference_tests_sets_as_the_documents_ask() {
+        for case in set_cases() {
+            let program = read(&case.program, ROOM).unwrap();
+            let (answer, _) = test_set(&table_words(&program.rules), program.rules.len(), case.set, MARKS);
+            assert_eq!(answer, case.answer, "{}", case.name);
+        }
+    }
 }

@@ -48,20 +48,24 @@ pub fn any_step(author: &Author, random: &mut Random) -> (u8, Vec<i32>) {
     (letter, numbers)
 }
 
+/// The body of a plain rule, or now and then some of the literals that a rule as written has.
 fn body_step(author: &Author, random: &mut Random) -> Vec<i32> {
     let mut numbers = vec![author.fresh(random)];
-    if !author.program.rules.is_empty() {
-        numbers.extend(&random.pick(&author.program.rules).body);
-        random.shuffle(&mut numbers[1..]);
+    if !author.program.rules.is_empty() && random.percent(10) {
+        let literals = random.pick(&author.program.rules).literals();
+        numbers.extend(literals.into_iter().filter(|_| random.percent(80)));
+    } else if !author.program.plain.is_empty() {
+        numbers.extend(&random.pick(&author.program.plain).body);
     }
+    random.shuffle(&mut numbers[1..]);
     numbers
 }
 
 fn completion_step(author: &Author, random: &mut Random) -> Vec<i32> {
-    if author.program.rules.is_empty() {
+    if author.program.plain.is_empty() {
         return vec![1];
     }
-    let rule = random.pick(&author.program.rules);
+    let rule = random.pick(&author.program.plain);
     let mut numbers = vec![author.state.name_of(&rule.body).unwrap_or(1)];
     numbers.extend(rule.heads.first());
     numbers
@@ -70,7 +74,7 @@ fn completion_step(author: &Author, random: &mut Random) -> Vec<i32> {
 fn support_step(author: &Author, random: &mut Random) -> Vec<i32> {
     let atom = random.between(1, author.program.atoms.max(1));
     let mut numbers = vec![atom];
-    for rule in author.program.rules.iter().filter(|rule| rule.heads.contains(&atom)) {
+    for rule in author.program.plain.iter().filter(|rule| rule.heads.contains(&atom)) {
         let name = author.state.name_of(&rule.body);
         numbers.extend(name.filter(|name| !numbers.contains(name)));
     }

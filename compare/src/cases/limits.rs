@@ -4,7 +4,7 @@
 use std::sync::OnceLock;
 
 use inputs::lines::{self, line_of, proof_text};
-use inputs::rules::{choice, constraint, normal, program_text, rule_line, Rule};
+use inputs::rules::{choice, constraint, normal, program_text, rule_line, weighted, Body, Rule};
 use inputs::{joined, Pair};
 
 use super::fixed::{program, proof, PROOF_1, RULE_1};
@@ -33,6 +33,8 @@ fn all_cases() -> Vec<Case> {
     cases.extend(body_counts());
     cases.extend(program_numbers());
     cases.extend(rule_counts());
+    cases.extend(weight_limits());
+    cases.push(many_minimal_sets());
     cases.extend(program_lengths());
     cases.extend(program_shapes());
     cases.extend(proof_lengths());
@@ -60,7 +62,7 @@ fn head_counts() -> Vec<Case> {
     for (count, line) in
         [(0, "open 0 1 0 0"), (1, "open 1 1 0 0"), (2, "refused program 7 2"), (64, "refused program 7 2"), (65, "refused program 6 2")]
     {
-        let rule = Rule { choice: false, heads: count_to(count), body: Vec::new() };
+        let rule = Rule { choice: false, heads: count_to(count), body: Body::Plain(Vec::new()) };
         cases.push(case(format!("normal rule with {count} heads"), program_text(&[rule]), "", line));
     }
     cases
@@ -81,19 +83,20 @@ fn body_counts() -> Vec<Case> {
     cases
 }
 
-/// A row that is good, with a number at a limit in each of its places in turn.
+/// Rows that are good, with a number at a limit in each of their places in turn.
 fn program_numbers() -> Vec<Case> {
     let mut cases = Vec::new();
-    let row = [1, 1, 2, 3, 4, 0, 2, 5, -6];
-    for number in [-4_097, -4_096, -4_095, -65, -64, -1, 0, 1, 2, 3, 63, 64, 65, 4_094, 4_095, 4_096, 4_097, 65_536] {
-        for place in 0..row.len() {
-            let mut changed = row;
-            changed[place] = number;
-            cases.push(case(format!("{number} at place {place}"), program(&[&joined(&changed)]), "", ""));
+    for row in [&[1, 1, 2, 3, 4, 0, 2, 5, -6][..], &[1, 1, 2, 3, 4, 1, 7, 2, 5, 3, -6, 8]] {
+        for number in [-4_097, -4_096, -4_095, -65, -64, -1, 0, 1, 2, 3, 12, 13, 63, 64, 65, 4_094, 4_095, 4_096, 4_097, 65_536] {
+            for place in 0..row.len() {
+                let mut changed = row.to_vec();
+                changed[place] = number;
+                cases.push(case(format!("{number} at place {place}"), program(&[&joined(&changed)]), "", ""));
+            }
         }
-    }
-    for place in 0..=row.len() {
-        cases.push(case(format!("{place} numbers"), program(&[&joined(&row[..place])]), "", ""));
+        for place in 0..=row.len() {
+            cases.push(case(format!("{place} numbers"), program(&[&joined(&row[..place])]), "", ""));
+        }
     }
     cases
 }
@@ -103,17 +106,55 @@ fn rule_counts() -> Vec<Case> {
     for (count, line) in [(1_023, "open 0 1023 0 0"), (1_024, "open 0 1024 0 0"), (1_025, "refused program 9 1026")] {
         cases.push(case(format!("{count} rules"), program_text(&vec![constraint(&[]); count]), "", line));
     }
-    let wide = vec![normal(1, &count_to(13).iter().map(|atom| -atom).collect::<Vec<_>>()); 963];
-    cases.push(case("963 rules of 17 words", program_text(&wide), "", "open 13 963 0 0"));
-    let mut full = wide.clone();
-    full.extend(vec![normal(1, &[2, 3]); 2]);
-    full.push(constraint(&[]));
-    cases.push(case("a table of 16,386 words", program_text(&full), "", "refused program 10 967"));
-    let mut fits = wide;
-    fits.extend(vec![constraint(&[]); 3]);
-    fits.push(normal(1, &[]));
-    cases.push(case("a table of 16,384 words", program_text(&fits), "", "open 13 967 0 0"));
+    let wide = vec![normal(1, &count_to(13).iter().map(|atom| -atom).collect::<Vec<_>>()); 910];
+    cases.push(case("910 rules of 18 words", program_text(&wide), "", "open 13 910 0 0"));
+    let with = |more: &[Rule]| program_text(&[&wide, more].concat());
+    cases.push(case("a table of 16,385 words", with(&[constraint(&[1])]), "", "refused program 10 912"));
+    cases.push(case("a table of 16,384 words", with(&[constraint(&[])]), "", "open 13 911 0 0"));
+    cases.push(case("a table of 16,388 words", with(&[constraint(&[]), constraint(&[])]), "", "refused program 10 913"));
     cases
+}
+
+/// So many literals, each of this weight.
+fn evenly(count: i32, weight: i32) -> Vec<(i32, i32)> {
+    (1..=count).map(|atom| (atom, weight)).collect()
+}
+
+/// Counts of literals with weights, the largest weights and bounds, and a table that rules with weights fill.
+fn weight_limits() -> Vec<Case> {
+    let mut cases = Vec::new();
+    for (count, line) in [(0, "open 0 1 0 0"), (11, "open 11 1 0 0"), (12, "open 12 1 0 0")] {
+        cases.push(case(format!("{count} weights"), program_text(&[weighted(&[], 1, &evenly(count, 1))]), "", line));
+    }
+    for (count, line) in
+        [(13, "refused program 55 2"), (63, "refused program 55 2"), (64, "refused program 55 2"), (65, "refused program 6 2")]
+    {
+        cases.push(case(format!("{count} weights"), program_text(&[weighted(&[], 1, &evenly(count, 1))]), "", line));
+    }
+    let heaviest = [weighted(&[20], 4_095, &evenly(12, 4_095))];
+    let mut names: String = (1..=12).map(|atom| line_of(b'b', &[20 + atom, atom])).collect();
+    names.push_str("s 20 21 22 23 24 25 26 27 28 29 30 31 32 0\n");
+    cases.push(case("the largest weights", program_text(&heaviest), &names, "open 20 1 13 25"));
+    let full = vec![weighted(&[], 12, &evenly(12, 1)); 564];
+    let with = |empty: usize| program_text(&[&full[..], &vec![constraint(&[]); empty]].concat());
+    let steps = "b 13 1 2 3 4 5 6 7 8 9 10 11 12 0\nc 13 0\n";
+    cases.push(case("564 rules with weights, 16,384 words", with(7), steps, "open 12 571 2 14"));
+    cases.push(case("564 rules with weights, 16,388 words", with(8), steps, "refused program 10 573"));
+    cases
+}
+
+/// All 924 minimal sets of one rule, with loop nogoods over them; they need a longer store than `verdict` has.
+fn many_minimal_sets() -> Case {
+    let rules = [weighted(&[13], 6, &evenly(12, 1)), weighted(&[13, 12], 1, &evenly(1, 1))];
+    let rules = [rules[0].clone(), Rule { choice: true, ..rules[1].clone() }];
+    let bodies = rules[0].bodies();
+    assert_eq!(bodies.len(), 924);
+    let mut text = String::new();
+    for (place, body) in bodies.iter().enumerate() {
+        text.push_str(&line_of(b'b', &[&[14 + place as i32], &body[..]].concat()));
+    }
+    text.push_str("l 13 1 0\nl 13 1 2 3 4 5 6 7 0\nl 13 0\n");
+    case("924 minimal sets", program_text(&rules), text, "refused proof 34 631")
 }
 
 /// Lines of three kinds that have just so many bytes together, most of them of the first kind.
@@ -178,7 +219,8 @@ fn program_shapes() -> Vec<Case> {
     let digits = "9".repeat(3_000);
     cases.push(case("3,000 digits", program(&[&format!("1 0 1 {digits} 0 0")]), "", "refused program 4 2"));
     cases.push(case("20,000 numbers", program(&[&format!("1 0 1 1 0 0{}", " 1".repeat(20_000))]), "", "refused program 6 2"));
-    cases.push(case("20,000 ones", program(&[&format!("1{}", " 1".repeat(20_000))]), "", "refused program 5 2"));
+    cases.push(case("20,000 ones", program(&[&format!("1{}", " 1".repeat(20_000))]), "", "refused program 6 2"));
+    cases.push(case("20,000 twos", program(&[&format!("1{}", " 2".repeat(20_000))]), "", "refused program 5 2"));
     cases.push(case("a bad one after 20,000", program(&[&format!("1{} -", " 4096".repeat(10_000))]), "", "refused program 3 2"));
     cases
 }
@@ -422,4 +464,21 @@ fn chains_behind_many_words() -> Vec<Case> {
         cases.push(case(format!("{last} before many words"), program_text(&rules), steps.clone() + &wide + last + "\n", ""));
     }
     cases
+}
+
+#[cfg(test)]
+mod tests {
+    use super::*;
+    use crate::reference::check::{check, verdict_line};
+    use inputs::ROOM;
+
+    #[test]
+    fn reference_says_what_is_plain() {
+        for case in cases() {
+            if let Some(line) = case.line.as_ref().filter(|_| case.pair.proof.len() < 30_000) {
+                let ending = check(&case.pair.program, &case.pair.proof, ROOM, ROOM);
+                assert_eq!(verdict_line(&ending.verdict), *line, "{}", case.name);
+            }
+        }
+    }
 }

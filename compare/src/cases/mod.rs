@@ -8,3 +8,4 @@ pub mod limits;
 pub mod noise;
 pub mod packets;
 pub mod refutations;
+pub mod weights;

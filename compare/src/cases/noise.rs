@@ -8,7 +8,7 @@ pub fn pair(random: &mut Random) -> Pair {
         0 => Pair::of(bytes(random), bytes(random)),
         1 => Pair::of(header_and(letters(random)), letters(random)),
         2 => Pair::of(header_and(rule_rows(random)), step_rows(random)),
-        _ => Pair::of("asp 1 0 0\n1 1 4 1 2 3 4 0 0\n1 0 1 1 0 2 2 -3\n1 0 0 0 1 4\n0\n", step_rows(random)),
+        _ => Pair::of("asp 1 0 0\n1 1 4 1 2 3 4 0 0\n1 0 1 1 0 2 2 -3\n1 0 0 0 1 4\n1 0 1 2 1 3 3 1 2 -3 1 4 2\n0\n", step_rows(random)),
     }
 }
 
@@ -33,8 +33,13 @@ fn rule_rows(random: &mut Random) -> Vec<u8> {
         let (heads, body) = (random.below(4), random.below(4));
         let mut row = vec![1, random.between(0, 1), heads as i32];
         row.extend((0..heads).map(|_| random.between(1, 5)));
-        row.extend([0, body as i32]);
-        row.extend((0..body).map(|_| random.between(-5, 5)));
+        if random.percent(70) {
+            row.extend([0, body as i32]);
+            row.extend((0..body).map(|_| random.between(-5, 5)));
+        } else {
+            row.extend([1, random.between(-1, 5), body as i32]);
+            row.extend((0..2 * body).map(|_| random.between(-2, 5)));
+        }
         if random.percent(30) {
             let place = random.below(row.len());
             row[place] = *random.pick(&[-1, 0, 1, 2, 3, 64, 65, 4_095, 4_096]);

@@ -30,8 +30,8 @@ const ENOUGH: usize = 500;
 /// "the three bytes `RVP`, 16-bit version 1"
 const FRONT: [u8; 5] = [0x52, 0x56, 0x50, 0x01, 0x00];
 
-/// The words of starred example 1.
-pub const TABLE_1: [i32; 5] = [0, 1, 1, 1, -1];
+/// The words of starred example 1 in the table; its packet has them without the body kind.
+pub const TABLE_1: [i32; 6] = [0, 1, 0, 1, 1, -1];
 
 /// The packet of starred example 1.
 pub const PACKET_1: [u8; 57] = [
@@ -125,12 +125,17 @@ fn tables() -> Vec<ReaderCase> {
     last[end - 4..].copy_from_slice(&[0x00, 0x00, 0x00, 0x80]);
     vec![
         taken(1, "", "3 zero words", of_words(&[0; 3])),
-        ReaderCase { table: 3_072, ..taken(1_024, "", "3,072 zero words", of_words(&[0; 3_072])) },
+        ReaderCase { table: 4, ..taken(1, "", "3 zero words, 4 lent", of_words(&[0; 3])) },
+        ReaderCase { table: 3, ..refused(52, "3 zero words, 3 lent", of_words(&[0; 3])) },
+        ReaderCase { table: 4_096, ..taken(1_024, "", "3,072 zero words", of_words(&[0; 3_072])) },
+        ReaderCase { table: 4_095, ..refused(52, "3,072 zero words, 4,095 lent", of_words(&[0; 3_072])) },
         refused(53, "2 zero words", of_words(&[0; 2])),
         ReaderCase { table: 3_075, ..refused(53, "3,075 zero words", of_words(&[0; 3_075])) },
         refused(53, "head 4,096", of_words(&[0, 1, 0, 4_096])),
         refused(53, "literals that do not ascend", of_words(&[0, 0, 2, 2, -1])),
         refused(53, "a last word of 80000000", last),
+        refused(53, "words with a body kind", of_words(&TABLE_1)),
+        refused(53, "a rule with weights", of_words(&[0, 0, 1, 1, 1, 5, 1])),
         ReaderCase { table: 0, ..refused(53, "2 zero words, no table lent", of_words(&[0; 2])) },
     ]
 }
@@ -160,11 +165,11 @@ fn steps() -> Vec<ReaderCase> {
 
 fn outputs() -> Vec<ReaderCase> {
     let starred = |name, table, text| ReaderCase { table, proof: text, ..refused(52, name, PACKET_1.to_vec()) };
-    let enough = ReaderCase { answer: Ok((1, proof(PROOF_1))), ..starred("starred 1, just enough lent", 5, 35) };
+    let enough = ReaderCase { answer: Ok((1, proof(PROOF_1))), ..starred("starred 1, just enough lent", 6, 35) };
     vec![
         enough,
-        starred("starred 1, a table of 4 words", 4, 35),
-        starred("starred 1, a text of 34 bytes", 5, 34),
+        starred("starred 1, a table of 5 words", 5, 35),
+        starred("starred 1, a text of 34 bytes", 6, 34),
         refused(52, "starred 1 and a zero", [&PACKET_1[..], &[0]].concat()),
     ]
 }
@@ -176,13 +181,19 @@ pub fn writer_cases() -> Vec<WriterCase> {
         WriterCase { name, table, rules, proof, packet, answer }
     };
     let text = &proof(PROOF_1);
-    let and_zeros = [&TABLE_1[..], &[0; 3]].concat();
+    let and_zeros = [&TABLE_1[..], &[0; 4]].concat();
+    let weights = [0, 0, 1, 0, 0];
     vec![
         case("starred 1", &TABLE_1, 1, text, 57, Ok(57)),
         case("starred 1, an output of 56 bytes", &TABLE_1, 1, text, 56, Err(52)),
         case("a rule count of 0", &TABLE_1, 0, text, 57, Err(53)),
         case("a rule of zeros", &and_zeros, 2, b"", 45, Ok(45)),
         case("zeros after the rules", &and_zeros, 1, text, 57, Ok(57)),
+        case("starred 1 without steps", &TABLE_1, 1, b"", 33, Ok(33)),
+        case("a rule with weights", &weights, 1, b"", 99, Err(53)),
+        case("a rule with weights, no output", &weights, 1, b"", 0, Err(53)),
+        case("a rule with weights after another", &[&TABLE_1[..], &weights].concat(), 2, text, 99, Err(53)),
+        case("a table without body kinds", &[0, 1, 1, 1, -1], 1, text, 99, Err(53)),
         case("no newline at the end", &TABLE_1, 1, b"a 0", 57, Err(53)),
         case("no newline at the end, no output", &TABLE_1, 1, b"a 0", 0, Err(53)),
         case("nothing", &[], 0, b"", 13, Ok(13)),

@@ -1,5 +1,6 @@
 //! A small search that refutes a program and writes its way down as a proof: body names, completion, support, loops where an
-//! unfounded set turns up, extensions, learnt nogoods, and deletions of what is no longer needed.
+//! unfounded set turns up, extensions, learnt nogoods, and deletions of what is no longer needed. Bodies and rules may be brought in all at
+//! once, or only some of them at first and the others where the search comes to need them.
 
 use std::collections::BTreeSet;
 
@@ -9,8 +10,8 @@ use inputs::random::Random;
 use crate::reference::closure::closure;
 use crate::reference::lines::Line;
 use crate::reference::models::{least_model, Set};
-use crate::reference::program::Program;
-use crate::reference::steps::{step, State};
+use crate::reference::program::{Program, Rule};
+use crate::reference::steps::{external_bodies, step, State};
 use crate::reference::{LARGEST, LINE_LIMIT};
 
 /// How the search ended.
@@ -80,7 +81,7 @@ impl<'a> Author<'a> {
 
     /// The support of an atom whose bodies are all named; nothing where a line cannot hold them.
     pub fn write_support(&mut self, random: &mut Random, atom: i32) -> Option<()> {
-        let rules = self.program.rules.iter().filter(|rule| rule.heads.contains(&atom));
+        let rules = self.program.plain.iter().filter(|rule| rule.heads.contains(&atom));
         let names: BTreeSet<i32> = rules.filter_map(|rule| self.state.name_of(&rule.body)).collect();
         let mut numbers = vec![atom];
         numbers.extend(names);
@@ -90,14 +91,25 @@ impl<'a> Author<'a> {
         }
         self.write(b's', &numbers).ok()
     }
+
+    /// Names the body of a plain rule where it has no name, and writes the rule unless it is a choice.
+    fn write_rule(&mut self, random: &mut Random, rule: &Rule) -> Option<()> {
+        let name = self.named(random, &rule.body)?;
+        if rule.choice {
+            return Some(());
+        }
+        let mut numbers = vec![name];
+        numbers.extend(&rule.heads);
+        self.write(b'c', &numbers).ok()
+    }
 }
 
 /// The search's most lines.
 const PATIENCE: usize = 700;
 
-/// Searches and writes; the proof is in the author, whatever the search found.
-pub fn refute(author: &mut Author, random: &mut Random) -> Found {
-    if write_completion(author, random).is_none() {
+/// Searches and writes; the proof is in the author, whatever the search found. So many in a hundred plain rules are brought in at the start.
+pub fn refute(author: &mut Author, random: &mut Random, at_first: usize) -> Found {
+    if write_completion(author, random, at_first).is_none() {
         return Found::Nothing;
     }
     let mut decisions: Vec<i32> = Vec::new();
@@ -113,29 +125,26 @@ pub fn refute(author: &mut Author, random: &mut Random) -> Found {
             sprinkle(author, random);
         } else if let Some(literal) = next_decision(author, random, &decisions) {
             decisions.push(literal);
-        } else if let Some(set) = exclude_unfounded(author, random, &decisions) {
+        } else if let Some(set) = exclude(author, random, &decisions) {
             return Found::AnswerSet(set);
         }
     }
     Found::Nothing
 }
 
-/// Names every body and writes completion and support in a random order.
-fn write_completion(author: &mut Author, random: &mut Random) -> Option<()> {
+/// Names bodies and writes completion and support in a random order. An atom with a body that has no name is not supported.
+fn write_completion(author: &mut Author, random: &mut Random, at_first: usize) -> Option<()> {
     let program = author.program;
-    let mut rules: Vec<usize> = (0..program.rules.len()).collect();
+    let mut rules: Vec<usize> = (0..program.plain.len()).collect();
     random.shuffle(&mut rules);
     for index in rules {
-        let rule = &program.rules[index];
-        let name = author.named(random, &rule.body)?;
-        if !rule.choice {
-            let mut numbers = vec![name];
-            numbers.extend(&rule.heads);
-            author.write(b'c', &numbers).ok()?;
+        if random.percent(at_first) {
+            author.write_rule(random, &program.plain[index])?;
         }
     }
     for atom in 1..=program.atoms {
-        if random.percent(80) {
+        let mut rules = program.plain.iter().filter(|rule| rule.heads.contains(&atom));
+        if rules.all(|rule| author.state.name_of(&rule.body).is_some()) && random.percent(80) {
             author.write_support(random, atom)?;
         }
     }
@@ -255,17 +264,27 @@ fn next_decision(author: &Author, random: &mut Random, decisions: &[i32]) -> Opt
     Some(random.signed(variable))
 }
 
-/// At an assignment of all variables: the answer set, or a loop step for atoms that nothing founds.
-fn exclude_unfounded(author: &mut Author, random: &mut Random, decisions: &[i32]) -> Option<Set> {
+/// At an assignment of all variables: the answer set; or a rule that it breaks or a loop step for atoms that nothing founds is written.
+fn exclude(author: &mut Author, random: &mut Random, decisions: &[i32]) -> Option<Set> {
     let reached = closure(&author.state.live, decisions);
     let set: Set = (1..=author.program.atoms).filter(|atom| reached.holds(*atom)).collect();
-    let least = least_model(&author.program.rules, &set);
+    let holds = |literal: &i32| set.contains(&literal.abs()) == (*literal > 0);
+    let broken = |rule: &&Rule| !rule.choice && rule.body.iter().all(holds) && !rule.heads.iter().any(holds);
+    if let Some(rule) = author.program.plain.iter().find(broken) {
+        let written = author.write_rule(random, rule);
+        assert!(written.is_some(), "a rule of the search was refused");
+        return None;
+    }
+    let least = least_model(&author.program.plain, &set);
     let mut unfounded: Vec<i32> = set.difference(&least).copied().collect();
     if unfounded.is_empty() {
         return Some(set);
     }
     random.shuffle(&mut unfounded);
     unfounded.truncate(LINE_LIMIT);
+    for body in external_bodies(author.program, &unfounded) {
+        author.named(random, &body);
+    }
     let written = author.write(b'l', &unfounded);
     assert!(written.is_ok(), "a loop step of the search was refused");
     None
@@ -284,16 +303,17 @@ mod tests {
         let mut refuted = 0;
         for index in 0..300 {
             let mut random = Random::of(1, "search", index);
-            let text = program_text(&programs::small(&mut random));
+            let rules = if index % 2 == 0 { programs::small(&mut random) } else { programs::weights(&mut random) };
+            let text = program_text(&rules);
             let program = crate::reference::program::read(&text, 16_384).unwrap();
             let atoms: Vec<i32> = (1..=program.atoms).collect();
             let mut author = Author::of(&program);
-            match refute(&mut author, &mut random) {
+            match refute(&mut author, &mut random, [100, 60, 0][index as usize % 3]) {
                 Found::Refutation => {
                     refuted += 1;
-                    assert_eq!(answer_set_over(&program.rules, &atoms), None);
+                    assert_eq!(answer_set_over(&program.plain, &atoms), None);
                 }
-                Found::AnswerSet(set) => assert!(crate::reference::models::is_answer_set(&program.rules, &set)),
+                Found::AnswerSet(set) => assert!(crate::reference::models::is_answer_set(&program.plain, &set)),
                 Found::Nothing => panic!("gave up on {}", String::from_utf8_lossy(&text)),
             }
         }

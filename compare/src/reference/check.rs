@@ -115,17 +115,17 @@ mod tests {
 
     #[test]
     fn starred_example_1() {
-        let ending = check(PROGRAM, PROOF, 5, 15);
+        let ending = check(PROGRAM, PROOF, 6, 15);
         assert_eq!(verdict_line(&ending.verdict), "inconsistent 1 1 5 6");
         assert_eq!(ending.store, [2, -1, -2, 2, 1, 2, 2, -1, 2, 2, 1, -2, 1, 1, 0]);
-        assert_eq!(ending.table, [0, 1, 1, 1, -1]);
+        assert_eq!(ending.table, [0, 1, 0, 1, 1, -1]);
     }
 
     #[test]
     fn a_word_less() {
-        let short = check(PROGRAM, PROOF, 5, 14);
+        let short = check(PROGRAM, PROOF, 6, 14);
         assert_eq!(short.verdict, Verdict::RefusedProof { number: 34, step: 5 });
         assert!(short.store.iter().chain(&short.table).all(|word| *word == 0));
-        assert_eq!(check(PROGRAM, PROOF, 4, 15).verdict, Verdict::RefusedProgram { number: 10, line: 2 });
+        assert_eq!(check(PROGRAM, PROOF, 5, 15).verdict, Verdict::RefusedProgram { number: 10, line: 2 });
     }
 }

@@ -16,6 +16,11 @@
 //!   make up the bytes given where just the stated words and steps stand in them, and no byte more.
 //! - A packet does not send the rule count: it is the number of rules that its words fall into, with none left over.
 //! - The writer has no mark to test, so its order is 53, 52.
+//! - In the text of a weight body the count stands between bound and literals, as ASPIF has it; Change 3 leaves it out of its list.
+//! - A weight body of 13 to 64 literals with all its numbers is 55; another count, or numbers too few or too many, 6.
+//! - Only question 54 is put to what 4 lets pass: a number above 4,095 is 4 wherever it stands.
+//! - The bodies of one weight rule are counted with those of all other rules: "different bodies" are those of the whole expansion.
+//! - A packet holds the words of the base, without the body kind; its reader's table is too short where it does not hold the new words.
 
 pub mod check;
 pub mod closure;
@@ -25,6 +30,7 @@ pub mod numbers;
 pub mod packets;
 pub mod program;
 pub mod steps;
+pub mod weights;
 
 /// The largest variable and the largest atom.
 pub const LARGEST: i32 = 4_095;
@@ -36,6 +42,8 @@ pub const PART_LIMIT: i32 = 64;
 pub const LINE_LIMIT: usize = 65;
 /// The most rules of a program.
 pub const RULE_LIMIT: usize = 1_024;
+/// The most literals of a body with weights.
+pub const WEIGHTED_LIMIT: usize = 12;
 /// The bytes of marks that the set test is lent.
 pub const MARKS: usize = 4_096;
 

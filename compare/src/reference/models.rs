@@ -1,9 +1,10 @@
-//! Reduct, least model and answer sets by definition, and the set test with its questions 41 to 43.
+//! Reduct, least model and answer sets by definition, and the set test with its questions 41 to 43. "The verdict is judged on this expansion,
+//! which is what the answer sets are of": all but the table and the number of a broken constraint is about plain rules.
 
 use std::collections::BTreeSet;
 
-use super::program::{largest_atom, Rule};
-use super::{LARGEST, MARKS, PART_LIMIT, RULE_LIMIT};
+use super::program::{in_range, Body, InputRule, Program, Rule};
+use super::{LARGEST, MARKS, PART_LIMIT, RULE_LIMIT, WEIGHTED_LIMIT};
 
 pub type Set = BTreeSet<i32>;
 
@@ -35,16 +36,18 @@ pub fn least_model(rules: &[Rule], set: &Set) -> Set {
     }
 }
 
-/// The lowest number, counted from 1, of a constraint that the set breaks.
-pub fn broken_constraint(rules: &[Rule], set: &Set) -> Option<usize> {
-    let breaks = |rule: &Rule| {
-        rule.is_constraint() && rule.positive().all(|atom| set.contains(&atom)) && rule.negated().all(|atom| !set.contains(&atom))
-    };
-    rules.iter().position(breaks).map(|index| index + 1)
+/// Whether the rule is a constraint that the set breaks.
+fn breaks(rule: &Rule, set: &Set) -> bool {
+    rule.is_constraint() && rule.positive().all(|atom| set.contains(&atom)) && rule.negated().all(|atom| !set.contains(&atom))
+}
+
+/// The lowest number, counted from 1, of a constraint that the set breaks. "Rule numbers [..] count the rules as written."
+fn broken_constraint(rules: &[InputRule], set: &Set) -> Option<usize> {
+    rules.iter().position(|rule| rule.plain().iter().any(|plain| breaks(plain, set))).map(|index| index + 1)
 }
 
 pub fn is_answer_set(rules: &[Rule], set: &Set) -> bool {
-    least_model(rules, set) == *set && broken_constraint(rules, set).is_none()
+    least_model(rules, set) == *set && !rules.iter().any(|rule| breaks(rule, set))
 }
 
 /// Every set over the atoms, one after the other.
@@ -71,11 +74,11 @@ pub enum Answer {
 pub fn test_set(table: &[i32], rule_count: usize, listed: &[u16], marks: usize) -> (Answer, Vec<u8>) {
     match questions(table, rule_count, listed, marks) {
         Err(number) => (Answer::Refused(number), vec![0; marks]),
-        Ok(rules) => {
+        Ok(program) => {
             let set: Set = listed.iter().map(|atom| i32::from(*atom)).collect();
-            let least = least_model(&rules, &set);
+            let least = least_model(&program.plain, &set);
             let marked = (0..MARKS as i32).map(|atom| u8::from(least.contains(&atom))).collect();
-            (judged(&rules, &set, &least), marked)
+            (judged(&program.rules, &set, &least), marked)
         }
     }
 }
@@ -85,28 +88,27 @@ fn lowest_apart(set: &Set, least: &Set) -> Option<i32> {
     set.symmetric_difference(least).copied().min()
 }
 
-fn judged(rules: &[Rule], set: &Set, least: &Set) -> Answer {
+fn judged(rules: &[InputRule], set: &Set, least: &Set) -> Answer {
     match lowest_apart(set, least) {
         Some(atom) => Answer::Differs(atom),
         None => broken_constraint(rules, set).map_or(Answer::Yes, Answer::Broken),
     }
 }
 
-fn questions(table: &[i32], rule_count: usize, listed: &[u16], marks: usize) -> Result<Vec<Rule>, u8> {
-    let rules = rules_of(table, rule_count).ok_or(41)?;
-    let atoms = largest_atom(&rules);
-    let within = listed.iter().all(|atom| (1..=atoms).contains(&i32::from(*atom)));
+fn questions(table: &[i32], rule_count: usize, listed: &[u16], marks: usize) -> Result<Program, u8> {
+    let program = Program::of(rules_of(table, rule_count).ok_or(41)?);
+    let within = listed.iter().all(|atom| (1..=program.atoms).contains(&i32::from(*atom)));
     if !within || !listed.windows(2).all(|pair| pair[0] < pair[1]) {
         return Err(42);
     }
     if marks != MARKS {
         return Err(43);
     }
-    Ok(rules)
+    Ok(program)
 }
 
 /// Question 41: the rules whose words the table holds, where it is one that the program reader leaves.
-pub fn rules_of(table: &[i32], rule_count: usize) -> Option<Vec<Rule>> {
+pub fn rules_of(table: &[i32], rule_count: usize) -> Option<Vec<InputRule>> {
     if rule_count > RULE_LIMIT {
         return None;
     }
@@ -121,20 +123,45 @@ pub fn rules_of(table: &[i32], rule_count: usize) -> Option<Vec<Rule>> {
 }
 
 /// The rule that the words begin with.
-pub fn rule_at_front(words: &[i32]) -> Option<Rule> {
-    let (kind, head_count, body_count) = (*words.first()?, *words.get(1)?, *words.get(2)?);
-    let most = match kind {
+pub fn rule_at_front(words: &[i32]) -> Option<InputRule> {
+    let (kind, head_count, body_kind, body_count) = (*words.first()?, *words.get(1)?, *words.get(2)?, *words.get(3)?);
+    let heads_allowed = match kind {
         0 => 0..=1,
         1 => 1..=PART_LIMIT,
         _ => return None,
     };
-    if !most.contains(&head_count) || !(0..=PART_LIMIT).contains(&body_count) {
+    let literals_allowed = match body_kind {
+        0 => 0..=PART_LIMIT,
+        1 => 0..=WEIGHTED_LIMIT as i32,
+        _ => return None,
+    };
+    if !heads_allowed.contains(&head_count) || !literals_allowed.contains(&body_count) {
         return None;
     }
-    let heads = words.get(3..3 + head_count as usize)?.to_vec();
-    let body = words.get(3 + head_count as usize..(3 + head_count + body_count) as usize)?.to_vec();
-    let good = heads.iter().all(|head| *head > 0) && ascending(&heads) && ascending(&body);
-    good.then_some(Rule { choice: kind == 1, heads, body })
+    let (head_count, body_count) = (head_count as usize, body_count as usize);
+    let front = if body_kind == 1 { 5 } else { 4 };
+    let heads = words.get(front..front + head_count)?.to_vec();
+    let rest = &words[front + head_count..];
+    let body = match body_kind {
+        0 => Body::Plain(rest.get(..body_count)?.to_vec()),
+        _ => Body::Weights { bound: words[4], pairs: pairs_of(rest.get(..2 * body_count)?) },
+    };
+    let rule = InputRule { choice: kind == 1, heads, body };
+    let good = rule.heads.iter().all(|head| *head > 0) && ascending(&rule.heads) && ascending(&rule.literals()) && weights_good(&rule);
+    good.then_some(rule)
+}
+
+/// Literals and weights in turn, as pairs.
+fn pairs_of(words: &[i32]) -> Vec<(i32, i32)> {
+    words.chunks_exact(2).map(|pair| (pair[0], pair[1])).collect()
+}
+
+/// "Bound and weights are 0 to 4,095"
+fn weights_good(rule: &InputRule) -> bool {
+    match &rule.body {
+        Body::Plain(_) => true,
+        Body::Weights { bound, pairs } => in_range(*bound) && pairs.iter().all(|(_, weight)| in_range(*weight)),
+    }
 }
 
 /// Whether the words are literals of atoms 1 to 4,095, strictly ascending by atom.
@@ -177,23 +204,79 @@ mod tests {
         assert_eq!(lowest_apart(&set(&[4_095]), &set(&[])), Some(4_095));
     }
 
+    fn plain(heads: &[i32], body: &[i32]) -> InputRule {
+        InputRule { choice: false, heads: heads.to_vec(), body: Body::Plain(body.to_vec()) }
+    }
+
+    /// What the set test answers for rules as written.
+    fn tested(rules: &[InputRule], listed: &[u16]) -> Answer {
+        let words: Vec<i32> = rules.iter().flat_map(InputRule::words).collect();
+        test_set(&words, rules.len(), listed, MARKS).0
+    }
+
     #[test]
     fn constraints_after_atoms() {
-        let rules = [rule(false, &[2], &[]), rule(false, &[1], &[]), rule(false, &[], &[2])];
-        let judge = |listed: &[i32]| judged(&rules, &set(listed), &least_model(&rules, &set(listed)));
-        assert_eq!(judge(&[2]), Answer::Differs(1));
-        assert_eq!(judge(&[1, 2]), Answer::Broken(3));
-        assert_eq!(judged(&rules[..2], &set(&[1, 2]), &set(&[1, 2])), Answer::Yes);
+        let rules = [plain(&[2], &[]), plain(&[1], &[]), plain(&[], &[2])];
+        assert_eq!(tested(&rules, &[2]), Answer::Differs(1));
+        assert_eq!(tested(&rules, &[1, 2]), Answer::Broken(3));
+        assert_eq!(tested(&rules[..2], &[1, 2]), Answer::Yes);
+    }
+
+    #[test]
+    fn sets_with_weights() {
+        let weights = |heads: &[i32], bound, pairs: &[(i32, i32)]| InputRule {
+            choice: false,
+            heads: heads.to_vec(),
+            body: Body::Weights { bound, pairs: pairs.to_vec() },
+        };
+        let choice = |heads: &[i32]| InputRule { choice: true, heads: heads.to_vec(), body: Body::Plain(Vec::new()) };
+        let sum = [choice(&[2, 3]), weights(&[1], 3, &[(2, 2), (3, 2), (4, 1)])];
+        assert_eq!(tested(&sum, &[1, 2, 3]), Answer::Yes);
+        assert_eq!(tested(&sum, &[2]), Answer::Yes);
+        assert_eq!(tested(&sum, &[2, 3]), Answer::Differs(1));
+        let itself = [choice(&[2]), weights(&[1], 3, &[(1, 2), (2, 2)])];
+        assert_eq!(tested(&itself, &[1, 2]), Answer::Differs(1));
+        let broken = [choice(&[1, 2, 3]), plain(&[], &[2, 3]), weights(&[], 4, &[(1, 3), (2, 2), (3, 2)])];
+        assert_eq!(tested(&broken, &[1, 2]), Answer::Broken(3));
+        assert_eq!(tested(&broken, &[2, 3]), Answer::Broken(2));
+        assert_eq!(tested(&broken, &[1]), Answer::Yes);
     }
 
     #[test]
     fn tables() {
-        assert!(rules_of(&[0, 0, 0], 1).is_some());
-        assert!(rules_of(&[0, 0, 0], 0).is_some());
-        assert!(rules_of(&[0, 0], 1).is_none());
-        assert!(rules_of(&[0, 1, 0, 1, 7], 1).is_none());
-        assert!(rules_of(&[0, 1, 0, i32::MIN], 1).is_none());
-        assert!(rules_of(&[0, 0, 1, i32::MIN], 1).is_none());
-        assert!(rules_of(&[0, 0, 2, -1, 2], 1).is_some());
+        assert!(rules_of(&[0, 0, 0, 0], 1).is_some());
+        assert!(rules_of(&[0, 0, 0, 0], 0).is_some());
+        assert!(rules_of(&[0, 0, 0], 1).is_none());
+        assert!(rules_of(&[0, 1, 0, 0, 1, 7], 1).is_none());
+        assert!(rules_of(&[0, 1, 0, 0, i32::MIN], 1).is_none());
+        assert!(rules_of(&[0, 0, 0, 1, i32::MIN], 1).is_none());
+        assert!(rules_of(&[0, 0, 0, 2, -1, 2], 1).is_some());
+    }
+
+    #[test]
+    fn tables_with_weights() {
+        let many = |count: i32| {
+            let mut words = vec![0, 0, 1, count, 1];
+            words.extend((1..=count).flat_map(|atom| [atom, 1]));
+            words
+        };
+        assert!(rules_of(&many(12), 1).is_some() && rules_of(&many(13), 1).is_none());
+        for (words, good) in [
+            (&[0, 0, 1, 0, 0][..], true),
+            (&[0, 0, 1, 0, 4_095], true),
+            (&[0, 0, 1, 1, 4_095, 1, 4_095], true),
+            (&[0, 0, 1, 1, 1, 1, -1], false),
+            (&[0, 0, 1, 1, 1, 1, 4_096], false),
+            (&[0, 0, 1, 1, -1, 1, 1], false),
+            (&[0, 0, 1, 1, 4_096, 1, 1], false),
+            (&[0, 0, 2, 1, 1, 1, 1], false),
+            (&[0, 0, 1, 0], false),
+            (&[0, 0, 1, 1, 1, 1], false),
+            (&[0, 0, 1, 2, 1, 2, 1, 1, 1], false),
+            (&[0, 0, 1, 2, 1, 1, 1, -1, 1], false),
+            (&[0, 0, 1, 2, 1, 1, 0, -2, 1], true),
+        ] {
+            assert_eq!(rules_of(words, 1).is_some(), good, "{words:?}");
+        }
     }
 }

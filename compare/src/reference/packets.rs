@@ -1,10 +1,11 @@
-//! Case packets, Change 1 of document 02: the writer and the reader with their questions 51 to 53.
+//! Case packets, Change 1 of document 02: the writer and the reader with their questions 51 to 53. "Packets keep the old table and refuse a
+//! weight rule with 53": inside stand the words of the base, outside those of Change 3.
 
 use super::filled;
 use super::lines::{read_line, Answer, Line};
 use super::models::{rule_at_front, rules_of};
-use super::program::{table_words, Rule};
-use super::RULE_LIMIT;
+use super::program::{table_words, InputRule};
+use super::{PART_LIMIT, RULE_LIMIT};
 
 /// "the three bytes `RVP`, 16-bit version 1"
 const FRONT: [u8; 5] = *b"RVP\x01\x00";
@@ -34,12 +35,20 @@ pub fn write(table: &[i32], rule_count: usize, proof: &[u8], room: usize) -> Wri
 
 fn packet_within(table: &[i32], rule_count: usize, proof: &[u8], room: usize) -> Result<Vec<u8>, u8> {
     let rules = rules_of(table, rule_count).ok_or(53)?;
+    let words: Option<Vec<Vec<i32>>> = rules.iter().map(old_words).collect();
     let steps = lines_of(proof).ok_or(53)?;
-    let packet = bytes_of(&table_words(&rules), &steps);
+    let packet = bytes_of(&words.ok_or(53)?.concat(), &steps);
     if packet.len() > room {
         return Err(52);
     }
     Ok(packet)
+}
+
+/// The words of a rule in the old table, "head kind, head count, body count, heads ascending, body literals ascending by atom"; none with
+/// weights.
+fn old_words(rule: &InputRule) -> Option<Vec<i32>> {
+    let front = vec![i32::from(rule.choice), rule.heads.len() as i32, rule.literals().len() as i32];
+    (!rule.has_weights()).then_some([front, rule.heads.clone(), rule.literals()].concat())
 }
 
 /// "the number of table words in use and the number of steps, 32 bits each, those words, and each step as a letter byte, a count byte and
@@ -82,13 +91,13 @@ pub fn read(packet: &[u8], table_room: usize, proof_room: usize) -> Read {
     }
 }
 
-fn pair_within(packet: &[u8], table_room: usize, proof_room: usize) -> Result<(Vec<Rule>, Vec<u8>), u8> {
+fn pair_within(packet: &[u8], table_room: usize, proof_room: usize) -> Result<(Vec<InputRule>, Vec<u8>), u8> {
     let rest = packet.strip_prefix(&FRONT).ok_or(51)?;
     let (words, steps) = parts(rest).ok_or(52)?;
     let rules = rules_in(&words).ok_or(53)?;
     let text: Vec<u8> = steps.iter().flat_map(|(letter, numbers)| line_text(*letter, numbers)).collect();
     lines_of(&text).ok_or(53)?;
-    if words.len() > table_room || text.len() > proof_room {
+    if table_words(&rules).len() > table_room || text.len() > proof_room {
         return Err(52);
     }
     Ok((rules, text))
@@ -126,15 +135,22 @@ fn take_count(rest: &mut &[u8]) -> Option<usize> {
 }
 
 /// Question 41 of the words with the number of rules that they fall into.
-fn rules_in(words: &[i32]) -> Option<Vec<Rule>> {
+fn rules_in(words: &[i32]) -> Option<Vec<InputRule>> {
     let mut rest = words;
     let mut rules = Vec::new();
     while !rest.is_empty() {
-        let rule = rule_at_front(rest)?;
-        rest = &rest[rule.words().len()..];
+        let rule = old_rule_at_front(rest)?;
+        rest = &rest[old_words(&rule)?.len()..];
         rules.push(rule);
     }
     (rules.len() <= RULE_LIMIT).then_some(rules)
+}
+
+/// The rule that old words begin with: body kind 0 is left out of them.
+fn old_rule_at_front(words: &[i32]) -> Option<InputRule> {
+    let (front, rest) = words.split_at_checked(2)?;
+    let longest = 1 + 2 * PART_LIMIT as usize;
+    rule_at_front(&[front, &[0], &rest[..rest.len().min(longest)]].concat())
 }
 
 /// "A line is the letter, a space, up to 65 nonzero numbers, a closing `0`, newline."
@@ -151,7 +167,7 @@ fn line_text(letter: u8, numbers: &[i16]) -> Vec<u8> {
 mod tests {
     use super::*;
 
-    const TABLE: [i32; 5] = [0, 1, 1, 1, -1];
+    const TABLE: [i32; 6] = [0, 1, 0, 1, 1, -1];
     const PROOF: &[u8] = b"b 2 -1 0\nc 2 1 0\ns 1 2 0\na 1 0\na 0\n";
 
     #[test]
@@ -163,9 +179,9 @@ mod tests {
             written.packet[29..],
             *b"\xff\xff\xff\xffb\x02\x02\x00\xff\xffc\x02\x02\x00\x01\x00s\x02\x01\x00\x02\x00a\x01\x01\x00a\x00\0\0\0"
         );
-        let back = read(&written.packet[..57], 6, 36);
+        let back = read(&written.packet[..57], 7, 36);
         assert_eq!(back.answer, Ok((1, 35)));
-        assert_eq!((back.table, back.proof), (filled(TABLE.to_vec(), 6), filled(PROOF.to_vec(), 36)));
+        assert_eq!((back.table, back.proof), (filled(TABLE.to_vec(), 7), filled(PROOF.to_vec(), 36)));
     }
 
     #[test]
@@ -173,9 +189,21 @@ mod tests {
         let short = write(&TABLE, 1, PROOF, 56);
         assert_eq!(short, Written { answer: Err(52), packet: vec![0; 56] });
         let packet = write(&TABLE, 1, PROOF, 57).packet;
-        for (bytes, words, text, number) in [(4, 5, 35, 51), (56, 5, 35, 52), (57, 4, 35, 52), (57, 5, 34, 52)] {
+        for (bytes, words, text, number) in [(4, 6, 35, 51), (56, 6, 35, 52), (57, 5, 35, 52), (57, 6, 34, 52)] {
             assert_eq!(read(&packet[..bytes], words, text), Read { answer: Err(number), table: vec![0; words], proof: vec![0; text] });
         }
+    }
+
+    #[test]
+    fn weights_are_not_written() {
+        let weights = [0, 0, 1, 0, 0];
+        for room in [0, 60] {
+            assert_eq!(write(&weights, 1, b"", room), Written { answer: Err(53), packet: vec![0; room] });
+        }
+        assert_eq!(write(&[&TABLE[..], &weights].concat(), 2, PROOF, 99).answer, Err(53));
+        let alone = write(&TABLE, 1, b"", 33);
+        assert_eq!(alone.answer, Ok(33));
+        assert_eq!((read(&alone.packet, 6, 0).answer, read(&alone.packet, 5, 0).answer), (Ok((1, 0)), Err(52)));
     }
 
     #[test]

@@ -1,4 +1,5 @@
-//! The seven steps with their questions 26 to 33, over the three things that document 01 names.
+//! The seven steps with their questions 26 to 33, over the three things that document 01 names. The rules are the plain ones: "`b`, `c`, `s`
+//! and `l` use those bodies".
 
 use std::collections::BTreeSet;
 
@@ -72,7 +73,7 @@ pub fn step(program: &Program, state: &mut State, line: &Line) -> Result<(), u8>
 /// "n names the rule body whose literal set is L; constraint bodies count. Each body is named once."
 fn name_body(program: &Program, state: &mut State, name: i32, literals: &[i32]) -> Result<(), u8> {
     let body = by_variable(literals);
-    if !program.rules.iter().any(|rule| rule.body == body) || state.name_of(&body).is_some() {
+    if !program.plain.iter().any(|rule| rule.body == body) || state.name_of(&body).is_some() {
         return Err(28);
     }
     define(state, name, &body);
@@ -102,7 +103,7 @@ fn complete(program: &Program, state: &mut State, numbers: &[i32]) -> Result<(),
     let body = state.body_named(numbers[0]).ok_or(29)?;
     let heads = &numbers[1..];
     let fits = |rule: &Rule| !rule.choice && rule.body == body && rule.heads == heads;
-    if heads.len() > 1 || !program.rules.iter().any(fits) {
+    if heads.len() > 1 || !program.plain.iter().any(fits) {
         return Err(29);
     }
     let mut nogood = vec![numbers[0]];
@@ -117,7 +118,7 @@ fn support(program: &Program, state: &mut State, numbers: &[i32]) -> Result<(), 
     if atom > program.atoms {
         return Err(30);
     }
-    let bodies: BTreeSet<&Vec<i32>> = program.rules.iter().filter(|rule| rule.heads.contains(&atom)).map(|rule| &rule.body).collect();
+    let bodies: BTreeSet<&Vec<i32>> = program.plain.iter().filter(|rule| rule.heads.contains(&atom)).map(|rule| &rule.body).collect();
     let wanted: Option<BTreeSet<i32>> = bodies.iter().map(|body| state.name_of(body)).collect();
     let given: BTreeSet<i32> = numbers[1..].iter().copied().collect();
     if wanted != Some(given) {
@@ -133,7 +134,7 @@ fn support(program: &Program, state: &mut State, numbers: &[i32]) -> Result<(), 
 pub fn external_bodies(program: &Program, atoms: &[i32]) -> BTreeSet<Vec<i32>> {
     let is_external =
         |rule: &&Rule| rule.heads.iter().any(|head| atoms.contains(head)) && !rule.positive().any(|atom| atoms.contains(&atom));
-    program.rules.iter().filter(is_external).map(|rule| rule.body.clone()).collect()
+    program.plain.iter().filter(is_external).map(|rule| rule.body.clone()).collect()
 }
 
 /// "Adds the first h with minus the name of each."

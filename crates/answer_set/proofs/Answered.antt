@@ -15,7 +15,7 @@ use lib.ListN.{length, drop, replicate, length-replicate}
 use Rattle.words.specs.Limits.{largest, entries}
 use Rattle.words.specs.Lists.{_∈_, all}
 use Rattle.words.proofs.Lists.{Decides, itself, passed, failed, reworded, and-decides, not-decides, eqb-decides, any-decides, all-decides, same-test, and-left, and-right, or-false-left, or-false-right}
-use Rattle.aspif.specs.Rules.{Rule, atoms}
+use Rattle.aspif.specs.Rules.{InputRule, withBody, expand, ruleTop, atoms}
 use Rattle.words.proofs.Tops.{top-le}
 use Rattle.aspif.specs.AnswerSets.{Constraint, LeastModel, derive, Met, AnswerSet}
 use Rattle.aspif.specs.Tables.{headsSound, sizeAt, headsAt, shapeSound, soundAt, rulesAt, soundRules}
@@ -23,26 +23,28 @@ use Rattle.marks.specs.Marks.{listed, marked}
 use Rattle.answer_set.specs.SetTest.{rounds, least, isBroken, lowestFrom, justOne, yes, differs, breaks, brokenFrom, differsAt, verdictOf, shown}
 use Rattle.answer_set.specs.Claims.{Listed, Ready, MarksLeast, YesAnswerSet}
 use Rattle.words.proofs.Ascending.{ascends-in}
+use Rattle.aspif.specs.declared.Kind.the-variants.{Normal}
+use Rattle.aspif.proofs.Expansion.{expand→, expand←}
 use Rattle.aspif.proofs.Cursors.{sound-rules, atoms-small, rules-of}
 use Rattle.marks.proofs.Sets.{none-marked}
 use Rattle.answer_set.proofs.Marking.{lowest-none, none-lowest}
-use Rattle.answer_set.proofs.LeastModels.{Bits, Head, met-decides, rounds-decide, rounds-bits, rounds-length}
+use Rattle.answer_set.proofs.LeastModels.{Bits, Head, SomeMet, met-decides, rounds-decide, rounds-bits, rounds-length}
 use Rattle.words.proofs.Literals.{positive}
-use Rattle.aspif.proofs.RuleTests.{normal-decides, in-atoms, empty-decides}
+use Rattle.aspif.proofs.RuleTests.{normal-decides, in-greatest, empty-decides}
 
 -- Heads of the rules of a table
 
 -- every rule of sound words has such heads
-sound-heads : (n : ℕ) (ws : List ℤ) → soundRules n ws ≡ true → {r : Rule} → r ∈ rulesAt n ws → headsSound (r .heads) ≡ true
+sound-heads : (n : ℕ) (ws : List ℤ) → soundRules n ws ≡ true → {r : InputRule} → r ∈ rulesAt n ws → headsSound (r .heads) ≡ true
 unfolding soundAt
 sound-heads zero ws e i = elim i [ ]
 sound-heads (suc n) ws e (List·Memᴰ·head p) = rw p (and-left (headsSound (headsAt ws)) _ (and-right (shapeSound ws) _ (and-left (soundAt ws) _ e)))
 sound-heads (suc n) ws e (List·Memᴰ·tail i) = sound-heads n (drop (sizeAt ws) ws) (and-right (soundAt ws) _ e) i
 
-head-of : (rs : List Rule) (r : Rule) → r ∈ rs → headsSound (r .heads) ≡ true → (z : ℤ) → z ∈ r .heads → Head (atoms rs) z
+head-of : (rs : List InputRule) (r : InputRule) → r ∈ rs → headsSound (r .heads) ≡ true → (z : ℤ) → z ∈ r .heads → Head (atoms rs) z
 head-of rs r i e z j =
     let p = positive z (all-decides (λ h. itself (ltZ (pos 0) h)) (r .heads) .to (passed _ .from (and-left (all (λ h. ltZ (pos 0) h) (r .heads)) _ e)) z j) in
-    record { is = p .0; low = p .1; high = omega (arith, in-atoms i, top-le j) }
+    record { is = p .0; low = p .1; high = omega (arith, in-greatest ruleTop i, top-le j) }
 
 -- The set as listed, and the marks
 
@@ -54,14 +56,14 @@ no-bits zero v = inl refl
 no-bits (suc n) zero = inl refl
 no-bits (suc n) (suc v) = no-bits n v
 
-module _ (table : List ℤ) (rules : ℕ) (l : List ℕ) (rs : List Rule) (ready : Ready table rules l rs) where
+module _ (table : List ℤ) (rules : ℕ) (l : List ℕ) (rs : List InputRule) (ready : Ready table rules l rs) where
   sound : soundRules rules table ≡ true
   sound = sound-rules table rules (rules-of table rules rs (ready .readable) .0)
 
   are : rulesAt rules table ≡ rs
   are = rules-of table rules rs (ready .readable) .1
 
-  heads : (r : Rule) → r ∈ rs → (z : ℤ) → z ∈ r .heads → Head (atoms rs) z
+  heads : (r : InputRule) → r ∈ rs → (z : ℤ) → z ∈ r .heads → Head (atoms rs) z
   heads r i = head-of rs r i (sound-heads rules table sound {r = r} (rw are i))
 
   few : atoms rs ≤ largest
@@ -71,7 +73,7 @@ module _ (table : List ℤ) (rules : ℕ) (l : List ℕ) (rs : List Rule) (ready
     abbrev m : List ℕ
     m = rounds (listed l) (atoms rs) rs (replicate n 0)
 
-    in-model : (v : ℕ) → Decides (marked m v) (LeastModel (Listed l) rs v)
+    in-model : (v : ℕ) → Decides (marked m v) (LeastModel (Listed l) (expand rs) v)
     in-model =
         rounds-decide (listed l) (Listed l) (listed-decides l) rs (atoms rs) heads (replicate n 0) (rw (length-replicate n) h)
         (λ v t. true≢false (sym (passed _ .to t) ∙ none-marked n v))
@@ -85,7 +87,7 @@ module _ (table : List ℤ) (rules : ℕ) (l : List ℕ) (rs : List Rule) (ready
   fits : atoms rs < entries
   fits = let h = few in omega arith
 
-  pub model : (v : ℕ) → Decides (marked (least (listed l) rs) v) (LeastModel (Listed l) rs v)
+  pub model : (v : ℕ) → Decides (marked (least (listed l) rs) v) (LeastModel (Listed l) (expand rs) v)
   unfolding least
   model = in-model entries fits
 
@@ -112,7 +114,7 @@ same-both true = refl
 same-both false = refl
 
 module _ (M : ℕ → Bool) where
-  no-broken : (k : ℕ) (rs : List Rule) → brokenFrom M k rs ≡ yes → {r : Rule} → r ∈ rs → isBroken M r ≡ false
+  no-broken : (k : ℕ) (rs : List InputRule) → brokenFrom M k rs ≡ yes → {r : InputRule} → r ∈ rs → isBroken M r ≡ false
   no-broken k [] e i = elim i [ ]
   no-broken k (s ∷ rs) e {r} i = by (isBroken M s) refl e (λ f j. no-broken (k + 1) rs f j) i
     where
@@ -121,21 +123,27 @@ module _ (M : ℕ → Bool) where
       by false p q f (List·Memᴰ·head t) = rw t p
       by false p q f (List·Memᴰ·tail j) = f q j
 
-  none-broken : (k : ℕ) (rs : List Rule) → ((r : Rule) → r ∈ rs → isBroken M r ≡ false) → brokenFrom M k rs ≡ yes
+  none-broken : (k : ℕ) (rs : List InputRule) → ((r : InputRule) → r ∈ rs → isBroken M r ≡ false) → brokenFrom M k rs ≡ yes
   none-broken k [] g = refl
   none-broken k (s ∷ rs) g = rw (g s (List·Memᴰ·head refl)) (none-broken (k + 1) rs (λ r i. g r (List·Memᴰ·tail i)))
 
-broken-decides : (l : List ℕ) (r : Rule) → Decides (isBroken (listed l) r) (Constraint r × Met (Listed l) r)
+-- one of the plain rules of a rule as written is a constraint that is met
+abbrev SomeBroken : List ℕ → InputRule → Type 0
+SomeBroken l r = ((r .kind ≡ Normal) × (r .heads ≡ [])) × SomeMet (listed l) (Listed l) (listed-decides l) (Listed l) (r .body)
+
+broken-decides : (l : List ℕ) (r : InputRule) → Decides (isBroken (listed l) r) (SomeBroken l r)
 broken-decides l r =
     and-decides (and-decides (normal-decides (r .kind)) (empty-decides (r .heads)))
     (met-decides (listed l) (Listed l) (listed-decides l) (listed l) (Listed l) (listed-decides l) (r .body))
 
-module _ (table : List ℤ) (rules : ℕ) (l : List ℕ) (rs : List Rule) (ready : Ready table rules l rs) where
+module _ (table : List ℤ) (rules : ℕ) (l : List ℕ) (rs : List InputRule) (ready : Ready table rules l rs) where
   abbrev pub differing : ℕ → Bool
   differing = differsAt (listed l) (least (listed l) rs)
 
-  pub least-small : {v : ℕ} → LeastModel (Listed l) rs v → v ≤ atoms rs
-  least-small (derive {h = h} r i taken g below) = heads table rules l rs ready r i (pos h) (g .0) .high
+  pub least-small : {v : ℕ} → LeastModel (Listed l) (expand rs) v → v ≤ atoms rs
+  least-small (derive {h = h} r i taken g below) =
+      let x = expand→ rs i in
+      heads table rules l rs ready (x .rule) (x .among) (pos h) (subst (λ s. pos h ∈ s .heads) (sym (x .is)) (g .0)) .high
 
   verdict : verdictOf (listed l) rs ≡ yes → (lowestFrom differing (atoms rs + 1) 0 ≡ none) × (brokenFrom (listed l) 1 rs ≡ yes)
   unfolding verdictOf
@@ -145,7 +153,7 @@ module _ (table : List ℤ) (rules : ℕ) (l : List ℕ) (rs : List Rule) (ready
       by (some v) e p = absurd (let z : _≡_ {A = ℕ} 0 1 = cc in omega arith)
       by none e p = (e, p)
 
-  answers : verdictOf (listed l) rs ≡ yes → AnswerSet (Listed l) rs
+  answers : verdictOf (listed l) rs ≡ yes → AnswerSet (Listed l) (expand rs)
   answers e =
       let w = verdict e in
       let same : (v : ℕ) → v ≤ atoms rs → listed l v ≡ marked (least (listed l) rs) v =
@@ -155,16 +163,24 @@ module _ (table : List ℤ) (rules : ℕ) (l : List ℕ) (rs : List Rule) (ready
           λ i. model table rules l rs ready v .to (subst T (same v (ascends-in 0 (atoms rs) (ready .ascending) i .1)) (listed-decides l v .from i)),
           λ d. listed-decides l v .to (subst T (sym (same v (least-small d))) (model table rules l rs ready v .from d)),
         );
-        kept = λ r i c met. true≢false (sym (passed _ .to (broken-decides l r .from (c, met))) ∙ no-broken (listed l) 1 rs (w .1) i);
+        kept = λ r i c met.
+            let x = expand→ rs i in
+            let e = sym (x .is) in
+            let b = broken-decides l (x .rule) .from (subst Constraint e c, (x .body, x .one, subst (Met (Listed l)) e met)) in
+            true≢false (sym (passed _ .to b) ∙ no-broken (listed l) 1 rs (w .1) (x .among));
       }
 
-  agree : AnswerSet (Listed l) rs → (v : ℕ) → differing v ≡ false
+  agree : AnswerSet (Listed l) (expand rs) → (v : ℕ) → differing v ≡ false
   agree s v = rw (same-test (listed-decides l v) (model table rules l rs ready v) (s .least v .0) (s .least v .1)) (same-both (marked (least (listed l) rs) v))
 
-  answered-yes : AnswerSet (Listed l) rs → verdictOf (listed l) rs ≡ yes
+  answered-yes : AnswerSet (Listed l) (expand rs) → verdictOf (listed l) rs ≡ yes
   unfolding verdictOf
   answered-yes s =
-      rw (none-lowest differing (atoms rs + 1) 0 (λ v h k. agree s v), none-broken (listed l) 1 rs (λ r i. failed _ (not-decides (broken-decides l r) .from (λ p. s .kept r i (p .0) (p .1)))))
+      rw (
+        none-lowest differing (atoms rs + 1) 0 (λ v h k. agree s v),
+        none-broken (listed l) 1 rs (λ r i.
+            failed _ (not-decides (broken-decides l r) .from (λ p. s .kept (withBody r (p .1 .0)) (expand← i (p .1 .1)) (p .0) (p .1 .2)))),
+      )
 
 pub yes-answer-set : YesAnswerSet
 yes-answer-set table rules l rs h = (answers table rules l rs h, answered-yes table rules l rs h)

@@ -1,8 +1,8 @@
--- The rounds of specs/SetTest.antt reach the least model of crates/aspif/specs/AnswerSets.antt: what they mark is in it, and once as many
--- rounds are over as there are atoms nothing is left to derive. Assumes nothing.
-use mathlib.Core.Path.{_≡_, refl, sym, _∙_, ap}
+-- The rounds of specs/SetTest.antt reach the least model of crates/aspif/specs/AnswerSets.antt, of the plain rules that the rules stand
+-- for: what they mark is in it, and once as many rounds are over as there are atoms nothing is left to derive. Assumes nothing.
+use mathlib.Core.Path.{_≡_, refl, sym, _∙_, ap, subst}
 use mathlib.Core.Logic.{_⊎_, inl, inr}
-use mathlib.Core.Bool.{Bool, true, false, cond, not}
+use mathlib.Core.Bool.{Bool, true, false, cond, not, or-false}
 use mathlib.Core.List.{List, [], _∷_, List·Memᴰ·head, List·Memᴰ·tail, Memᴰ·cast}
 use Prim.Native.Nat.{ℕ, zero, suc, _≤_, _<_}
 use native.Mathlib.Omega.{arith}
@@ -11,13 +11,15 @@ use lib.Dec.{T, eqb, ltb, leb}
 use lib.IntN.{ℤ, pos, negsuc}
 use lib.ListN.{length, getD, set, length-set}
 use lib.Seq.{getD-set-same, getD-set-other, set-out, set-getD}
-use Rattle.words.specs.Lists.{_∈_, filter}
+use Rattle.words.specs.Lists.{_∈_, any, all, filter}
 use Rattle.words.specs.Literals.{variable}
-use Rattle.words.proofs.Lists.{Decides, itself, passed, answered, reworded, not-decides, all-decides, keep←, length-keep, keep-lt, none-in}
-use Rattle.aspif.specs.Rules.{Rule}
+use Rattle.words.proofs.Lists.{Decides, itself, passed, answered, reworded, not-decides, any-decides, all-decides, keep←, length-keep, keep-lt, none-in}
+use Rattle.weights.proofs.Reached.{reached}
+use Rattle.aspif.specs.Rules.{Rule, Body, plain, weights, InputRule, bodiesOf, withBody, expand}
 use Rattle.aspif.specs.declared.Kind.{Kind}
 use Rattle.aspif.specs.declared.Kind.the-variants.{Normal, Choice}
-use Rattle.aspif.specs.AnswerSets.{Taken, Chosen, LeastModel, derive}
+use Rattle.aspif.specs.AnswerSets.{Taken, Chosen, Gives, LeastModel, derive}
+use Rattle.aspif.proofs.Expansion.{Expanded, expand→, expand←}
 use Rattle.marks.specs.Marks.{marked}
 use Rattle.answer_set.specs.SetTest.{literalHolds, bodyHolds, gives, giveHead, giveHeads, giveRule, round, rounds}
 use Rattle.answer_set.proofs.Marking.{rounds-still}
@@ -71,26 +73,39 @@ module _ (M : ℕ → Bool) (W : ℕ → Type 0) (dec : (v : ℕ) → Decides (M
   HoldsUnder S (pos a) = S a
   HoldsUnder S (negsuc n) = ¬ W (suc n)
 
+  -- a plain body whose positive atoms are in A and whose negated ones are outside the set, and one of those that a body stands for
+  abbrev pub MetBy : (ℕ → Type 0) → List ℤ → Type 0
+  MetBy A ls = ((a : ℕ) → pos a ∈ ls → A a) × ((n : ℕ) → negsuc n ∈ ls → ¬ W (suc n))
+
+  abbrev pub SomeMet : (ℕ → Type 0) → Body → Type 0
+  SomeMet A b = (ls : List ℤ) × (ls ∈ bodiesOf b) × MetBy A ls
+
   module _ (S : ℕ → Bool) (A : ℕ → Type 0) (in-S : (v : ℕ) → Decides (S v) (A v)) where
     literal-decides : (z : ℤ) → Decides (literalHolds M S z) (HoldsUnder A z)
     unfolding HoldsUnder
     literal-decides (pos a) = in-S a
     literal-decides (negsuc n) = not-decides (dec (suc n))
 
-    body-holds : (ls : List ℤ) → Decides (bodyHolds M S ls) ((z : ℤ) → z ∈ ls → HoldsUnder A z)
-    body-holds ls = all-decides literal-decides ls
-
-    -- a body, as the inductive definition has it
-    pub met-decides : (ls : List ℤ) → Decides (bodyHolds M S ls) (((a : ℕ) → pos a ∈ ls → A a) × ((n : ℕ) → negsuc n ∈ ls → ¬ W (suc n)))
+    all-hold : (ls : List ℤ) → Decides (all (literalHolds M S) ls) (MetBy A ls)
     unfolding HoldsUnder
-    met-decides ls = reworded (λ f. (λ a i. f (pos a) i, λ n i. f (negsuc n) i)) (λ p z i. either p z i) (body-holds ls)
+    all-hold ls = reworded (λ f. (λ a i. f (pos a) i, λ n i. f (negsuc n) i)) (λ p z i. either p z i) (all-decides literal-decides ls)
       where
-        either : ((a : ℕ) → pos a ∈ ls → A a) × ((n : ℕ) → negsuc n ∈ ls → ¬ W (suc n)) → (z : ℤ) → z ∈ ls → HoldsUnder A z
+        either : MetBy A ls → (z : ℤ) → z ∈ ls → HoldsUnder A z
         either p (pos a) i = p .0 a i
         either p (negsuc n) i = p .1 n i
 
-  body-decides : (m : List ℕ) (ls : List ℤ) → Decides (bodyHolds M (marked m) ls) (((a : ℕ) → pos a ∈ ls → T (marked m a)) × ((n : ℕ) → negsuc n ∈ ls → ¬ W (suc n)))
-  body-decides m ls = met-decides (marked m) (λ a. T (marked m a)) (λ a. itself (marked m a)) ls
+    -- one of the plain bodies holds
+    some-holds : (b : Body) → bodyHolds M S b ≡ any (all (literalHolds M S)) (bodiesOf b)
+    unfolding bodiesOf
+    some-holds (plain ls) = sym (or-false (all (literalHolds M S) ls))
+    some-holds (weights b l) = sym (reached b l (literalHolds M S))
+
+    -- a body, as the inductive definition has it
+    pub met-decides : (b : Body) → Decides (bodyHolds M S b) (SomeMet A b)
+    met-decides b = rw (some-holds b) (any-decides all-hold (bodiesOf b))
+
+  body-decides : (m : List ℕ) (b : Body) → Decides (bodyHolds M (marked m) b) (SomeMet (λ a. T (marked m a)) b)
+  body-decides m b = met-decides (marked m) (λ a. T (marked m a)) (λ a. itself (marked m a)) b
 
   gives-decides : (k : Kind) (h : ℕ) → Decides (gives M k h) (Chosen W k h)
   gives-decides Normal h = record { to = λ t. tt; from = λ t. tt }
@@ -108,7 +123,7 @@ module _ (M : ℕ → Bool) (W : ℕ → Type 0) (dec : (v : ℕ) → Decides (M
   heads-later k [] m = later-refl m
   heads-later k (h ∷ hs) m = later-trans (head-later k h m) (heads-later k hs (giveHead M k h m))
 
-  rule-later : (r : Rule) (m : List ℕ) → Later m (giveRule M r m)
+  rule-later : (r : InputRule) (m : List ℕ) → Later m (giveRule M r m)
   unfolding giveRule
   rule-later r m = by (bodyHolds M (marked m) (r .body))
     where
@@ -116,16 +131,18 @@ module _ (M : ℕ → Bool) (W : ℕ → Type 0) (dec : (v : ℕ) → Decides (M
       by true = heads-later (r .kind) (r .heads) m
       by false = later-refl m
 
-  round-later : (rs : List Rule) (m : List ℕ) → Later m (round M rs m)
+  round-later : (rs : List InputRule) (m : List ℕ) → Later m (round M rs m)
   round-later [] m = later-refl m
   round-later (r ∷ rs) m = later-trans (rule-later r m) (round-later rs (giveRule M r m))
 
-  rounds-later : (n : ℕ) (rs : List Rule) (m : List ℕ) → Later m (rounds M n rs m)
+  rounds-later : (n : ℕ) (rs : List InputRule) (m : List ℕ) → Later m (rounds M n rs m)
   rounds-later zero rs m = later-refl m
   rounds-later (suc n) rs m = later-trans (round-later rs m) (rounds-later n rs (round M rs m))
 
-  body-grows : {m n : List ℕ} (ls : List ℤ) → Later m n → T (bodyHolds M (marked m) ls) → T (bodyHolds M (marked n) ls)
-  body-grows {m} {n} ls p t = let f = body-decides m ls .to t in body-decides n ls .from (λ a i. p .grows a (f .0 a i), f .1)
+  body-grows : {m n : List ℕ} (b : Body) → Later m n → T (bodyHolds M (marked m) b) → T (bodyHolds M (marked n) b)
+  body-grows {m} {n} b p t =
+      let f = body-decides m b .to t in
+      body-decides n b .from (f .0, f .1, (λ a i. p .grows a (f .2 .0 a i), f .2 .1))
 
   -- A round marks what its rules give
 
@@ -139,12 +156,12 @@ module _ (M : ℕ → Bool) (W : ℕ → Type 0) (dec : (v : ℕ) → Decides (M
   heads-reach k m (List·Memᴰ·tail {x = h} {xs = hs} i) g l =
       heads-reach k (giveHead M k h m) i g (rw (head-later k h m .size) l)
 
-  rule-reach : (r : Rule) (m : List ℕ) {z : ℤ} → T (bodyHolds M (marked m) (r .body)) → z ∈ r .heads → T (gives M (r .kind) (variable z)) → variable z < length m
+  rule-reach : (r : InputRule) (m : List ℕ) {z : ℤ} → T (bodyHolds M (marked m) (r .body)) → z ∈ r .heads → T (gives M (r .kind) (variable z)) → variable z < length m
       → T (marked (giveRule M r m) (variable z))
   unfolding giveRule
   rule-reach r m b i g l = rw (passed (bodyHolds M (marked m) (r .body)) .to b) (heads-reach (r .kind) m i g l)
 
-  round-reach : {rs : List Rule} {r : Rule} (m : List ℕ) {z : ℤ} → r ∈ rs → T (bodyHolds M (marked m) (r .body)) → z ∈ r .heads → T (gives M (r .kind) (variable z))
+  round-reach : {rs : List InputRule} {r : InputRule} (m : List ℕ) {z : ℤ} → r ∈ rs → T (bodyHolds M (marked m) (r .body)) → z ∈ r .heads → T (gives M (r .kind) (variable z))
       → variable z < length m → T (marked (round M rs m) (variable z))
   round-reach {r = r} m {z} (List·Memᴰ·head {x = s} {xs = rs} p) b i g l =
       round-later rs (giveRule M s m) .grows (variable z) (rw p at (rule-reach r m b i g l))
@@ -176,21 +193,24 @@ unfolding upTo
 length-upTo zero = refl
 length-upTo (suc n) = ap suc (length-upTo n)
 
-module _ (M : ℕ → Bool) (W : ℕ → Type 0) (dec : (v : ℕ) → Decides (M v) (W v)) (P : List Rule) (N : ℕ)
-    (heads : (r : Rule) → r ∈ P → (z : ℤ) → z ∈ r .heads → Head N z) where
+module _ (M : ℕ → Bool) (W : ℕ → Type 0) (dec : (v : ℕ) → Decides (M v) (W v)) (P : List InputRule) (N : ℕ)
+    (heads : (r : InputRule) → r ∈ P → (z : ℤ) → z ∈ r .heads → Head N z) where
   -- What is marked is in the least model
 
   BelowModel : List ℕ → Type 0
-  BelowModel m = (v : ℕ) → T (marked m v) → LeastModel W P v
+  BelowModel m = (v : ℕ) → T (marked m v) → LeastModel W (expand P) v
 
-  module _ (r : Rule) (i : r ∈ P) (taken : Taken W r) (below : (a : ℕ) → pos a ∈ r .body → LeastModel W P a) where
+  module _ (r : InputRule) (i : r ∈ P) {ls : List ℤ} (one : ls ∈ bodiesOf (r .body)) (taken : Taken W (withBody r ls))
+      (below : (a : ℕ) → pos a ∈ ls → LeastModel W (expand P) a) where
     head-within : (h : ℤ) → h ∈ r .heads → (m : List ℕ) → BelowModel m → BelowModel (giveHead M (r .kind) h m)
     unfolding giveHead BelowModel
     head-within h j m w = by (gives M (r .kind) (variable h)) refl
       where
         by : (b : Bool) → gives M (r .kind) (variable h) ≡ b → BelowModel (cond b (set m (variable h) 1) m)
         by true e = λ v t. elim (set-cases m (variable h) v t) [
-          | inl p ↦ derive r i taken (Memᴰ·cast (ap pos p ∙ sym (heads r i h j .is)) j, gives-decides M W dec (r .kind) v .to (rw p (passed _ .from e))) below
+          | inl p ↦
+              let chosen = gives-decides M W dec (r .kind) v .to (rw p (passed _ .from e)) in
+              derive (withBody r ls) (expand← i one) taken (Memᴰ·cast (ap pos p ∙ sym (heads r i h j .is)) j, chosen) below
           | inr u ↦ w v u
         ]
         by false e = w
@@ -200,17 +220,17 @@ module _ (M : ℕ → Bool) (W : ℕ → Type 0) (dec : (v : ℕ) → Decides (M
     heads-within (h ∷ hs) sub m w =
         heads-within hs (λ z j. sub z (List·Memᴰ·tail j)) (giveHead M (r .kind) h m) (head-within h (sub h (List·Memᴰ·head refl)) m w)
 
-  rule-within : (r : Rule) → r ∈ P → (m : List ℕ) → BelowModel m → BelowModel (giveRule M r m)
+  rule-within : (r : InputRule) → r ∈ P → (m : List ℕ) → BelowModel m → BelowModel (giveRule M r m)
   unfolding giveRule BelowModel
   rule-within r i m w = by (bodyHolds M (marked m) (r .body)) refl
     where
       by : (b : Bool) → bodyHolds M (marked m) (r .body) ≡ b → BelowModel (cond b (giveHeads M (r .kind) (r .heads) m) m)
       by true e =
           let f = body-decides M W dec m (r .body) .to (passed _ .from e) in
-          heads-within r i (f .1) (λ a j. w a (f .0 a j)) (r .heads) (λ z j. j) m w
+          heads-within r i (f .1) (f .2 .1) (λ a j. w a (f .2 .0 a j)) (r .heads) (λ z j. j) m w
       by false e = w
 
-  round-within : (rs : List Rule) → ((r : Rule) → r ∈ rs → r ∈ P) → (m : List ℕ) → BelowModel m → BelowModel (round M rs m)
+  round-within : (rs : List InputRule) → ((r : InputRule) → r ∈ rs → r ∈ P) → (m : List ℕ) → BelowModel m → BelowModel (round M rs m)
   round-within [] sub m w = w
   round-within (r ∷ rs) sub m w =
       round-within rs (λ s j. sub s (List·Memᴰ·tail j)) (giveRule M r m) (rule-within r (sub r (List·Memᴰ·head refl)) m w)
@@ -222,10 +242,10 @@ module _ (M : ℕ → Bool) (W : ℕ → Type 0) (dec : (v : ℕ) → Decides (M
   -- Once nothing is left to give, a round changes nothing
 
   Closed : List ℕ → Type 0
-  Closed m = (r : Rule) → r ∈ P → T (bodyHolds M (marked m) (r .body)) → (z : ℤ) → z ∈ r .heads → T (gives M (r .kind) (variable z)) → T (marked m (variable z))
+  Closed m = (r : InputRule) → r ∈ P → T (bodyHolds M (marked m) (r .body)) → (z : ℤ) → z ∈ r .heads → T (gives M (r .kind) (variable z)) → T (marked m (variable z))
 
   module _ (m : List ℕ) (c : Closed m) where
-    heads-still : (r : Rule) → r ∈ P → T (bodyHolds M (marked m) (r .body)) → (hs : List ℤ) → ((z : ℤ) → z ∈ hs → z ∈ r .heads) → giveHeads M (r .kind) hs m ≡ m
+    heads-still : (r : InputRule) → r ∈ P → T (bodyHolds M (marked m) (r .body)) → (hs : List ℤ) → ((z : ℤ) → z ∈ hs → z ∈ r .heads) → giveHeads M (r .kind) hs m ≡ m
     unfolding giveHead Closed
     heads-still r i b [] sub = refl
     heads-still r i b (h ∷ hs) sub = rw head-still (heads-still r i b hs (λ z j. sub z (List·Memᴰ·tail j)))
@@ -239,7 +259,7 @@ module _ (M : ℕ → Bool) (W : ℕ → Type 0) (dec : (v : ℕ) → Decides (M
                 rw (eqb-true (getD m (variable h) 0) 1 (passed _ .to k)) at (set-getD m (variable h) 0)
             by false e = refl
 
-    rule-still : (r : Rule) → r ∈ P → giveRule M r m ≡ m
+    rule-still : (r : InputRule) → r ∈ P → giveRule M r m ≡ m
     unfolding giveRule
     rule-still r i = by (bodyHolds M (marked m) (r .body)) refl
       where
@@ -247,7 +267,7 @@ module _ (M : ℕ → Bool) (W : ℕ → Type 0) (dec : (v : ℕ) → Decides (M
         by true e = heads-still r i (passed _ .from e) (r .heads) (λ z j. j)
         by false e = refl
 
-    round-still : (rs : List Rule) → ((r : Rule) → r ∈ rs → r ∈ P) → round M rs m ≡ m
+    round-still : (rs : List InputRule) → ((r : InputRule) → r ∈ rs → r ∈ P) → round M rs m ≡ m
     round-still [] sub = refl
     round-still (r ∷ rs) sub = rw (rule-still r (sub r (List·Memᴰ·head refl))) (round-still rs (λ s j. sub s (List·Memᴰ·tail j)))
 
@@ -295,13 +315,20 @@ module _ (M : ℕ → Bool) (W : ℕ → Type 0) (dec : (v : ℕ) → Decides (M
           let s = round-still m c P (λ r j. j) in
           rw (s, rounds-still M n P m s) c
 
-  least-in : (m : List ℕ) → Closed m → {v : ℕ} → LeastModel W P v → T (marked m v)
+  least-in : (m : List ℕ) → Closed m → {v : ℕ} → LeastModel W (expand P) v → T (marked m v)
   unfolding Closed
-  least-in m c (derive {h = h} r i taken g below) =
-      c r i (body-decides M W dec m (r .body) .from (λ a k. least-in m c (below a k), taken)) (pos h) (g .0) (gives-decides M W dec (r .kind) h .from (g .1))
+  least-in m c (derive {h = h} r i taken g below) = from (expand→ P i) taken g (λ a k. least-in m c (below a k))
+    where
+      from : {r : Rule} → Expanded P r → Taken W r → Gives W r h → ((a : ℕ) → pos a ∈ r .body → T (marked m a)) → T (marked m h)
+      from x taken g below =
+          let e = sym (x .is) in
+          let u = subst (λ s. Gives W s h) e g in
+          let b = subst (λ s. (a : ℕ) → pos a ∈ s .body → T (marked m a)) e below in
+          let v = body-decides M W dec m (x .rule .body) .from (x .body, x .one, (b, subst (Taken W) e taken)) in
+          c (x .rule) (x .among) v (pos h) (u .0) (gives-decides M W dec (x .rule .kind) h .from (u .1))
 
   -- from no marks, N rounds mark the least model
-  pub rounds-decide : (m : List ℕ) → N < length m → ((v : ℕ) → ¬ T (marked m v)) → (v : ℕ) → Decides (marked (rounds M N P m) v) (LeastModel W P v)
+  pub rounds-decide : (m : List ℕ) → N < length m → ((v : ℕ) → ¬ T (marked m v)) → (v : ℕ) → Decides (marked (rounds M N P m) v) (LeastModel W (expand P) v)
   unfolding BelowModel lacks missing
   rounds-decide m l none v =
       record {

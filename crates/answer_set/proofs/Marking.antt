@@ -1,10 +1,10 @@
--- Laws on marks: literals and bodies under them, what the rounds of `close` do to them, and the lowest number that passes a test.
+-- Laws on marks: literals and weights under them, what the rounds of `close` do to them, and the lowest number that passes a test.
 -- Assumes nothing.
 use mathlib.Core.Path.{_≡_, refl, sym, _∙_, ap}
 use mathlib.Core.Bool.{Bool, true, false, cond, not, true≢false}
 use mathlib.Core.Logic.{inl, inr}
 use mathlib.Core.Option.{none, some, Option·some-injective, Option·none-ne-some}
-use mathlib.Core.List.{List}
+use mathlib.Core.List.{List, _∷_}
 use Prim.Native.Nat.{ℕ, zero, suc, _+_, _-_, _<_, _≤_}
 use native.Mathlib.Numerals.{add-one}
 use native.Mathlib.Omega.{arith}
@@ -13,12 +13,16 @@ use lib.IntN.{ℤ, pos, negsuc}
 use lib.Signed.{ltZ}
 use lib.ListN.{length, drop, getD, drop-of-length-le}
 use lib.Seq.{drop-cons}
+use Rattle.words.specs.Lists.{filter}
 use Rattle.words.specs.Literals.{variable}
 use Rattle.words.proofs.Lists.{one-less, nothing-left}
 use Rattle.words.proofs.Places.{equal?}
-use Rattle.aspif.specs.Rules.{Rule}
+use Rattle.weights.specs.Weights.{Weighted, sum, paired}
+use Rattle.weights.proofs.Sublists.{sum-le, kept}
+use Rattle.weights.proofs.Matching.{pair-on, pair-none}
+use Rattle.aspif.specs.Rules.{InputRule}
 use Rattle.aspif.specs.declared.Kind.{Kind}
-use Rattle.answer_set.specs.SetTest.{literalHolds, giveHead, giveHeads, round, rounds, lowestFrom}
+use Rattle.answer_set.specs.SetTest.{literalHolds, heldSum, giveHead, giveHeads, round, rounds, lowestFrom}
 use Rattle.marks.specs.Marks.{Marking}
 
 module _ (M S : ℕ → Bool) where
@@ -30,6 +34,30 @@ module _ (M S : ℕ → Bool) where
   pub holds-pos : (z : ℤ) → ltZ z (pos 0) ≡ false → literalHolds M S z ≡ S (variable z)
   holds-pos (pos n) h = refl
   holds-pos (negsuc n) h = absurd (true≢false h)
+
+-- The loop of `sum_held`
+
+module _ (M S : ℕ → Bool) where
+  pub held-on : (ws : List ℤ) (i : ℕ) → i + 1 < length ws
+      → heldSum M S (paired (drop i ws))
+      ≡ cond (literalHolds M S (getD ws i (pos 0))) (variable (getD ws (i + 1) (pos 0))) 0 + heldSum M S (paired (drop (i + 2) ws))
+  held-on ws i h =
+      ap (heldSum M S) (pair-on ws i h)
+      ∙ by (record { literal = getD ws i (pos 0); weight = variable (getD ws (i + 1) (pos 0)) }) (literalHolds M S (getD ws i (pos 0)))
+    where
+      l : List Weighted
+      l = filter (λ x. literalHolds M S (x .literal)) (paired (drop (i + 2) ws))
+
+      by : (x : Weighted) (t : Bool) → sum (cond t (x ∷ l) l) ≡ cond t (x .weight) 0 + sum l
+      by x true = refl
+      by x false = omega arith
+
+  pub held-none : (ws : List ℤ) (i : ℕ) → length ws ≤ i + 1 → heldSum M S (paired (drop i ws)) ≡ 0
+  held-none ws i h = ap (heldSum M S) (pair-none ws i h)
+
+  -- no more than all the weights
+  pub held-small : (l : List Weighted) → heldSum M S l ≤ sum l
+  held-small l = sum-le (kept (λ x. literalHolds M S (x .literal)) l)
 
 -- The loop of `give_heads`
 
@@ -43,19 +71,19 @@ module _ (M : ℕ → Bool) (k : Kind) (hs : List ℤ) (m : List ℕ) where
 -- The loop of `close`
 
 module _ (M : ℕ → Bool) where
-  pub rounds-on : (n : ℕ) (rs : List Rule) (m : List ℕ) → 0 < n → rounds M n rs m ≡ rounds M (n - 1) rs (round M rs m)
+  pub rounds-on : (n : ℕ) (rs : List InputRule) (m : List ℕ) → 0 < n → rounds M n rs m ≡ rounds M (n - 1) rs (round M rs m)
   rounds-on n rs m h = ap (λ k. rounds M k rs m) (one-less n h)
 
-  pub rounds-end : (n : ℕ) (rs : List Rule) (m : List ℕ) → n ≤ 0 → rounds M n rs m ≡ m
+  pub rounds-end : (n : ℕ) (rs : List InputRule) (m : List ℕ) → n ≤ 0 → rounds M n rs m ≡ m
   rounds-end n rs m h = ap (λ k. rounds M k rs m) (nothing-left n h)
 
   -- a round that changes nothing is the last
-  pub rounds-still : (n : ℕ) (rs : List Rule) (m : List ℕ) → round M rs m ≡ m → rounds M n rs m ≡ m
+  pub rounds-still : (n : ℕ) (rs : List InputRule) (m : List ℕ) → round M rs m ≡ m → rounds M n rs m ≡ m
   rounds-still zero rs m e = refl
   rounds-still (suc n) rs m e = rw e (rounds-still n rs m e)
 
   -- what is marked when no mark is new
-  pub last-round : (n : ℕ) (rs : List Rule) {m after whole : List ℕ} {new : Bool} → whole ≡ rounds M n rs m → Marking (round M rs m) m after new → new ≡ false → after ≡ whole
+  pub last-round : (n : ℕ) (rs : List InputRule) {m after whole : List ℕ} {new : Bool} → whole ≡ rounds M n rs m → Marking (round M rs m) m after new → new ≡ false → after ≡ whole
   last-round n rs {m} e g f = let s = g .still f in s ∙ sym (e ∙ rounds-still n rs m (sym (g .marks) ∙ s))
 
 -- The loop of `differing`

@@ -9,13 +9,13 @@ use native.Mathlib.Omega.{arith}
 use borrow.Author.Tests.{eqb-true, eq-eqb}
 use lib.Dec.{eqb}
 use lib.ListN.{length}
-use Rattle.aspif.specs.Rules.{Rule, atoms}
+use Rattle.aspif.specs.Rules.{InputRule, expand, atoms}
 use Rattle.aspif.specs.AnswerSets.{AnswerSet}
 use Rattle.aspif.specs.Tables.{ReadAs, ReadTable, rulesOf}
 use Rattle.words.specs.Lists.{ascends}
 use Rattle.marks.specs.Marks.{listed}
 use Rattle.words.specs.Limits.{entries}
-use Rattle.answer_set.specs.SetTest.{least, SetVerdict, yes, differs, breaks, differsAt, verdictOf, Asked, refused, passed, askedOf, asked, saidOf, setAnswer}
+use Rattle.answer_set.specs.SetTest.{SetVerdict, yes, differs, breaks, verdictOf, refused, passed, askedOf, asked, saidOf, setAnswer}
 use Rattle.answer_set.specs.Claims.{TableRefused, Listed, ServiceYes}
 use Rattle.answer_set.specs.declared.SetAnswer.the-variants.{Yes}
 use Rattle.answer_set.proofs.Answered.{yes-answer-set}
@@ -23,7 +23,7 @@ use Rattle.aspif.proofs.Readable.{table-read}
 
 -- Refusal 41
 
-no-41 : (rs : List Rule) (l : List ℕ) (n : ℕ) → askedOf (some rs) l n ≡ refused 41 → ⊥
+no-41 : (rs : List InputRule) (l : List ℕ) (n : ℕ) → askedOf (some rs) l n ≡ refused 41 → ⊥
 no-41 rs l n = by (ascends 0 (atoms rs) l) (eqb n entries)
   where
     by : (b c : Bool) → cond b (cond c (passed rs) (refused 43)) (refused 42) ≡ refused 41 → ⊥
@@ -38,7 +38,7 @@ table-refused table rules l n = (there, back (rulesOf table rules) refl)
     there : askedOf (rulesOf table rules) l n ≡ refused 41 → ¬ ReadTable table rules
     there e p = no-41 (p .0) l n (rw (table-read table rules (p .0) .1 (p .1)) at e)
 
-    back : (o : Option (List Rule)) → rulesOf table rules ≡ o → ¬ ReadTable table rules → askedOf o l n ≡ refused 41
+    back : (o : Option (List InputRule)) → rulesOf table rules ≡ o → ¬ ReadTable table rules → askedOf o l n ≡ refused 41
     back none e f = refl
     back (some rs) e f = absurd (f (rs, table-read table rules rs .0 e))
 
@@ -53,14 +53,14 @@ said-yes (breaks k) e = absurd (let z : _≡_ {A = ℕ} 0 1 = cc in omega arith)
 not-yes : (l : List ℕ) (k : ℕ) → Yes ≡ setAnswer l (refused k) → ⊥
 not-yes l k e = let z : _≡_ {A = ℕ} 0 1 = cc in omega arith
 
-record Passes (o : Option (List Rule)) (l : List ℕ) (n : ℕ) : Type 0 where
-  rs : List Rule
+record Passes (o : Option (List InputRule)) (l : List ℕ) (n : ℕ) : Type 0 where
+  rs : List InputRule
   is : o ≡ some rs
   ascending : ascends 0 (atoms rs) l ≡ true
   marks : n ≡ entries
   verdict : verdictOf (listed l) rs ≡ yes
 
-yes-passes : (o : Option (List Rule)) (l : List ℕ) (n : ℕ) → Yes ≡ setAnswer l (askedOf o l n) → Passes o l n
+yes-passes : (o : Option (List InputRule)) (l : List ℕ) (n : ℕ) → Yes ≡ setAnswer l (askedOf o l n) → Passes o l n
 yes-passes none l n a = absurd (not-yes l 41 a)
 yes-passes (some rs) l n a = by (ascends 0 (atoms rs) l) refl (eqb n entries) refl a
   where
@@ -73,12 +73,15 @@ pub service-yes : ServiceYes
 unfolding asked
 service-yes table rules l before after r t = (there, back)
   where
-    there : r ≡ Yes → (rs : List Rule) × ReadAs table rules rs × (ascends 0 (atoms rs) l ≡ true) × (length before ≡ entries) × AnswerSet (Listed l) rs
+    Holds : Type 0
+    Holds = (rs : List InputRule) × ReadAs table rules rs × (ascends 0 (atoms rs) l ≡ true) × (length before ≡ entries) × AnswerSet (Listed l) (expand rs)
+
+    there : r ≡ Yes → Holds
     there e =
         let p = yes-passes (rulesOf table rules) l (length before) (rw e at (t .answer)) in
         (p .rs, table-read table rules (p .rs) .0 (p .is), p .ascending, p .marks, yes-answer-set table rules l (p .rs) (record { readable = p .is; ascending = p .ascending }) .0 (p .verdict))
 
-    back : (rs : List Rule) × ReadAs table rules rs × (ascends 0 (atoms rs) l ≡ true) × (length before ≡ entries) × AnswerSet (Listed l) rs → r ≡ Yes
+    back : Holds → r ≡ Yes
     back p =
         let rs = p .0 in
         let h = table-read table rules rs .1 (p .1) in

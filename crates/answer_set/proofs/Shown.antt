@@ -12,7 +12,7 @@ use lib.IntN.{ℤ}
 use Rattle.words.proofs.Lists.{Decides, same-test}
 use Rattle.words.proofs.Lists as Lists
 use Rattle.words.proofs.Ascending.{ascends-in}
-use Rattle.aspif.specs.Rules.{Rule, atoms}
+use Rattle.aspif.specs.Rules.{InputRule, expand, atoms}
 use Rattle.aspif.specs.AnswerSets.{LeastModel}
 use Rattle.marks.specs.Marks.{listed, marked}
 use Rattle.answer_set.specs.SetTest.{least, isBroken, lowestFrom, justOne, SetVerdict, yes, differs, breaks, shown, brokenFrom, verdictOf, passed, saidOf, setAnswer}
@@ -36,27 +36,30 @@ said-differs yes e = absurd (let z : _≡_ {A = ℕ} 0 1 = cc in omega arith)
 said-differs (differs b) e = cc
 said-differs (breaks k) e = absurd (let z : _≡_ {A = ℕ} 0 1 = cc in omega arith)
 
-module _ (table : List ℤ) (rules : ℕ) (l : List ℕ) (rs : List Rule) (ready : Ready table rules l rs) (v : ℕ) where
+module _ (table : List ℤ) (rules : ℕ) (l : List ℕ) (rs : List InputRule) (ready : Ready table rules l rs) (v : ℕ) where
+  abbrev Model : ℕ → Type 0
+  Model = LeastModel (Listed l) (expand rs)
+
   abbrev g : ℕ → Bool
   g = differing table rules l rs ready
 
-  tells : (u : ℕ) → Decides (g u) (JustOne (Listed l) (LeastModel (Listed l) rs) u)
+  tells : (u : ℕ) → Decides (g u) (JustOne (Listed l) (Model) u)
   tells u = just-decides (listed-decides l u) (model table rules l rs ready u)
 
   -- the numbers that are the same in both
-  same-there : (u : ℕ) → g u ≡ false → Listed l u ↔ LeastModel (Listed l) rs u
+  same-there : (u : ℕ) → g u ≡ false → Listed l u ↔ Model u
   same-there u e =
       let p = just-one (listed l u) (marked (least (listed l) rs) u) e in
       (λ i. model table rules l rs ready u .to (subst T p (listed-decides l u .from i)), λ d. listed-decides l u .to (subst T (sym p) (model table rules l rs ready u .from d)))
 
-  same-back : (u : ℕ) → Listed l u ↔ LeastModel (Listed l) rs u → g u ≡ false
+  same-back : (u : ℕ) → Listed l u ↔ Model u → g u ≡ false
   same-back u e = rw (same-test (listed-decides l u) (model table rules l rs ready u) (e .0) (e .1)) (same-both (marked (least (listed l) rs) u))
 
   lowest : verdictOf (listed l) rs ≡ differs v → lowestFrom g (atoms rs + 1) 0 ≡ some v
   unfolding verdictOf
   lowest = by (lowestFrom g (atoms rs + 1) 0)
     where
-      from-broken : (k : ℕ) (P : List Rule) → brokenFrom (listed l) k P ≡ differs v → ⊥
+      from-broken : (k : ℕ) (P : List InputRule) → brokenFrom (listed l) k P ≡ differs v → ⊥
       from-broken k [] e = let z : _≡_ {A = ℕ} 0 1 = cc in omega arith
       from-broken k (r ∷ P) e = each (isBroken (listed l) r) e (from-broken (k + 1) P)
         where
@@ -73,19 +76,19 @@ module _ (table : List ℤ) (rules : ℕ) (l : List ℕ) (rs : List Rule) (ready
   is-lowest e = ap (λ (o : Option ℕ). shown o (brokenFrom (listed l) 1 rs)) e
 
   -- v is an atom, wherever it lies
-  small : JustOne (Listed l) (LeastModel (Listed l) rs) v → v ≤ atoms rs
+  small : JustOne (Listed l) (Model) v → v ≤ atoms rs
   small (inl p) = ascends-in 0 (atoms rs) (ready .ascending) (p .0) .1
   small (inr p) = least-small table rules l rs ready (p .0)
 
-  shown-lowest : (setAnswer l (passed rs) ≡ Differs v) ↔ (JustOne (Listed l) (LeastModel (Listed l) rs) v × ((u : ℕ) → u < v → Listed l u ↔ LeastModel (Listed l) rs u))
+  shown-lowest : (setAnswer l (passed rs) ≡ Differs v) ↔ (JustOne (Listed l) (Model) v × ((u : ℕ) → u < v → Listed l u ↔ Model u))
   shown-lowest = (there, back)
     where
-      there : setAnswer l (passed rs) ≡ Differs v → JustOne (Listed l) (LeastModel (Listed l) rs) v × ((u : ℕ) → u < v → Listed l u ↔ LeastModel (Listed l) rs u)
+      there : setAnswer l (passed rs) ≡ Differs v → JustOne (Listed l) (Model) v × ((u : ℕ) → u < v → Listed l u ↔ Model u)
       there e =
           let w = lowest-some g (atoms rs + 1) 0 v (lowest (said-differs _ e)) in
           (tells v .to (Lists.passed _ .from (w .here)), λ u h. same-there u (w .below u (omega arith) h))
 
-      back : JustOne (Listed l) (LeastModel (Listed l) rs) v × ((u : ℕ) → u < v → Listed l u ↔ LeastModel (Listed l) rs u) → setAnswer l (passed rs) ≡ Differs v
+      back : JustOne (Listed l) (Model) v × ((u : ℕ) → u < v → Listed l u ↔ Model u) → setAnswer l (passed rs) ≡ Differs v
       back p =
           ap saidOf
           (is-lowest (lowest-is g (atoms rs + 1) 0 v (record {

@@ -9,7 +9,7 @@ use lib.IntN.{ℤ}
 use lib.ListN.{length, replicate}
 use Rattle.words.specs.Limits.{entries}
 use Rattle.words.specs.Lists.{ascends}
-use Rattle.aspif.specs.Rules.{Rule, atoms}
+use Rattle.aspif.specs.Rules.{InputRule, atoms}
 use Rattle.aspif.specs.Tables.{rulesAt, soundTable}
 use Rattle.marks.specs.Marks.{listed}
 use Rattle.answer_set.specs.SetTest.{rounds, least, lowestFrom, brokenFrom, differsAt, verdictOf, Asked, refused, passed, asked, saidOf, setAnswer, marksOf, SetTested, shown}
@@ -19,7 +19,7 @@ use Rattle.answer_set.specs.declared.SetAnswer.the-variants.{Refused}
 -- The contract
 
 module _ (table : List ℤ) (rules : ℕ) (l before after : List ℕ) where
-  abbrev rs : List Rule
+  abbrev rs : List InputRule
   rs = rulesAt rules table
 
   -- by what is asked

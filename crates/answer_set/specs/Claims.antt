@@ -1,6 +1,6 @@
 -- How the executable definitions of specs/SetTest.antt stand to the program reader's definition and to what an answer
--- set is (crates/aspif/specs/AnswerSets.antt), as statements. proofs/Answered.antt proves those on marks and answers,
--- proofs/Service.antt those on what the service answers.
+-- set is (crates/aspif/specs/AnswerSets.antt), as statements: the answer sets of rules as written are those of `expand` of them.
+-- proofs/Answered.antt proves those on marks and answers, proofs/Service.antt those on what the service answers.
 -- Assumes nothing.
 use mathlib.Core.Path.{_≡_}
 use mathlib.Core.Logic.{_↔_, _⊎_}
@@ -11,7 +11,7 @@ use Prim.Native.Nat.{ℕ, _<_}
 use lib.IntN.{ℤ}
 use lib.ListN.{length, getD}
 use Rattle.words.specs.Lists.{_∈_, ascends}
-use Rattle.aspif.specs.Rules.{Rule, atoms}
+use Rattle.aspif.specs.Rules.{InputRule, expand, atoms}
 use Rattle.aspif.specs.AnswerSets.{LeastModel, AnswerSet}
 use Rattle.aspif.specs.Tables.{ReadAs, ReadTable, rulesOf}
 use Rattle.words.specs.Limits.{entries}
@@ -29,23 +29,25 @@ abbrev pub Listed : List ℕ → ℕ → Type 0
 Listed l v = v ∈ l
 
 -- a table that question 41 lets pass, with its rules, and a set that question 42 does
-pub record Ready (table : List ℤ) (rules : ℕ) (l : List ℕ) (rs : List Rule) : Type 0 where
+pub record Ready (table : List ℤ) (rules : ℕ) (l : List ℕ) (rs : List InputRule) : Type 0 where
   pub readable : rulesOf table rules ≡ some rs
   pub ascending : ascends 0 (atoms rs) l ≡ true
 
 -- "The marks afterwards hold 1 at each atom of the least model and 0 elsewhere"
-pub record LeastMarks (l : List ℕ) (rs : List Rule) (m : List ℕ) : Type 0 where
+pub record LeastMarks (l : List ℕ) (rs : List InputRule) (m : List ℕ) : Type 0 where
   pub count : length m ≡ entries
   pub bytes : (v : ℕ) → (getD m v 0 ≡ 0) ⊎ (getD m v 0 ≡ 1)
-  pub ones : (v : ℕ) → (getD m v 0 ≡ 1) ↔ LeastModel (Listed l) rs v
+  pub ones : (v : ℕ) → (getD m v 0 ≡ 1) ↔ LeastModel (Listed l) (expand rs) v
 
 abbrev pub MarksLeast : Type 0
-MarksLeast = (table : List ℤ) (rules : ℕ) (l : List ℕ) (rs : List Rule) → Ready table rules l rs → LeastMarks l rs (least (listed l) rs)
+MarksLeast =
+    (table : List ℤ) (rules : ℕ) (l : List ℕ) (rs : List InputRule) → Ready table rules l rs → LeastMarks l rs (least (listed l) rs)
 
 -- "M is an answer set when .."
 abbrev pub YesAnswerSet : Type 0
 YesAnswerSet =
-    (table : List ℤ) (rules : ℕ) (l : List ℕ) (rs : List Rule) → Ready table rules l rs → (verdictOf (listed l) rs ≡ yes) ↔ AnswerSet (Listed l) rs
+    (table : List ℤ) (rules : ℕ) (l : List ℕ) (rs : List InputRule) → Ready table rules l rs
+    → (verdictOf (listed l) rs ≡ yes) ↔ AnswerSet (Listed l) (expand rs)
 
 -- v lies in just one of two sets
 abbrev pub JustOne : (ℕ → Type 0) → (ℕ → Type 0) → ℕ → Type 0
@@ -55,12 +57,13 @@ JustOne A B v = (A v × ¬ B v) ⊎ (B v × ¬ A v)
 -- the answer is `Differs v` exactly where v lies in just one of the two and every smaller number in both or in neither
 abbrev pub LowestShown : Type 0
 LowestShown =
-    (table : List ℤ) (rules : ℕ) (l : List ℕ) (rs : List Rule) → Ready table rules l rs → (v : ℕ)
+    (table : List ℤ) (rules : ℕ) (l : List ℕ) (rs : List InputRule) → Ready table rules l rs → (v : ℕ)
     → (setAnswer l (passed rs) ≡ Differs v)
-    ↔ (JustOne (Listed l) (LeastModel (Listed l) rs) v × ((u : ℕ) → u < v → Listed l u ↔ LeastModel (Listed l) rs u))
+    ↔ (JustOne (Listed l) (LeastModel (Listed l) (expand rs)) v × ((u : ℕ) → u < v → Listed l u ↔ LeastModel (Listed l) (expand rs) u))
 
 -- the service: its contract holds of the answer yes exactly where questions 41 to 43 are passed and the set is an answer set
 abbrev pub ServiceYes : Type 0
 ServiceYes =
     (table : List ℤ) (rules : ℕ) (l before after : List ℕ) (r : SetAnswer) → SetTested table rules l before after r
-    → (r ≡ Yes) ↔ ((rs : List Rule) × ReadAs table rules rs × (ascends 0 (atoms rs) l ≡ true) × (length before ≡ entries) × AnswerSet (Listed l) rs)
+    → (r ≡ Yes)
+    ↔ ((rs : List InputRule) × ReadAs table rules rs × (ascends 0 (atoms rs) l ≡ true) × (length before ≡ entries) × AnswerSet (Listed l) (expand rs))

@@ -1,18 +1,20 @@
--- The set test: document 01, 'Answer sets' and questions 41 to 43, in the paper's order. What is executable here is what the code
--- is held to; specs/Claims.antt says how it stands to the reader's own definition and to crates/aspif/specs/AnswerSets.antt.
+-- The set test: document 01, 'Answer sets' and questions 41 to 43, in the paper's order, over rules as written. What is executable
+-- here is what the code is held to; specs/Claims.antt says how it stands to the reader's own definition and to
+-- crates/aspif/specs/AnswerSets.antt.
 -- Assumes nothing.
 use mathlib.Core.Path.{_≡_}
-use mathlib.Core.Bool.{Bool, true, false, cond, not, _&&_, _||_}
+use mathlib.Core.Bool.{Bool, true, false, cond, not, _&&_}
 use mathlib.Core.Option.{Option, none, some}
 use mathlib.Core.List.{List, [], _∷_}
 use Prim.Native.Nat.{ℕ, zero, suc, _+_}
-use lib.Dec.{eqb}
+use lib.Dec.{eqb, leb}
 use lib.IntN.{ℤ, pos, negsuc}
 use lib.ListN.{length, set, replicate}
 use Rattle.words.specs.Limits.{entries}
-use Rattle.words.specs.Lists.{all, ascends}
+use Rattle.words.specs.Lists.{all, filter, ascends}
 use Rattle.words.specs.Literals.{variable}
-use Rattle.aspif.specs.Rules.{Rule, isNormal, isEmpty, atoms}
+use Rattle.weights.specs.Weights.{Weighted, sum}
+use Rattle.aspif.specs.Rules.{Body, plain, weights, InputRule, isNormal, isEmpty, atoms}
 use Rattle.aspif.specs.declared.Kind.{Kind}
 use Rattle.aspif.specs.declared.Kind.the-variants.{Normal, Choice}
 use Rattle.answer_set.specs.declared.SetAnswer.{SetAnswer}
@@ -23,7 +25,7 @@ use Rattle.aspif.specs.Tables.{rulesOf}
 -- The least model and the constraints, for a set M
 
 -- "A normal rule has 0 or 1 heads; with 0 it is a constraint"
-abbrev pub isConstraint : Rule → Bool
+abbrev pub isConstraint : InputRule → Bool
 isConstraint r = isNormal (r .kind) && isEmpty (r .heads)
 
 module _ (M : ℕ → Bool) where
@@ -32,8 +34,14 @@ module _ (M : ℕ → Bool) where
   literalHolds S (pos a) = S a
   literalHolds S (negsuc n) = not (M (suc n))
 
-  abbrev pub bodyHolds : (ℕ → Bool) → List ℤ → Bool
-  bodyHolds S ls = all (literalHolds S) ls
+  -- what the weights of the literals that hold add up to
+  abbrev pub heldSum : (ℕ → Bool) → List Weighted → ℕ
+  heldSum S l = sum (filter (λ x. literalHolds S (x .literal)) l)
+
+  -- every literal holds, or the weights of those that hold add up to the bound or more: no subset is formed
+  abbrev pub bodyHolds : (ℕ → Bool) → Body → Bool
+  bodyHolds S (plain ls) = all (literalHolds S) ls
+  bodyHolds S (weights b l) = leb b (heldSum S l)
 
   -- "A normal rule gives its head .. a choice rule does so for each head that is in M"
   abbrev pub gives : Kind → ℕ → Bool
@@ -49,24 +57,24 @@ module _ (M : ℕ → Bool) where
   giveHeads k (h ∷ hs) m = giveHeads k hs (giveHead k h m)
 
   -- a rule marks the heads that it gives, once its positive atoms are marked; "constraints give nothing", having no head
-  unfoldable pub giveRule : Rule → List ℕ → List ℕ
+  unfoldable pub giveRule : InputRule → List ℕ → List ℕ
   giveRule r m = cond (bodyHolds (marked m) (r .body)) (giveHeads (r .kind) (r .heads) m) m
 
   -- one round over the rules
-  abbrev pub round : List Rule → List ℕ → List ℕ
+  abbrev pub round : List InputRule → List ℕ → List ℕ
   round [] m = m
   round (r ∷ rs) m = round rs (giveRule r m)
 
-  abbrev pub rounds : ℕ → List Rule → List ℕ → List ℕ
+  abbrev pub rounds : ℕ → List InputRule → List ℕ → List ℕ
   rounds zero rs m = m
   rounds (suc n) rs m = rounds n rs (round rs m)
 
   -- the marks of the least model of the reduct: each round but the last marks an atom more, so that N rounds are enough
-  unfoldable pub least : List Rule → List ℕ
+  unfoldable pub least : List InputRule → List ℕ
   least rs = rounds (atoms rs) rs (replicate entries 0)
 
-  -- a constraint that "has its positive atoms all in M and its negated atoms all outside"
-  abbrev pub isBroken : Rule → Bool
+  -- a constraint that "has its positive atoms all in M and its negated atoms all outside", with a weight body in one of its plain rules
+  abbrev pub isBroken : InputRule → Bool
   isBroken r = isConstraint r && bodyHolds M (r .body)
 
 -- The answer
@@ -95,7 +103,7 @@ shown (some a) v = differs a
 
 module _ (M : ℕ → Bool) where
   -- the lowest broken constraint, of rules of which the first has the number k
-  abbrev pub brokenFrom : ℕ → List Rule → SetVerdict
+  abbrev pub brokenFrom : ℕ → List InputRule → SetVerdict
   brokenFrom k [] = yes
   brokenFrom k (r ∷ rs) = cond (isBroken M r) (breaks k) (brokenFrom (k + 1) rs)
 
@@ -103,17 +111,17 @@ module _ (M : ℕ → Bool) where
   abbrev pub differsAt : List ℕ → ℕ → Bool
   differsAt m v = justOne (M v) (marked m v)
 
-  unfoldable pub verdictOf : List Rule → SetVerdict
+  unfoldable pub verdictOf : List InputRule → SetVerdict
   verdictOf rs = shown (lowestFrom (differsAt (least M rs)) (atoms rs + 1) 0) (brokenFrom 1 rs)
 
 -- The three questions, in their order
 
 pub data Asked : Type 0 where
   refused : ℕ → Asked
-  passed : List Rule → Asked
+  passed : List InputRule → Asked
 
 -- "Is M strictly ascending within 1 to N? 42. Are there exactly 4,096 marks? 43."
-abbrev pub askedOf : Option (List Rule) → List ℕ → ℕ → Asked
+abbrev pub askedOf : Option (List InputRule) → List ℕ → ℕ → Asked
 askedOf none l marks = refused 41
 askedOf (some rs) l marks = cond (ascends 0 (atoms rs) l) (cond (eqb marks entries) (passed rs) (refused 43)) (refused 42)
 

@@ -3,7 +3,7 @@ ghost use mathlib.Core.Path.{_≡_};
 ghost use mathlib.Core.Bool.{true};
 ghost use Prim.Native.Nat.{_+_, _≤_};
 ghost use Rattle.words.specs.Limits.{largest, entries};
-ghost use Rattle.aspif.specs.Tables.{ruleAt, shapeSound, rulesAt, soundTable};
+ghost use Rattle.aspif.specs.Tables.{ruleAt, shapeSound, soundAt, rulesAt, soundTable};
 ghost use Rattle.marks.specs.Marks.{marked};
 ghost use Rattle.answer_set.specs.SetTest.{isConstraint, isBroken, lowestFrom, justOne, shown, brokenFrom, differsAt, saidOf};
 ghost use Rattle.answer_set.specs.Private.{searched};
@@ -54,11 +54,11 @@ fn is_constraint(words: &[i32]) -> bool
 
 // The rule at the front is a constraint that M breaks.
 fn is_broken(words: &[i32], inside: &[u8]) -> bool
-    requires { ⌜ shapeSound (now words) ≡ true ⌝ }
+    requires { ⌜ soundAt (now words) ≡ true ⌝ }
     ensures { λ r. ⌜ r ≡ isBroken (marked (now (inside .entry))) (ruleAt (now (words .entry))) ⌝ }
 {
     if is_constraint(words) {
-        return models::body_holds(tables::body_of(words), inside, inside);
+        return models::body_holds(words, inside, inside);
     }
     false
 }

@@ -1,9 +1,13 @@
 // The least model of a reduct, as marks. The set M is lent as marks too: `inside` holds 1 at each number of M.
 ghost use mathlib.Core.Path.{_≡_};
-ghost use mathlib.Core.Bool.{true};
-ghost use Rattle.aspif.specs.Tables.{ruleAt, shapeSound, rulesAt, soundRules};
+ghost use mathlib.Core.Bool.{true, cond};
+ghost use Prim.Native.Nat.{_≤_};
+ghost use Rattle.words.specs.Lists.{all};
+ghost use Rattle.words.specs.Literals.{variable};
+ghost use Rattle.weights.specs.Weights.{sum, paired, mostSum};
+ghost use Rattle.aspif.specs.Tables.{bodyAt, ruleAt, soundAt, rulesAt, soundRules};
 ghost use Rattle.marks.specs.Marks.{marked, Marking};
-ghost use Rattle.answer_set.specs.SetTest.{literalHolds, bodyHolds, gives, giveHead, giveHeads, giveRule, round, rounds};
+ghost use Rattle.answer_set.specs.SetTest.{literalHolds, heldSum, bodyHolds, gives, giveHead, giveHeads, giveRule, round, rounds};
 use aspif::Kind;
 use aspif::tables;
 
@@ -18,9 +22,9 @@ fn literal_holds(word: i32, inside: &[u8], marks: &[u8]) -> bool
     marks::is_marked(marks, v)
 }
 
-// Every literal of a body holds.
-pub fn body_holds(body: &[i32], inside: &[u8], marks: &[u8]) -> bool
-    ensures { λ r. ⌜ r ≡ bodyHolds (marked (now (inside .entry))) (marked (now (marks .entry))) (now (body .entry)) ⌝ }
+// Every literal holds.
+fn all_hold(body: &[i32], inside: &[u8], marks: &[u8]) -> bool
+    ensures { λ r. ⌜ r ≡ all (literalHolds (marked (now (inside .entry))) (marked (now (marks .entry)))) (now (body .entry)) ⌝ }
 {
     let mut i = 0;
     while i < body.len() {
@@ -31,6 +35,42 @@ pub fn body_holds(body: &[i32], inside: &[u8], marks: &[u8]) -> bool
         }
     }
     true
+}
+
+// The weight of a literal that holds, and 0 else.
+fn weight_held(literal: i32, weight: i32, inside: &[u8], marks: &[u8]) -> usize
+    ensures { λ r. ⌜ r ≡ cond (literalHolds (marked (now (inside .entry))) (marked (now (marks .entry))) literal) (variable weight) 0 ⌝ }
+{
+    if literal_holds(literal, inside, marks) {
+        return words::variable_of(weight);
+    }
+    0
+}
+
+// What the weights of the literals that hold add up to.
+fn sum_held(pairs: &[i32], inside: &[u8], marks: &[u8]) -> usize
+    requires { ⌜ sum (paired (now pairs)) ≤ mostSum ⌝ }
+    ensures { λ r. ⌜ r ≡ heldSum (marked (now (inside .entry))) (marked (now (marks .entry))) (paired (now (pairs .entry))) ⌝ }
+{
+    let mut total = 0;
+    let mut i = 0;
+    while i + 1 < pairs.len() {
+        total += weight_held(pairs[i], pairs[i + 1], inside, marks);
+        i += 2;
+    }
+    total
+}
+
+// The body of the rule at the front holds.
+pub fn body_holds(words: &[i32], inside: &[u8], marks: &[u8]) -> bool
+    requires { ⌜ soundAt (now words) ≡ true ⌝ }
+    ensures { λ r. ⌜ r ≡ bodyHolds (marked (now (inside .entry))) (marked (now (marks .entry))) (bodyAt (now (words .entry))) ⌝ }
+{
+    let body = tables::body_of(words);
+    if tables::is_weighted(words) {
+        return tables::bound_of(words) <= sum_held(body, inside, marks);
+    }
+    all_hold(body, inside, marks)
 }
 
 // A choice rule gives a head only where it is in M.
@@ -73,11 +113,11 @@ fn give_heads(heads: &[i32], kind: Kind, inside: &[u8], marks: &mut [u8]) -> boo
 
 // The rule at the front marks what it gives; whether a mark is new.
 fn give_rule(words: &[i32], inside: &[u8], marks: &mut [u8]) -> bool
-    requires { ⌜ shapeSound (now words) ≡ true ⌝ }
+    requires { ⌜ soundAt (now words) ≡ true ⌝ }
     ensures { λ r. ⌜ Marking (giveRule (marked (now (inside .entry))) (ruleAt (now (words .entry))) (now (marks .entry)))
         (now (marks .entry)) (now (marks .exit)) r ⌝ }
 {
-    if body_holds(tables::body_of(words), inside, marks) {
+    if body_holds(words, inside, marks) {
         let kind = tables::kind_of(words);
         return give_heads(tables::heads_of(words), kind, inside, marks);
     }

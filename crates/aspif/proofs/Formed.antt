@@ -4,46 +4,53 @@ use mathlib.Core.Path.{_≡_, refl, _∙_, ap, subst}
 use mathlib.Core.Bool.{Bool, true, false, cond, not, _&&_, _||_}
 use mathlib.Core.List.{List, [], _∷_, _++_, append-nil, List·Memᴰ·append-cases, List·Memᴰ·eq-of-singleton}
 use mathlib.Core.Logic.{inl, inr}
-use Prim.Native.Nat.{ℕ, zero, suc, _+_, _-_, _≤_, _<_}
+use Prim.Native.Nat.{ℕ, zero, suc, _+_, _*_, _-_, _≤_, _<_}
 use native.Mathlib.Omega.{arith}
 use borrow.Author.Tests.{ltb-true, leb-true, not-true}
 use lib.Dec.{T, eqb, ltb, leb}
 use lib.IntN.{ℤ, pos}
 use lib.Signed.{ltZ}
-use lib.ListN.{length, take, drop, length-append, length-drop}
+use lib.ListN.{length, take, drop, getD, length-append, length-drop, length-map}
 use lib.Seq.{length-take-le}
 use Rattle.words.specs.Lists.{_∈_, all}
-use Rattle.words.specs.Literals.{has, rising, ascending}
-use Rattle.words.proofs.Lists.{Decides, itself, passed, failed, not-decides, all-decides, or-false-left, or-false-right, by-test, and-left, and-right}
+use Rattle.words.specs.Literals.{variable, has, rising, ascending}
+use Rattle.words.proofs.Lists.{concat-append, Decides, itself, passed, failed, not-decides, all-decides, or-false-left, or-false-right, by-test, and-left, and-right}
 use Rattle.words.proofs.Literals.{has-decides, ascending→}
 use Rattle.words.proofs.Sorting.{length-ascending, rising-ascending}
 use Rattle.text.specs.Line.{Line, broken, numbers, lineOf, outside, anyOutside}
-use Rattle.words.proofs.Segments.{record-append}
-use Rattle.aspif.specs.Rules.{Rule, suits, ruleWords, programWords}
+use Rattle.weights.specs.Weights.{literals, paired, mostWeight, mostWeighted}
+use Rattle.aspif.specs.Rules.{Body, plain, weights, InputRule, literalsOf, suits, isWeight, ruleWords, programWords}
 use Rattle.words.specs.Limits.{mostLiterals, mostRules}
-use Rattle.aspif.specs.Reading.{suited, isAt, isCountAt, bodyShape, headShape, shapeOf, headsGood, bodyGood, RuleRead, fails, reads, ruleOf, Turn, refuses, ends, adds, isLast, room, turnOf, linesFrom, Reading, refused, program, header, readLines}
+use Rattle.aspif.specs.Reading.{suited, allWeights, ranged, few, isAt, isCountAt, plainShape, weighedShape, bodyShape, headShape, shapeOf, headsGood, bodyGood, arranged, RuleRead, fails, reads, ruleWith, ruleOf, Turn, refuses, ends, adds, isLast, room, turnOf, linesFrom, Reading, refused, program, header, readLines}
 use Rattle.text.specs.Strings.{startsWith}
 use Rattle.aspif.specs.declared.Kind.{Kind}
 use Rattle.aspif.specs.declared.Kind.the-variants.{Normal, Choice}
 use Rattle.aspif.specs.declared.rules.Shape.{Shape}
-use Rattle.aspif.specs.declared.rules.Shape.the-variants.{Wrong, Shaped}
+use Rattle.aspif.specs.declared.rules.Shape.the-variants.{Wrong, Shaped, Weighed}
 use Rattle.aspif.proofs.Counts.{Counted, shape-counted}
+use Rattle.aspif.proofs.PairWords.{up-to, Light, length-paired, paired-light, literals-arranged, arranged-light}
 
--- A rule that passes questions 4 to 8, its heads and its body ascending
-pub record Formed (r : Rule) : Type 0 where
+-- "Bound and weights are 0 to 4,095; at most 12 literals", of a weight body
+abbrev pub Weighing : Body → Type 0
+Weighing (plain ls) = Unit {0}
+Weighing (weights b l) = (length l ≤ mostWeighted) × (b ≤ mostWeight) × Light l
+
+-- A rule that passes questions 4 to 8, 54 and 55, its heads and its literals ascending
+pub record Formed (r : InputRule) : Type 0 where
   pub heads-few : length (r .heads) ≤ mostLiterals
-  pub body-few : length (r .body) ≤ mostLiterals
+  pub body-few : length (literalsOf (r .body)) ≤ mostLiterals
   pub headed : suits (r .kind) (length (r .heads)) ≡ true
   pub positive : all (λ h. ltZ (pos 0) h) (r .heads) ≡ true
   pub heads-rise : rising (r .heads) ≡ true
-  pub nonzero : has (pos 0) (r .body) ≡ false
-  pub body-rise : rising (r .body) ≡ true
+  pub nonzero : has (pos 0) (literalsOf (r .body)) ≡ false
+  pub body-rise : rising (literalsOf (r .body)) ≡ true
   pub heads-in : anyOutside (r .heads) ≡ false
-  pub body-in : anyOutside (r .body) ≡ false
+  pub body-in : anyOutside (literalsOf (r .body)) ≡ false
+  pub weighing : Weighing (r .body)
 
 -- A program that passes questions 9 and 10 too, for a table of `size` words
-pub record FitsTable (size : ℕ) (rs : List Rule) : Type 0 where
-  pub formed : (r : Rule) → r ∈ rs → Formed r
+pub record FitsTable (size : ℕ) (rs : List InputRule) : Type 0 where
+  pub formed : (r : InputRule) → r ∈ rs → Formed r
   pub few : length rs ≤ mostRules
   pub room : length (programWords rs) ≤ size
 
@@ -58,6 +65,12 @@ drop-in : (n : ℕ) (zs : List ℤ) → anyOutside zs ≡ false → anyOutside (
 drop-in zero zs e = e
 drop-in (suc n) [] e = e
 drop-in (suc n) (z ∷ zs) e = drop-in n zs (or-false-right (outside z) _ e)
+
+paired-in : (zs : List ℤ) → anyOutside zs ≡ false → anyOutside (literals (paired zs)) ≡ false
+paired-in [] e = refl
+paired-in (z ∷ []) e = refl
+paired-in (z ∷ w ∷ zs) e =
+    rw (or-false-left (outside z) _ e) (paired-in zs (or-false-right (outside w) _ (or-false-right (outside z) _ e)))
 
 -- every word is inside
 pub inside-decides : (zs : List ℤ) → Decides (not (anyOutside zs)) ((z : ℤ) → z ∈ zs → T (not (outside z)))
@@ -81,61 +94,104 @@ ascending-in zs e =
 abbrev Suits : Shape → Type 0
 Suits (Wrong k) = Unit {0}
 Suits (Shaped k h b) = suits k h ≡ true
+Suits (Weighed k h b) = suits k h ≡ true
 
-suited-suits : (k : Kind) (h b : ℕ) → Suits (suited k h b)
-suited-suits k h b = by-test Suits (suits k h) (λ e. e) (λ e. tt)
+-- a shape where a test is passed, and a refusal with the number w where it is not
+or-wrong : (w : ℕ) (t : Bool) (x : Shape) → (t ≡ true → Suits x) → Suits (cond t x (Wrong w))
+or-wrong w t x f = by-test Suits t f (λ e. tt)
 
 module _ (zs : List ℤ) (n : ℕ) where
+  weighed-suits : (k : Kind) (h : ℕ) → Suits (weighedShape zs n k h)
+  weighed-suits k h =
+      let b = variable (getD zs (5 + h) (pos 0)) in
+      or-wrong 6 (isCountAt zs n (5 + h) && eqb (6 + h + 2 * b) n) (few zs k h b)
+      (λ e.
+      or-wrong 54 (ranged zs h b) (cond (leb b mostWeighted) (suited k h (Weighed k h b)) (Wrong 55))
+      (λ f. or-wrong 55 (leb b mostWeighted) (suited k h (Weighed k h b)) (λ g. or-wrong 7 (suits k h) (Weighed k h b) (λ s. s))))
+
+  plain-suits : (k : Kind) (h : ℕ) → Suits (plainShape zs n k h)
+  plain-suits k h =
+      let b = variable (getD zs (4 + h) (pos 0)) in
+      or-wrong 6 (isCountAt zs n (4 + h) && eqb (5 + h + b) n) (suited k h (Shaped k h b)) (λ e. or-wrong 7 (suits k h) (Shaped k h b) (λ s. s))
+
   body-suits : (k : Kind) (h : ℕ) → Suits (bodyShape zs n k h)
   body-suits k h =
-      by-test Suits (isAt zs n (3 + h) (pos 0)) (λ e. by-test Suits (isCountAt zs n (4 + h) && eqb _ n) (λ f. suited-suits k h _) (λ f. tt)) (λ e. tt)
+      by-test Suits (isAt zs n (3 + h) (pos 0)) (λ e. plain-suits k h)
+      (λ e. or-wrong 5 (isAt zs n (3 + h) (pos 1)) (weighedShape zs n k h) (λ f. weighed-suits k h))
 
   head-suits : (k : Kind) → Suits (headShape zs n k)
-  head-suits k = by-test Suits (isCountAt zs n 2 && leb _ n) (λ e. body-suits k _) (λ e. tt)
+  head-suits k =
+      let h = variable (getD zs 2 (pos 0)) in
+      or-wrong 6 (isCountAt zs n 2 && leb (3 + h) n) (bodyShape zs n k h) (λ e. body-suits k h)
 
   shape-suits : Suits (shapeOf zs n)
   unfolding shapeOf
   shape-suits =
-      by-test Suits (isAt zs n 0 (pos 1))
-      (λ e. by-test Suits (isAt zs n 1 (pos 0)) (λ f. head-suits Normal) (λ f. by-test Suits (isAt zs n 1 (pos 1)) (λ g. head-suits Choice) (λ g. tt)))
-      (λ e. tt)
+      or-wrong 5 (isAt zs n 0 (pos 1)) _
+      (λ e.
+      by-test Suits (isAt zs n 1 (pos 0)) (λ f. head-suits Normal)
+      (λ f. or-wrong 5 (isAt zs n 1 (pos 1)) (headShape zs n Choice) (λ g. head-suits Choice)))
 
 abbrev ReadFormed : RuleRead → Type 0
 ReadFormed (fails k) = Unit {0}
 ReadFormed (reads r) = Formed r
 
-rule-formed : (zs : List ℤ) → anyOutside zs ≡ false → (x : Shape) → Counted (length zs) x → Suits x → ReadFormed (ruleOf zs x)
+-- question 8 of heads and literals that passed the others
+module _ (k : Kind) (hs ls : List ℤ) (body : Body) (lits : literalsOf body ≡ ascending ls) (w : Weighing body) where
+  with-formed : length hs ≤ mostLiterals → length ls ≤ mostLiterals → suits k (length hs) ≡ true
+      → anyOutside hs ≡ false → anyOutside ls ≡ false → ReadFormed (ruleWith k hs ls body)
+  with-formed many long s hs-in ls-in = by-test ReadFormed (headsGood hs && bodyGood ls) formed (λ e. tt)
+    where
+      formed : (headsGood hs && bodyGood ls) ≡ true → Formed (record { kind = k; heads = ascending hs; body = body })
+      formed e =
+          let p = and-left (headsGood hs) (bodyGood ls) e in
+          let q = and-right (headsGood hs) (bodyGood ls) e in
+          let above = all-decides (λ h. itself (ltZ (pos 0) h)) in
+          let positive = passed _ .from (and-left (all (λ h. ltZ (pos 0) h) hs) _ p) in
+          let nonzero = not-decides (has-decides (pos 0) ls) .to (passed _ .from (and-left (not (has (pos 0) ls)) _ q)) in
+          record {
+            heads-few = rw (length-ascending hs) many;
+            body-few = rw (lits, length-ascending ls) long;
+            headed = rw (length-ascending hs) s;
+            positive = passed _ .to (above (ascending hs) .from (λ z i. above hs .to positive z (ascending→ hs i)));
+            heads-rise = rising-ascending hs ∙ and-right (all (λ h. ltZ (pos 0) h) hs) _ p;
+            nonzero = rw lits (failed _ (not-decides (has-decides (pos 0) (ascending ls)) .from (λ i. nonzero (ascending→ ls i))));
+            body-rise = rw lits (rising-ascending ls ∙ and-right (not (has (pos 0) ls)) _ q);
+            heads-in = ascending-in hs hs-in;
+            body-in = rw lits (ascending-in ls ls-in);
+            weighing = w;
+          }
+
+-- so many words from a place on, where they are there
+part-length : (m n : ℕ) (zs : List ℤ) → n + m ≤ length zs → length (take m (drop n zs)) ≡ m
+part-length m n zs h = length-take-le m (drop n zs) (omega (arith, length-drop n zs))
+
+part-in : (m n : ℕ) (zs : List ℤ) → anyOutside zs ≡ false → anyOutside (take m (drop n zs)) ≡ false
+part-in m n zs o = take-in m (drop n zs) (drop-in n zs o)
+
+rule-formed : (zs : List ℤ) → anyOutside zs ≡ false → (x : Shape) → Counted zs (length zs) x → Suits x → ReadFormed (ruleOf zs x)
+unfolding ranged
 rule-formed zs o (Wrong k) c s = tt
-rule-formed zs o (Shaped k h b) c s = by-test ReadFormed (headsGood hs && bodyGood ls) formed (λ e. tt)
-  where
-    hs : List ℤ
-    hs = take h (drop 3 zs)
-
-    ls : List ℤ
-    ls = take b (drop (5 + h) zs)
-
-    many : length (ascending hs) ≡ h
-    many = length-ascending hs ∙ length-take-le h (drop 3 zs) (omega (arith, length-drop 3 zs, c .2))
-
-    long : length (ascending ls) ≡ b
-    long = length-ascending ls ∙ length-take-le b (drop (5 + h) zs) (omega (arith, length-drop (5 + h) zs, c .2))
-
-    formed : (headsGood hs && bodyGood ls) ≡ true → Formed (record { kind = k; heads = ascending hs; body = ascending ls })
-    formed e =
-        let p = and-left (headsGood hs) (bodyGood ls) e in
-        let q = and-right (headsGood hs) (bodyGood ls) e in
-        let above = all-decides (λ h. itself (ltZ (pos 0) h)) in
-        record {
-          heads-few = rw many (c .0);
-          body-few = rw long (c .1);
-          headed = rw many s;
-          positive = passed _ .to (above (ascending hs) .from (λ z i. above hs .to (passed _ .from (and-left (all (λ h. ltZ (pos 0) h) hs) _ p)) z (ascending→ hs i)));
-          heads-rise = rising-ascending hs ∙ and-right (all (λ h. ltZ (pos 0) h) hs) _ p;
-          nonzero = failed _ (not-decides (has-decides (pos 0) (ascending ls)) .from (λ i. not-decides (has-decides (pos 0) ls) .to (passed _ .from (and-left (not (has (pos 0) ls)) _ q)) (ascending→ ls i)));
-          body-rise = rising-ascending ls ∙ and-right (not (has (pos 0) ls)) _ q;
-          heads-in = ascending-in hs (take-in h (drop 3 zs) (drop-in 3 zs o));
-          body-in = ascending-in ls (take-in b (drop (5 + h) zs) (drop-in (5 + h) zs o));
-        }
+rule-formed zs o (Shaped k h b) c s =
+    let hs = take h (drop 3 zs) in
+    let ls = take b (drop (5 + h) zs) in
+    let many : length hs ≡ h = part-length h 3 zs (omega (arith, c .2)) in
+    let long : length ls ≡ b = part-length b (5 + h) zs (omega (arith, c .2)) in
+    with-formed k hs ls (plain (ascending ls)) refl tt (rw many (c .0)) (rw long (c .1)) (rw many s) (part-in h 3 zs o) (part-in b (5 + h) zs o)
+rule-formed zs o (Weighed k h b) c s =
+    let hs = take h (drop 3 zs) in
+    let ws = take (2 * b) (drop (6 + h) zs) in
+    let ps = paired ws in
+    let bound = getD zs (4 + h) (pos 0) in
+    let light = and-right (isWeight bound) (allWeights ws) (c .3) in
+    let many : length hs ≡ h = part-length h 3 zs (omega (arith, c .2)) in
+    let long : length (literals ps) ≡ b =
+    omega (arith, length-map ps (λ x. x .literal), length-paired ws light, part-length (2 * b) (6 + h) zs (omega (arith, c .2))) in
+    let few : length (arranged ps) ≤ mostWeighted =
+    omega (arith, length-map (arranged ps) (λ x. x .literal), ap length (literals-arranged ps), length-ascending (literals ps), long, c .1) in
+    with-formed k hs (literals ps) (weights (variable bound) (arranged ps)) (literals-arranged ps)
+    (few, up-to mostWeight bound (and-left (isWeight bound) (allWeights ws) (c .3)) .1, arranged-light ps (paired-light ws light))
+    (rw many (c .0)) (rw long (omega (arith, c .1))) (rw many s) (part-in h 3 zs o) (paired-in ws (part-in (2 * b) (6 + h) zs o))
 
 -- what a turn that adds a rule says of it
 abbrev Added : ℕ → ℕ → Turn → Type 0
@@ -160,25 +216,25 @@ turn-added rules free left (numbers zs n) =
 -- Line after line
 
 -- the words of rules one after another
-pub words-append : (rs ss : List Rule) → programWords (rs ++ ss) ≡ programWords rs ++ programWords ss
-words-append = record-append ruleWords
+pub words-append : (rs ss : List InputRule) → programWords (rs ++ ss) ≡ programWords rs ++ programWords ss
+words-append = concat-append ruleWords
 
-length-more : (rs : List Rule) (r : Rule) → length (programWords (rs ++ (r ∷ []))) ≡ length (programWords rs) + length (ruleWords r)
+length-more : (rs : List InputRule) (r : InputRule) → length (programWords (rs ++ (r ∷ []))) ≡ length (programWords rs) + length (ruleWords r)
 length-more rs r = ap length (words-append rs (r ∷ [])) ∙ rw (append-nil (ruleWords r)) (length-append (programWords rs) (ruleWords r))
 
 -- what is made of a turn at a line; `on` reads the text that is left after so many bytes, with the rules so far
-abbrev pub onward : (ℕ → List Rule → Reading) → List Rule → ℕ → Turn → Reading
+abbrev pub onward : (ℕ → List InputRule → Reading) → List InputRule → ℕ → Turn → Reading
 onward on rs line t = elim t [ refuses k ↦ refused k line | ends ↦ program rs | adds r n ↦ on n (rs ++ (r ∷ [])) ]
 
 -- one line of the reading
-pub lines-on : (size turns : ℕ) (s : List ℕ) (line : ℕ) (rs : List Rule)
+pub lines-on : (size turns : ℕ) (s : List ℕ) (line : ℕ) (rs : List InputRule)
     → linesFrom size (suc turns) s line rs
     ≡ onward (λ n. linesFrom size turns (drop n s) (line + 1)) rs line (turnOf (length rs) (size - length (programWords rs)) (length s) (lineOf s))
 unfolding linesFrom
 lines-on size turns s line rs = refl
 
 module _ (size : ℕ) where
-  fits-more : (rs : List Rule) (r : Rule) → FitsTable size rs → Added (length rs) (size - length (programWords rs)) (adds r 0) → FitsTable size (rs ++ (r ∷ []))
+  fits-more : (rs : List InputRule) (r : InputRule) → FitsTable size rs → Added (length rs) (size - length (programWords rs)) (adds r 0) → FitsTable size (rs ++ (r ∷ []))
   fits-more rs r f a =
       record {
         formed = λ s i. elim (List·Memᴰ·append-cases rs i) [ inl j ↦ f .formed s j | inr j ↦ rw (List·Memᴰ·eq-of-singleton j) (a .0) ];
@@ -186,21 +242,21 @@ module _ (size : ℕ) where
         room = omega (arith, length-more rs r, a .2, f .room);
       }
 
-  lines-fit : (turns : ℕ) (s : List ℕ) (line : ℕ) (so-far rs : List Rule) → FitsTable size so-far → linesFrom size turns s line so-far ≡ program rs → FitsTable size rs
+  lines-fit : (turns : ℕ) (s : List ℕ) (line : ℕ) (so-far rs : List InputRule) → FitsTable size so-far → linesFrom size turns s line so-far ≡ program rs → FitsTable size rs
   unfolding linesFrom
   lines-fit zero s line so-far rs f e = absurd (let z : _≡_ {A = ℕ} 0 1 = cc in omega arith)
   lines-fit (suc turns) s line so-far rs f e =
       by (turnOf (length so-far) (size - length (programWords so-far)) (length s) (lineOf s)) (turn-added _ _ _ (lineOf s)) (λ n ss g. lines-fit turns (drop n s) (line + 1) ss rs g) e
     where
       by : (t : Turn) → Added (length so-far) (size - length (programWords so-far)) t
-          → ((n : ℕ) (ss : List Rule) → FitsTable size ss → linesFrom size turns (drop n s) (line + 1) ss ≡ program rs → FitsTable size rs)
+          → ((n : ℕ) (ss : List InputRule) → FitsTable size ss → linesFrom size turns (drop n s) (line + 1) ss ≡ program rs → FitsTable size rs)
           → onward (λ n. linesFrom size turns (drop n s) (line + 1)) so-far line t ≡ program rs → FitsTable size rs
       by (refuses k) a g p = absurd (let z : _≡_ {A = ℕ} 0 1 = cc in omega arith)
       by ends a g p = let q : so-far ≡ rs = cc in rw (← q) f
       by (adds r n) a g p = g n (so-far ++ (r ∷ [])) (fits-more so-far r f a) p
 
   -- a program that is read is formed, and fits
-  pub read-fits : (text : List ℕ) (rs : List Rule) → readLines size text ≡ program rs → FitsTable size rs
+  pub read-fits : (text : List ℕ) (rs : List InputRule) → readLines size text ≡ program rs → FitsTable size rs
   unfolding readLines
   read-fits text rs e = by (startsWith header text) e
     where

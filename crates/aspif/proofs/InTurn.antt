@@ -7,7 +7,7 @@ use native.Mathlib.Omega.{arith}
 use lib.ListN.{length, drop, length-drop}
 use Rattle.text.specs.Line.{lineOf}
 use Rattle.text.proofs.Lines.{bounds-of}
-use Rattle.aspif.specs.Rules.{Rule, programWords}
+use Rattle.aspif.specs.Rules.{InputRule, programWords}
 use Rattle.aspif.specs.Reading.{Reading, Turn, refuses, ends, adds, linesFrom, header, readLines}
 use Rattle.aspif.specs.Claims.{turnAt, InTurn, LineByLine}
 use Rattle.aspif.specs.Claims as Claims
@@ -17,25 +17,25 @@ use Rattle.text.proofs.Fronts.{front-long}
 
 module _ (size : ℕ) where
   -- a rule's line takes bytes, and no more than there are
-  takes : (s : List ℕ) (rs : List Rule) (r : Rule) (n : ℕ) → turnAt size s rs ≡ adds r n → (0 < n) × (n ≤ length s)
+  takes : (s : List ℕ) (rs : List InputRule) (r : InputRule) (n : ℕ) → turnAt size s rs ≡ adds r n → (0 < n) × (n ≤ length s)
   takes s rs r n e =
       let free = size - length (programWords rs) in
       let h = subst (Room (length rs) free (length s) (lineOf s)) e (turn-room (length rs) free (length s) (lineOf s)) in
       let b = bounds-of s (h .0 .0) n (h .0 .1) in
       (b .0, omega (arith, b))
 
-  there : (turns : ℕ) (s : List ℕ) (line : ℕ) (rs : List Rule) → length s < turns → InTurn size s line rs (linesFrom size turns s line rs)
+  there : (turns : ℕ) (s : List ℕ) (line : ℕ) (rs : List InputRule) → length s < turns → InTurn size s line rs (linesFrom size turns s line rs)
   there zero s line rs h = absurd (omega arith)
   there (suc turns) s line rs h = subst (InTurn size s line rs) (sym (lines-on size turns s line rs)) (by (turnAt size s rs) refl (λ n ss. there turns (drop n s) (line + 1) ss))
     where
       by : (t : Turn) → turnAt size s rs ≡ t
-          → ((n : ℕ) (ss : List Rule) → length (drop n s) < turns → InTurn size (drop n s) (line + 1) ss (linesFrom size turns (drop n s) (line + 1) ss))
+          → ((n : ℕ) (ss : List InputRule) → length (drop n s) < turns → InTurn size (drop n s) (line + 1) ss (linesFrom size turns (drop n s) (line + 1) ss))
           → InTurn size s line rs (onward (λ n. linesFrom size turns (drop n s) (line + 1)) rs line t)
       by (refuses k) e on = Claims.refuses e
       by ends e on = Claims.ends e
       by (adds r n) e on = let b = takes s rs r n e in Claims.adds e (on n (rs ++ (r ∷ [])) (omega (arith, length-drop n s, b)))
 
-  back : {s : List ℕ} {line : ℕ} {rs : List Rule} {c : Reading} → InTurn size s line rs c → (turns : ℕ) → length s < turns → linesFrom size turns s line rs ≡ c
+  back : {s : List ℕ} {line : ℕ} {rs : List InputRule} {c : Reading} → InTurn size s line rs c → (turns : ℕ) → length s < turns → linesFrom size turns s line rs ≡ c
   back t zero h = absurd (omega arith)
   back {s} {line} {rs} (Claims.refuses e) (suc turns) h = lines-on size turns s line rs ∙ ap (onward (λ n. linesFrom size turns (drop n s) (line + 1)) rs line) e
   back {s} {line} {rs} (Claims.ends e) (suc turns) h = lines-on size turns s line rs ∙ ap (onward (λ n. linesFrom size turns (drop n s) (line + 1)) rs line) e

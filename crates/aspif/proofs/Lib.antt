@@ -1,5 +1,8 @@
 -- The laws that the proofs share.
 pub mod Counts
+pub mod Weighings
+pub mod PairWords
+pub mod Pairs
 pub mod Rows
 pub mod Agree
 pub mod Passes
@@ -10,3 +13,5 @@ pub mod RuleTests
 pub mod Cursors
 pub mod Readable
 pub mod InTurn
+pub mod SoundWeights
+pub mod Expansion

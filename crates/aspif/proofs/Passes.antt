@@ -12,10 +12,10 @@ use lib.ListN.{length, take, drop, length-append, length-drop, take-append-drop}
 use lib.Seq.{drop-drop, take-at, length-take-le}
 use borrow.Rule.Slice.PartMut.{putMid}
 use Rattle.words.proofs.Parts.{put-tail, length-put}
-use Rattle.words.proofs.Segments.{record-append}
 use Rattle.text.specs.Line.{Line, broken, numbers, lineOf, anyOutside}
 use Rattle.text.proofs.Lines.{bounds-of}
-use Rattle.aspif.specs.Rules.{Rule, ruleTop, atoms, ruleWords, programWords}
+use Rattle.aspif.specs.Rules.{InputRule, ruleTop, atoms, ruleWords, programWords}
+use Rattle.words.proofs.Lists.{concat-append}
 use Rattle.words.specs.Limits.{mostRules}
 use Rattle.aspif.specs.Reading.{RuleRead, fails, reads, Turn, refuses, ends, adds, isLast, shapeOf, ruleOf, room, turnOf, linesFrom, Reading, refused, program, header}
 use Rattle.aspif.proofs.Formed.{onward, lines-on}
@@ -37,7 +37,7 @@ told-ends ends e = refl
 told-ends (adds r n) e = absurd (let z : _≡_ {A = ℕ} 0 1 = cc in omega arith)
 
 record Added (t : Turn) (next words top : ℕ) : Type 0 where
-  rule : Rule
+  rule : InputRule
   is : t ≡ adds rule next
   size : words ≡ length (ruleWords rule)
   most : top ≡ ruleTop rule
@@ -77,10 +77,10 @@ module _ (rules free left : ℕ) where
 
 -- One rule more
 
-words-more : (rs : List Rule) (r : Rule) → programWords (rs ++ (r ∷ [])) ≡ programWords rs ++ ruleWords r
-words-more rs r = record-append ruleWords rs (r ∷ []) ∙ ap (λ (l : List ℤ). programWords rs ++ l) (append-nil (ruleWords r))
+words-more : (rs : List InputRule) (r : InputRule) → programWords (rs ++ (r ∷ [])) ≡ programWords rs ++ ruleWords r
+words-more rs r = concat-append ruleWords rs (r ∷ []) ∙ ap (λ (l : List ℤ). programWords rs ++ l) (append-nil (ruleWords r))
 
-atoms-more : (rs : List Rule) (r : Rule) → atoms (rs ++ (r ∷ [])) ≡ max (ruleTop r) (atoms rs)
+atoms-more : (rs : List InputRule) (r : InputRule) → atoms (rs ++ (r ∷ [])) ≡ max (ruleTop r) (atoms rs)
 atoms-more [] r = refl
 atoms-more (x ∷ rs) r = ap (λ (n : ℕ). max (ruleTop x) n) (atoms-more rs r) ∙ swap (ruleTop x) (ruleTop r) (atoms rs)
   where
@@ -90,7 +90,7 @@ atoms-more (x ∷ rs) r = ap (λ (n : ℕ). max (ruleTop x) n) (atoms-more rs r)
 -- Where the loop stands
 
 pub record Standing (text : List ℕ) (table₀ table : List ℤ) (at line used rules top : ℕ) : Type 0 where
-  pub so-far : List Rule
+  pub so-far : List InputRule
   pub turns : ℕ
   pub enough : length text < at + turns
   pub reading : linesFrom (length table₀) (suc (length text)) (drop (length header) text) 2 [] ≡ linesFrom (length table₀) turns (drop at text) line so-far
@@ -145,7 +145,7 @@ module _ {text : List ℕ} {table₀ table : List ℤ} {at line used rules top :
   stands-table : putMid used (length table - used) table free ≡ table
   stands-table = put-tail used table free (S .fits) ∙ take-append-drop used table
 
-  module _ (r : Rule) (n : ℕ) (e : turn ≡ adds r n) where
+  module _ (r : InputRule) (n : ℕ) (e : turn ≡ adds r n) where
     has : Room rules (length free) (length rest) (lineOf rest) (adds r n)
     has = subst (Room rules (length free) (length rest) (lineOf rest)) e (turn-room rules (length free) (length rest) (lineOf rest))
 
@@ -234,7 +234,7 @@ module _ {text : List ℕ} {table₀ table : List ℤ} {at line used rules top :
   lines-added {next} {words} {most} e =
       let A = told-adds (turn S) (sym (T .told) ∙ e) in go (A .rule) (A .is) (A .size) (A .most)
     where
-      go : (x : Rule) → turn S ≡ adds x next → words ≡ length (ruleWords x) → most ≡ ruleTop x → Onward next words most
+      go : (x : InputRule) → turn S ≡ adds x next → words ≡ length (ruleWords x) → most ≡ ruleTop x → Onward next words most
       go x is size top-is =
           let y : ys ≡ ruleWords x ++ drop (length (ruleWords x)) (free S) = T .words ∙ ap (λ t. freeAfter t (free S)) is in
           record {

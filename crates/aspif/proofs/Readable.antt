@@ -1,31 +1,36 @@
 -- Question 41: the executable test says what the paper says, `table-read`. A rule that sound words hold is one that the reader
 -- forms, and the other way round; the text that is read is written from the rules. Assumes nothing.
 use mathlib.Core.Path.{_≡_, refl, sym, _∙_, ap, ap₂, subst}
-use mathlib.Core.Bool.{Bool, true, false, _||_, true≢false}
+use mathlib.Core.Bool.{Bool, true, false, cond, _||_, true≢false}
 use mathlib.Core.Option.{some}
 use mathlib.Core.List.{List, [], _∷_, _++_, map, append-assoc, List·Memᴰ·head, List·Memᴰ·tail, Memᴰ·cast}
-use Prim.Native.Nat.{ℕ, zero, suc, _+_, _-_, _≤_}
+use Prim.Native.Nat.{ℕ, zero, suc, _+_, _*_, _-_, _≤_, _<_}
 use native.Mathlib.Omega.{arith}
-use borrow.Author.Tests.{le-leb, le-ltb, ltb-false, not-true}
-use lib.IntN.{ℤ, pos, negsuc}
+use borrow.Author.Tests.{le-leb, le-ltb, leb-true, ltb-false, not-true}
+use lib.Dec.{leb}
+use lib.IntN.{ℤ, pos}
 use lib.Signed.{ltZ}
-use lib.ListN.{length, take, drop, getD, replicate, length-append, length-drop, length-replicate, take-append-drop}
-use lib.Seq.{drop-drop, length-take-le, take-append-seam, drop-append-seam, drop-at, take-add}
+use lib.ListN.{length, take, drop, getD, replicate, length-append, length-drop, length-replicate, length-map, take-append-drop}
+use lib.Seq.{drop-cons, drop-drop, length-take-le, take-append-seam, drop-append-seam}
 use Rattle.words.specs.Limits.{largest, mostLiterals, mostRules}
 use Rattle.words.specs.Lists.{_∈_, all, ascends}
 use Rattle.words.specs.Literals.{variable, same, has}
-use Rattle.words.proofs.Lists.{itself, passed, failed, not-decides, all-decides, if-true, and-left, and-right}
+use Rattle.words.proofs.Lists.{itself, passed, failed, not-decides, all-decides, if-true, is-true, and-left, and-right, by-test}
 use Rattle.words.proofs.Literals.{same-decides, has-decides, variable-positive, positive}
 use Rattle.text.specs.Line.{anyOutside}
-use Rattle.aspif.specs.Rules.{Rule, isCount, kindWord, ruleWords, programWords, tableWords}
+use Rattle.weights.specs.Weights.{literals, paired, mostWeight, mostWeighted}
+use Rattle.weights.proofs.Matching.{paired-words}
+use Rattle.aspif.specs.Reading.{allWeights}
+use Rattle.aspif.specs.Rules.{Body, plain, weights, InputRule, literalsOf, isCount, isWeight, kindWord, bodyKindWord, boundWords, bodyWords, ruleWords, programWords, tableWords}
 use Rattle.aspif.specs.declared.Kind.{Kind}
 use Rattle.aspif.specs.declared.Kind.the-variants.{Normal, Choice}
-use Rattle.aspif.proofs.Formed.{Formed, FitsTable, inside-decides, read-fits}
+use Rattle.aspif.proofs.PairWords.{up-to, is-up-to, light-decides, words-paired, paired-light, length-pairs, length-paired}
+use Rattle.aspif.proofs.Formed.{Weighing, Formed, FitsTable, inside-decides, read-fits}
 use Rattle.aspif.proofs.Written.{textOf, written-read}
-use Rattle.aspif.specs.Tables.{ReadAs, kindOf, isKind, isHeaded, headsSound, bodySound, headCount, bodyCount, sizeAt, headsAt, bodyAt, ruleAt, shapeSound, soundAt, rulesAt, soundRules, soundTable, rulesOf}
+use Rattle.aspif.specs.Tables.{ReadAs, kindOf, isKind, isWeighted, isHeaded, headsSound, literalsSound, headCount, bodyCount, headStart, bodyLength, sizeAt, headsAt, bodyWordsAt, boundAt, bodyAt, ruleAt, shapeSound, weightsSound, bodySound, soundAt, rulesAt, soundRules, soundTable, rulesOf}
 use Rattle.aspif.specs.Claims.{TableRead}
 use Rattle.words.proofs.Ascending.{ascends-rising, rising-ascends, ascends-words}
-use Rattle.aspif.proofs.Cursors.{shaped, shape-of, few-rules, sound-rules, rules-of}
+use Rattle.aspif.proofs.Cursors.{shaped, shape-of, literals-sound, few-rules, sound-rules, rules-of}
 
 -- Lists of words
 
@@ -39,18 +44,21 @@ ascends-inside l e =
 ascends-nonzero : (l : List ℤ) → ascends 0 largest (map variable l) ≡ true → has (pos 0) l ≡ false
 ascends-nonzero l e = failed _ (not-decides (has-decides (pos 0) l) .from (λ i. omega (arith, ascends-words 0 largest l e (pos 0) i .0)))
 
-heads-sound : (r : Rule) → Formed r → headsSound (r .heads) ≡ true
+heads-sound : (r : InputRule) → Formed r → headsSound (r .heads) ≡ true
 heads-sound r f =
     rw (f .positive)
     (rising-ascends 0 largest (r .heads) (f .heads-rise)
     (λ z i. (positive z (all-decides (λ h. itself (ltZ (pos 0) h)) (r .heads) .to (passed _ .from (f .positive)) z i) .1, inside (r .heads) (f .heads-in) z i)))
 
-body-sound : (r : Rule) → Formed r → bodySound (r .body) ≡ true
-body-sound r f =
-    rising-ascends 0 largest (r .body) (f .body-rise) (λ z i. (variable-positive z (λ p. zero-out p i), inside (r .body) (f .body-in) z i))
+literals-rise : (r : InputRule) → Formed r → literalsSound (literalsOf (r .body)) ≡ true
+literals-rise r f =
+    rising-ascends 0 largest ls (f .body-rise) (λ z i. (variable-positive z (λ p. zero-out p i), inside ls (f .body-in) z i))
   where
-    zero-out : {z : ℤ} → z ≡ pos 0 → z ∈ r .body → ⊥
-    zero-out p i = true≢false (sym (passed _ .to (has-decides (pos 0) (r .body) .from (Memᴰ·cast (sym p) i))) ∙ f .nonzero)
+    ls : List ℤ
+    ls = literalsOf (r .body)
+
+    zero-out : {z : ℤ} → z ≡ pos 0 → z ∈ ls → ⊥
+    zero-out p i = true≢false (sym (passed _ .to (has-decides (pos 0) ls .from (Memᴰ·cast (sym p) i))) ∙ f .nonzero)
 
 -- Kinds and counts
 
@@ -70,68 +78,117 @@ kind-of-word : (k : Kind) → kindOf (kindWord k) ≡ k
 kind-of-word Normal = refl
 kind-of-word Choice = refl
 
-is-count : (n : ℕ) → n ≤ mostLiterals → isCount (pos n) ≡ true
-is-count n h = rw (le-leb 0 n (omega arith), le-leb n mostLiterals h)
-
-count-word : (w : ℤ) → isCount w ≡ true → w ≡ pos (variable w)
-count-word (pos n) e = refl
-count-word (negsuc n) e = absurd (true≢false (sym e))
+-- a body kind is one of the same two words
+is-body-kind : (b : Body) → isKind (bodyKindWord b) ≡ true
+is-body-kind (plain ls) = refl
+is-body-kind (weights b l) = refl
 
 -- The words of a rule that is formed hold it
 
-module _ (r : Rule) (f : Formed r) (t : List ℤ) where
+-- where its heads begin, and how many words its body takes
+start-is : (b : Body) → cond (same (bodyKindWord b) (pos 1)) 5 4 ≡ 4 + length (boundWords b)
+start-is (plain ls) = refl
+start-is (weights b l) = refl
+
+size-is : (b : Body) → cond (same (bodyKindWord b) (pos 1)) (2 * length (literalsOf b)) (length (literalsOf b)) ≡ length (bodyWords b)
+size-is (plain ls) = refl
+size-is (weights b l) = omega (arith, length-map l (λ x. x .literal), length-pairs l)
+
+-- the words before the heads
+abbrev frontWords : InputRule → List ℤ
+frontWords r =
+    kindWord (r .kind) ∷ pos (length (r .heads)) ∷ bodyKindWord (r .body) ∷ pos (length (literalsOf (r .body))) ∷ boundWords (r .body)
+
+module _ (r : InputRule) (t : List ℤ) where
   abbrev ws : List ℤ
   ws = ruleWords r ++ t
 
   abbrev h : ℕ
   h = length (r .heads)
 
-  abbrev b : ℕ
-  b = length (r .body)
+  parts : ws ≡ frontWords r ++ (r .heads ++ (bodyWords (r .body) ++ t))
+  parts =
+      ap (λ (l : List ℤ). kindWord (r .kind) ∷ pos h ∷ bodyKindWord (r .body) ∷ pos (length (literalsOf (r .body))) ∷ l)
+      (append-assoc (boundWords (r .body)) (r .heads ++ bodyWords (r .body)) t
+      ∙ ap (λ (l : List ℤ). boundWords (r .body) ++ l) (append-assoc (r .heads) (bodyWords (r .body)) t))
 
-  parts : drop 3 ws ≡ r .heads ++ (r .body ++ t)
-  parts = append-assoc (r .heads) (r .body) t
+  from-heads : drop (headStart ws) ws ≡ r .heads ++ (bodyWords (r .body) ++ t)
+  from-heads =
+      let e : headStart ws ≡ length (frontWords r) = omega (arith, start-is (r .body)) in
+      ap₂ drop e parts ∙ drop-append-seam (frontWords r) (r .heads ++ (bodyWords (r .body) ++ t))
+
+  from-body : drop (headStart ws + h) ws ≡ bodyWords (r .body) ++ t
+  from-body = sym (drop-drop h (headStart ws) ws) ∙ ap (drop h) from-heads ∙ drop-append-seam (r .heads) (bodyWords (r .body) ++ t)
 
   heads-at : headsAt ws ≡ r .heads
   unfolding headsAt
-  heads-at = ap (take h) parts ∙ take-append-seam (r .heads) (r .body ++ t)
+  heads-at = ap (take h) from-heads ∙ take-append-seam (r .heads) (bodyWords (r .body) ++ t)
 
-  body-at : bodyAt ws ≡ r .body
-  unfolding bodyAt
-  body-at =
-      ap (take b) (sym (drop-drop h 3 ws) ∙ ap (drop h) parts ∙ drop-append-seam (r .heads) (r .body ++ t)) ∙ take-append-seam (r .body) t
-
-  pub rule-at : ruleAt ws ≡ r
-  rule-at = rw (kind-of-word (r .kind), heads-at, body-at)
+  body-words-at : bodyWordsAt ws ≡ bodyWords (r .body)
+  unfolding bodyWordsAt
+  body-words-at = ap₂ take (size-is (r .body)) from-body ∙ take-append-seam (bodyWords (r .body)) t
 
   pub rest-at : drop (sizeAt ws) ws ≡ t
   unfolding sizeAt
   rest-at =
-      let e : 3 + h + b ≡ 3 + (h + b) = omega arith in
-      ap (λ (n : ℕ). drop n ws) e ∙ sym (drop-drop (h + b) 3 ws) ∙ drop-at (r .heads ++ r .body) t (h + b) (length-append (r .heads) (r .body))
+      sym (drop-drop (bodyLength ws) (headStart ws + h) ws) ∙ ap₂ drop (size-is (r .body)) from-body ∙ drop-append-seam (bodyWords (r .body)) t
 
-  pub sound-words : soundAt ws ≡ true
+-- its body, by cases on its kind
+module _ (k : Kind) (hs t : List ℤ) where
+  -- the rule with that body
+  abbrev having : Body → InputRule
+  having b = record { kind = k; heads = hs; body = b }
+
+  held-body : (b : Body) → bodyAt (ruleWords (having b) ++ t) ≡ b
+  unfolding bodyAt boundAt
+  held-body (plain ls) = ap plain (body-words-at (having (plain ls)) t)
+  held-body (weights b l) = ap (weights b) (ap paired (body-words-at (having (weights b l)) t) ∙ paired-words l)
+
+  sound-body : (b : Body) → Formed (having b) → bodySound (ruleWords (having b) ++ t) ≡ true
+  unfolding bodySound weightsSound
+  sound-body (plain ls) f = rw (body-words-at (having (plain ls)) t) (literals-rise (having (plain ls)) f)
+  sound-body (weights b l) f =
+      let w = f .weighing in
+      let n : length (literals l) ≤ mostWeighted = omega (arith, length-map l (λ x. x .literal), w .0) in
+      let e = le-leb (length (literals l)) mostWeighted n in
+      let g = is-true (light-decides l) (w .2) in
+      rw (e, is-up-to mostWeight b (w .1), body-words-at (having (weights b l)) t, g, paired-words l) (literals-rise (having (weights b l)) f)
+
+pub rule-at : (r : InputRule) (t : List ℤ) → ruleAt (ws r t) ≡ r
+rule-at r t = rw (kind-of-word (r .kind), heads-at r t, held-body (r .kind) (r .heads) t (r .body))
+
+module _ (r : InputRule) (f : Formed r) (t : List ℤ) where
+  words-there : headStart (ws r t) + h r t + bodyLength (ws r t) ≤ length (ws r t)
+  words-there =
+      let u = bodyWords (r .body) ++ t in
+      let m = length-append (frontWords r) (r .heads ++ u) in
+      let n = length-append (r .heads) u in
+      omega (arith, ap length (parts r t), m, n, length-append (bodyWords (r .body)) t, start-is (r .body), size-is (r .body))
+
+  pub sound-words : soundAt (ws r t) ≡ true
   unfolding soundAt shapeSound sizeAt
   sound-words =
-      let n : length ws ≡ 3 + (h + b + length t) = omega (arith, length-append (r .heads ++ r .body) t, length-append (r .heads) (r .body)) in
-      rw (is-count h (f .heads-few), is-count b (f .body-few), is-kind (r .kind), kind-of-word (r .kind), f .headed, le-leb (3 + h + b) (length ws) (omega arith), heads-at, heads-sound r f, body-at) (body-sound r f)
+      let c = is-up-to mostLiterals (h r t) (f .heads-few) in
+      let d = is-up-to mostLiterals (length (literalsOf (r .body))) (f .body-few) in
+      rw (c, is-body-kind (r .body), d, is-kind (r .kind), kind-of-word (r .kind), f .headed, le-leb _ _ words-there, heads-at r t, heads-sound r f)
+      (sound-body (r .kind) (r .heads) t (r .body) f)
 
 module _ (t : List ℤ) (z : all (same (pos 0)) t ≡ true) where
-  rules-back : (rs : List Rule) → ((r : Rule) → r ∈ rs → Formed r) → (soundRules (length rs) (programWords rs ++ t) ≡ true) × (rulesAt (length rs) (programWords rs ++ t) ≡ rs)
+  rules-back : (rs : List InputRule) → ((r : InputRule) → r ∈ rs → Formed r) → (soundRules (length rs) (programWords rs ++ t) ≡ true) × (rulesAt (length rs) (programWords rs ++ t) ≡ rs)
   rules-back [] f = (z, refl)
   rules-back (r ∷ rs) f =
       let g = f r (List·Memᴰ·head refl) in
       let u = programWords rs ++ t in
       let e : programWords (r ∷ rs) ++ t ≡ ruleWords r ++ u = append-assoc (ruleWords r) (programWords rs) t in
       let i = rules-back rs (λ s j. f s (List·Memᴰ·tail j)) in
-      rw e (rw (sound-words r g u, rest-at r g u) (i .0), ap₂ (λ a l. a ∷ l) (rule-at r g u) (rw (rest-at r g u) (i .1)))
+      rw e (rw (sound-words r g u, rest-at r u) (i .0), ap₂ (λ a l. a ∷ l) (rule-at r u) (rw (rest-at r u) (i .1)))
 
 all-zero : (n : ℕ) → all (same (pos 0)) (replicate n (pos 0)) ≡ true
 all-zero zero = refl
 all-zero (suc n) = all-zero n
 
 -- a program that is formed and fits is what its table holds
-pub table-back : (size : ℕ) (rs : List Rule) → FitsTable size rs → rulesOf (tableWords size rs) (length rs) ≡ some rs
+pub table-back : (size : ℕ) (rs : List InputRule) → FitsTable size rs → rulesOf (tableWords size rs) (length rs) ≡ some rs
 unfolding soundTable
 table-back size rs f =
     let k = rules-back (replicate (size - length (programWords rs)) (pos 0)) (all-zero (size - length (programWords rs))) rs (f .formed) in
@@ -139,66 +196,150 @@ table-back size rs f =
 
 -- Sound words are those of a rule that is formed, and what comes after it
 
+-- the tests of the words before the heads
+record Fronted (ws : List ℤ) : Type 0 where
+  pub many : isCount (getD ws 1 (pos 0)) ≡ true
+  pub kind : isKind (getD ws 2 (pos 0)) ≡ true
+  pub long : isCount (getD ws 3 (pos 0)) ≡ true
+  pub headed : isHeaded ws ≡ true
+
+-- at least four words stand before the heads
+start-large : (ws : List ℤ) → 4 ≤ headStart ws
+start-large ws = by-test (λ n. 4 ≤ n) (isWeighted ws) (λ e. omega arith) (λ e. omega arith)
+
 module _ (ws : List ℤ) (s : soundAt ws ≡ true) where
   abbrev heads : ℕ
   heads = headCount ws
 
-  abbrev body : ℕ
-  body = bodyCount ws
-
-  counted : (isCount (getD ws 1 (pos 0)) ≡ true) × (isCount (getD ws 2 (pos 0)) ≡ true) × (isHeaded ws ≡ true)
+  fronted : Fronted ws
   unfolding shapeSound
-  counted =
+  fronted =
       let e = shape-of ws s in
       let f = and-right (isCount (getD ws 1 (pos 0))) _ e in
-      let g = and-right (isCount (getD ws 2 (pos 0))) _ f in
-      (and-left (isCount (getD ws 1 (pos 0))) _ e, and-left (isCount (getD ws 2 (pos 0))) _ f, and-left (isHeaded ws) _ g)
+      let g = and-right (isKind (getD ws 2 (pos 0))) _ f in
+      record {
+        many = and-left (isCount (getD ws 1 (pos 0))) _ e;
+        kind = and-left (isKind (getD ws 2 (pos 0))) _ f;
+        long = and-left (isCount (getD ws 3 (pos 0))) _ g;
+        headed = and-left (isHeaded ws) _ (and-right (isCount (getD ws 3 (pos 0))) _ g);
+      }
 
-  sorted : (headsSound (headsAt ws) ≡ true) × (bodySound (bodyAt ws) ≡ true)
+  sorted : (headsSound (headsAt ws) ≡ true) × (bodySound ws ≡ true)
   unfolding soundAt
   sorted = let e = and-right (shapeSound ws) _ s in (and-left (headsSound (headsAt ws)) _ e, and-right (headsSound (headsAt ws)) _ e)
 
   length-heads : length (headsAt ws) ≡ heads
   unfolding headsAt
-  length-heads = let f = shaped ws (shape-of ws s) in length-take-le heads (drop 3 ws) (omega (arith, length-drop 3 ws))
+  length-heads =
+      let f = shaped ws (shape-of ws s) in
+      length-take-le heads (drop (headStart ws) ws) (omega (arith, f .fits, length-drop (headStart ws) ws))
 
-  length-body : length (bodyAt ws) ≡ body
+  length-body : length (bodyWordsAt ws) ≡ bodyLength ws
+  unfolding bodyWordsAt
+  length-body =
+      let f = shaped ws (shape-of ws s) in
+      length-take-le (bodyLength ws) (drop (headStart ws + heads) ws) (omega (arith, f .fits, length-drop (headStart ws + heads) ws))
+
+  -- a bound and weights
+  weighed : isWeighted ws ≡ true → (bodyCount ws ≤ mostWeighted) × (isWeight (getD ws 4 (pos 0)) ≡ true) × (allWeights (bodyWordsAt ws) ≡ true)
+  unfolding bodySound weightsSound
+  weighed e =
+      let p : weightsSound ws ≡ true = ap (λ (b : Bool). cond b (weightsSound ws) (literalsSound (bodyWordsAt ws))) (sym e) ∙ sorted .1 in
+      let q = and-right (leb (bodyCount ws) mostWeighted) _ p in
+      let u = and-right (isWeight (getD ws 4 (pos 0))) _ q in (
+        leb-true (bodyCount ws) mostWeighted (and-left _ _ p),
+        and-left (isWeight (getD ws 4 (pos 0))) _ q,
+        and-left (allWeights (bodyWordsAt ws)) _ u,
+      )
+
+  length-pairs-at : isWeighted ws ≡ true → length (paired (bodyWordsAt ws)) ≡ bodyCount ws
+  length-pairs-at e =
+      let n : bodyLength ws ≡ 2 * bodyCount ws = rw e in
+      omega (arith, n, length-body, length-paired (bodyWordsAt ws) (weighed e .2))
+
+  length-literals : length (literalsOf (bodyAt ws)) ≡ bodyCount ws
   unfolding bodyAt
-  length-body = let f = shaped ws (shape-of ws s) in length-take-le body (drop (3 + heads) ws) (omega (arith, length-drop (3 + heads) ws))
+  length-literals =
+      by-test (λ b. length (literalsOf b) ≡ bodyCount ws) (isWeighted ws)
+      (λ e. length-map (paired (bodyWordsAt ws)) (λ x. x .literal) ∙ length-pairs-at e)
+      (λ e. length-body ∙ rw e)
+
+  weighing-at : Weighing (bodyAt ws)
+  unfolding bodyAt boundAt
+  weighing-at =
+      by-test Weighing (isWeighted ws)
+      (λ e.
+      let b = up-to mostWeight (getD ws 4 (pos 0)) (weighed e .1) in
+      (rw (length-pairs-at e) (weighed e .0), b .1, paired-light (bodyWordsAt ws) (weighed e .2)))
+      (λ e. tt)
 
   pub rule-formed : Formed (ruleAt ws)
   rule-formed =
       let f = shaped ws (shape-of ws s) in
       let up = and-right (all (λ h. ltZ (pos 0) h) (headsAt ws)) _ (sorted .0) in
+      let ls = literals-sound ws (sorted .1) in
       record {
         heads-few = rw length-heads (f .heads);
-        body-few = rw length-body (f .body);
-        headed = rw length-heads (and-right (isKind (getD ws 0 (pos 0))) _ (counted .2));
+        body-few = rw length-literals (f .body);
+        headed = rw length-heads (and-right (isKind (getD ws 0 (pos 0))) _ (fronted .headed));
         positive = and-left (all (λ h. ltZ (pos 0) h) (headsAt ws)) _ (sorted .0);
         heads-rise = ascends-rising 0 largest (headsAt ws) up;
-        nonzero = ascends-nonzero (bodyAt ws) (sorted .1);
-        body-rise = ascends-rising 0 largest (bodyAt ws) (sorted .1);
+        nonzero = ascends-nonzero (literalsOf (bodyAt ws)) ls;
+        body-rise = ascends-rising 0 largest (literalsOf (bodyAt ws)) ls;
         heads-in = ascends-inside (headsAt ws) up;
-        body-in = ascends-inside (bodyAt ws) (sorted .1);
+        body-in = ascends-inside (literalsOf (bodyAt ws)) ls;
+        weighing = weighing-at;
       }
 
+  -- the words of the body, and its kind
+  words-body : bodyWords (bodyAt ws) ≡ bodyWordsAt ws
+  unfolding bodyAt
+  words-body =
+      by-test (λ b. bodyWords b ≡ bodyWordsAt ws) (isWeighted ws) (λ e. words-paired (bodyWordsAt ws) (weighed e .2)) (λ e. refl)
+
+  kind-body : getD ws 2 (pos 0) ≡ bodyKindWord (bodyAt ws)
+  unfolding bodyAt
+  kind-body = kind-word (getD ws 2 (pos 0)) (fronted .kind) ∙ by (isWeighted ws)
+    where
+      by : (t : Bool) → kindWord (cond t Choice Normal) ≡ bodyKindWord (cond t (weights (boundAt ws) (paired (bodyWordsAt ws))) (plain (bodyWordsAt ws)))
+      by true = refl
+      by false = refl
+
+  -- the heads, the body and the rest
+  after-front : drop (headStart ws) ws ≡ headsAt ws ++ (bodyWordsAt ws ++ drop (sizeAt ws) ws)
+  unfolding headsAt bodyWordsAt sizeAt
+  after-front =
+      let u = drop (headStart ws) ws in
+      let v = drop (headStart ws + heads) ws in
+      let w : v ≡ take (bodyLength ws) v ++ drop (headStart ws + heads + bodyLength ws) ws =
+      sym (take-append-drop (bodyLength ws) v) ∙ ap (λ (l : List ℤ). take (bodyLength ws) v ++ l) (drop-drop (bodyLength ws) (headStart ws + heads) ws) in
+      sym (take-append-drop heads u) ∙ ap (λ (l : List ℤ). take heads u ++ l) (drop-drop heads (headStart ws) ws ∙ w)
+
+  -- the bound, where there is one
+  bound-part : drop 4 ws ≡ boundWords (bodyAt ws) ++ drop (headStart ws) ws
+  unfolding bodyAt boundAt
+  bound-part = by (isWeighted ws) (λ e. weighed e .1) (let f = shaped ws (shape-of ws s) in omega arith)
+    where
+      by : (t : Bool) → (t ≡ true → isWeight (getD ws 4 (pos 0)) ≡ true) → cond t 5 4 ≤ length ws
+          → drop 4 ws ≡ boundWords (cond t (weights (boundAt ws) (paired (bodyWordsAt ws))) (plain (bodyWordsAt ws))) ++ drop (cond t 5 4) ws
+      by true w h = drop-cons ws 4 (pos 0) (omega arith) ∙ ap (λ (z : ℤ). z ∷ drop 5 ws) (up-to mostWeight (getD ws 4 (pos 0)) (w refl) .0)
+      by false w h = refl
+
+  front-part : ws ≡ frontWords (ruleAt ws) ++ drop (headStart ws) ws
+  front-part =
+      let n : 4 ≤ length ws = let f = shaped ws (shape-of ws s) in omega (arith, start-large ws) in
+      let cons : ℤ → List ℤ → List ℤ = λ z l. z ∷ l in
+      let word : (i : ℕ) → i < 4 → drop i ws ≡ getD ws i (pos 0) ∷ drop (suc i) ws = λ i h. drop-cons ws i (pos 0) (omega arith) in
+      let k = kind-word (getD ws 0 (pos 0)) (and-left (isKind (getD ws 0 (pos 0))) _ (fronted .headed)) in
+      let c = up-to mostLiterals (getD ws 1 (pos 0)) (fronted .many) .0 ∙ ap pos (sym length-heads) in
+      let d = up-to mostLiterals (getD ws 3 (pos 0)) (fronted .long) .0 ∙ ap pos (sym length-literals) in
+      word 0 (omega arith)
+      ∙ ap₂ cons k (word 1 (omega arith) ∙ ap₂ cons c (word 2 (omega arith) ∙ ap₂ cons kind-body (word 3 (omega arith) ∙ ap₂ cons d bound-part)))
+
 pub front-words : (ws : List ℤ) → soundAt ws ≡ true → ws ≡ ruleWords (ruleAt ws) ++ drop (sizeAt ws) ws
-unfolding headsAt bodyAt sizeAt
-front-words [] s = absurd (let f = shaped [] (shape-of [] s) in omega arith)
-front-words (a ∷ []) s = absurd (let f = shaped (a ∷ []) (shape-of (a ∷ []) s) in omega arith)
-front-words (a ∷ c ∷ []) s = absurd (let f = shaped (a ∷ c ∷ []) (shape-of (a ∷ c ∷ []) s) in omega arith)
-front-words (a ∷ c ∷ d ∷ t) s =
-    let ws = a ∷ c ∷ d ∷ t in
-    let k = counted ws s in
-    let n = variable c in
-    let m = variable d in
-    let w : t ≡ (take n t ++ take m (drop n t)) ++ drop (n + m) t = sym (take-append-drop (n + m) t) ∙ ap (λ (l : List ℤ). l ++ drop (n + m) t) (take-add n m t) in
-    let x : take m (drop n t) ≡ bodyAt ws = ap (take m) (drop-drop n 3 ws) in
-    let y : drop (n + m) t ≡ drop (sizeAt ws) ws = let e : 3 + (n + m) ≡ 3 + n + m = omega arith in drop-drop (n + m) 3 ws ∙ ap (λ (i : ℕ). drop i ws) e in
-    let cons : ℤ → List ℤ → List ℤ = λ z l. z ∷ l in
-    ap₂ cons (kind-word a (and-left (isKind a) _ (k .2)))
-    (ap₂ cons (count-word c (k .0) ∙ ap pos (sym (length-heads ws s)))
-    (ap₂ cons (count-word d (k .1) ∙ ap pos (sym (length-body ws s))) (w ∙ ap₂ (λ u v. (take n t ++ u) ++ v) x y)))
+front-words ws s =
+    let e : drop (headStart ws) ws ≡ headsAt ws ++ (bodyWords (bodyAt ws) ++ drop (sizeAt ws) ws) = after-front ws s ∙ rw (words-body ws s) in
+    front-part ws s ∙ ap (λ (l : List ℤ). frontWords (ruleAt ws) ++ l) e ∙ sym (parts (ruleAt ws) (drop (sizeAt ws) ws))
 
 zero-words : (ws : List ℤ) → all (same (pos 0)) ws ≡ true → ws ≡ replicate (length ws) (pos 0)
 zero-words [] e = refl
@@ -208,7 +349,7 @@ pub rules-count : (n : ℕ) (ws : List ℤ) → length (rulesAt n ws) ≡ n
 rules-count zero ws = refl
 rules-count (suc n) ws = ap suc (rules-count n (drop (sizeAt ws) ws))
 
-rules-formed : (n : ℕ) (ws : List ℤ) → soundRules n ws ≡ true → (r : Rule) → r ∈ rulesAt n ws → Formed r
+rules-formed : (n : ℕ) (ws : List ℤ) → soundRules n ws ≡ true → (r : InputRule) → r ∈ rulesAt n ws → Formed r
 rules-formed zero ws e r i = elim i [ ]
 rules-formed (suc n) ws e r (List·Memᴰ·head p) = rw p (rule-formed ws (and-left (soundAt ws) _ e))
 rules-formed (suc n) ws e r (List·Memᴰ·tail i) = rules-formed n (drop (sizeAt ws) ws) (and-right (soundAt ws) _ e) r i
@@ -223,7 +364,7 @@ rules-words (suc n) ws e =
     (i .0, front-words ws (and-left (soundAt ws) _ e) ∙ ap (λ (l : List ℤ). r ++ l) (i .1) ∙ sym (append-assoc r (programWords (rulesAt n t)) z))
 
 module _ (table : List ℤ) (rules : ℕ) (s : soundTable table rules ≡ true) where
-  abbrev rs : List Rule
+  abbrev rs : List InputRule
   rs = rulesAt rules table
 
   abbrev held : (k : ℕ) × (table ≡ programWords rs ++ replicate k (pos 0))

@@ -9,7 +9,7 @@ use lib.IntN.{ℤ}
 use lib.ListN.{length}
 use Rattle.words.specs.Lists.{_∈_}
 use Rattle.words.proofs.Lists.{Decides}
-use Rattle.aspif.specs.Rules.{Rule, isNormal, isEmpty, ruleTop, atoms}
+use Rattle.aspif.specs.Rules.{isNormal, isEmpty, greatest}
 use Rattle.aspif.specs.declared.Kind.{Kind}
 use Rattle.aspif.specs.declared.Kind.the-variants.{Normal, Choice}
 
@@ -26,7 +26,7 @@ pub empty-length : (l : List ℤ) → eqb (length l) 0 ≡ isEmpty l
 empty-length [] = refl
 empty-length (x ∷ l) = eqb·suc-zero (length l)
 
--- a rule of a program names no atom above its largest
-pub in-atoms : {r : Rule} {rs : List Rule} → r ∈ rs → ruleTop r ≤ atoms rs
-in-atoms (List·Memᴰ·head {xs = rs} p) = rw p (omega arith)
-in-atoms (List·Memᴰ·tail {xs = rs} i) = let h = in-atoms i in omega arith
+-- no element has a greater number, and so a rule of a program names no atom above its largest
+pub in-greatest : {A : Type 0} (f : A → ℕ) {x : A} {l : List A} → x ∈ l → f x ≤ greatest f l
+in-greatest f (List·Memᴰ·head {xs = l} p) = rw p (omega arith)
+in-greatest f (List·Memᴰ·tail {xs = l} i) = let h = in-greatest f i in omega arith

@@ -1,10 +1,10 @@
 -- The text of a program, and that a program whose rules are formed is read back from it: `written-read`. The rules are kept as
 -- they are, since their heads and bodies ascend already. Assumes nothing.
-use mathlib.Core.Path.{_≡_, refl, sym, _∙_, ap}
-use mathlib.Core.Bool.{Bool, true, false, cond, _||_}
+use mathlib.Core.Path.{_≡_, refl, sym, _∙_, ap, ap₂}
+use mathlib.Core.Bool.{Bool, true, false, _||_}
 use mathlib.Core.List.{List, [], _∷_, _++_, append-nil, List·Memᴰ·head, List·Memᴰ·tail, List·Memᴰ·append-cases, List·Memᴰ·eq-of-singleton, Memᴰ·append-right}
 use mathlib.Core.Logic.{inl, inr}
-use Prim.Native.Nat.{ℕ, zero, suc, _+_, _-_, _≤_, _<_}
+use Prim.Native.Nat.{ℕ, zero, suc, _+_, _*_, _-_, _≤_, _<_}
 use native.Mathlib.Omega.{arith}
 use borrow.Author.Tests.{ltb-true, lt-ltb, le-ltb, le-leb, eq-eqb, ne-eqb}
 use lib.Dec.{ltb}
@@ -17,14 +17,19 @@ use Rattle.words.specs.Literals.{variable, distinct, rising, insert, insertAll,
 use Rattle.words.proofs.Sorting.{rising-ascending}
 use Rattle.text.specs.Line.{numbers, lineOf, outside, anyOutside}
 use Rattle.text.proofs.Lines.{bounds-of}
-use Rattle.aspif.specs.Rules.{Rule, kindWord, ruleWords, programWords}
-use Rattle.aspif.specs.Reading.{suited, bodyShape, headShape, shapeOf, headsGood, bodyGood, reads, ruleOf, adds, isLast, room, turnOf, linesFrom, program, header, readLines}
+use Rattle.weights.specs.Weights.{Weighted, literals, paired, pairWords, mostWeight, mostWeighted}
+use Rattle.aspif.specs.Rules.{Body, plain, weights, InputRule, literalsOf, suits, kindWord, ruleWords, programWords}
+use Rattle.aspif.specs.Reading.{suited, ranged, bodyShape, headShape, shapeOf, arranged, reads, ruleWith, ruleOf, adds, isLast, room, turnOf, linesFrom, program, header, readLines}
 use Rattle.aspif.specs.declared.Kind.{Kind}
 use Rattle.aspif.specs.declared.Kind.the-variants.{Normal, Choice}
-use Rattle.aspif.specs.declared.rules.Shape.the-variants.{Wrong, Shaped}
-use Rattle.words.proofs.Lists.{and-left, and-right}
+use Rattle.aspif.specs.declared.rules.Shape.{Shape}
+use Rattle.aspif.specs.declared.rules.Shape.the-variants.{Shaped, Weighed}
+use Rattle.words.proofs.Lists.{is-true, or-false-left, or-false-right, and-left, and-right}
 use Rattle.text.proofs.Decimals.{lineBytes, line-read}
-use Rattle.aspif.proofs.Formed.{Formed, FitsTable, words-append, lines-on}
+use Rattle.weights.proofs.Reordered.{rising-distinct}
+use Rattle.weights.proofs.Matching.{paired-words}
+use Rattle.aspif.proofs.PairWords.{is-up-to, Light, light-decides, length-pairs, arranged-same}
+use Rattle.aspif.proofs.Formed.{Weighing, Formed, FitsTable, words-append, lines-on}
 
 -- Words that rise are in order
 
@@ -56,61 +61,100 @@ unfolding insertAll
 in-order [] e = refl
 in-order (x ∷ l) e = insert-rising [] x l (λ y i. elim i [ ]) e
 
-rising-once : (l : List ℤ) → rising l ≡ true → distinct l ≡ true
-rising-once l e = sym (rising-ascending l) ∙ ap rising (in-order l e) ∙ e
-
 -- A rule's line
 
--- the numbers of a rule's line after the first, which is 1
-abbrev after : Kind → List ℤ → List ℤ → List ℤ
-after k hs ls = kindWord k ∷ pos (length hs) ∷ (hs ++ (pos 0 ∷ pos (length ls) ∷ ls))
+-- the numbers of a rule's line after its heads
+abbrev bodyNumbers : Body → List ℤ
+bodyNumbers (plain ls) = pos 0 ∷ pos (length ls) ∷ ls
+bodyNumbers (weights b l) = pos 1 ∷ pos b ∷ pos (length l) ∷ pairWords l
 
-module _ (k : Kind) (hs ls : List ℤ) where
+-- the numbers of a rule's line after the first, which is 1
+abbrev after : InputRule → List ℤ
+after r = kindWord (r .kind) ∷ pos (length (r .heads)) ∷ (r .heads ++ bodyNumbers (r .body))
+
+module _ (k : Kind) (hs back : List ℤ) where
   abbrev zs : List ℤ
-  zs = pos 1 ∷ after k hs ls
+  zs = pos 1 ∷ kindWord k ∷ pos (length hs) ∷ (hs ++ back)
 
   abbrev front : List ℤ
   front = pos 1 ∷ kindWord k ∷ pos (length hs) ∷ hs
 
-  abbrev back : List ℤ
-  back = pos 0 ∷ pos (length ls) ∷ ls
-
-  count : length zs ≡ 5 + length hs + length ls
+  count : length zs ≡ 3 + length hs + length back
   count = omega (arith, length-append hs back)
 
-  at-kind : getD zs (3 + length hs) (pos 0) ≡ pos 0
-  at-kind = let e : 3 + length hs ≡ length front + 0 = omega arith in rw e (getD-append-add front back 0 (pos 0))
+  -- number i after the heads
+  back-at : (i j : ℕ) → j ≡ length front + i → getD zs j (pos 0) ≡ getD back i (pos 0)
+  back-at i j e = rw e (getD-append-add front back i (pos 0))
 
-  at-count : getD zs (4 + length hs) (pos 0) ≡ pos (length ls)
-  at-count = let e : 4 + length hs ≡ length front + 1 = omega arith in rw e (getD-append-add front back 1 (pos 0))
+  back-from : (i j : ℕ) → j ≡ length front + i → drop j zs ≡ drop i back
+  back-from i j e = rw e (drop-append-add front back i)
 
   the-heads : take (length hs) (drop 3 zs) ≡ hs
   the-heads = take-append-seam hs back
 
-  the-body : take (length ls) (drop (5 + length hs) zs) ≡ ls
-  the-body =
-      let e : 5 + length hs ≡ length front + 2 = omega arith in
-      rw (e, drop-append-add front back 2) (take-length ls)
+  head-is : length hs ≤ mostLiterals → headShape zs (length zs) k ≡ bodyShape zs (length zs) k (length hs)
+  head-is few =
+      let n = count in
+      rw (lt-ltb 2 (length zs) (omega arith), is-up-to mostLiterals (length hs) few, le-leb (3 + length hs) (length zs) (omega arith))
 
-  module _ (few : length hs ≤ mostLiterals) (short : length ls ≤ mostLiterals) where
-    body-is : bodyShape zs (length zs) k (length hs) ≡ suited k (length hs) (length ls)
-    body-is =
-        let n = count in
-        rw (at-kind, at-count, lt-ltb (3 + length hs) (length zs) (omega arith), lt-ltb (4 + length hs) (length zs) (omega arith), le-leb 0 (length ls) (omega arith), le-leb (length ls) mostLiterals short, eq-eqb (5 + length hs + length ls) (length zs) (sym n))
-
-    head-is : headShape zs (length zs) k ≡ suited k (length hs) (length ls)
-    head-is =
-        let n = count in
-        rw (lt-ltb 2 (length zs) (omega arith), le-leb 0 (length hs) (omega arith), le-leb (length hs) mostLiterals few, le-leb (3 + length hs) (length zs) (omega arith)) body-is
-
-shape-is : (k : Kind) (hs ls : List ℤ) → length hs ≤ mostLiterals → length ls ≤ mostLiterals → shapeOf (zs k hs ls) (length (zs k hs ls)) ≡ suited k (length hs) (length ls)
+shape-is : (k : Kind) (hs back : List ℤ) → length hs ≤ mostLiterals
+    → shapeOf (zs k hs back) (length (zs k hs back)) ≡ bodyShape (zs k hs back) (length (zs k hs back)) k (length hs)
 unfolding shapeOf
-shape-is Normal hs ls f s =
-    let n = count Normal hs ls in
-    rw (lt-ltb 0 (length (zs Normal hs ls)) (omega arith), lt-ltb 1 (length (zs Normal hs ls)) (omega arith)) (head-is Normal hs ls f s)
-shape-is Choice hs ls f s =
-    let n = count Choice hs ls in
-    rw (lt-ltb 0 (length (zs Choice hs ls)) (omega arith), lt-ltb 1 (length (zs Choice hs ls)) (omega arith)) (head-is Choice hs ls f s)
+shape-is Normal hs back f =
+    let n = count Normal hs back in
+    rw (lt-ltb 0 (length (zs Normal hs back)) (omega arith), lt-ltb 1 (length (zs Normal hs back)) (omega arith)) (head-is Normal hs back f)
+shape-is Choice hs back f =
+    let n = count Choice hs back in
+    rw (lt-ltb 0 (length (zs Choice hs back)) (omega arith), lt-ltb 1 (length (zs Choice hs back)) (omega arith)) (head-is Choice hs back f)
+
+module _ (k : Kind) (hs ls : List ℤ) where
+  abbrev after-plain : List ℤ
+  after-plain = bodyNumbers (plain ls)
+
+  abbrev plain-line : List ℤ
+  plain-line = zs k hs after-plain
+
+  the-body : take (length ls) (drop (5 + length hs) plain-line) ≡ ls
+  the-body = rw (back-from k hs after-plain 2 (5 + length hs) (omega arith)) (take-length ls)
+
+  plain-is : length ls ≤ mostLiterals
+      → bodyShape plain-line (length plain-line) k (length hs) ≡ suited k (length hs) (Shaped k (length hs) (length ls))
+  plain-is short =
+      let n = count k hs after-plain in
+      let e = back-at k hs after-plain 0 (3 + length hs) (omega arith) in
+      let c = back-at k hs after-plain 1 (4 + length hs) (omega arith) in
+      let p = lt-ltb (3 + length hs) (length plain-line) (omega arith) in
+      let q = lt-ltb (4 + length hs) (length plain-line) (omega arith) in
+      rw (e, c, p, q, is-up-to mostLiterals (length ls) short, eq-eqb (5 + length hs + length ls) (length plain-line) (omega arith))
+
+module _ (k : Kind) (hs : List ℤ) (bound : ℕ) (l : List Weighted) where
+  abbrev after-weighed : List ℤ
+  after-weighed = bodyNumbers (weights bound l)
+
+  abbrev weighed-line : List ℤ
+  weighed-line = zs k hs after-weighed
+
+  the-bound : getD weighed-line (4 + length hs) (pos 0) ≡ pos bound
+  the-bound = back-at k hs after-weighed 1 (4 + length hs) (omega arith)
+
+  the-pairs : take (2 * length l) (drop (6 + length hs) weighed-line) ≡ pairWords l
+  the-pairs = rw (back-from k hs after-weighed 3 (6 + length hs) (omega arith), ← length-pairs l) (take-length (pairWords l))
+
+  module _ (f : Weighing (weights bound l)) where
+    in-range : ranged weighed-line (length hs) (length l) ≡ true
+    unfolding ranged
+    in-range = rw (the-bound, is-up-to mostWeight bound (f .1), the-pairs) (is-true (light-decides l) (f .2))
+
+    weighed-is : bodyShape weighed-line (length weighed-line) k (length hs) ≡ suited k (length hs) (Weighed k (length hs) (length l))
+    weighed-is =
+        let n = count k hs after-weighed in
+        let m = length-pairs l in
+        let e = back-at k hs after-weighed 0 (3 + length hs) (omega arith) in
+        let c = back-at k hs after-weighed 2 (5 + length hs) (omega arith) in
+        let p = lt-ltb (3 + length hs) (length weighed-line) (omega arith) in
+        let q = lt-ltb (5 + length hs) (length weighed-line) (omega arith) in
+        let r = is-up-to mostLiterals (length l) (omega (arith, f .0)) in
+        rw (e, c, p, q, r, eq-eqb (6 + length hs + 2 * length l) (length weighed-line) (omega arith), in-range, le-leb (length l) mostWeighted (f .0))
 
 outside-append : (k l : List ℤ) → anyOutside k ≡ false → anyOutside l ≡ false → anyOutside (k ++ l) ≡ false
 outside-append [] l e f = f
@@ -124,59 +168,100 @@ kind-in : (k : Kind) → outside (kindWord k) ≡ false
 kind-in Normal = refl
 kind-in Choice = refl
 
-module _ (r : Rule) (f : Formed r) where
+-- literals inside make pairs inside
+pairs-in : (l : List Weighted) → Light l → anyOutside (literals l) ≡ false → anyOutside (pairWords l) ≡ false
+pairs-in [] h e = refl
+pairs-in (x ∷ l) h e =
+    rw (or-false-left (outside (x .literal)) _ e, le-ltb largest (x .weight) (omega (arith, h x (List·Memᴰ·head refl))))
+    (pairs-in l (λ y m. h y (List·Memᴰ·tail m)) (or-false-right (outside (x .literal)) _ e))
+
+body-numbers-in : (b : Body) → Weighing b → length (literalsOf b) ≤ mostLiterals
+    → anyOutside (literalsOf b) ≡ false → anyOutside (bodyNumbers b) ≡ false
+body-numbers-in (plain ls) w f e = rw (le-ltb largest (length ls) (omega arith)) e
+body-numbers-in (weights b l) w f e =
+    rw (le-ltb largest b (omega (arith, w .1)), le-ltb largest (length l) (omega (arith, w .0))) (pairs-in l (w .2) e)
+
+-- what suits its kind stays as it is
+suited-is : (k : Kind) (h : ℕ) (x : Shape) → suits k h ≡ true → suited k h x ≡ x
+suited-is k h x e = rw e
+
+-- question 8 of what ascends already
+good-is : (r : InputRule) → Formed r → ruleWith (r .kind) (r .heads) (literalsOf (r .body)) (r .body) ≡ reads r
+good-is r f =
+    let h = rising-distinct (r .heads) (f .heads-rise) in
+    let l = rising-distinct (literalsOf (r .body)) (f .body-rise) in
+    rw (f .positive, h, f .nonzero, l, in-order (r .heads) (f .heads-rise))
+
+module _ (k : Kind) (hs : List ℤ) where
+  -- a line whose body has been read
+  abbrev Back : Body → Type 0
+  Back body =
+      let line = zs k hs (bodyNumbers body) in
+      ruleOf line (bodyShape line (length line) k (length hs)) ≡ reads (record { kind = k; heads = hs; body = body })
+
+  body-back : (body : Body) → Formed (record { kind = k; heads = hs; body = body }) → Back body
+  body-back (plain ls) f =
+      let sh = plain-is k hs ls (f .body-few) ∙ suited-is k (length hs) (Shaped k (length hs) (length ls)) (f .headed) in
+      ap (ruleOf (plain-line k hs ls)) sh
+      ∙ ap₂ (λ h l. ruleWith k h l (plain (ascending l))) (the-heads k hs (after-plain k hs ls)) (the-body k hs ls)
+      ∙ ap (λ l. ruleWith k hs ls (plain l)) (in-order ls (f .body-rise)) ∙ good-is (record { kind = k; heads = hs; body = plain ls }) f
+  body-back (weights b l) f =
+      let line = weighed-line k hs b l in
+      let bound = getD line (4 + length hs) (pos 0) in
+      let sh = weighed-is k hs b l (f .weighing) ∙ suited-is k (length hs) (Weighed k (length hs) (length l)) (f .headed) in
+      let e : paired (take (2 * length l) (drop (6 + length hs) line)) ≡ l = ap paired (the-pairs k hs b l) ∙ paired-words l in
+      let o = arranged-same l (rising-distinct (literals l) (f .body-rise)) (in-order (literals l) (f .body-rise)) in
+      ap (ruleOf line) sh
+      ∙ ap₂ (λ h p. ruleWith k h (literals p) (weights (variable bound) (arranged p))) (the-heads k hs (after-weighed k hs b l)) e
+      ∙ ap₂ (λ n p. ruleWith k hs (literals l) (weights (variable n) p)) (the-bound k hs b l) o
+      ∙ good-is (record { kind = k; heads = hs; body = weights b l }) f
+
+module _ (r : InputRule) (f : Formed r) where
   abbrev line : List ℤ
-  line = zs (r .kind) (r .heads) (r .body)
+  line = pos 1 ∷ after r
 
   line-in : anyOutside line ≡ false
   line-in =
       rw (kind-in (r .kind), le-ltb largest (length (r .heads)) (omega (arith, f .heads-few)))
-      (outside-append (r .heads) (back (r .kind) (r .heads) (r .body)) (f .heads-in) (rw (le-ltb largest (length (r .body)) (omega (arith, f .body-few))) (f .body-in)))
+      (outside-append (r .heads) (bodyNumbers (r .body)) (f .heads-in) (body-numbers-in (r .body) (f .weighing) (f .body-few) (f .body-in)))
 
   not-last : isLast line ≡ false
-  not-last = let n = count (r .kind) (r .heads) (r .body) in rw (ne-eqb (length line) 1 (λ e. omega arith))
-
-  heads-good : headsGood (r .heads) ≡ true
-  heads-good = rw (f .positive) (rising-once (r .heads) (f .heads-rise))
-
-  body-good : bodyGood (r .body) ≡ true
-  body-good = rw (f .nonzero) (rising-once (r .body) (f .body-rise))
+  not-last = let n = count (r .kind) (r .heads) (bodyNumbers (r .body)) in rw (ne-eqb (length line) 1 (λ e. omega arith))
 
   rule-is : ruleOf line (shapeOf line (length line)) ≡ reads r
-  rule-is =
-      rw (shape-is (r .kind) (r .heads) (r .body) (f .heads-few) (f .body-few) ∙ ap (λ b. cond b (Shaped (r .kind) (length (r .heads)) (length (r .body))) (Wrong 7)) (f .headed), the-heads (r .kind) (r .heads) (r .body), the-body (r .kind) (r .heads) (r .body), heads-good, body-good, in-order (r .heads) (f .heads-rise), in-order (r .body) (f .body-rise))
+  rule-is = rw (shape-is (r .kind) (r .heads) (bodyNumbers (r .body)) (f .heads-few)) (body-back (r .kind) (r .heads) (r .body) f)
 
   turn-is : (rules free left n : ℕ) → rules < mostRules → length (ruleWords r) ≤ free → turnOf rules free left (numbers line n) ≡ adds r n
   turn-is rules free left n p q = rw (line-in, not-last, rule-is, lt-ltb rules mostRules p, le-leb (length (ruleWords r)) free q)
 
 -- A program's text
 
-pub ruleBytes : Rule → List ℕ
-ruleBytes r = lineBytes (pos 1) (after (r .kind) (r .heads) (r .body))
+pub ruleBytes : InputRule → List ℕ
+ruleBytes r = lineBytes (pos 1) (after r)
 
 -- the rules' lines, and the line `0`
-pub programBytes : List Rule → List ℕ
+pub programBytes : List InputRule → List ℕ
 programBytes [] = lineBytes (pos 0) []
 programBytes (r ∷ rs) = ruleBytes r ++ programBytes rs
 
-pub textOf : List Rule → List ℕ
+pub textOf : List InputRule → List ℕ
 textOf rs = header ++ programBytes rs
 
 some-bytes : (z : ℤ) (l : List ℤ) → 0 < length (lineBytes z l)
 some-bytes z l = bounds-of (lineBytes z l ++ []) (z ∷ l) (length (lineBytes z l)) (line-read z l []) .0
 
-more-bytes : (rs : List Rule) → length rs < length (programBytes rs)
+more-bytes : (rs : List InputRule) → length rs < length (programBytes rs)
 unfolding programBytes ruleBytes
 more-bytes [] = some-bytes (pos 0) []
 more-bytes (r ∷ rs) =
-    let l = after (r .kind) (r .heads) (r .body) in
+    let l = after r in
     omega (arith, some-bytes (pos 1) l, more-bytes rs, length-append (lineBytes (pos 1) l) (programBytes rs))
 
 last-line : lineOf (lineBytes (pos 0) []) ≡ numbers (pos 0 ∷ []) (length (lineBytes (pos 0) []))
 last-line = rw (append-nil (lineBytes (pos 0) [])) at (line-read (pos 0) [] [])
 
 module _ (size : ℕ) where
-  lines-read : (rs so-far : List Rule) (turns line : ℕ) → FitsTable size (so-far ++ rs) → length rs < turns → linesFrom size turns (programBytes rs) line so-far ≡ program (so-far ++ rs)
+  lines-read : (rs so-far : List InputRule) (turns line : ℕ) → FitsTable size (so-far ++ rs) → length rs < turns → linesFrom size turns (programBytes rs) line so-far ≡ program (so-far ++ rs)
   unfolding linesFrom programBytes ruleBytes
   lines-read rs so-far zero line f h = absurd (omega arith)
   lines-read [] so-far (suc turns) line f h =
@@ -189,13 +274,13 @@ module _ (size : ℕ) where
       let p : length so-far < mostRules = omega (arith, f .few, length-append so-far (r ∷ rs)) in
       let q : length (ruleWords r) ≤ free = omega (arith, f .room, ap length (words-append so-far (r ∷ rs)), length-append (programWords so-far) (programWords (r ∷ rs)), length-append (ruleWords r) (programWords rs)) in
       let t : turnOf (length so-far) free left (lineOf (ruleBytes r ++ programBytes rs)) ≡ adds r (length (ruleBytes r)) =
-      ap (turnOf (length so-far) free left) (line-read (pos 1) (after (r .kind) (r .heads) (r .body)) (programBytes rs)) ∙ turn-is r g (length so-far) free left (length (ruleBytes r)) p q in
+      ap (turnOf (length so-far) free left) (line-read (pos 1) (after r) (programBytes rs)) ∙ turn-is r g (length so-far) free left (length (ruleBytes r)) p q in
       lines-on size turns (ruleBytes r ++ programBytes rs) line so-far
       ∙ rw (t, drop-append-seam (ruleBytes r) (programBytes rs))
       (lines-read rs (so-far ++ (r ∷ [])) turns (line + 1) (rw (append-snoc so-far r rs) f) (omega arith) ∙ ap program (append-snoc so-far r rs))
 
   -- a program that is formed and fits is read from its text
-  pub written-read : (rs : List Rule) → FitsTable size rs → readLines size (textOf rs) ≡ program rs
+  pub written-read : (rs : List InputRule) → FitsTable size rs → readLines size (textOf rs) ≡ program rs
   unfolding readLines textOf
   written-read rs f =
       lines-read rs [] (suc (length (textOf rs))) 2 f (omega (arith, more-bytes rs, length-append header (programBytes rs)))

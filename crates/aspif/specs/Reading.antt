@@ -1,31 +1,49 @@
--- How a program text is read: document 01, 'Program text' and questions 1 to 11, in their order.
+-- How a program text is read: document 01, 'Program text' and questions 1 to 11, in their order, with questions 54 and 55 of Change 3
+-- between 6 and 7.
 -- Assumes nothing.
 use mathlib.Core.Path.{_≡_}
-use mathlib.Core.Bool.{Bool, cond, not, _&&_}
-use mathlib.Core.List.{List, [], _∷_, _++_}
-use Prim.Native.Nat.{ℕ, zero, suc, _+_, _-_}
+use mathlib.Core.Bool.{Bool, true, false, cond, not, _&&_}
+use mathlib.Core.List.{List, [], _∷_, _++_, map}
+use Prim.Native.Nat.{ℕ, zero, suc, _+_, _*_, _-_}
 use lib.Dec.{eqb, ltb, leb}
 use lib.IntN.{ℤ, pos}
 use lib.Signed.{ltZ}
 use lib.ListN.{length, take, drop, getD, replicate}
 use Rattle.words.specs.Limits.{longest, mostRules}
 use Rattle.words.specs.Lists.{all}
+use Rattle.weights.specs.Weights.{Weighted, literals, paired, mostWeighted}
 use Rattle.words.specs.Literals.{variable, same, has, distinct, ascending}
 use Rattle.text.specs.Strings.{startsWith}
 use Rattle.text.specs.Line.{Line, broken, numbers, lineOf, anyOutside}
-use Rattle.aspif.specs.Rules.{Rule, suits, isCount, atoms, ruleWords, programWords, tableWords}
+use Rattle.aspif.specs.Rules.{Body, plain, weights, InputRule, suits, isCount, isWeight, atoms, ruleWords, programWords, tableWords}
 use Rattle.aspif.specs.declared.Kind.{Kind}
 use Rattle.aspif.specs.declared.Kind.the-variants.{Normal, Choice}
 use Rattle.aspif.specs.declared.rules.Shape.{Shape}
-use Rattle.aspif.specs.declared.rules.Shape.the-variants.{Wrong, Shaped}
+use Rattle.aspif.specs.declared.rules.Shape.the-variants.{Wrong, Shaped, Weighed}
 use Rattle.aspif.specs.declared.ProgramReading.{ProgramReading}
 use Rattle.aspif.specs.declared.ProgramReading.the-variants.{Read, Refused}
 
 -- One line's numbers
 
--- "Does the head count suit its kind? 7."
-abbrev pub suited : Kind → (heads body : ℕ) → Shape
-suited k heads body = cond (suits k heads) (Shaped k heads body) (Wrong 7)
+-- "Does the head count suit its kind? 7." of a line with that shape otherwise
+abbrev pub suited : Kind → (heads : ℕ) → Shape → Shape
+suited k heads s = cond (suits k heads) s (Wrong 7)
+
+-- the second of each two words is a weight
+unfoldable pub allWeights : List ℤ → Bool
+allWeights [] = true
+allWeights (z ∷ []) = false
+allWeights (z ∷ w ∷ l) = isWeight w && allWeights l
+
+module _ (zs : List ℤ) where
+  -- "a weight or bound out of its range is 54": the bound, and the weights of so many literals
+  unfoldable pub ranged : (heads body : ℕ) → Bool
+  ranged heads body = isWeight (getD zs (4 + heads) (pos 0)) && allWeights (take (2 * body) (drop (6 + heads) zs))
+
+  -- "more than 12 literals 55", after 54
+  abbrev pub few : Kind → (heads body : ℕ) → Shape
+  few k heads body =
+      cond (ranged heads body) (cond (leb body mostWeighted) (suited k heads (Weighed k heads body)) (Wrong 55)) (Wrong 54)
 
 module _ (zs : List ℤ) (count : ℕ) where
   -- number i of a line of `count` numbers, from 0, is there and is n
@@ -36,12 +54,22 @@ module _ (zs : List ℤ) (count : ℕ) where
   abbrev pub isCountAt : ℕ → Bool
   isCountAt i = ltb i count && isCount (getD zs i (pos 0))
 
-  -- "once the heads are passed, the body kind present and 0", then the body count, matched by what follows
+  -- body kind 0: the body count, matched by what follows
+  abbrev pub plainShape : Kind → ℕ → Shape
+  plainShape k heads =
+      let body = variable (getD zs (4 + heads) (pos 0)) in
+      cond (isCountAt (4 + heads) && eqb (5 + heads + body) count) (suited k heads (Shaped k heads body)) (Wrong 6)
+
+  -- body kind 1: the bound, the count of literals, and then a literal and a weight for each; "a missing bound or weight is 6"
+  abbrev pub weighedShape : Kind → ℕ → Shape
+  weighedShape k heads =
+      let body = variable (getD zs (5 + heads) (pos 0)) in
+      cond (isCountAt (5 + heads) && eqb (6 + heads + 2 * body) count) (few zs k heads body) (Wrong 6)
+
+  -- "once the heads are passed, the body kind present and 0", or 1: "Question 5 then admits body kind 1"
   abbrev pub bodyShape : Kind → ℕ → Shape
   bodyShape k heads =
-      let body = variable (getD zs (4 + heads) (pos 0)) in
-      cond (isAt (3 + heads) (pos 0))
-      (cond (isCountAt (4 + heads) && eqb (5 + heads + body) count) (suited k heads body) (Wrong 6)) (Wrong 5)
+      cond (isAt (3 + heads) (pos 0)) (plainShape k heads) (cond (isAt (3 + heads) (pos 1)) (weighedShape k heads) (Wrong 5))
 
   -- "a bad head count, or one with too few numbers after it, gives 6 before the body kind is looked for"
   abbrev pub headShape : Kind → Shape
@@ -49,8 +77,8 @@ module _ (zs : List ℤ) (count : ℕ) where
       let heads = variable (getD zs 2 (pos 0)) in
       cond (isCountAt 2 && leb (3 + heads) count) (bodyShape k heads) (Wrong 6)
 
-  -- Questions 5 to 7, "reading left to right": "is the statement kind present and 1, the head kind present and 0 or 1".
-  -- The shape of a rule line is its head kind, its head count and its body count.
+  -- Questions 5, 6, 54, 55 and 7, "reading left to right": "is the statement kind present and 1, the head kind present and 0 or 1".
+  -- The shape of a rule line is its head kind, its head count, its body kind and its body count.
   unfoldable pub shapeOf : Shape
   shapeOf =
       cond (isAt 0 (pos 1))
@@ -64,31 +92,49 @@ headsGood hs = all (λ h. ltZ (pos 0) h) hs && distinct hs
 abbrev pub bodyGood : List ℤ → Bool
 bodyGood ls = not (has (pos 0) ls) && distinct ls
 
+-- the weight that a line gives the literal
+abbrev pub weightIn : List Weighted → ℤ → ℕ
+weightIn [] x = 0
+weightIn (p ∷ ps) x = cond (same (p .literal) x) (p .weight) (weightIn ps x)
+
+abbrev pub withWeight : List Weighted → ℤ → Weighted
+withWeight ps x = record { literal = x; weight = weightIn ps x }
+
+-- the literals "ascending by atom", each with its weight in the line
+unfoldable pub arranged : List Weighted → List Weighted
+arranged ps = map (withWeight ps) (ascending (literals ps))
+
 -- a rule, or the number of the first question that it fails
 pub data RuleRead : Type 0 where
   fails : ℕ → RuleRead
-  reads : Rule → RuleRead
+  reads : InputRule → RuleRead
+
+-- question 8 of the heads and of the literals of a body that then stands as given
+abbrev pub ruleWith : Kind → (hs ls : List ℤ) → Body → RuleRead
+ruleWith k hs ls body = cond (headsGood hs && bodyGood ls) (reads (record { kind = k; heads = ascending hs; body = body })) (fails 8)
 
 -- question 8 of a line whose shape is right
 abbrev pub ruleOf : List ℤ → Shape → RuleRead
 ruleOf zs (Wrong k) = fails k
 ruleOf zs (Shaped k heads body) =
-    let hs = take heads (drop 3 zs) in
     let ls = take body (drop (5 + heads) zs) in
-    cond (headsGood hs && bodyGood ls) (reads (record { kind = k; heads = ascending hs; body = ascending ls })) (fails 8)
+    ruleWith k (take heads (drop 3 zs)) ls (plain (ascending ls))
+ruleOf zs (Weighed k heads body) =
+    let ps = paired (take (2 * body) (drop (6 + heads) zs)) in
+    ruleWith k (take heads (drop 3 zs)) (literals ps) (weights (variable (getD zs (4 + heads) (pos 0))) (arranged ps))
 
 -- Line after line
 
 -- the program, or a refusal with its number and line
 pub data Reading : Type 0 where
   refused : (number line : ℕ) → Reading
-  program : (rules : List Rule) → Reading
+  program : (rules : List InputRule) → Reading
 
 -- What a line makes of the text: nothing more is read, or reading goes on with a rule more.
 pub data Turn : Type 0 where
   refuses : (number : ℕ) → Turn
   ends : Turn
-  adds : (rule : Rule) (bytes : ℕ) → Turn
+  adds : (rule : InputRule) (bytes : ℕ) → Turn
 
 -- the line is `0` alone
 abbrev pub isLast : List ℤ → Bool
@@ -100,7 +146,7 @@ room rules free (fails k) n = refuses k
 room rules free (reads r) n =
     cond (ltb rules mostRules) (cond (leb (length (ruleWords r)) free) (adds r n) (refuses 10)) (refuses 9)
 
--- Questions 3 to 11 of the line that a text begins with, of which so many bytes are left. "is there one, ended, of well-formed
+-- Questions 3 to 11, 54 and 55 among them, of the line that a text begins with, of which so many bytes are left. "is there one, ended, of well-formed
 -- numbers? 3. Are all from -4,095 to 4,095? 4. For the line `0` alone: does the text end there? 11."
 abbrev pub turnOf : (rules free left : ℕ) → Line → Turn
 turnOf rules free left broken = refuses 3
@@ -110,7 +156,7 @@ turnOf rules free left (numbers zs n) =
 
 -- The lines from here on, into a table of `size` words: the bytes left, the line's number, the rules so far. Each line takes a
 -- byte at least, so one turn more than there are bytes is enough.
-unfoldable pub linesFrom : (size turns : ℕ) → List ℕ → (line : ℕ) → List Rule → Reading
+unfoldable pub linesFrom : (size turns : ℕ) → List ℕ → (line : ℕ) → List InputRule → Reading
 linesFrom size zero s line rs = refused 3 line
 linesFrom size (suc turns) s line rs =
     elim (turnOf (length rs) (size - length (programWords rs)) (length s) (lineOf s)) [

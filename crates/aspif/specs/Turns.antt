@@ -2,36 +2,49 @@
 -- Assumes nothing.
 use mathlib.Core.Path.{_≡_}
 use mathlib.Core.Bool.{Bool, _&&_}
-use mathlib.Core.List.{List, _∷_, _++_}
-use Prim.Native.Nat.{ℕ, _+_}
+use mathlib.Core.List.{List, _++_, map}
+use Prim.Native.Nat.{ℕ, _+_, _*_}
 use lib.IntN.{ℤ, pos}
-use lib.ListN.{length, take, drop}
-use Rattle.words.specs.Literals.{ascending}
-use Rattle.aspif.specs.Rules.{Rule, atoms, ruleTop, kindWord, ruleWords, programWords}
+use lib.ListN.{length, take, drop, getD}
+use Rattle.words.specs.Literals.{variable, ascending}
+use Rattle.weights.specs.Weights.{Weighted, paired}
+use Rattle.aspif.specs.Rules.{plain, weights, InputRule, atoms, ruleTop, ruleWords, programWords}
 use Rattle.words.specs.Limits.{mostLiterals}
-use Rattle.aspif.specs.Reading.{headsGood, bodyGood, Turn, refuses, ends, adds, Reading, refused, program}
+use Rattle.aspif.specs.Reading.{headsGood, bodyGood, withWeight, Turn, refuses, ends, adds, Reading, refused, program}
 use Rattle.aspif.specs.declared.Kind.{Kind}
 use Rattle.aspif.specs.declared.rules.LineTurn.{LineTurn}
 use Rattle.aspif.specs.declared.rules.LineTurn.the-variants.{Refuses, Ends, Adds}
 use Rattle.aspif.specs.declared.lines.Lines.{Lines}
 use Rattle.aspif.specs.declared.lines.Lines.the-variants.{Program, Refused}
 
--- the numbers of the longest rule line: three before the heads, two before the body, 64 of each
+-- the numbers of the longest rule line: three before the heads, three before the pairs of a weight body, 64 heads and 64 pairs
 abbrev pub rowSize : ℕ
-rowSize = 5 + mostLiterals + mostLiterals
+rowSize = 6 + mostLiterals + 2 * mostLiterals
 
--- the heads and the body of a rule line, as they stand in its row
+-- the heads, the body, the bound and the pairs of a rule line, as they stand in its row
 abbrev pub rowHeads : List ℤ → ℕ → List ℤ
 rowHeads row heads = take heads (drop 3 row)
 
 abbrev pub rowBody : List ℤ → ℕ → ℕ → List ℤ
 rowBody row heads body = take body (drop (5 + heads) row)
 
-abbrev pub rowRule : List ℤ → Kind → ℕ → ℕ → Rule
-rowRule row k heads body = record { kind = k; heads = rowHeads row heads; body = rowBody row heads body }
+abbrev pub rowBound : List ℤ → ℕ → ℕ
+rowBound row heads = variable (getD row (4 + heads) (pos 0))
 
-abbrev pub rowWords : List ℤ → Kind → ℕ → ℕ → List ℤ
-rowWords row k heads body = kindWord k ∷ pos heads ∷ pos body ∷ (rowHeads row heads ++ rowBody row heads body)
+abbrev pub rowPairs : List ℤ → ℕ → ℕ → List ℤ
+rowPairs row heads body = take (2 * body) (drop (6 + heads) row)
+
+abbrev pub rowRule : List ℤ → Kind → ℕ → ℕ → InputRule
+rowRule row k heads body = record { kind = k; heads = rowHeads row heads; body = plain (rowBody row heads body) }
+
+-- the literals, each with its weight in the pairs
+abbrev pub weighted : List ℤ → List ℤ → List Weighted
+weighted pairs ls = map (withWeight (paired pairs)) ls
+
+-- a rule with a weight body, whose literals stand sorted beside the row
+abbrev pub rowWeighed : List ℤ → List ℤ → Kind → ℕ → InputRule
+rowWeighed row ls k heads =
+    record { kind = k; heads = rowHeads row heads; body = weights (rowBound row heads) (weighted (rowPairs row heads (length ls)) ls) }
 
 -- question 8 of a row, whose heads and body are sorted afterwards
 pub record Sorted (before after : List ℤ) (heads body : ℕ) (r : Bool) : Type 0 where

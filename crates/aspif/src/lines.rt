@@ -16,8 +16,8 @@ use crate::rules::LineTurn;
 use text::LineRead;
 use words::MOST_LITERALS;
 
-// The numbers of the longest rule line: three before the heads, two before the body, and both parts.
-const ROW: usize = 5 + MOST_LITERALS + MOST_LITERALS;
+// The numbers of the longest rule line: three before the heads, three before the pairs of a weight body, and both parts.
+const ROW: usize = 6 + MOST_LITERALS + 2 * MOST_LITERALS;
 
 // The bytes of line 1, `asp 1 0 0` and its newline.
 const HEADER: usize = 10;
@@ -43,7 +43,7 @@ fn is_last(row: &[i32], count: usize) -> bool
     }
 }
 
-// Questions 3 to 11 of the line that the rest of the text begins with; a rule then stands at the front of the free words.
+// Questions 3 to 11, 54 and 55 among them, of the line that the rest of the text begins with; a rule then stands at the front of the free words.
 fn read_rule(rest: &[u8], free: &mut [i32], rules: usize) -> LineTurn
     ensures { λ r. ⌜ TurnTaken (turnOf rules (length (now (free .entry))) (length (now (rest .entry)))
         (lineOf (now (rest .entry)))) (now (free .entry)) (now (free .exit)) r ⌝ }

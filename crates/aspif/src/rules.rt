@@ -1,16 +1,22 @@
-// One rule line: its numbers' shape, and its words in the table. Questions 5 to 10.
+// One rule line: its numbers' shape, and its words in the table. Questions 5 to 10, with 54 and 55 of weight bodies between 6 and 7.
 ghost use mathlib.Core.Path.{_≡_};
+ghost use mathlib.Core.Bool.{true};
 ghost use mathlib.Core.List.{[], _∷_, _++_};
-ghost use Prim.Native.Nat.{_+_, _≤_};
+ghost use Prim.Native.Nat.{_+_, _*_, _≤_};
+ghost use lib.Dec.{leb};
 ghost use lib.IntN.{pos};
 ghost use lib.ListN.{length, drop};
 ghost use Rattle.words.specs.Literals.{ascending};
-ghost use Rattle.aspif.specs.Rules.{kindWord};
-ghost use Rattle.words.specs.Limits.{mostLiterals};
-ghost use Rattle.aspif.specs.Reading.{isAt, isCountAt, suited, bodyShape, headShape, shapeOf, headsGood, bodyGood, reads, ruleOf, room};
-ghost use Rattle.aspif.specs.Turns.{rowSize, rowRule, rowWords, Sorted, TurnTaken};
+ghost use Rattle.weights.specs.Weights.{literals, paired, pairWords, mostWeighted};
+ghost use Rattle.aspif.specs.Rules.{kindWord, ruleWords};
+ghost use Rattle.words.specs.Limits.{mostLiterals, mostRules};
+ghost use Rattle.aspif.specs.Reading.{isAt, isCountAt, suited, plainShape, allWeights, ranged, few, weighedShape};
+ghost use Rattle.aspif.specs.Reading.{bodyShape, headShape, shapeOf, headsGood, bodyGood, weightIn, reads, ruleOf, room};
+ghost use Rattle.aspif.specs.Turns.{rowSize, rowRule, weighted, rowWeighed, Sorted, TurnTaken};
+ghost use Rattle.aspif.specs.declared.rules.Shape.the-variants.{Weighed};
 use crate::Kind;
 use crate::tables;
+use weights::MOST_WEIGHTED;
 use words::MOST_RULES;
 
 // What a line makes of the reading: it is refused, it ends the text, or a rule is added.
@@ -24,10 +30,16 @@ pub enum LineTurn {
     },
 }
 
-// The first of questions 5 to 7 that a line fails, or a rule line's head kind, head count and body count.
+// The first of questions 5, 6, 54, 55 and 7 that a line fails; or a rule line's head kind, head count and body count, with literals for
+// its body or with a bound and weights.
 pub enum Shape {
     Wrong(u8),
     Shaped {
+        kind: Kind,
+        heads: usize,
+        body: usize,
+    },
+    Weighed {
         kind: Kind,
         heads: usize,
         body: usize,
@@ -55,35 +67,90 @@ fn is_count_at(row: &[i32], count: usize, i: usize) -> bool
     false
 }
 
-// Question 7.
-fn suited_shape(kind: Kind, heads: usize, body: usize) -> Shape
-    ensures { λ r. ⌜ r ≡ suited kind heads body ⌝ }
+// Question 7 of a line with that shape otherwise.
+fn suited_shape(kind: Kind, heads: usize, shape: Shape) -> Shape
+    ensures { λ r. ⌜ r ≡ suited kind heads shape ⌝ }
 {
     if tables::suits_kind(kind, heads) {
-        return Shape::Shaped { kind, heads, body };
+        return shape;
     }
     Shape::Wrong(7)
 }
 
-// The body kind and the body count, after the heads.
-fn body_shape(row: &[i32], count: usize, kind: Kind, heads: usize) -> Shape
+// The body count after body kind 0, matched by what follows.
+fn plain_shape(row: &[i32], count: usize, kind: Kind, heads: usize) -> Shape
     requires { ⌜ heads ≤ mostLiterals ⌝ }
+    ensures { λ r. ⌜ r ≡ plainShape (now (row .entry)) count kind heads ⌝ }
+{
+    if is_count_at(row, count, 4 + heads) {
+        let body = words::variable_of(words::word_at(row, 4 + heads));
+        if 5 + heads + body == count {
+            return suited_shape(kind, heads, Shape::Shaped { kind, heads, body });
+        }
+    }
+    Shape::Wrong(6)
+}
+
+// Question 54: the bound and the weights of so many literals are 0 to 4,095.
+fn is_ranged(row: &[i32], heads: usize, body: usize) -> bool
+    requires { ⌜ (heads ≤ mostLiterals) × (body ≤ mostLiterals) × (6 + heads + 2 * body ≤ length (now row)) ⌝ }
+    ensures { λ r. ⌜ r ≡ ranged (now (row .entry)) heads body ⌝ }
+{
+    let from = 6 + heads;
+    let end = from + 2 * body;
+    if tables::is_weight(words::word_at(row, 4 + heads)) {
+        return tables::all_weights(&row[from..end]);
+    }
+    false
+}
+
+// Questions 54, 55 and 7 of a line with a weight body of so many literals.
+fn few_shape(row: &[i32], kind: Kind, heads: usize, body: usize) -> Shape
+    requires { ⌜ (heads ≤ mostLiterals) × (body ≤ mostLiterals) × (6 + heads + 2 * body ≤ length (now row)) ⌝ }
+    ensures { λ r. ⌜ r ≡ few (now (row .entry)) kind heads body ⌝ }
+{
+    let ranged = is_ranged(row, heads, body);
+    let few = body <= MOST_WEIGHTED;
+    if !ranged {
+        return Shape::Wrong(54);
+    }
+    if !few {
+        return Shape::Wrong(55);
+    }
+    suited_shape(kind, heads, Shape::Weighed { kind, heads, body })
+}
+
+// The bound and the body count after body kind 1, with a literal and a weight for each after them.
+fn weighed_shape(row: &[i32], count: usize, kind: Kind, heads: usize) -> Shape
+    requires { ⌜ (heads ≤ mostLiterals) × (length (now row) ≡ rowSize) ⌝ }
+    ensures { λ r. ⌜ r ≡ weighedShape (now (row .entry)) count kind heads ⌝ }
+{
+    if is_count_at(row, count, 5 + heads) {
+        let body = words::variable_of(words::word_at(row, 5 + heads));
+        if 6 + heads + 2 * body == count {
+            return few_shape(row, kind, heads, body);
+        }
+    }
+    Shape::Wrong(6)
+}
+
+// The body kind, after the heads, and what goes with it.
+fn body_shape(row: &[i32], count: usize, kind: Kind, heads: usize) -> Shape
+    requires { ⌜ (heads ≤ mostLiterals) × (length (now row) ≡ rowSize) ⌝ }
     ensures { λ r. ⌜ r ≡ bodyShape (now (row .entry)) count kind heads ⌝ }
 {
     if is_at(row, count, 3 + heads, 0) {
-        if is_count_at(row, count, 4 + heads) {
-            let body = words::variable_of(words::word_at(row, 4 + heads));
-            if 5 + heads + body == count {
-                return suited_shape(kind, heads, body);
-            }
-        }
-        return Shape::Wrong(6);
+        return plain_shape(row, count, kind, heads);
+    }
+    if is_at(row, count, 3 + heads, 1) {
+        return weighed_shape(row, count, kind, heads);
     }
     Shape::Wrong(5)
 }
 
 // The head count, with at least so many numbers after it.
 fn head_shape(row: &[i32], count: usize, kind: Kind) -> Shape
+    requires { ⌜ length (now row) ≡ rowSize ⌝ }
     ensures { λ r. ⌜ r ≡ headShape (now (row .entry)) count kind ⌝ }
 {
     if is_count_at(row, count, 2) {
@@ -95,8 +162,9 @@ fn head_shape(row: &[i32], count: usize, kind: Kind) -> Shape
     Shape::Wrong(6)
 }
 
-// Questions 5 to 7 of a line of `count` numbers, of which the row holds the first.
+// Questions 5, 6, 54, 55 and 7 of a line of `count` numbers, of which the row holds the first.
 fn rule_shape(row: &[i32], count: usize) -> Shape
+    requires { ⌜ length (now row) ≡ rowSize ⌝ }
     ensures { λ r. ⌜ r ≡ shapeOf (now (row .entry)) count ⌝ }
 {
     if is_at(row, count, 0, 1) {
@@ -154,29 +222,38 @@ fn kind_word(kind: Kind) -> i32
     }
 }
 
-// A rule's head kind, head count and body count at the front of the free words.
-fn write_counts(free: &mut [i32], kind: Kind, heads: usize, body: usize)
-    requires sizes { ⌜ (heads ≤ mostLiterals) × (body ≤ mostLiterals) × (3 ≤ length (now free)) ⌝ }
-    ensures { λ _. ⌜ now (free .exit) ≡ (kindWord kind ∷ pos heads ∷ pos body ∷ []) ++ drop 3 (now (free .entry)) ⌝ }
+// A rule's head kind, head count, body kind and body count at the front of the free words.
+fn write_counts(free: &mut [i32], kind: Kind, heads: usize, body_kind: i32, body: usize)
+    requires sizes { ⌜ (heads ≤ mostLiterals) × (body ≤ mostLiterals) × (4 ≤ length (now free)) ⌝ }
+    ensures { λ _. ⌜ now (free .exit) ≡ (kindWord kind ∷ pos heads ∷ «body_kind» ∷ pos body ∷ []) ++ drop 4 (now (free .entry)) ⌝ }
 {
     free[0] = kind_word(kind);
     free[1] = heads as i32;
-    free[2] = body as i32;
+    free[2] = body_kind;
+    free[3] = body as i32;
 }
 
 // The words of a rule at the front of the free words: its heads and body stand in the row as in the line.
 fn write_rule(free: &mut [i32], row: &[i32], kind: Kind, heads: usize, body: usize)
     requires sizes { ⌜ (heads ≤ mostLiterals) × (body ≤ mostLiterals) × (5 + heads + body ≤ length (now row))
-        × (3 + heads + body ≤ length (now free)) ⌝ }
-    ensures { λ _. ⌜ now (free .exit) ≡ rowWords (now (row .entry)) kind heads body
-        ++ drop (3 + heads + body) (now (free .entry)) ⌝ }
+        × (4 + heads + body ≤ length (now free)) ⌝ }
+    ensures { λ _. ⌜ now (free .exit) ≡ ruleWords (rowRule (now (row .entry)) kind heads body)
+        ++ drop (4 + heads + body) (now (free .entry)) ⌝ }
 {
-    write_counts(free, kind, heads, body);
+    write_counts(free, kind, heads, 0, body);
     let after = 3 + heads;
     let from = 5 + heads;
     let end = from + body;
-    words::copy(&mut free[3..], &row[3..after]);
-    words::copy(&mut free[after..], &row[from..end]);
+    let next = 4 + heads;
+    words::copy(&mut free[4..], &row[3..after]);
+    words::copy(&mut free[next..], &row[from..end]);
+}
+
+// There are 1,024 rules already.
+fn is_full(rules: usize) -> bool
+    ensures { λ r. ⌜ r ≡ leb mostRules rules ⌝ }
+{
+    MOST_RULES <= rules
 }
 
 // Questions 9 and 10 of a rule whose heads and body stand sorted in the row; it then stands at the front of the free words.
@@ -193,10 +270,10 @@ fn add_rule(
     ensures { λ r. ⌜ TurnTaken (room rules (length (now (free .entry)))
         (reads (rowRule (now (row .entry)) kind heads body)) next) (now (free .entry)) (now (free .exit)) r ⌝ }
 {
-    if MOST_RULES <= rules {
+    if is_full(rules) {
         return LineTurn::Refuses(9);
     }
-    let size = 3 + heads + body;
+    let size = 4 + heads + body;
     if free.len() < size {
         return LineTurn::Refuses(10);
     }
@@ -213,7 +290,160 @@ fn add_rule(
     }
 }
 
-// Questions 5 to 10 of a line of `count` numbers that stand in the row. The row is left in no order that counts.
+// The literals of some pairs, in their order.
+fn copy_literals(pairs: &[i32], row: &mut [i32])
+    requires { ⌜ length (now pairs) ≡ 2 * length (now row) ⌝ }
+    ensures { λ _. ⌜ now (row .exit) ≡ literals (paired (now (pairs .entry))) ⌝ }
+{
+    let mut i = 0;
+    while i < row.len() {
+        row[i] = pairs[2 * i];
+        i += 1;
+    }
+}
+
+// The weight of the literal in some pairs, 0 where it is in none.
+fn weight_in(pairs: &[i32], literal: i32) -> i32
+    requires { ⌜ allWeights (now pairs) ≡ true ⌝ }
+    ensures { λ r. ⌜ r ≡ pos (weightIn (paired (now (pairs .entry))) literal) ⌝ }
+{
+    let mut i = 0;
+    while i + 1 < pairs.len() {
+        if words::is_same(pairs[i], literal) {
+            return pairs[i + 1];
+        }
+        i += 2;
+    }
+    0
+}
+
+// The literals, each with its weight in the pairs behind it, at the front of the free words.
+fn write_pairs(free: &mut [i32], pairs: &[i32], literals: &[i32])
+    requires weights { ⌜ allWeights (now pairs) ≡ true ⌝ }
+    requires sizes { ⌜ (length (now literals) ≤ mostWeighted) × (2 * length (now literals) ≤ length (now free)) ⌝ }
+    ensures { λ _. ⌜ now (free .exit) ≡ pairWords (weighted (now (pairs .entry)) (now (literals .entry)))
+        ++ drop (2 * length (now (literals .entry))) (now (free .entry)) ⌝ }
+{
+    let mut i = 0;
+    while i < literals.len() {
+        let weight = weight_in(pairs, literals[i]);
+        free[2 * i] = literals[i];
+        free[2 * i + 1] = weight;
+        i += 1;
+    }
+}
+
+// The same four words of a rule with a weight body, and its bound behind them.
+fn write_bound(free: &mut [i32], kind: Kind, heads: usize, body: usize, bound: i32)
+    requires sizes { ⌜ (heads ≤ mostLiterals) × (body ≤ mostLiterals) × (5 ≤ length (now free)) ⌝ }
+    ensures { λ _. ⌜ now (free .exit) ≡ (kindWord kind ∷ pos heads ∷ pos 1 ∷ pos body ∷ bound ∷ []) ++ drop 5 (now (free .entry)) ⌝ }
+{
+    write_counts(free, kind, heads, 1, body);
+    free[4] = bound;
+}
+
+// The words of a rule with a weight body at the front of the free words: its heads, bound and pairs stand in the row as in the line,
+// its literals sorted beside it.
+fn write_weighed(free: &mut [i32], row: &[i32], literals: &[i32], kind: Kind, heads: usize)
+    requires sizes { ⌜ (heads ≤ mostLiterals) × (length (now literals) ≤ mostWeighted)
+        × (6 + heads + 2 * length (now literals) ≤ length (now row)) × (5 + heads + 2 * length (now literals) ≤ length (now free)) ⌝ }
+    requires weights { ⌜ ranged (now row) heads (length (now literals)) ≡ true ⌝ }
+    ensures { λ _. ⌜ now (free .exit) ≡ ruleWords (rowWeighed (now (row .entry)) (now (literals .entry)) kind heads)
+        ++ drop (5 + heads + 2 * length (now (literals .entry))) (now (free .entry)) ⌝ }
+{
+    write_bound(free, kind, heads, literals.len(), row[4 + heads]);
+    let after = 3 + heads;
+    let from = 6 + heads;
+    let end = from + 2 * literals.len();
+    let next = 5 + heads;
+    words::copy(&mut free[5..], &row[3..after]);
+    write_pairs(&mut free[next..], &row[from..end], literals);
+}
+
+// Questions 9 and 10 of a rule with a weight body, whose heads stand sorted in the row and its literals beside it.
+fn add_weighed(
+    free: &mut [i32],
+    row: &[i32],
+    literals: &[i32],
+    kind: Kind,
+    heads: usize,
+    next: usize,
+    rules: usize,
+) -> LineTurn
+    requires sizes { ⌜ (heads ≤ mostLiterals) × (length (now literals) ≤ mostWeighted)
+        × (6 + heads + 2 * length (now literals) ≤ length (now row)) ⌝ }
+    requires weights { ⌜ ranged (now row) heads (length (now literals)) ≡ true ⌝ }
+    ensures { λ r. ⌜ TurnTaken (room rules (length (now (free .entry)))
+        (reads (rowWeighed (now (row .entry)) (now (literals .entry)) kind heads)) next) (now (free .entry)) (now (free .exit)) r ⌝ }
+{
+    if is_full(rules) {
+        return LineTurn::Refuses(9);
+    }
+    let size = 5 + heads + 2 * literals.len();
+    if free.len() < size {
+        return LineTurn::Refuses(10);
+    }
+    write_weighed(free, row, literals, kind, heads);
+    let after = 3 + heads;
+    let a = words::largest_variable(&row[3..after]);
+    let b = words::largest_variable(literals);
+    LineTurn::Adds {
+        next,
+        words: size,
+        top: words::larger(a, b),
+    }
+}
+
+// Questions 8 to 10 of a line with a weight body, whose literals are put beside the row and sorted there.
+fn take_pairs(
+    free: &mut [i32],
+    row: &mut [i32],
+    literals: &mut [i32],
+    kind: Kind,
+    heads: usize,
+    next: usize,
+    rules: usize,
+) -> LineTurn
+    requires sizes { ⌜ (heads ≤ mostLiterals) × (length (now literals) ≤ mostWeighted)
+        × (6 + heads + 2 * length (now literals) ≤ length (now row)) ⌝ }
+    requires weights { ⌜ ranged (now row) heads (length (now literals)) ≡ true ⌝ }
+    ensures { λ r. ⌜ TurnTaken (room rules (length (now (free .entry)))
+        (ruleOf (now (row .entry)) (Weighed kind heads (length (now (literals .entry))))) next)
+        (now (free .entry)) (now (free .exit)) r ⌝ }
+{
+    let after = 3 + heads;
+    let from = 6 + heads;
+    let end = from + 2 * literals.len();
+    copy_literals(&row[from..end], literals);
+    let good = sort_heads(&mut row[3..after]);
+    if sort_body(literals) {
+        if good {
+            return add_weighed(free, row, literals, kind, heads, next, rules);
+        }
+    }
+    LineTurn::Refuses(8)
+}
+
+// Questions 8 to 10 of a line with a weight body of so many literals.
+fn take_weighed(
+    free: &mut [i32],
+    row: &mut [i32],
+    kind: Kind,
+    heads: usize,
+    body: usize,
+    next: usize,
+    rules: usize,
+) -> LineTurn
+    requires sizes { ⌜ (heads ≤ mostLiterals) × (body ≤ mostWeighted) × (6 + heads + 2 * body ≤ length (now row)) ⌝ }
+    requires weights { ⌜ ranged (now row) heads body ≡ true ⌝ }
+    ensures { λ r. ⌜ TurnTaken (room rules (length (now (free .entry))) (ruleOf (now (row .entry)) (Weighed kind heads body)) next)
+        (now (free .entry)) (now (free .exit)) r ⌝ }
+{
+    let mut literals = [0i32; MOST_WEIGHTED];
+    take_pairs(free, row, &mut literals[..body], kind, heads, next, rules)
+}
+
+// Questions 5 to 10, 54 and 55 among them, of a line of `count` numbers that stand in the row. The row is left in no order that counts.
 pub fn take_rule(
     free: &mut [i32],
     row: &mut [i32],
@@ -232,6 +462,9 @@ pub fn take_rule(
                 return add_rule(free, row, kind, heads, body, next, rules);
             }
             LineTurn::Refuses(8)
+        }
+        Shape::Weighed { kind, heads, body } => {
+            take_weighed(free, row, kind, heads, body, next, rules)
         }
     }
 }

@@ -7,9 +7,12 @@ ghost use lib.IntN.{pos};
 ghost use lib.ListN.{length, drop, getD};
 ghost use Rattle.words.specs.Limits.{largest};
 ghost use Rattle.words.specs.Lists.{all, ascends};
-ghost use Rattle.words.specs.Literals.{variable, same};
-ghost use Rattle.aspif.specs.Rules.{suits, isCount, ruleTop, atoms};
-ghost use Rattle.aspif.specs.Tables.{kindOf, isKind, isHeaded, sizeAt, headsAt, bodyAt, ruleAt, shapeSound, soundAt, rulesAt, soundRules, soundTable};
+ghost use Rattle.words.specs.Literals.{variable, same, top};
+ghost use Rattle.weights.specs.Weights.{literals, paired};
+ghost use Rattle.aspif.specs.Rules.{literalsOf, suits, isCount, isWeight, ruleTop, atoms};
+ghost use Rattle.aspif.specs.Reading.{allWeights};
+ghost use Rattle.aspif.specs.Tables.{kindOf, isKind, isWeighted, headStart, bodyLength, isHeaded, sizeAt, headsAt, bodyWordsAt};
+ghost use Rattle.aspif.specs.Tables.{boundAt, bodyAt, ruleAt, shapeSound, weightsSound, bodySound, soundAt, rulesAt, soundRules, soundTable};
 use crate::Kind;
 
 // The number that word i holds, its sign aside.
@@ -68,19 +71,56 @@ fn is_headed(words: &[i32]) -> bool
     false
 }
 
-// A rule's counts and its kind stand at the front, with as many words after them.
+// The rule at the front has a weight body.
+pub fn is_weighted(words: &[i32]) -> bool
+    ensures { λ r. ⌜ r ≡ isWeighted (now (words .entry)) ⌝ }
+{
+    words::is_same(words::word_at(words, 2), 1)
+}
+
+// Where the heads of the rule at the front begin.
+fn head_start(words: &[i32]) -> usize
+    requires { ⌜ 4 ≤ length (now words) ⌝ }
+    ensures { λ r. ⌜ r ≡ headStart (now (words .entry)) ⌝ }
+{
+    if words::is_same(words[2], 1) {
+        return 5;
+    }
+    4
+}
+
+// How many words the body of the rule at the front takes.
+fn body_length(words: &[i32]) -> usize
+    requires { ⌜ (4 ≤ length (now words)) × (isCount (getD (now words) 3 (pos 0)) ≡ true) ⌝ }
+    ensures { λ r. ⌜ r ≡ bodyLength (now (words .entry)) ⌝ }
+{
+    let count = words::variable_of(words[3]);
+    if words::is_same(words[2], 1) {
+        return 2 * count;
+    }
+    count
+}
+
+// A rule's counts and its kinds stand at the front, with as many words after them.
 fn is_shaped(words: &[i32]) -> bool
     ensures { λ r. ⌜ r ≡ shapeSound (now (words .entry)) ⌝ }
 {
-    if is_count(words, 1) {
-        if is_count(words, 2) {
-            let size = 3 + size_at(words, 1) + size_at(words, 2);
-            if is_headed(words) {
-                return size <= words.len();
-            }
-        }
+    if words.len() < 4 {
+        return false;
     }
-    false
+    if !is_count(words, 1) {
+        return false;
+    }
+    if !is_kind(words::word_at(words, 2)) {
+        return false;
+    }
+    if !is_count(words, 3) {
+        return false;
+    }
+    if !is_headed(words) {
+        return false;
+    }
+    head_start(words) + words::variable_of(words[1]) + body_length(words) <= words.len()
 }
 
 // How many words the rule at the front takes.
@@ -88,7 +128,7 @@ pub fn rule_size(words: &[i32]) -> usize
     requires { ⌜ shapeSound (now words) ≡ true ⌝ }
     ensures size { λ r. ⌜ (r ≡ sizeAt (now (words .entry))) × (r ≤ length (now (words .entry))) ⌝ }
 {
-    3 + size_at(words, 1) + size_at(words, 2)
+    head_start(words) + words::variable_of(words[1]) + body_length(words)
 }
 
 // Where the rule after the one at i begins: how a loop over the table goes on.
@@ -104,18 +144,51 @@ pub fn heads_of(words: &[i32]) -> &[i32]
     requires { ⌜ shapeSound (now words) ≡ true ⌝ }
     ensures { λ r. ⌜ now r ≡ headsAt (now (words .entry)) ⌝ }
 {
-    let end = 3 + size_at(words, 1);
-    &words[3..end]
+    let start = head_start(words);
+    let end = start + words::variable_of(words[1]);
+    &words[start..end]
 }
 
-// The body literals of the rule at the front.
+// The words of the body of the rule at the front: its literals, with a weight body each with its weight behind it.
 pub fn body_of(words: &[i32]) -> &[i32]
     requires { ⌜ shapeSound (now words) ≡ true ⌝ }
-    ensures { λ r. ⌜ now r ≡ bodyAt (now (words .entry)) ⌝ }
+    ensures { λ r. ⌜ now r ≡ bodyWordsAt (now (words .entry)) ⌝ }
 {
-    let start = 3 + size_at(words, 1);
+    let start = head_start(words) + words::variable_of(words[1]);
     let end = rule_size(words);
     &words[start..end]
+}
+
+// The bound of the rule at the front, where it has a weight body.
+pub fn bound_of(words: &[i32]) -> usize
+    ensures { λ r. ⌜ r ≡ boundAt (now (words .entry)) ⌝ }
+{
+    size_at(words, 4)
+}
+
+// The word is a weight or a bound: 0 to 4,095.
+pub fn is_weight(word: i32) -> bool
+    ensures { λ r. ⌜ r ≡ isWeight word ⌝ }
+{
+    if 0 <= word {
+        words::variable_of(word) <= weights::MOST_WEIGHT
+    } else {
+        false
+    }
+}
+
+// The second of each two words is a weight.
+pub fn all_weights(pairs: &[i32]) -> bool
+    ensures { λ r. ⌜ r ≡ allWeights (now (pairs .entry)) ⌝ }
+{
+    let mut i = 0;
+    while i + 1 < pairs.len() {
+        if !is_weight(pairs[i + 1]) {
+            return false;
+        }
+        i += 2;
+    }
+    i == pairs.len()
 }
 
 // The words ascend by variable, from 1 to 4,095.
@@ -127,6 +200,26 @@ fn ascends_by_variable(words: &[i32]) -> bool
     while i < words.len() {
         let v = words::variable_of(words[i]);
         i += 1;
+        if v <= low {
+            return false;
+        }
+        if words::LARGEST < v {
+            return false;
+        }
+        low = v;
+    }
+    true
+}
+
+// The literals of the pairs ascend by variable, from 1 to 4,095.
+fn pairs_ascend(pairs: &[i32]) -> bool
+    ensures { λ r. ⌜ r ≡ ascends 0 largest (map variable (literals (paired (now (pairs .entry))))) ⌝ }
+{
+    let mut low = 0;
+    let mut i = 0;
+    while i + 1 < pairs.len() {
+        let v = words::variable_of(pairs[i]);
+        i += 2;
         if v <= low {
             return false;
         }
@@ -153,6 +246,35 @@ fn all_zero(words: &[i32]) -> bool
     true
 }
 
+// The weight body at the front is one that the reader leaves: at most 12 pairs, bound and weights 0 to 4,095, literals ascending.
+fn weights_sound(words: &[i32]) -> bool
+    requires { ⌜ shapeSound (now words) ≡ true ⌝ }
+    ensures { λ r. ⌜ r ≡ weightsSound (now (words .entry)) ⌝ }
+{
+    if weights::MOST_WEIGHTED < size_at(words, 3) {
+        return false;
+    }
+    if !is_weight(words::word_at(words, 4)) {
+        return false;
+    }
+    let pairs = body_of(words);
+    if all_weights(pairs) {
+        return pairs_ascend(pairs);
+    }
+    false
+}
+
+// The body at the front is one that the reader leaves.
+fn body_sound(words: &[i32]) -> bool
+    requires { ⌜ shapeSound (now words) ≡ true ⌝ }
+    ensures { λ r. ⌜ r ≡ bodySound (now (words .entry)) ⌝ }
+{
+    if is_weighted(words) {
+        return weights_sound(words);
+    }
+    ascends_by_variable(body_of(words))
+}
+
 // A rule stands at the front.
 pub fn is_sound(words: &[i32]) -> bool
     ensures { λ r. ⌜ r ≡ soundAt (now (words .entry)) ⌝ }
@@ -161,7 +283,7 @@ pub fn is_sound(words: &[i32]) -> bool
         let heads = heads_of(words);
         if words::all_positive(heads) {
             if ascends_by_variable(heads) {
-                return ascends_by_variable(body_of(words));
+                return body_sound(words);
             }
         }
     }
@@ -188,13 +310,37 @@ pub fn is_readable(table: &[i32], rules: usize) -> bool
     all_zero(&table[i..])
 }
 
+// The largest variable of the literals of some pairs.
+fn pairs_top(pairs: &[i32]) -> usize
+    ensures { λ r. ⌜ r ≡ top (literals (paired (now (pairs .entry)))) ⌝ }
+{
+    let mut most = 0;
+    let mut i = 0;
+    while i + 1 < pairs.len() {
+        most = words::larger(most, words::variable_of(pairs[i]));
+        i += 2;
+    }
+    most
+}
+
+// The largest atom that the body of the rule at the front names.
+fn body_top(words: &[i32]) -> usize
+    requires { ⌜ shapeSound (now words) ≡ true ⌝ }
+    ensures { λ r. ⌜ r ≡ top (literalsOf (bodyAt (now (words .entry)))) ⌝ }
+{
+    if is_weighted(words) {
+        return pairs_top(body_of(words));
+    }
+    words::largest_variable(body_of(words))
+}
+
 // The largest atom that the rule at the front names.
 fn rule_top(words: &[i32]) -> usize
     requires { ⌜ shapeSound (now words) ≡ true ⌝ }
     ensures { λ r. ⌜ r ≡ ruleTop (ruleAt (now (words .entry))) ⌝ }
 {
     let heads = words::largest_variable(heads_of(words));
-    words::larger(heads, words::largest_variable(body_of(words)))
+    words::larger(heads, body_top(words))
 }
 
 // N: the largest atom named, 0 if none.

@@ -1,4 +1,4 @@
-// Worked cases of the program reader: each of questions 1 to 11 at its edges. A case on standard input is a name with a colon,
+// Worked cases of the program reader: each of questions 1 to 11, 54 and 55 at its edges. A case on standard input is a name with a colon,
 // `[`, the table's length, a newline, a text and `]`. In the text `{`, a number, a newline, a part and `}` stand for the part so
 // many times. Each case is written with its answer: N, the rule count, how many words of the table are not 0 and its first 16
 // words; or the number and the line of the refusal, and how many words are not 0.

@@ -8,7 +8,8 @@ use lib.IntN.{ℤ, pos}
 use lib.ListN.{length, replicate}
 use Rattle.words.proofs.Lists.{zero-one}
 use Rattle.words.specs.Limits.{longest, mostRules}
-use Rattle.aspif.specs.Rules.{Rule}
+use Rattle.aspif.specs.Rules.{Rule, InputRule, expand}
+use Rattle.names.specs.ByName.{bodyWords}
 use Rattle.drupe.specs.Lines.{LineAt, end, line, lineAt}
 use Rattle.drupe.specs.Lines as Lines
 use Rattle.drupe.proofs.Lines.{passed-line}
@@ -31,76 +32,80 @@ holds-none store e =
     let n : length store - 0 ≡ length store = omega arith in
     record { words = rw n e; extent = refl; fits = omega arith; literals = λ g i. elim i [ ] }
 
-module _ (P : List Rule) (size : ℕ) (text : List ℕ) where
+module _ (N : ℕ) (ws : List InputRule) (size : ℕ) (text : List ℕ) where
+  abbrev P : List Rule
+  P = expand ws
+
   -- After so many steps the loop stands at a position, and the arrays and the store hold a state from which the lines come to what
   -- they come to from the start.
-  pub record Going (store : List ℤ) (known names : List ℕ) (used at steps : ℕ) : Type 0 where
+  pub record Going (store : List ℤ) (known names : List ℕ) (bodies : List ℤ) (used at steps : ℕ) : Type 0 where
     pub z : State
-    pub tracks : Tracks P known names (z .introduced) (z .named)
+    pub tracks : Tracks N ws known names bodies (z .introduced) (z .named)
     pub holds : Holds store used (z .live)
-    pub onward : (c : Course) → Runs P size text at steps z c → Runs P size text 0 0 start c
+    pub onward : (c : Course) → Runs N P size text at steps z c → Runs N P size text 0 0 start c
     pub within : at ≤ length text
     pub count : steps ≤ at
     pub long : length store ≡ size
     pub places : length names ≡ mostRules
+    pub records : length bodies ≡ bodyWords
 
-  pub going-start : {store : List ℤ} {known names : List ℕ} → Tracks P known names [] [] → store ≡ replicate (length store) (pos 0) → length store ≡ size
-      → length names ≡ mostRules → Going store known names 0 0 0
+  pub going-start : {store : List ℤ} {known names : List ℕ} {bodies : List ℤ} → Tracks N ws known names bodies [] [] → store ≡ replicate (length store) (pos 0) → length store ≡ size
+      → length names ≡ mostRules → Going store known names bodies 0 0 0
   going-start {store} T e l p =
-      record { z = start; tracks = T; holds = holds-none store e; onward = λ c r. r; within = omega arith; count = omega arith; long = l; places = p }
+      record { z = start; tracks = T; holds = holds-none store e; onward = λ c r. r; within = omega arith; count = omega arith; long = l; places = p; records = T .kept .byName .long }
 
-  module _ (short : length text ≤ longest) {store : List ℤ} {known names : List ℕ} {used at steps : ℕ} (G : Going store known names used at steps) where
-    comes : (c : Course) → Runs P size text at steps (G .z) c → course P size text ≡ c
-    comes c r = step-by-step P size text c short .1 (G .onward c r)
+  module _ (short : length text ≤ longest) {store : List ℤ} {known names : List ℕ} {bodies : List ℤ} {used at steps : ℕ} (G : Going store known names bodies used at steps) where
+    comes : (c : Course) → Runs N P size text at steps (G .z) c → course N P size text ≡ c
+    comes c r = step-by-step N P size text c short .1 (G .onward c r)
 
-    module _ (after : List ℤ) (known′ names′ : List ℕ) (same : length after ≡ length store) (same′ : length names′ ≡ length names) where
+    module _ (after : List ℤ) (known′ names′ : List ℕ) (bodies′ : List ℤ) (same : length after ≡ length store) (same′ : length names′ ≡ length names) where
       -- what the turn at the position leaves
       abbrev Turned : LineAt → ProofTurn → Type 0
-      Turned = LineLeaves P known′ names′ after used (G .z)
+      Turned = LineLeaves N ws known′ names′ bodies′ after used (G .z)
 
-      pub going-ends : {r : ProofTurn} → r ≡ Turn.Ends → Turned (lineAt text at) r → Ran after (course P size text) (Run.Through steps used)
+      pub going-ends : {r : ProofTurn} → r ≡ Turn.Ends → Turned (lineAt text at) r → Ran after (course N P size text) (Run.Through steps used)
       going-ends e t = by (lineAt text at) refl (subst (Turned (lineAt text at)) e t)
         where
           never : (n : ℕ) (s : Stepped) → Turn.Ends ≡ proofTurn n s → ⊥
           never n (Uses m) e = zero-one (cc)
           never n (Fails k) e = zero-one (cc)
 
-          by : (l : LineAt) → lineAt text at ≡ l → Turned l Turn.Ends → Ran after (course P size text) (Run.Through steps used)
+          by : (l : LineAt) → lineAt text at ≡ l → Turned l Turn.Ends → Ran after (course N P size text) (Run.Through steps used)
           by end q t = rw (comes _ (ends q)) (used, refl, t .1)
           by (Lines.refused k) q t = absurd (zero-one (cc))
           by (line x zs n) q t = absurd (never n (t .0) (t .1))
 
-      pub going-fails : {r : ProofTurn} (k : ℕ) → r ≡ Turn.Fails k → Turned (lineAt text at) r → Ran after (course P size text) (Run.Stopped (record { number = k; step = steps + 1 }))
+      pub going-fails : {r : ProofTurn} (k : ℕ) → r ≡ Turn.Fails k → Turned (lineAt text at) r → Ran after (course N P size text) (Run.Stopped (record { number = k; step = steps + 1 }))
       going-fails k e t = by (lineAt text at) refl (subst (Turned (lineAt text at)) e t)
         where
           Stops : Type 0
-          Stops = Ran after (course P size text) (Run.Stopped (record { number = k; step = steps + 1 }))
+          Stops = Ran after (course N P size text) (Run.Stopped (record { number = k; step = steps + 1 }))
 
-          stops : (j : ℕ) → k ≡ j → course P size text ≡ stopped j (steps + 1) → Stops
+          stops : (j : ℕ) → k ≡ j → course N P size text ≡ stopped j (steps + 1) → Stops
           stops j p q = rw (q, p)
 
           by : (l : LineAt) → lineAt text at ≡ l → Turned l (Turn.Fails k) → Stops
           by end q t = absurd (zero-one (cc))
           by (Lines.refused j) q t = stops j (cc) (comes _ (unread q))
-          by (line x zs n) q t = outcome (step P (G .z) (record { letter = x; numbers = zs })) refl (t .0) (t .1) (t .2)
+          by (line x zs n) q t = outcome (step N P (G .z) (record { letter = x; numbers = zs })) refl (t .0) (t .1) (t .2)
             where
-              outcome : (o : Outcome) → step P (G .z) (record { letter = x; numbers = zs }) ≡ o → (s : Stepped) → Turn.Fails k ≡ proofTurn n s → Leaves P known′ names′ after o s → Stops
+              outcome : (o : Outcome) → step N P (G .z) (record { letter = x; numbers = zs }) ≡ o → (s : Stepped) → Turn.Fails k ≡ proofTurn n s → Leaves N ws known′ names′ bodies′ after o s → Stops
               outcome o p (Uses m) e l = absurd (zero-one (cc))
               outcome (refused j) p (Fails i) e l = stops j (cc) (comes _ (unaccepted q p))
               outcome (next z) p (Fails i) e l = let a = l .0 .0 in stops 34 (cc) (comes _ (full q p (omega (arith, l .0 .1, same, G .long))))
 
-      pub going-on : {r : ProofTurn} (n m : ℕ) → r ≡ Turn.Goes n m → Turned (lineAt text at) r → Going after known′ names′ m n (steps + 1) × (at < n)
+      pub going-on : {r : ProofTurn} (n m : ℕ) → r ≡ Turn.Goes n m → Turned (lineAt text at) r → Going after known′ names′ bodies′ m n (steps + 1) × (at < n)
       going-on n m e t = by (lineAt text at) refl (subst (Turned (lineAt text at)) e t)
         where
           Goes : Type 0
-          Goes = Going after known′ names′ m n (steps + 1) × (at < n)
+          Goes = Going after known′ names′ bodies′ m n (steps + 1) × (at < n)
 
           by : (l : LineAt) → lineAt text at ≡ l → Turned l (Turn.Goes n m) → Goes
           by end q t = absurd (zero-one (cc))
           by (Lines.refused j) q t = absurd (zero-one (cc))
-          by (line x zs k) q t = outcome (step P (G .z) (record { letter = x; numbers = zs })) refl (t .0) (t .1) (t .2)
+          by (line x zs k) q t = outcome (step N P (G .z) (record { letter = x; numbers = zs })) refl (t .0) (t .1) (t .2)
             where
-              outcome : (o : Outcome) → step P (G .z) (record { letter = x; numbers = zs }) ≡ o → (s : Stepped) → Turn.Goes n m ≡ proofTurn k s → Leaves P known′ names′ after o s → Goes
+              outcome : (o : Outcome) → step N P (G .z) (record { letter = x; numbers = zs }) ≡ o → (s : Stepped) → Turn.Goes n m ≡ proofTurn k s → Leaves N ws known′ names′ bodies′ after o s → Goes
               outcome o p (Fails i) e l = absurd (zero-one (cc))
               outcome (refused j) p (Uses i) e l = absurd (zero-one (cc))
               outcome (next z) p (Uses i) e l =
@@ -118,6 +123,7 @@ module _ (P : List Rule) (size : ℕ) (text : List ℕ) where
                       count = omega (arith, u .0, f, G .count);
                       long = w;
                       places = same′ ∙ G .places;
+                      records = l .1 .kept .byName .long;
                     },
                     omega (arith, u .0, f),
                   )

@@ -18,24 +18,25 @@ use Rattle.words.proofs.Literals.{sameList-decides, has-decides, variable-compl
 use Rattle.words.proofs.Places.{equal?}
 use Rattle.words.proofs.Sorting.{rising-ascending, rising-before, same-members}
 use Rattle.words.proofs.Tops.{top-decides}
-use Rattle.aspif.specs.Rules.{Rule, atoms}
+use Rattle.aspif.specs.Rules.{Rule}
 use Rattle.marks.specs.Marks.{marked, Marks}
 use Rattle.drupe.specs.Lines.{isPositive}
 use Rattle.derivation.specs.States.{Named, State, isAtom}
 use Rattle.derivation.specs.Steps.{isExternal, externalNames, allAtoms}
 use Rattle.derivation.proofs.Questions.{positive-is}
-use Rattle.names.specs.Queries.{picks, isInside, isExternalBy}
-use Rattle.checker.specs.Held.{nameOf, Proper, Tracks, gathered}
+use Rattle.names.specs.Queries.{isInside, asks}
+use Rattle.names.specs.declared.queries.Query.the-variants.{External}
+use Rattle.checker.specs.Held.{nameOf, Proper, gathered}
 use Rattle.checker.proofs.Names.{unlisted, name-found, name-of, found-decides}
 
 -- Question 31
 
-module _ (P : List Rule) (z : State) where
+module _ (N : ℕ) (z : State) where
   -- the numbers of an `l` line are not 0
-  pub all-atoms : (U : List ℤ) → ((x : ℤ) → x ∈ U → 1 ≤ variable x) → Decides (allAtoms P z U) (top U ≤ atoms P)
-  all-atoms U low = reworded (λ f. top-decides (atoms P) U .to (all-decides (λ x. leb-decides (variable x) (atoms P)) U .from (λ x i. f x i .1)))
-      (λ h x i. (low x i, all-decides (λ x. leb-decides (variable x) (atoms P)) U .to (top-decides (atoms P) U .from h) x i))
-      (all-decides (λ x. and-decides (leb-decides 1 (variable x)) (leb-decides (variable x) (atoms P))) U)
+  pub all-atoms : (U : List ℤ) → ((x : ℤ) → x ∈ U → 1 ≤ variable x) → Decides (allAtoms N z U) (top U ≤ N)
+  all-atoms U low = reworded (λ f. top-decides N U .to (all-decides (λ x. leb-decides (variable x) N) U .from (λ x i. f x i .1)))
+      (λ h x i. (low x i, all-decides (λ x. leb-decides (variable x) N) U .to (top-decides N U .from h) x i))
+      (all-decides (λ x. and-decides (leb-decides 1 (variable x)) (leb-decides (variable x) N)) U)
 
 -- Question 32: the set as marks
 
@@ -62,7 +63,7 @@ module _ (U : List ℤ) {m : List ℕ} (marks : Marks m (map variable U)) (good 
           let g = good x i in
           (g .0, rw (marks .has (variable x) (g .1)) (any-decides (eqb-decides (variable x)) (map variable U) .from (variable x, Memᴰ·map variable i, refl)))
 
-  pub external-by : isExternalBy m ≡ isExternal U
+  pub external-by : asks External m ≡ isExternal U
   external-by = fun-ext (λ r. rw (fun-ext inside))
 
 -- The nogood
@@ -158,11 +159,8 @@ module _ (f : Named → Bool) where
           rw (variable-complement (pos (x .name)), u, q)
       by false q = q
 
-module _ {P : List Rule} {known names : List ℕ} (z : State) (tracks : Tracks P known names (z .introduced) (z .named))
-    (h : ℤ) (U : List ℤ) (atom : T (isAtom P (variable h))) (high : atoms P ≤ largest) {m : List ℕ} (found : Marks m (picks (isExternal U) P names)) where
-  abbrev proper : Proper P (z .introduced) (z .named)
-  proper = tracks .proper
-
+module _ {N : ℕ} (P : List Rule) (z : State) (proper : Proper N (z .introduced) (z .named)) (h : ℤ) (U : List ℤ) (atom : T (isAtom N (variable h)))
+    (high : N ≤ largest) {m : List ℕ} (found : Marks m (map (λ r. nameOf (z .named) (r .body)) (filter (isExternal U) P))) where
   -- the body of the name is external
   abbrev test : Named → Bool
   test x = any (λ r. isExternal U r && sameList (x .body) (r .body)) P
@@ -190,14 +188,14 @@ module _ {P : List Rule} {known names : List ℕ} (z : State) (tracks : Tracks P
       named : (¬ (g .0 ≡ variable h)) × (T (marked m (g .0)) × (x ≡ negℤ (pos (g .0)))) → x ∈ nogood
       named p =
           let low = g .1 in
-          let r = found-decides z tracks (isExternal U) found (g .0) (omega (arith, g .2)) .to (p .1 .0) in
+          let r = found-decides P z proper (isExternal U) found (g .0) (omega (arith, g .2)) .to (p .1 .0) in
           let y = name-found (z .named) (r .0 .body) (λ e. omega (arith, r .2 .1)) in
           let k : T (test (y .0)) = test-decides (y .0) .from (r .0, r .1, (r .2 .0, y .2 .1)) in
           let i : y .0 .name ∈ externalNames P z U = Memᴰ·map (λ (x : Named). x .name) (keep← test (y .1) k) in
           List·Memᴰ·tail (Memᴰ·cast (p .1 .1 ∙ ap (λ n. negℤ (pos n)) (sym (y .2 .0 ∙ r .2 .1))) (Memᴰ·map (λ n. negℤ (pos n)) i))
 
   from : (x : ℤ) → x ∈ nogood → Gathered (marked m) h largest 1 x
-  from x (List·Memᴰ·head p) = let a = and-decides (leb-decides 1 (variable h)) (leb-decides (variable h) (atoms P)) .to atom in (variable h, a .0, omega (arith, a .1, high), inl (refl, p))
+  from x (List·Memᴰ·head p) = let a = and-decides (leb-decides 1 (variable h)) (leb-decides (variable h) N) .to atom in (variable h, a .0, omega (arith, a .1, high), inl (refl, p))
   from x (List·Memᴰ·tail i) =
       let q = Memᴰ·of-map (λ n. negℤ (pos n)) (externalNames P z U) i in
       let r = Memᴰ·of-map (λ (x : Named). x .name) (filter test (z .named)) (q .1) in
@@ -206,7 +204,7 @@ module _ {P : List Rule} {known names : List ℕ} (z : State) (tracks : Tracks P
       let b = test-decides y .to (k .1) in
       let e : nameOf (z .named) (b .0 .body) ≡ y .name = ap (nameOf (z .named)) (sym (b .2 .1)) ∙ name-of proper (k .0) in
       let w = proper .high y (k .0) in
-      let t : T (marked m (y .name)) = found-decides z tracks (isExternal U) found (y .name) w .from (b .0, b .1, (b .2 .0, e)) in
+      let t : T (marked m (y .name)) = found-decides P z proper (isExternal U) found (y .name) w .from (b .0, b .1, (b .2 .0, e)) in
       (y .name, proper .low y (k .0), omega arith, inr (other y (k .0), (t, sym (q .2) ∙ ap (λ n. negℤ (pos n)) (sym (r .2)))))
 
   pub loop-nogood : gathered (marked m) h largest 1 ≡ ascending nogood

@@ -1,5 +1,4 @@
--- What the names kept by rule tell of a state: the questions 28 to 32, answered by marks of the names of the rules that a step is
--- about.
+-- What the names of bodies tell of a state: questions 28 to 32, by the names of the plain rules that a step is about.
 -- Assumes nothing.
 use mathlib.Core.Path.{_≡_, refl, sym, _∙_, ap}
 use mathlib.Core.Logic.{inl, inr}
@@ -7,7 +6,7 @@ use mathlib.Core.Bool.{Bool, true, false, cond, not, _&&_, _||_}
 use mathlib.Core.List.{List, [], _∷_, map, List·Memᴰ·head, List·Memᴰ·tail, Memᴰ·map, Memᴰ·of-map}
 use Prim.Native.Nat.{ℕ, _≤_, _<_}
 use native.Mathlib.Omega.{arith}
-use lib.Dec.{T}
+use lib.Dec.{T, eqb}
 use lib.IntN.{ℤ, pos}
 use Rattle.words.specs.Limits.{largest, entries}
 use Rattle.words.specs.Lists.{_∈_, any, filter}
@@ -20,10 +19,9 @@ use Rattle.marks.specs.Marks.{listed, marked, Marks, sameMarks}
 use Rattle.derivation.specs.States.{Named, State, isAtom, isName, hasName}
 use Rattle.derivation.specs.Steps.{isUnnamedBody, isCompletion, isSupport, isExternal, allNamed}
 use Rattle.derivation.proofs.Questions.{name-decides, hasName-decides}
-use Rattle.names.specs.Queries.{picks}
-use Rattle.names.proofs.Picks.{picks-map}
+use Rattle.names.specs.Queries.{completing}
 use Rattle.marks.proofs.Sets.{same-marks}
-use Rattle.checker.specs.Held.{nameOf, Proper, Tracks}
+use Rattle.checker.specs.Held.{nameOf, Proper}
 
 -- a number that is no name of the list
 pub unlisted : (v : ℕ) (named : List Named) → ((x : Named) → x ∈ named → ¬ (x .name ≡ v)) → mentions v (map (λ x. pos (x .name)) named) ≡ false
@@ -59,7 +57,7 @@ name-found (y ∷ ys) body f = by (λ g. name-found ys body g) (sameList (y .bod
     by later true d f = (y, List·Memᴰ·head refl, (refl, d .to tt))
     by later false d f = let r = later f in (r .0, List·Memᴰ·tail (r .1), r .2)
 
-module _ {P : List Rule} {introduced : List ℕ} {named : List Named} (proper : Proper P introduced named) where
+module _ {N : ℕ} {introduced : List ℕ} {named : List Named} (proper : Proper N introduced named) where
   pub name-high : (body : List ℤ) → nameOf named body ≤ largest
   name-high body = elim (equal? (nameOf named body) 0) [
     | inl e ↦ omega arith
@@ -69,7 +67,7 @@ module _ {P : List Rule} {introduced : List ℕ} {named : List Named} (proper : 
   pub name-of : {x : Named} → x ∈ named → nameOf named (x .body) ≡ x .name
   name-of m = name-is named (proper .once) m
 
-module _ {P : List Rule} (z : State) (proper : Proper P (z .introduced) (z .named)) (body : List ℤ) where
+module _ {N : ℕ} (z : State) (proper : Proper N (z .introduced) (z .named)) (body : List ℤ) where
   abbrev name : ℕ
   name = nameOf (z .named) body
 
@@ -109,38 +107,31 @@ picked-decides f g P v = reworded to from (any-decides (eqb-decides v) (map g (f
     from : Some f g P v → (n : ℕ) × (n ∈ map g (filter f P)) × (v ≡ n)
     from r = (g (r .0), Memᴰ·map g (keep← f (r .1) (r .2 .0)), sym (r .2 .1))
 
-module _ {P : List Rule} {known names : List ℕ} (z : State) (tracks : Tracks P known names (z .introduced) (z .named)) where
+module _ {N : ℕ} (P : List Rule) (z : State) (proper : Proper N (z .introduced) (z .named)) where
   abbrev nameIn : Rule → ℕ
   nameIn r = nameOf (z .named) (r .body)
 
-  abbrev proper : Proper P (z .introduced) (z .named)
-  proper = tracks .proper
-
-  pub found-decides : (f : Rule → Bool) {m : List ℕ} → Marks m (picks f P names) → (v : ℕ) → v ≤ largest → Decides (marked m v) (Some f nameIn P v)
-  found-decides f marks v h = rw (marks .has v h, picks-map f nameIn P names (tracks .calls)) (picked-decides f nameIn P v)
+  pub found-decides : (f : Rule → Bool) {m : List ℕ} → Marks m (map nameIn (filter f P)) → (v : ℕ) → v ≤ largest → Decides (marked m v) (Some f nameIn P v)
+  found-decides f marks v h = rw (marks .has v h) (picked-decides f nameIn P v)
 
   -- question 28
-  pub unnamed-body : (L : List ℤ) {m : List ℕ} → Marks m (picks (λ r. sameList (r .body) (ascending L)) P names) → marked m 0 ≡ isUnnamedBody P z L
-  unnamed-body L {m} marks =
-      same-test (found-decides (λ r. sameList (r .body) (ascending L)) marks 0 (omega arith))
+  pub unnamed-body : (L : List ℤ) → (any (λ r. sameList (ascending L) (r .body)) P && eqb (nameOf (z .named) (ascending L)) 0) ≡ isUnnamedBody P z L
+  unnamed-body L =
+      same-test (and-decides (any-decides (λ r. sameList-decides (ascending L) (r .body)) P) (eqb-decides (nameOf (z .named) (ascending L)) 0))
       (and-decides (any-decides (λ r. sameList-decides (r .body) (ascending L)) P) (unnamed-test z proper (ascending L)))
-      (λ r. let e = sameList-decides (r .0 .body) (ascending L) .to (r .2 .0) in ((r .0, r .1, e), ap (nameOf (z .named)) (sym e) ∙ r .2 .1))
-      (λ q. let r = q .0 in (r .0, r .1, (sameList-decides (r .0 .body) (ascending L) .from (r .2), ap (nameOf (z .named)) (r .2) ∙ q .1)))
+      (λ q. ((q .0 .0, q .0 .1, sym (q .0 .2)), q .1))
+      (λ q. ((q .0 .0, q .0 .1, sym (q .0 .2)), q .1))
 
   -- question 29
-  pub completes : (n : ℤ) (hs : List ℤ) {m : List ℕ} → 1 ≤ variable n → variable n ≤ largest
-      → Marks m (picks (λ r. isNormal (r .kind) && sameList (r .heads) hs) P names) → marked m (variable n) ≡ isCompletion P z n hs
-  completes n hs low high marks =
-      same-test (found-decides (λ r. isNormal (r .kind) && sameList (r .heads) hs) marks (variable n) high)
+  pub completes : (n : ℤ) (hs : List ℤ) → 1 ≤ variable n → any (completing (nameOf (z .named)) hs (variable n)) P ≡ isCompletion P z n hs
+  completes n hs low =
+      same-test (any-decides (λ r. and-decides (itself (isNormal (r .kind))) (and-decides (itself (sameList (r .heads) hs)) (eqb-decides (nameIn r) (variable n)))) P)
       (any-decides (λ r. and-decides (itself (isNormal (r .kind))) (and-decides (itself (sameList (r .heads) hs)) (name-test z proper (r .body) (variable n)))) P)
-      (λ r. let t = both (r .0) .to (r .2 .0) in (r .0, r .1, (t .0, (t .1, (low, r .2 .1)))))
-      (λ r. (r .0, r .1, (both (r .0) .from (r .2 .0, r .2 .1 .0), r .2 .1 .1 .1)))
-    where
-      both : (r : Rule) → Decides (isNormal (r .kind) && sameList (r .heads) hs) (T (isNormal (r .kind)) × T (sameList (r .heads) hs))
-      both r = and-decides (itself (isNormal (r .kind))) (itself (sameList (r .heads) hs))
+      (λ r. (r .0, r .1, (r .2 .0, (r .2 .1 .0, (low, r .2 .1 .1)))))
+      (λ r. (r .0, r .1, (r .2 .0, (r .2 .1 .0, r .2 .1 .1 .1))))
 
   -- question 32
-  pub all-named : (U : List ℤ) {m : List ℕ} → Marks m (picks (isExternal U) P names) → not (marked m 0) ≡ allNamed P z U
+  pub all-named : (U : List ℤ) {m : List ℕ} → Marks m (map nameIn (filter (isExternal U) P)) → not (marked m 0) ≡ allNamed P z U
   all-named U marks =
       same-test (not-decides (found-decides (isExternal U) marks 0 (omega arith)))
       (all-decides (λ r. if-decides (itself (isExternal U r)) (has-test z proper (r .body))) P)
@@ -150,7 +141,7 @@ module _ {P : List Rule} {known names : List ℕ} (z : State) (tracks : Tracks P
   -- Question 30: h, the numbers after it, and their marks
 
   module _ (h : ℤ) (ns : List ℤ) {l m : List ℕ} (sizes : (n : ℤ) → n ∈ ns → (1 ≤ variable n) × (variable n ≤ largest))
-      (given : Marks l (map variable ns)) (found : Marks m (picks (λ r. has h (r .heads)) P names)) where
+      (given : Marks l (map variable ns)) (found : Marks m (map nameIn (filter (λ r. has h (r .heads)) P))) where
     -- a number of the line
     abbrev Given : ℕ → Type 0
     Given v = (n : ℤ) × (n ∈ ns) × ((1 ≤ variable n) × (v ≡ variable n))
@@ -175,10 +166,10 @@ module _ {P : List Rule} {known names : List ℕ} (z : State) (tracks : Tracks P
         ((r : Rule) × (r ∈ P) × (T (has h (r .heads)) × ((1 ≤ variable n) × (nameIn r ≡ variable n))))
     used n = any-decides (λ r. and-decides (itself (has h (r .heads))) (name-test z proper (r .body) (variable n))) P
 
-    pub supports : (isAtom P (variable h) && sameMarks entries l m) ≡ isSupport P z h ns
+    pub supports : (isAtom N (variable h) && sameMarks entries l m) ≡ isSupport N P z h ns
     supports =
-        same-test (and-decides (itself (isAtom P (variable h))) (same-marks entries l m))
-        (and-decides (itself (isAtom P (variable h))) (and-decides (all-decides covered P) (all-decides used ns)))
+        same-test (and-decides (itself (isAtom N (variable h))) (same-marks entries l m))
+        (and-decides (itself (isAtom N (variable h))) (and-decides (all-decides covered P) (all-decides used ns)))
         (λ p. (p .0, (λ r i t. cover (p .1) r i t, λ n i. cite (p .1) n i)))
         (λ p. (p .0, λ v k. same-test (given-decides v (omega arith)) (headed-decides v (omega arith)) (to (p .1 .1)) (from (p .1 .0))))
       where

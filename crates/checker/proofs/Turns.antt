@@ -52,8 +52,8 @@ module _ (x : Letter) (zs : List ℤ) (asked : lineRefusal x zs ≡ none) (zero-
     signs = tests .1;
   }
 
-  pub step-is : (P : List Rule) (z : State) → step P z (record { letter = x; numbers = zs }) ≡ byLetter P z x zs
-  step-is P z = rw (zero-free, asked)
+  pub step-is : (N : ℕ) (P : List Rule) (z : State) → step N P z (record { letter = x; numbers = zs }) ≡ byLetter N P z x zs
+  step-is N P z = rw (zero-free, asked)
 
 -- What was read
 

@@ -12,7 +12,7 @@ use lib.ListN.{length, replicate, length-replicate}
 use Rattle.words.proofs.Lists.{zero-one}
 use Rattle.words.specs.Limits.{longest, mostRules}
 use Rattle.words.specs.Lists.{any}
-use Rattle.aspif.specs.Rules.{Rule, isEmpty, atoms, tableWords}
+use Rattle.aspif.specs.Rules.{Rule, InputRule, expand, isEmpty, atoms, tableWords}
 use Rattle.aspif.specs.Reading.{Reading, program, readText, readLines, programAnswer, tableOf}
 use Rattle.aspif.specs.Reading as Reading
 use Rattle.aspif.specs.declared.ProgramReading.{ProgramReading}
@@ -35,9 +35,9 @@ use Rattle.checker.specs.declared.runs.Run.the-variants.{Stopped, Throug
 
 -- The proof's lines
 
-pub too-long : (P : List Rule) (size : ℕ) (text : List ℕ) → longest < length text → course P size text ≡ stopped 21 0
+pub too-long : (N : ℕ) (P : List Rule) (size : ℕ) (text : List ℕ) → longest < length text → course N P size text ≡ stopped 21 0
 unfolding course stepsOf
-too-long P size text h = rw (lt-ltb longest (length text) h)
+too-long N P size text h = rw (lt-ltb longest (length text) h)
 
 module _ (store : List ℤ) where
   pub ran-stopped : (o : Course) {r : Run} (x : ProofRefusal) → Ran store o r → r ≡ Stopped x → o ≡ stopped (x .number) (x .step)
@@ -54,7 +54,7 @@ module _ (store : List ℤ) where
 
 -- The verdict on a proof
 
-module _ (t s : ℕ) (P : List Rule) (o : Course) {v : Verdict} {table store : List ℤ} where
+module _ (t s : ℕ) (P : List InputRule) (o : Course) {v : Verdict} {table store : List ℤ} where
   pub judged-stopped : (x : ProofRefusal) → o ≡ stopped (x .number) (x .step) → v ≡ RefusedProof x → table ≡ replicate t (pos 0) → store ≡ replicate s (pos 0)
       → record { verdict = v; table = table; store = store } ≡ judged t s P o
   judged-stopped x p q a b = rw (p, q, a, b)
@@ -66,8 +66,8 @@ module _ (t s : ℕ) (P : List Rule) (o : Course) {v : Verdict} {table store : L
   judged-through n used N R z p q a b c H l = let w : store ≡ storeWords s (z .live) = rw l at (H .words) in rw (p, q, a, b, c, w)
 
 -- the verdict of a course, with the lengths that the caller knows
-pub judged-lengths : (P : List Rule) (proof : List ℕ) {t t′ s s′ : ℕ} → t ≡ t′ → s ≡ s′ → judged t s P (course P s proof) ≡ judged t′ s′ P (course P s′ proof)
-judged-lengths P proof a b = ap₂ (λ t s. judged t s P (course P s proof)) a b
+pub judged-lengths : (P : List InputRule) (proof : List ℕ) {t t′ s s′ : ℕ} → t ≡ t′ → s ≡ s′ → judged t s P (course (atoms P) (expand P) s proof) ≡ judged t′ s′ P (course (atoms P) (expand P) s′ proof)
+judged-lengths P proof a b = ap₂ (λ t s. judged t s P (course (atoms P) (expand P) s proof)) a b
 
 -- words that are all 0
 pub zeros : (store : List ℤ) (n : ℕ) → store ≡ replicate n (pos 0) → store ≡ replicate (length store) (pos 0)
@@ -75,7 +75,7 @@ zeros store n e = e ∙ ap (λ (k : ℕ). replicate k (pos 0)) (sym (ap length e
 
 -- The program
 
-lines-read : (t : ℕ) (text : List ℕ) (P : List Rule) → readText t text ≡ program P → readLines t text ≡ program P
+lines-read : (t : ℕ) (text : List ℕ) (P : List InputRule) → readText t text ≡ program P → readLines t text ≡ program P
 unfolding readText
 lines-read t text P e = by (leb (length text) longest) e
   where
@@ -96,7 +96,7 @@ module _ (t s : ℕ) (text proof : List ℕ) {r : ProgramReading} (answer : r �
 
   -- a program that was read, and what the table then holds
   pub record ReadProgram (N R : ℕ) : Type 0 where
-    pub P : List Rule
+    pub P : List InputRule
     pub read : readText t text ≡ program P
     pub top : N ≡ atoms P
     pub count : length P ≡ R
@@ -109,7 +109,7 @@ module _ (t s : ℕ) (text proof : List ℕ) {r : ProgramReading} (answer : r �
       by (Reading.refused k n) q e w = absurd (zero-one (cc))
       by (program P) q e w = record { P = P; read = q; top = cc; count = cc; rules = w }
 
-  pub check-read : {N R : ℕ} (p : ReadProgram N R) → check text proof t s ≡ judged t s (p .P) (course (p .P) s proof)
+  pub check-read : {N R : ℕ} (p : ReadProgram N R) → check text proof t s ≡ judged t s (p .P) (course (atoms (p .P)) (expand (p .P)) s proof)
   unfolding check
   check-read p = rw (p .read)
 

@@ -7,7 +7,7 @@ use Prim.Native.Nat.{ℕ, _+_}
 use lib.Dec.{leb}
 use lib.IntN.{ℤ, pos}
 use lib.ListN.{length, replicate}
-use Rattle.aspif.specs.Rules.{Rule, atoms, tableWords}
+use Rattle.aspif.specs.Rules.{Rule, InputRule, expand, atoms, tableWords}
 use Rattle.aspif.specs.Reading.{Reading, refused, program, readText}
 use Rattle.drupe.specs.Texts.{Step, StepsRead, steps, stepsOf}
 use Rattle.drupe.specs.Texts as Texts
@@ -29,12 +29,13 @@ abbrev pub thenStopped : (number step : ℕ) → Course → Course
 thenStopped k n (stopped j m) = stopped j m
 thenStopped k n (through m z) = stopped k n
 
-module _ (P : List Rule) (size : ℕ) where
+-- N is the program's largest atom, beside its plain rules P.
+module _ (N : ℕ) (P : List Rule) (size : ℕ) where
   -- Steps in their turn, after n that left the state z: each is accepted, and then "Do the live words after the step fit the store? 34."
   abbrev pub runSteps : (done : ℕ) → State → List Step → Course
   runSteps n z [] = through n z
   runSteps n z (t ∷ ts) =
-      elim (step P z t) [
+      elim (step N P z t) [
         | Steps.refused k ↦ stopped k (n + 1)
         | next z′ ↦ cond (leb (length (liveWords (z′ .live))) size) (runSteps (n + 1) z′ ts) (stopped 34 (n + 1))
       ]
@@ -45,8 +46,8 @@ module _ (P : List Rule) (size : ℕ) where
   runRead n z (Texts.refused before k m) = thenStopped k m (runSteps n z before)
 
 -- the proof text's steps, from the start
-unfoldable pub course : List Rule → (size : ℕ) → List ℕ → Course
-course P size text = runRead P size 0 start (stepsOf text)
+unfoldable pub course : (N : ℕ) → List Rule → (size : ℕ) → List ℕ → Course
+course N P size text = runRead N P size 0 start (stepsOf text)
 
 -- the verdict with N, R, S and K, every word of the table and every word of the store
 pub record Checked : Type 0 where
@@ -55,24 +56,26 @@ pub record Checked : Type 0 where
   pub store : List ℤ
 
 -- N, R, S and K: "R rules, S steps, K live nogoods"
-abbrev pub countsOf : List Rule → (steps : ℕ) → State → Counts
-countsOf P n z = record { atoms = atoms P; rules = length P; steps = n; nogoods = length (z .live) }
+abbrev pub countsOf : (N R steps : ℕ) → State → Counts
+countsOf N R n z = record { atoms = N; rules = R; steps = n; nogoods = length (z .live) }
 
 -- "inconsistent" where the empty nogood is live, and "open" where it is not
 abbrev pub saying : Bool → Counts → Verdict
 saying b c = cond b (Inconsistent c) (Open c)
 
--- "The empty nogood is looked for after the last step only". A refusal leaves table and store zero throughout.
-abbrev pub judged : (tableSize storeSize : ℕ) → List Rule → Course → Checked
-judged t s P (stopped k n) =
+-- "The empty nogood is looked for after the last step only". A refusal leaves table and store zero throughout. "Rule numbers, N, R ..
+-- count the rules as written".
+abbrev pub judged : (tableSize storeSize : ℕ) → List InputRule → Course → Checked
+judged t s ws (stopped k n) =
     record { verdict = RefusedProof (record { number = k; step = n }); table = replicate t (pos 0); store = replicate s (pos 0) }
-judged t s P (through n z) =
-    record { verdict = saying (emptyLive z) (countsOf P n z); table = tableWords t P; store = storeWords s (z .live) }
+judged t s ws (through n z) =
+    record { verdict = saying (emptyLive z) (countsOf (atoms ws) (length ws) n z); table = tableWords t ws; store = storeWords s (z .live) }
 
+-- "The verdict is judged on this expansion": the steps are about the plain rules that the program stands for
 abbrev pub judgedReading : (tableSize storeSize : ℕ) → (proof : List ℕ) → Reading → Checked
 judgedReading t s proof (refused k n) =
     record { verdict = RefusedProgram (record { number = k; line = n }); table = replicate t (pos 0); store = replicate s (pos 0) }
-judgedReading t s proof (program P) = judged t s P (course P s proof)
+judgedReading t s proof (program ws) = judged t s ws (course (atoms ws) (expand ws) s proof)
 
 -- the whole check of a program text and a proof text with a table of t words and a store of s words; "program before proof"
 unfoldable pub check : (text proof : List ℕ) → (tableSize storeSize : ℕ) → Checked

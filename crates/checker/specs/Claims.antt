@@ -10,7 +10,7 @@ use lib.IntN.{ℤ}
 use lib.ListN.{length}
 use Rattle.words.specs.Limits.{longest}
 use Rattle.text.specs.declared.Letter.{Letter}
-use Rattle.aspif.specs.Rules.{Rule}
+use Rattle.aspif.specs.Rules.{Rule, InputRule, expand, atoms}
 use Rattle.aspif.specs.Reading.{program, readText}
 use Rattle.drupe.specs.Lines.{end, line, lineAt}
 use Rattle.drupe.specs.Lines as Lines
@@ -18,7 +18,7 @@ use Rattle.drupe.specs.Texts.{Step, textOf, steps, stepsOf}
 use Rattle.derivation.specs.States.{State, start}
 use Rattle.derivation.specs.Steps.{next, step, emptyLive}
 use Rattle.derivation.specs.Steps as Steps
-use Rattle.derivation.specs.Claims.{NoAnswerSet}
+use Rattle.derivation.specs.Claims.{NoneAsWritten}
 use Rattle.nogoods.specs.Store.{liveWords}
 use Rattle.checker.specs.Check.{Course, stopped, through, runSteps, course, countsOf, check, CheckedTexts}
 use Rattle.checker.specs.declared.Counts.{Counts}
@@ -28,56 +28,60 @@ use Rattle.checker.specs.declared.Verdict.the-variants.{Inconsistent, Op
 -- What the proof's lines come to from a position on, after n steps that left the state z, with no bound on the turns.
 -- "The first "no" decides": `unread` is a line that fails one of questions 22 to 25, `unaccepted` a step that fails one of 26 to
 -- 33, `full` a step after which the live words do not fit the store, which is 34, and `good` a step that passes them all.
-module _ (P : List Rule) (size : ℕ) (text : List ℕ) where
+-- N is the program's largest atom, here and below.
+module _ (N : ℕ) (P : List Rule) (size : ℕ) (text : List ℕ) where
   pub data Runs : (at done : ℕ) → State → Course → Type 0 where
     ends : {at n : ℕ} {z : State} → lineAt text at ≡ end → Runs at n z (through n z)
     unread : {at n k : ℕ} {z : State} → lineAt text at ≡ Lines.refused k → Runs at n z (stopped k (n + 1))
     unaccepted : {at n k after : ℕ} {z : State} {x : Letter} {zs : List ℤ} → lineAt text at ≡ line x zs after
-        → step P z (record { letter = x; numbers = zs }) ≡ Steps.refused k → Runs at n z (stopped k (n + 1))
+        → step N P z (record { letter = x; numbers = zs }) ≡ Steps.refused k → Runs at n z (stopped k (n + 1))
     full : {at n after : ℕ} {z z′ : State} {x : Letter} {zs : List ℤ} → lineAt text at ≡ line x zs after
-        → step P z (record { letter = x; numbers = zs }) ≡ next z′ → size < length (liveWords (z′ .live)) → Runs at n z (stopped 34 (n + 1))
+        → step N P z (record { letter = x; numbers = zs }) ≡ next z′ → size < length (liveWords (z′ .live)) → Runs at n z (stopped 34 (n + 1))
     good : {at n after : ℕ} {z z′ : State} {x : Letter} {zs : List ℤ} {c : Course} → lineAt text at ≡ line x zs after
-        → step P z (record { letter = x; numbers = zs }) ≡ next z′ → length (liveWords (z′ .live)) ≤ size → Runs after (n + 1) z′ c → Runs at n z c
+        → step N P z (record { letter = x; numbers = zs }) ≡ next z′ → length (liveWords (z′ .live)) ≤ size → Runs after (n + 1) z′ c → Runs at n z c
 
 -- The course of a proof text that passes 21 is what its lines come to from the start, and nothing else.
 abbrev pub StepByStep : Type 0
 StepByStep =
-    (P : List Rule) (size : ℕ) (text : List ℕ) (c : Course) → length text ≤ longest
-    → (course P size text ≡ c) ↔ Runs P size text 0 0 start c
+    (N : ℕ) (P : List Rule) (size : ℕ) (text : List ℕ) (c : Course) → length text ≤ longest
+    → (course N P size text ≡ c) ↔ Runs N P size text 0 0 start c
 
 -- The proof text's steps are ts, they run through, and after the last the empty nogood is live, or is not; the counts are those of
 -- the program, the steps and the live nogoods.
-abbrev pub Ended : List Rule → (size : ℕ) → (proof : List ℕ) → (empty : Bool) → Counts → Type 0
-Ended P size proof empty c =
-    (ts : List Step) × (z : State) × (stepsOf proof ≡ steps ts) × (runSteps P size 0 start ts ≡ through (length ts) z)
-    × (emptyLive z ≡ empty) × (c ≡ countsOf P (length ts) z)
+abbrev pub Ended : List InputRule → (size : ℕ) → (proof : List ℕ) → (empty : Bool) → Counts → Type 0
+Ended ws size proof empty c =
+    (ts : List Step) × (z : State) × (stepsOf proof ≡ steps ts) × (runSteps (atoms ws) (expand ws) size 0 start ts ≡ through (length ts) z)
+    × (emptyLive z ≡ empty) × (c ≡ countsOf (atoms ws) (length ws) (length ts) z)
 
 -- What `Ended` says, in the words of a writer: the proof is the text of the steps ts, and no reader is spoken of. That each step passes
 -- 22 to 25 need not be said, since a step that is accepted does.
-abbrev pub Written : List Rule → (size : ℕ) → (proof : List ℕ) → (empty : Bool) → Counts → Type 0
-Written P size proof empty c =
-    (ts : List Step) × (z : State) × (proof ≡ textOf ts) × (length proof ≤ longest) × (runSteps P size 0 start ts ≡ through (length ts) z)
-    × (emptyLive z ≡ empty) × (c ≡ countsOf P (length ts) z)
+abbrev pub Written : List InputRule → (size : ℕ) → (proof : List ℕ) → (empty : Bool) → Counts → Type 0
+Written ws size proof empty c =
+    (ts : List Step) × (z : State) × (proof ≡ textOf ts) × (length proof ≤ longest)
+    × (runSteps (atoms ws) (expand ws) size 0 start ts ≡ through (length ts) z)
+    × (emptyLive z ≡ empty) × (c ≡ countsOf (atoms ws) (length ws) (length ts) z)
 
 abbrev pub EndedWritten : Type 0
-EndedWritten = (P : List Rule) (size : ℕ) (proof : List ℕ) (empty : Bool) (c : Counts) → Ended P size proof empty c ↔ Written P size proof empty c
+EndedWritten =
+    (ws : List InputRule) (size : ℕ) (proof : List ℕ) (empty : Bool) (c : Counts)
+    → Ended ws size proof empty c ↔ Written ws size proof empty c
 
 -- "Once the program is read, the verdict is "inconsistent" exactly when the steps form an ASP-DRUPE proof under document 01 that
 -- fits the lent store, and "open" exactly when every step is good but the empty nogood does not stand after the last."
 abbrev pub VerdictExact : Type 0
 VerdictExact =
-    (text proof : List ℕ) (t s : ℕ) (P : List Rule) → readText t text ≡ program P → (c : Counts)
-    → ((check text proof t s .verdict ≡ Inconsistent c) ↔ Ended P s proof true c)
-    × ((check text proof t s .verdict ≡ Open c) ↔ Ended P s proof false c)
+    (text proof : List ℕ) (t s : ℕ) (ws : List InputRule) → readText t text ≡ program ws → (c : Counts)
+    → ((check text proof t s .verdict ≡ Inconsistent c) ↔ Ended ws s proof true c)
+    × ((check text proof t s .verdict ≡ Open c) ↔ Ended ws s proof false c)
 
 -- "So wherever the whole check says "inconsistent", whatever the two texts, the table and the store it was lent, the same is
 -- true of the program it read": "no set of atoms is an answer set of that program. Nor is any set an answer set of that program
--- with any list of further constraints appended, over old atoms or new."
+-- with any list of further constraints appended, over old atoms or new." The program is as written, and so are the constraints.
 abbrev pub SoundWhole : Type 1
 SoundWhole =
     (text proof : List ℕ) (t s : ℕ) (c : Counts)
     → check text proof t s .verdict ≡ Inconsistent c
-    → (P : List Rule) × (readText t text ≡ program P) × NoAnswerSet P
+    → (ws : List InputRule) × (readText t text ≡ program ws) × NoneAsWritten ws
 
 -- Demand 2 of the function `check_texts`, by its contract, whatever the two texts, the table and the store that it is lent: once the
 -- program is read, it answers "inconsistent" exactly when the steps form such a proof, and "open" exactly when every step is good but
@@ -85,8 +89,8 @@ SoundWhole =
 abbrev pub ServiceExact : Type 0
 ServiceExact =
     (text proof : List ℕ) (table store table′ store′ : List ℤ) (r : Verdict) → CheckedTexts text proof table store table′ store′ r
-    → (P : List Rule) → readText (length table) text ≡ program P → (c : Counts)
-    → ((r ≡ Inconsistent c) ↔ Ended P (length store) proof true c) × ((r ≡ Open c) ↔ Ended P (length store) proof false c)
+    → (ws : List InputRule) → readText (length table) text ≡ program ws → (c : Counts)
+    → ((r ≡ Inconsistent c) ↔ Ended ws (length store) proof true c) × ((r ≡ Open c) ↔ Ended ws (length store) proof false c)
 
 -- Demand 3 of the function `check_texts`, by its contract, whatever the two texts, the table and the store that it is lent: where it
 -- answers "inconsistent", no set is an answer set of the program that it read, nor of that program with any further constraints.
@@ -94,4 +98,4 @@ abbrev pub ServiceSound : Type 1
 ServiceSound =
     (text proof : List ℕ) (table store table′ store′ : List ℤ) (c : Counts)
     → CheckedTexts text proof table store table′ store′ (Inconsistent c)
-    → (P : List Rule) × (readText (length table) text ≡ program P) × NoAnswerSet P
+    → (ws : List InputRule) × (readText (length table) text ≡ program ws) × NoneAsWritten ws

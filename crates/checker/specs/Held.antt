@@ -1,5 +1,5 @@
 -- What private functions cite, and no reader of a public contract needs: how the code holds a program and a state (known variables
--- as marks, the names of bodies by rule, live nogoods in the store), and what the steps leave.
+-- as marks, the names of bodies by rule and by name, live nogoods in the store), and what the steps leave.
 -- Assumes nothing.
 use mathlib.Core.Path.{_≡_}
 use mathlib.Core.Bool.{Bool, true, cond}
@@ -7,11 +7,11 @@ use mathlib.Core.List.{List, [], _∷_, map}
 use Prim.Native.Nat.{ℕ, zero, suc, _≤_, _<_}
 use lib.Dec.{T, eqb}
 use lib.IntN.{ℤ, pos, negℤ}
-use lib.ListN.{length, take}
+use lib.ListN.{length}
 use Rattle.words.specs.Limits.{largest, entries, mostNumbers}
 use Rattle.words.specs.Lists.{_∈_}
 use Rattle.words.specs.Literals.{variable, distinct, sameList}
-use Rattle.aspif.specs.Rules.{Rule, atoms}
+use Rattle.aspif.specs.Rules.{InputRule, expand, atoms}
 use Rattle.marks.specs.Marks.{marked}
 use Rattle.text.specs.declared.Letter.{Letter}
 use Rattle.drupe.specs.Lines.{signsOf, signed, LineAt, end, line}
@@ -22,7 +22,7 @@ use Rattle.nogoods.specs.Keeps.{Literals, Holds}
 use Rattle.nogoods.specs.Store.{liveWords}
 use Rattle.nogoods.specs.declared.store.Added.{Added}
 use Rattle.nogoods.specs.declared.store.Added.the-variants as Added
-use Rattle.names.specs.Queries.{HoldsRules}
+use Rattle.names.specs.Queries.{HoldsRules, Kept}
 use Rattle.checker.specs.Check.{Course, stopped, through}
 use Rattle.checker.specs.declared.outcomes.Stepped.{Stepped}
 use Rattle.checker.specs.declared.outcomes.Stepped.the-variants.{Uses, Fails}
@@ -33,10 +33,10 @@ use Rattle.checker.specs.declared.runs.Run.the-variants as Run
 
 -- The program and a line
 
--- the table holds the rules of P, and the largest atom of P is N
-pub record Program (table : List ℤ) (rules N : ℕ) (P : List Rule) : Type 0 where
-  pub holds : HoldsRules table rules P
-  pub top : N ≡ atoms P
+-- the table holds the rules ws, and their largest atom is N
+pub record Program (table : List ℤ) (rules N : ℕ) (ws : List InputRule) : Type 0 where
+  pub holds : HoldsRules table rules ws
+  pub top : N ≡ atoms ws
   pub high : N ≤ largest
 
 -- what a line's numbers are once questions 22 to 25 are passed
@@ -54,21 +54,20 @@ nameOf (x ∷ xs) body = cond (sameList (x .body) body) (x .name) (nameOf xs bod
 
 -- What holds of the names between steps: each is a variable, no atom, and was introduced; "Each body is named once"; no two names
 -- are the same.
-pub record Proper (P : List Rule) (introduced : List ℕ) (named : List Named) : Type 0 where
+pub record Proper (N : ℕ) (introduced : List ℕ) (named : List Named) : Type 0 where
   pub low : (x : Named) → x ∈ named → 1 ≤ x .name
   pub high : (x : Named) → x ∈ named → x .name ≤ largest
-  pub new : (x : Named) → x ∈ named → ¬ T (isAtom P (x .name))
+  pub new : (x : Named) → x ∈ named → ¬ T (isAtom N (x .name))
   pub old : (x : Named) → x ∈ named → x .name ∈ introduced
   pub once : (x y : Named) → x ∈ named → y ∈ named → x .body ≡ y .body → x .name ≡ y .name
   pub different : distinct (map (λ x. pos (x .name)) named) ≡ true
 
--- the arrays hold the known variables, and by rule the name of its body
-pub record Tracks (P : List Rule) (known names introduced : List ℕ) (named : List Named) : Type 0 where
+-- the arrays hold the known variables, and the names of bodies by rule and by name
+pub record Tracks (N : ℕ) (ws : List InputRule) (known names : List ℕ) (bodies : List ℤ) (introduced : List ℕ) (named : List Named) : Type 0 where
   pub entries : length known ≡ entries
-  pub knows : (v : ℕ) → v ≤ largest → marked known v ≡ isKnown P (record { live = []; introduced = introduced; named = named }) v
-  pub rules : length P ≤ length names
-  pub calls : take (length P) names ≡ map (λ r. nameOf named (r .body)) P
-  pub proper : Proper P introduced named
+  pub knows : (v : ℕ) → v ≤ largest → marked known v ≡ isKnown N (record { live = []; introduced = introduced; named = named }) v
+  pub kept : Kept names bodies (nameOf named) ws
+  pub proper : Proper N introduced named
 
 -- Steps
 
@@ -83,14 +82,16 @@ Fitted live store (Uses n) = Holds store n live
 Fitted live store (Fails k) = (k ≡ 34) × (length store < length (liveWords live))
 
 -- what a step leaves, by what it comes to: the number of the question, or arrays and store that hold the next state
-abbrev pub Leaves : List Rule → List ℕ → List ℕ → List ℤ → Outcome → Stepped → Type 0
-Leaves P known names store (refused k) r = r ≡ Fails k
-Leaves P known names store (next z) r = Fitted (z .live) store r × Tracks P known names (z .introduced) (z .named)
+abbrev pub Leaves : ℕ → List InputRule → List ℕ → List ℕ → List ℤ → List ℤ → Outcome → Stepped → Type 0
+Leaves N ws known names bodies store (refused k) r = r ≡ Fails k
+Leaves N ws known names bodies store (next z) r = Fitted (z .live) store r × Tracks N ws known names bodies (z .introduced) (z .named)
 
 -- the contract of a letter's function: what the step leaves, of whatever state the arrays and the store held before
-abbrev pub Stepping : List Rule → Letter → List ℤ → ℕ → List ℕ → List ℕ → List ℤ → List ℕ → List ℕ → List ℤ → Stepped → Type 0
-Stepping P x zs used known names store known′ names′ store′ r =
-    (z : State) → Tracks P known names (z .introduced) (z .named) → Holds store used (z .live) → Leaves P known′ names′ store′ (byLetter P z x zs) r
+abbrev pub Stepping : ℕ → List InputRule → Letter → List ℤ → ℕ
+    → List ℕ → List ℕ → List ℤ → List ℤ → List ℕ → List ℕ → List ℤ → List ℤ → Stepped → Type 0
+Stepping N ws x zs used known names bodies store known′ names′ bodies′ store′ r =
+    (z : State) → Tracks N ws known names bodies (z .introduced) (z .named) → Holds store used (z .live)
+    → Leaves N ws known′ names′ bodies′ store′ (byLetter N (expand ws) z x zs) r
 
 -- the nogood of an `l` step, ascending: of n numbers from v on, h itself and minus each one that passes
 abbrev pub gathered : (ℕ → Bool) → ℤ → ℕ → ℕ → List ℤ
@@ -105,16 +106,16 @@ abbrev pub proofTurn : ℕ → Stepped → ProofTurn
 proofTurn at (Uses n) = Turn.Goes at n
 proofTurn at (Fails k) = Turn.Fails k
 
-module _ (P : List Rule) (known names : List ℕ) (store : List ℤ) where
+module _ (N : ℕ) (ws : List InputRule) (known names : List ℕ) (bodies store : List ℤ) where
   -- what the step of a line leaves, with the position after the line
   abbrev pub StepLeaves : ℕ → Outcome → ProofTurn → Type 0
-  StepLeaves at o r = (s : Stepped) × (r ≡ proofTurn at s) × Leaves P known names store o s
+  StepLeaves at o r = (s : Stepped) × (r ≡ proofTurn at s) × Leaves N ws known names bodies store o s
 
   -- what one turn of the check leaves, by what stands at the position; so many words were used
   abbrev pub LineLeaves : ℕ → State → LineAt → ProofTurn → Type 0
   LineLeaves used z end r = (r ≡ Turn.Ends) × Holds store used (z .live)
   LineLeaves used z (Lines.refused k) r = r ≡ Turn.Fails k
-  LineLeaves used z (line x zs at) r = StepLeaves at (step P z (record { letter = x; numbers = zs })) r
+  LineLeaves used z (line x zs at) r = StepLeaves at (step N (expand ws) z (record { letter = x; numbers = zs })) r
 
 -- what the lines leave, by what they come to
 abbrev pub Ran : List ℤ → Course → Run → Type 0

@@ -2,7 +2,7 @@
 ghost use mathlib.Core.List.{List};
 ghost use Prim.Native.Nat.{ℕ};
 ghost use lib.IntN.{ℤ};
-ghost use Rattle.aspif.specs.Rules.{Rule};
+ghost use Rattle.aspif.specs.Rules.{InputRule};
 ghost use Rattle.text.specs.declared.Letter.the-variants.{Addition, Deletion};
 ghost use Rattle.nogoods.specs.Keeps.{Holds};
 ghost use Rattle.checker.specs.Held.{PassedLine, Stepping};
@@ -15,9 +15,9 @@ use nogoods::store;
 pub fn addition(known: &[u8], store: &mut [i32], used: usize, numbers: &mut [i32]) -> Stepped
     requires live { ⌜ ((live : List (List ℤ)) × Holds (now store) used live) ⌝ }
     requires line { ⌜ PassedLine Addition (now numbers) ⌝ }
-    ensures { λ r. ⌜ ((P : List Rule) (names : List ℕ)
-        → Stepping P Addition (now (numbers .entry)) used (now (known .entry)) names (now (store .entry))
-        (now (known .entry)) names (now (store .exit)) r) ⌝ }
+    ensures { λ r. ⌜ ((N : ℕ) (ws : List InputRule) (names : List ℕ) (bodies : List ℤ)
+        → Stepping N ws Addition (now (numbers .entry)) used (now (known .entry)) names bodies (now (store .entry))
+        (now (known .entry)) names bodies (now (store .exit)) r) ⌝ }
 {
     if !marks::all_marked(numbers, known) {
         return Stepped::Fails(26);
@@ -33,9 +33,9 @@ pub fn addition(known: &[u8], store: &mut [i32], used: usize, numbers: &mut [i32
 pub fn deletion(known: &[u8], store: &mut [i32], used: usize, numbers: &mut [i32]) -> Stepped
     requires live { ⌜ ((live : List (List ℤ)) × Holds (now store) used live) ⌝ }
     requires line { ⌜ PassedLine Deletion (now numbers) ⌝ }
-    ensures { λ r. ⌜ ((P : List Rule) (names : List ℕ)
-        → Stepping P Deletion (now (numbers .entry)) used (now (known .entry)) names (now (store .entry))
-        (now (known .entry)) names (now (store .exit)) r) ⌝ }
+    ensures { λ r. ⌜ ((N : ℕ) (ws : List InputRule) (names : List ℕ) (bodies : List ℤ)
+        → Stepping N ws Deletion (now (numbers .entry)) used (now (known .entry)) names bodies (now (store .entry))
+        (now (known .entry)) names bodies (now (store .exit)) r) ⌝ }
 {
     if !marks::all_marked(numbers, known) {
         return Stepped::Fails(26);

@@ -6,7 +6,7 @@ ghost use Prim.Native.Nat.{_≤_};
 ghost use lib.ListN.{length, replicate};
 ghost use Rattle.words.specs.Limits.{mostRules};
 ghost use Rattle.words.specs.Lists.{any};
-ghost use Rattle.aspif.specs.Rules.{Rule, isEmpty, tableWords};
+ghost use Rattle.aspif.specs.Rules.{InputRule, isEmpty, tableWords};
 ghost use Rattle.aspif.specs.Reading.{program};
 ghost use Rattle.nogoods.specs.Keeps.{Holds};
 ghost use Rattle.checker.specs.Check.{saying, judgedReading};
@@ -55,12 +55,12 @@ pub fn check_proof(
     rules: usize,
     store: &mut [i32],
 ) -> Verdict
-    requires program { ⌜ ((P : List Rule) × Program (now table) rules atoms P) × (rules ≤ mostRules) ⌝ }
+    requires program { ⌜ ((ws : List InputRule) × Program (now table) rules atoms ws) × (rules ≤ mostRules) ⌝ }
     requires empty { ⌜ now store ≡ replicate (length (now store)) (pos 0) ⌝ }
-    ensures { λ r. ⌜ ((P : List Rule) → Program (now (table .entry)) rules atoms P
-        → now (table .entry) ≡ tableWords (length (now (table .entry))) P
+    ensures { λ r. ⌜ ((ws : List InputRule) → Program (now (table .entry)) rules atoms ws
+        → now (table .entry) ≡ tableWords (length (now (table .entry))) ws
         → record { verdict = r; table = now (table .exit); store = now (store .exit) }
-        ≡ judgedReading (length (now (table .entry))) (length (now (store .entry))) (now (proof .entry)) (program P)) ⌝ }
+        ≡ judgedReading (length (now (table .entry))) (length (now (store .entry))) (now (proof .entry)) (program ws)) ⌝ }
 {
     if words::LONGEST < proof.len() {
         return refuse(

@@ -1,24 +1,24 @@
 // `b` and `e`: the steps that introduce a name. Document 01, questions 26 to 28 and 34.
 ghost use mathlib.Core.Path.{_≡_};
-ghost use mathlib.Core.Bool.{true};
-ghost use mathlib.Core.List.{List, _++_};
+ghost use mathlib.Core.Bool.{true, false};
+ghost use mathlib.Core.List.{List, _∷_, _++_};
 ghost use Prim.Native.Nat.{ℕ, _≤_};
 ghost use lib.IntN.{ℤ, pos};
 ghost use lib.ListN.{length, drop, getD, set};
 ghost use Rattle.words.specs.Limits.{largest, mostNumbers};
-ghost use Rattle.words.specs.Literals.{variable, sameList, ascending};
-ghost use Rattle.aspif.specs.Rules.{Rule};
+ghost use Rattle.words.specs.Literals.{variable, ascending};
+ghost use Rattle.aspif.specs.Rules.{InputRule, expand};
 ghost use Rattle.text.specs.declared.Letter.the-variants.{Body, Extension};
-ghost use Rattle.derivation.specs.States.{State};
+ghost use Rattle.derivation.specs.States.{State, isKnown};
 ghost use Rattle.derivation.specs.Steps.{definition, isUnnamedBody};
 ghost use Rattle.nogoods.specs.Keeps.{Literals, Holds};
-ghost use Rattle.names.specs.Queries.{HoldsRules, renamed};
-ghost use Rattle.checker.specs.Held.{PassedLine, Tracks, Fitted, Stepping};
+ghost use Rattle.names.specs.ByName.{bodyWords};
+ghost use Rattle.names.specs.Queries.{HoldsRules, Kept};
+ghost use Rattle.checker.specs.Held.{PassedLine, nameOf, Tracks, Fitted, Stepping};
 use crate::outcomes;
 use crate::outcomes::Stepped;
 use crate::states::CheckingState;
 use names::queries;
-use names::queries::Query;
 use nogoods::definitions;
 use nogoods::store;
 
@@ -39,9 +39,9 @@ fn define(known: &mut [u8], store: &mut [i32], used: usize, numbers: &mut [i32])
 pub fn extension(known: &mut [u8], store: &mut [i32], used: usize, numbers: &mut [i32]) -> Stepped
     requires live { ⌜ ((live : List (List ℤ)) × Holds (now store) used live) ⌝ }
     requires line { ⌜ PassedLine Extension (now numbers) ⌝ }
-    ensures { λ r. ⌜ ((P : List Rule) (names : List ℕ)
-        → Stepping P Extension (now (numbers .entry)) used (now (known .entry)) names (now (store .entry))
-        (now (known .exit)) names (now (store .exit)) r) ⌝ }
+    ensures { λ r. ⌜ ((N : ℕ) (ws : List InputRule) (names : List ℕ) (bodies : List ℤ)
+        → Stepping N ws Extension (now (numbers .entry)) used (now (known .entry)) names bodies (now (store .entry))
+        (now (known .exit)) names bodies (now (store .exit)) r) ⌝ }
 {
     if !marks::all_marked(&numbers[1..], known) {
         return Stepped::Fails(26);
@@ -52,24 +52,32 @@ pub fn extension(known: &mut [u8], store: &mut [i32], used: usize, numbers: &mut
     define(known, store, used, numbers)
 }
 
-// Question 28: the literals are the body of a rule, which has no name yet. Its rules then get the name, and the literals ascend.
-fn name_body(table: &[i32], rules: usize, names: &mut [u16], body: &mut [i32], name: usize) -> bool
-    requires program { ⌜ ((P : List Rule) × HoldsRules (now table) rules P) × (rules ≤ length (now names)) ⌝ }
-    requires name { ⌜ name ≤ largest ⌝ }
-    ensures answer { λ r. ⌜ ((P : List Rule) → HoldsRules (now (table .entry)) rules P
-        → (known : List ℕ) (z : State) → Tracks P known (now (names .entry)) (z .introduced) (z .named)
-        → r ≡ isUnnamedBody P z (now (body .entry))) ⌝ }
-    ensures named { λ r. ⌜ ((P : List Rule) → HoldsRules (now (table .entry)) rules P → r ≡ true
-        → now (names .exit) ≡ renamed (λ x. sameList (x .body) (ascending (now (body .entry)))) name P (now (names .entry))) ⌝ }
+// Question 28: the literals are the body of a rule, which has no name yet. It then gets the name, and the literals ascend.
+fn name_body(
+    table: &[i32],
+    rules: usize,
+    names: &mut [u16],
+    bodies: &mut [i16],
+    body: &mut [i32],
+    name: usize,
+) -> bool
+    requires program { ⌜ ((ws : List InputRule) × HoldsRules (now table) rules ws) × (rules ≤ length (now names)) ⌝ }
+    requires bodies { ⌜ length (now bodies) ≡ bodyWords ⌝ }
+    requires name { ⌜ (1 ≤ name) × (name ≤ largest) × Literals (now body) ⌝ }
+    ensures answer { λ r. ⌜ ((N : ℕ) (ws : List InputRule) → HoldsRules (now (table .entry)) rules ws
+        → (known : List ℕ) (z : State) → Tracks N ws known (now (names .entry)) (now (bodies .entry)) (z .introduced) (z .named)
+        → r ≡ isUnnamedBody (expand ws) z (now (body .entry))) ⌝ }
+    ensures named { λ r. ⌜ ((N : ℕ) (ws : List InputRule) → HoldsRules (now (table .entry)) rules ws → r ≡ true
+        → (known : List ℕ) (z : State) → Tracks N ws known (now (names .entry)) (now (bodies .entry)) (z .introduced) (z .named)
+        → isKnown N z name ≡ false
+        → Kept (now (names .exit)) (now (bodies .exit))
+        (nameOf (record { name = name; body = ascending (now (body .entry)) } ∷ z .named)) ws) ⌝ }
 {
     words::sort(body);
-    // the query reads no set
-    let none = [0u8; 1];
-    let found = queries::names_of(table, rules, names, Query::Body, body, &none);
-    if !marks::is_marked(&found, 0) {
+    if !queries::is_unnamed(table, rules, names, bodies, body) {
         return false;
     }
-    queries::enter(table, rules, body, name as u16, names);
+    queries::enter(table, rules, body, name, names, bodies);
     true
 }
 
@@ -80,16 +88,19 @@ pub fn body(
     rules: usize,
     known: &mut [u8],
     names: &mut [u16],
+    bodies: &mut [i16],
     store: &mut [i32],
     used: usize,
     numbers: &mut [i32],
 ) -> Stepped
-    requires program { ⌜ ((P : List Rule) × HoldsRules (now table) rules P) × (rules ≤ length (now names)) ⌝ }
+    requires program { ⌜ ((ws : List InputRule) × HoldsRules (now table) rules ws) × (rules ≤ length (now names)) ⌝ }
+    requires bodies { ⌜ length (now bodies) ≡ bodyWords ⌝ }
     requires live { ⌜ ((live : List (List ℤ)) × Holds (now store) used live) ⌝ }
     requires line { ⌜ PassedLine Body (now numbers) ⌝ }
-    ensures { λ r. ⌜ ((P : List Rule) → HoldsRules (now (table .entry)) rules P
-        → Stepping P Body (now (numbers .entry)) used (now (known .entry)) (now (names .entry)) (now (store .entry))
-        (now (known .exit)) (now (names .exit)) (now (store .exit)) r) ⌝ }
+    ensures { λ r. ⌜ ((N : ℕ) (ws : List InputRule) → HoldsRules (now (table .entry)) rules ws
+        → Stepping N ws Body (now (numbers .entry)) used
+        (now (known .entry)) (now (names .entry)) (now (bodies .entry)) (now (store .entry))
+        (now (known .exit)) (now (names .exit)) (now (bodies .exit)) (now (store .exit)) r) ⌝ }
 {
     if !marks::all_marked(&numbers[1..], known) {
         return Stepped::Fails(26);
@@ -101,7 +112,7 @@ pub fn body(
     let count = numbers.len();
     let mut row = [0i32; CheckingState::NUMBERS];
     words::copy(&mut row, numbers);
-    if !name_body(table, rules, names, &mut row[1..count], name) {
+    if !name_body(table, rules, names, bodies, &mut row[1..count], name) {
         return Stepped::Fails(28);
     }
     define(known, store, used, numbers)

@@ -5,10 +5,11 @@ ghost use Prim.Native.Nat.{_≤_};
 ghost use lib.IntN.{ℤ, pos};
 ghost use lib.ListN.{length, replicate};
 ghost use Rattle.words.specs.Limits.{longest, mostRules};
-ghost use Rattle.aspif.specs.Rules.{Rule};
+ghost use Rattle.aspif.specs.Rules.{InputRule, expand};
 ghost use Rattle.drupe.specs.Lines.{lineAt};
 ghost use Rattle.derivation.specs.States.{State};
 ghost use Rattle.nogoods.specs.Keeps.{Holds};
+ghost use Rattle.names.specs.ByName.{bodyWords};
 ghost use Rattle.checker.specs.Check.{course};
 ghost use Rattle.checker.specs.Held.{Program, Tracks, proofTurn, LineLeaves, Ran};
 use crate::ProofRefusal;
@@ -17,6 +18,7 @@ use crate::states::CheckingState;
 use crate::steps;
 use drupe::LineAnswer;
 use drupe::reader;
+use names::by_name;
 
 // What stands at a position comes to: the end, the question that is answered no, or the next position and the words used then.
 pub enum ProofTurn {
@@ -50,15 +52,18 @@ fn turn_at(
     atoms: usize,
     known: &mut [u8],
     names: &mut [u16],
+    bodies: &mut [i16],
     store: &mut [i32],
     used: usize,
 ) -> ProofTurn
-    requires program { ⌜ ((P : List Rule) × Program (now table) rules atoms P) × (rules ≤ length (now names)) ⌝ }
+    requires program { ⌜ ((ws : List InputRule) × Program (now table) rules atoms ws) × (rules ≤ length (now names)) ⌝ }
+    requires bodies { ⌜ length (now bodies) ≡ bodyWords ⌝ }
     requires live { ⌜ ((live : List (List ℤ)) × Holds (now store) used live) ⌝ }
-    ensures { λ r. ⌜ ((P : List Rule) → Program (now (table .entry)) rules atoms P
-        → (z : State) → Tracks P (now (known .entry)) (now (names .entry)) (z .introduced) (z .named)
+    ensures { λ r. ⌜ ((ws : List InputRule) → Program (now (table .entry)) rules atoms ws
+        → (z : State) → Tracks atoms ws (now (known .entry)) (now (names .entry)) (now (bodies .entry)) (z .introduced) (z .named)
         → Holds (now (store .entry)) used (z .live)
-        → LineLeaves P (now (known .exit)) (now (names .exit)) (now (store .exit)) used z (lineAt (now (proof .entry)) at) r) ⌝ }
+        → LineLeaves atoms ws (now (known .exit)) (now (names .exit)) (now (bodies .exit)) (now (store .exit)) used z
+        (lineAt (now (proof .entry)) at) r) ⌝ }
 {
     let reading = reader::step_at(proof, at);
     let answer = reading.answer;
@@ -72,7 +77,18 @@ fn turn_at(
             next,
         } => {
             let line = &mut numbers[..count];
-            let stepped = steps::step(table, rules, atoms, letter, line, known, names, store, used);
+            let stepped = steps::step(
+                table,
+                rules,
+                atoms,
+                letter,
+                line,
+                known,
+                names,
+                bodies,
+                store,
+                used,
+            );
             turn_of(next, stepped)
         }
     }
@@ -80,15 +96,16 @@ fn turn_at(
 
 // All lines of a proof text, from an empty store. The first refusal ends them.
 pub fn run_lines(proof: &[u8], table: &[i32], rules: usize, atoms: usize, store: &mut [i32]) -> Run
-    requires program { ⌜ ((P : List Rule) × Program (now table) rules atoms P) × (rules ≤ mostRules) ⌝ }
+    requires program { ⌜ ((ws : List InputRule) × Program (now table) rules atoms ws) × (rules ≤ mostRules) ⌝ }
     requires short { ⌜ length (now proof) ≤ longest ⌝ }
     requires empty { ⌜ now store ≡ replicate (length (now store)) (pos 0) ⌝ }
-    ensures { λ r. ⌜ ((P : List Rule) → Program (now (table .entry)) rules atoms P
-        → Ran (now (store .exit)) (course P (length (now (store .entry))) (now (proof .entry))) r) ⌝ }
+    ensures { λ r. ⌜ ((ws : List InputRule) → Program (now (table .entry)) rules atoms ws
+        → Ran (now (store .exit)) (course atoms (expand ws) (length (now (store .entry))) (now (proof .entry))) r) ⌝ }
 {
     let start = CheckingState::start(atoms);
     let mut known = start.known;
     let mut names = start.names;
+    let mut bodies = [0i16; by_name::BODY_WORDS];
     let mut used = start.used;
     let mut at = 0;
     let mut steps = 0;
@@ -101,6 +118,7 @@ pub fn run_lines(proof: &[u8], table: &[i32], rules: usize, atoms: usize, store:
             atoms,
             &mut known,
             &mut names,
+            &mut bodies,
             store,
             used,
         );

@@ -5,7 +5,8 @@ ghost use lib.ListN.{replicate};
 ghost use Rattle.words.specs.Limits.{largest, mostRules};
 ghost use Rattle.marks.specs.Marks.{Marks, upTo};
 
-// The known variables as marks; by rule, the name of its body, 0 for none; how many words of the store are used.
+// The known variables as marks; by rule, the name of its plain body, 0 for none; how many words of the store are used. The bodies by
+// name stand beside it: a field is copied before it is lent, and that array is large.
 pub struct CheckingState {
     pub known: [u8; words::ENTRIES],
     pub names: [u16; words::MOST_RULES],

@@ -1,11 +1,13 @@
 // The seven steps, questions 26 to 34, by letter: document 01, 'The proof's seven letters'. What each comes to is derivation's
 // `byLetter`; how table, arrays and store hold a program and a state is specs/Held.antt.
+ghost use mathlib.Core.Path.{_≡_};
 ghost use mathlib.Core.List.{List};
 ghost use Prim.Native.Nat.{_≤_};
 ghost use lib.IntN.{ℤ};
 ghost use lib.ListN.{length};
-ghost use Rattle.aspif.specs.Rules.{Rule};
+ghost use Rattle.aspif.specs.Rules.{InputRule};
 ghost use Rattle.nogoods.specs.Keeps.{Holds};
+ghost use Rattle.names.specs.ByName.{bodyWords};
 ghost use Rattle.checker.specs.Held.{PassedLine, Program, Stepping};
 use crate::additions;
 use crate::naming;
@@ -23,23 +25,32 @@ pub fn step(
     line: &mut [i32],
     known: &mut [u8],
     names: &mut [u16],
+    bodies: &mut [i16],
     store: &mut [i32],
     used: usize,
 ) -> Stepped
-    requires program { ⌜ ((P : List Rule) × Program (now table) rules atoms P) × (rules ≤ length (now names)) ⌝ }
+    requires program { ⌜ ((ws : List InputRule) × Program (now table) rules atoms ws) × (rules ≤ length (now names)) ⌝ }
+    requires bodies { ⌜ length (now bodies) ≡ bodyWords ⌝ }
     requires live { ⌜ ((live : List (List ℤ)) × Holds (now store) used live) ⌝ }
     requires line { ⌜ PassedLine letter (now line) ⌝ }
-    ensures { λ r. ⌜ ((P : List Rule) → Program (now (table .entry)) rules atoms P
-        → Stepping P letter (now (line .entry)) used (now (known .entry)) (now (names .entry)) (now (store .entry))
-        (now (known .exit)) (now (names .exit)) (now (store .exit)) r) ⌝ }
+    ensures { λ r. ⌜ ((ws : List InputRule) → Program (now (table .entry)) rules atoms ws
+        → Stepping atoms ws letter (now (line .entry)) used
+        (now (known .entry)) (now (names .entry)) (now (bodies .entry)) (now (store .entry))
+        (now (known .exit)) (now (names .exit)) (now (bodies .exit)) (now (store .exit)) r) ⌝ }
 {
     match letter {
         Letter::Addition => additions::addition(known, store, used, line),
-        Letter::Body => naming::body(table, rules, known, names, store, used, line),
-        Letter::Completion => supports::completion(table, rules, known, names, store, used, line),
+        Letter::Body => naming::body(table, rules, known, names, bodies, store, used, line),
+        Letter::Completion => {
+            supports::completion(table, rules, known, names, bodies, store, used, line)
+        }
         Letter::Deletion => additions::deletion(known, store, used, line),
         Letter::Extension => naming::extension(known, store, used, line),
-        Letter::Loop => unfounded::loops(table, rules, atoms, known, names, store, used, line),
-        Letter::Support => supports::support(table, rules, atoms, known, names, store, used, line),
+        Letter::Loop => {
+            unfounded::loops(table, rules, atoms, known, names, bodies, store, used, line)
+        }
+        Letter::Support => {
+            supports::support(table, rules, atoms, known, names, bodies, store, used, line)
+        }
     }
 }

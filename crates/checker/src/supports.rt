@@ -6,11 +6,12 @@ ghost use lib.IntN.{ℤ, pos};
 ghost use lib.ListN.{length, drop, getD};
 ghost use Rattle.words.specs.Literals.{complement, ascending};
 ghost use Rattle.words.specs.Limits.{mostNumbers};
-ghost use Rattle.aspif.specs.Rules.{Rule};
+ghost use Rattle.aspif.specs.Rules.{InputRule, expand};
 ghost use Rattle.text.specs.declared.Letter.the-variants.{Completion, Support};
 ghost use Rattle.derivation.specs.States.{State};
 ghost use Rattle.derivation.specs.Steps.{isSupport};
 ghost use Rattle.nogoods.specs.Keeps.{Literals, Holds};
+ghost use Rattle.names.specs.ByName.{bodyWords};
 ghost use Rattle.names.specs.Queries.{HoldsRules};
 ghost use Rattle.checker.specs.Held.{PassedLine, Program, Tracks, Fitted, Stepping};
 use crate::outcomes;
@@ -38,43 +39,54 @@ pub fn completion(
     rules: usize,
     known: &[u8],
     names: &[u16],
+    bodies: &[i16],
     store: &mut [i32],
     used: usize,
     numbers: &mut [i32],
 ) -> Stepped
-    requires program { ⌜ ((P : List Rule) × HoldsRules (now table) rules P) × (rules ≤ length (now names)) ⌝ }
+    requires program { ⌜ ((ws : List InputRule) × HoldsRules (now table) rules ws) × (rules ≤ length (now names)) ⌝ }
+    requires bodies { ⌜ length (now bodies) ≡ bodyWords ⌝ }
     requires live { ⌜ ((live : List (List ℤ)) × Holds (now store) used live) ⌝ }
     requires line { ⌜ PassedLine Completion (now numbers) ⌝ }
-    ensures { λ r. ⌜ ((P : List Rule) → HoldsRules (now (table .entry)) rules P
-        → Stepping P Completion (now (numbers .entry)) used (now (known .entry)) (now (names .entry)) (now (store .entry))
-        (now (known .entry)) (now (names .entry)) (now (store .exit)) r) ⌝ }
+    ensures { λ r. ⌜ ((N : ℕ) (ws : List InputRule) → HoldsRules (now (table .entry)) rules ws
+        → Stepping N ws Completion (now (numbers .entry)) used
+        (now (known .entry)) (now (names .entry)) (now (bodies .entry)) (now (store .entry))
+        (now (known .entry)) (now (names .entry)) (now (bodies .entry)) (now (store .exit)) r) ⌝ }
 {
     if !marks::all_marked(numbers, known) {
         return Stepped::Fails(26);
     }
-    // the query reads no set
-    let found = queries::names_of(table, rules, names, Query::Normal, &numbers[1..], known);
-    if !marks::is_marked(&found, words::variable_of(numbers[0])) {
+    let name = words::variable_of(numbers[0]);
+    if !queries::is_completed(table, rules, names, bodies, &numbers[1..], name) {
         return Stepped::Fails(29);
     }
     join(store, used, numbers)
 }
 
 // Question 30: h, the first number, is an atom, and the others are the names of just the bodies of the rules with h in the head.
-fn is_supported(table: &[i32], rules: usize, atoms: usize, names: &[u16], numbers: &[i32]) -> bool
-    requires program { ⌜ ((P : List Rule) × Program (now table) rules atoms P) × (rules ≤ length (now names)) ⌝ }
+fn is_supported(
+    table: &[i32],
+    rules: usize,
+    atoms: usize,
+    names: &[u16],
+    bodies: &[i16],
+    numbers: &[i32],
+) -> bool
+    requires program { ⌜ ((ws : List InputRule) × Program (now table) rules atoms ws) × (rules ≤ length (now names)) ⌝ }
+    requires bodies { ⌜ length (now bodies) ≡ bodyWords ⌝ }
     requires line { ⌜ PassedLine Support (now numbers) ⌝ }
-    ensures { λ r. ⌜ ((P : List Rule) → Program (now (table .entry)) rules atoms P
-        → (known : List ℕ) (z : State) → Tracks P known (now (names .entry)) (z .introduced) (z .named)
-        → r ≡ isSupport P z (getD (now (numbers .entry)) 0 (pos 0)) (drop 1 (now (numbers .entry)))) ⌝ }
+    ensures { λ r. ⌜ ((ws : List InputRule) → Program (now (table .entry)) rules atoms ws
+        → (known : List ℕ) (z : State) → Tracks atoms ws known (now (names .entry)) (now (bodies .entry)) (z .introduced) (z .named)
+        → r ≡ isSupport atoms (expand ws) z (getD (now (numbers .entry)) 0 (pos 0)) (drop 1 (now (numbers .entry)))) ⌝ }
 {
     let h = numbers[0];
     if atoms < words::variable_of(h) {
         return false;
     }
     let listed = marks::marks_of(&numbers[1..]);
-    // the query reads neither literals nor a set
-    let found = queries::names_of(table, rules, names, Query::Head(h), numbers, &listed);
+    // the empty set: no body is left out
+    let none = [0u8; 1];
+    let found = queries::names_of(table, rules, names, bodies, Query::Head(h), &none);
     marks::is_same_set(&listed, &found)
 }
 
@@ -85,21 +97,24 @@ pub fn support(
     atoms: usize,
     known: &[u8],
     names: &[u16],
+    bodies: &[i16],
     store: &mut [i32],
     used: usize,
     numbers: &mut [i32],
 ) -> Stepped
-    requires program { ⌜ ((P : List Rule) × Program (now table) rules atoms P) × (rules ≤ length (now names)) ⌝ }
+    requires program { ⌜ ((ws : List InputRule) × Program (now table) rules atoms ws) × (rules ≤ length (now names)) ⌝ }
+    requires bodies { ⌜ length (now bodies) ≡ bodyWords ⌝ }
     requires live { ⌜ ((live : List (List ℤ)) × Holds (now store) used live) ⌝ }
     requires line { ⌜ PassedLine Support (now numbers) ⌝ }
-    ensures { λ r. ⌜ ((P : List Rule) → Program (now (table .entry)) rules atoms P
-        → Stepping P Support (now (numbers .entry)) used (now (known .entry)) (now (names .entry)) (now (store .entry))
-        (now (known .entry)) (now (names .entry)) (now (store .exit)) r) ⌝ }
+    ensures { λ r. ⌜ ((ws : List InputRule) → Program (now (table .entry)) rules atoms ws
+        → Stepping atoms ws Support (now (numbers .entry)) used
+        (now (known .entry)) (now (names .entry)) (now (bodies .entry)) (now (store .entry))
+        (now (known .entry)) (now (names .entry)) (now (bodies .entry)) (now (store .exit)) r) ⌝ }
 {
     if !marks::all_marked(numbers, known) {
         return Stepped::Fails(26);
     }
-    if !is_supported(table, rules, atoms, names, numbers) {
+    if !is_supported(table, rules, atoms, names, bodies, numbers) {
         return Stepped::Fails(30);
     }
     join(store, used, numbers)

@@ -6,9 +6,10 @@ ghost use lib.IntN.{ℤ};
 ghost use lib.ListN.{length, take};
 ghost use Rattle.words.specs.Limits.{largest, entries};
 ghost use Rattle.marks.specs.Marks.{marked};
-ghost use Rattle.aspif.specs.Rules.{Rule};
+ghost use Rattle.aspif.specs.Rules.{InputRule};
 ghost use Rattle.text.specs.declared.Letter.the-variants.{Loop};
 ghost use Rattle.nogoods.specs.Keeps.{Holds};
+ghost use Rattle.names.specs.ByName.{bodyWords};
 ghost use Rattle.checker.specs.Held.{PassedLine, Program, gathered, Stepping};
 use crate::outcomes;
 use crate::outcomes::Stepped;
@@ -58,16 +59,19 @@ pub fn loops(
     atoms: usize,
     known: &[u8],
     names: &[u16],
+    bodies: &[i16],
     store: &mut [i32],
     used: usize,
     numbers: &[i32],
 ) -> Stepped
-    requires program { ⌜ ((P : List Rule) × Program (now table) rules atoms P) × (rules ≤ length (now names)) ⌝ }
+    requires program { ⌜ ((ws : List InputRule) × Program (now table) rules atoms ws) × (rules ≤ length (now names)) ⌝ }
+    requires bodies { ⌜ length (now bodies) ≡ bodyWords ⌝ }
     requires live { ⌜ ((live : List (List ℤ)) × Holds (now store) used live) ⌝ }
     requires line { ⌜ PassedLine Loop (now numbers) ⌝ }
-    ensures { λ r. ⌜ ((P : List Rule) → Program (now (table .entry)) rules atoms P
-        → Stepping P Loop (now (numbers .entry)) used (now (known .entry)) (now (names .entry)) (now (store .entry))
-        (now (known .entry)) (now (names .entry)) (now (store .exit)) r) ⌝ }
+    ensures { λ r. ⌜ ((ws : List InputRule) → Program (now (table .entry)) rules atoms ws
+        → Stepping atoms ws Loop (now (numbers .entry)) used
+        (now (known .entry)) (now (names .entry)) (now (bodies .entry)) (now (store .entry))
+        (now (known .entry)) (now (names .entry)) (now (bodies .entry)) (now (store .exit)) r) ⌝ }
 {
     if !marks::all_marked(numbers, known) {
         return Stepped::Fails(26);
@@ -76,7 +80,7 @@ pub fn loops(
         return Stepped::Fails(31);
     }
     let inside = marks::marks_of(numbers);
-    let found = queries::names_of(table, rules, names, Query::External, numbers, &inside);
+    let found = queries::names_of(table, rules, names, bodies, Query::External, &inside);
     if marks::is_marked(&found, 0) {
         return Stepped::Fails(32);
     }

@@ -5,3 +5,4 @@ pub mod Questions
 pub mod Invariant
 pub mod Nogoods
 pub mod Sound
+pub mod AsWritten

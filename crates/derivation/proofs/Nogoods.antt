@@ -3,14 +3,14 @@
 use mathlib.Core.Path.{_≡_, refl, sym, ap, _∙_, subst, subst₂}
 use mathlib.Core.Bool.{Bool, _&&_}
 use mathlib.Core.List.{List, [], _∷_, map, List·Memᴰ·head, List·Memᴰ·tail, Memᴰ·cast, Memᴰ·map}
-use Prim.Native.Nat.{ℕ, zero, suc}
+use Prim.Native.Nat.{ℕ, zero, suc, _≤_}
 use lib.Dec.{T}
 use lib.IntN.{ℤ, pos, negsuc, negℤ}
 use Rattle.words.specs.Lists.{_∈_, any}
 use Rattle.words.specs.Literals.{variable, complement, sameList}
 use Rattle.words.proofs.Lists.{itself, and-decides, not-decides, any-decides, keep←}
 use Rattle.words.proofs.Literals.{sameList-decides, has-decides}
-use Rattle.aspif.specs.Rules.{Rule}
+use Rattle.aspif.specs.Rules.{Rule, plainAtoms}
 use Rattle.aspif.specs.declared.Kind.the-variants.{Normal}
 use Rattle.aspif.specs.AnswerSets.{Taken, Chosen, LeastModel, derive, Met, AnswerSet}
 use Rattle.drupe.specs.Lines.{isPositive}
@@ -29,15 +29,15 @@ TrueIn M (negsuc n) = ¬ M (suc n)
 abbrev pub Positives : List ℤ → Type 0
 Positives L = (x : ℤ) → x ∈ L → T (isPositive x)
 
-module _ (P : List Rule) (M : ℕ → Type 0) (S : AnswerSet M P) (z : State) (k : Kept P M z) where
+module _ (N : ℕ) (P : List Rule) (fits : plainAtoms P ≤ N) (M : ℕ → Type 0) (S : AnswerSet M P) (z : State) (k : Kept N M z) where
   -- Atoms
 
-  atom→ : (h : ℤ) → T (isPositive h) → T (isAtom P (variable h)) → True (k .W) h → ¬ (¬ LeastModel M P (variable h))
+  atom→ : (h : ℤ) → T (isPositive h) → T (isAtom N (variable h)) → True (k .W) h → ¬ (¬ LeastModel M P (variable h))
   atom→ (pos zero) p a t f = absurd p
   atom→ (pos (suc n)) p a t f = t (λ w. f (S .least (suc n) .0 (k .atoms (suc n) a .0 w)))
   atom→ (negsuc n) p a t f = absurd p
 
-  atom← : (h : ℤ) → T (isPositive h) → T (isAtom P (variable h)) → LeastModel M P (variable h) → True (k .W) h
+  atom← : (h : ℤ) → T (isPositive h) → T (isAtom N (variable h)) → LeastModel M P (variable h) → True (k .W) h
   atom← (pos zero) p a d = absurd p
   atom← (pos (suc n)) p a d = λ f. f (k .atoms (suc n) a .1 (S .least (suc n) .1 d))
   atom← (negsuc n) p a d = absurd p
@@ -45,27 +45,27 @@ module _ (P : List Rule) (M : ℕ → Type 0) (S : AnswerSet M P) (z : State) (k
   -- Bodies
 
   -- a body that is true under the valuation is met
-  met : (r : Rule) → AllAtoms P (r .body) → All (k .W) (r .body) → ¬ (¬ Met M r)
+  met : (r : Rule) → AllAtoms N (r .body) → All (k .W) (r .body) → ¬ (¬ Met M r)
   met r a f c = shift (TrueIn M) (r .body) (λ x u. holds x (a x u) (f x u)) (λ H. c (λ b u. H (pos b) u, λ n u. H (negsuc n) u))
     where
-      holds : (x : ℤ) → T (isAtom P (variable x)) → True (k .W) x → ¬ (¬ TrueIn M x)
+      holds : (x : ℤ) → T (isAtom N (variable x)) → True (k .W) x → ¬ (¬ TrueIn M x)
       holds (pos zero) a t f = a
       holds (pos (suc n)) a t f = t (λ w. f (k .atoms (suc n) a .0 w))
       holds (negsuc n) a t f = f (λ m. t (k .atoms (suc n) a .1 m))
 
   -- the body of a rule that the least model uses is true under it
-  used : (r : Rule) → AllAtoms P (r .body) → Taken M r → ((b : ℕ) → pos b ∈ r .body → LeastModel M P b) → All (k .W) (r .body)
+  used : (r : Rule) → AllAtoms N (r .body) → Taken M r → ((b : ℕ) → pos b ∈ r .body → LeastModel M P b) → All (k .W) (r .body)
   used r a f g (pos zero) u = tt
   used r a f g (pos (suc n)) u = λ c. c (k .atoms (suc n) (a (pos (suc n)) u) .1 (S .least (suc n) .1 (g (suc n) u)))
   used r a f g (negsuc n) u = λ w. f n u (k .atoms (suc n) (a (negsuc n) u) .0 w)
 
   -- a name means its body, whose variables are atoms
-  named : (n : ℤ) (body : List ℤ) → T (isPositive n) → T (isName z (variable n) body) → Means (k .W) n body × AllAtoms P body
+  named : (n : ℤ) (body : List ℤ) → T (isPositive n) → T (isName z (variable n) body) → Means (k .W) n body × AllAtoms N body
   named n body p t =
       let r = name-decides z (variable n) body .to t in
       let q = k .named (r .0) (r .1) in (
         subst₂ (λ (m : ℤ) (l : List ℤ). Means (k .W) m l) (ap pos (r .2 .0) ∙ sym (positive-is n p)) (r .2 .1) (q .means),
-        subst (λ (l : List ℤ). AllAtoms P l) (r .2 .1) (q .atoms),
+        subst (λ (l : List ℤ). AllAtoms N l) (r .2 .1) (q .atoms),
       )
 
   -- Completion
@@ -83,11 +83,11 @@ module _ (P : List Rule) (M : ℕ → Type 0) (S : AnswerSet M P) (z : State) (k
           let u : h ∈ r .heads = rw e (List·Memᴰ·head refl) in
           let c : Chosen M (r .kind) (variable h) = rw normal-kind tt in
           let d : LeastModel M P (variable h) = derive r m (H .1) (Memᴰ·cast (sym (positive-is h p)) u, c) (λ b v. S .least b .0 (H .0 b v)) in
-          never-both (k .W) h (positive-nonzero h p) (atom← h p (head-atom P m u (positive-nonzero h p)) d) (f (complement h) (List·Memᴰ·head refl))
+          never-both (k .W) h (positive-nonzero h p) (atom← h p (head-atom N P fits m u (positive-nonzero h p)) d) (f (complement h) (List·Memᴰ·head refl))
 
   -- Support
 
-  pub support-fails : (h : ℤ) (ns : List ℤ) → T (isPositive h) → Positives ns → T (isAtom P (variable h))
+  pub support-fails : (h : ℤ) (ns : List ℤ) → T (isPositive h) → Positives ns → T (isAtom N (variable h))
       → ((r : Rule) → r ∈ P → h ∈ r .heads → (n : ℤ) × (n ∈ ns) × T (isName z (variable n) (r .body)))
       → ¬ All (k .W) (h ∷ map complement ns)
   support-fails h ns p q a s f = atom→ h p a (f h (List·Memᴰ·head refl)) unsupported
@@ -112,15 +112,15 @@ module _ (P : List Rule) (M : ℕ → Type 0) (S : AnswerSet M P) (z : State) (k
     isExternalName x = any (λ r. isExternal U r && sameList (x .body) (r .body)) P
 
     -- where the names of the external bodies are false, so are the bodies
-    external-false : All (k .W) externals → (r : Rule) → r ∈ P → T (isExternal U r) → AllAtoms P (r .body) × (¬ All (k .W) (r .body))
+    external-false : All (k .W) externals → (r : Rule) → r ∈ P → T (isExternal U r) → AllAtoms N (r .body) × (¬ All (k .W) (r .body))
     external-false f r m e = let y = hasName-decides z (r .body) .to (s r m e) in go (y .0) (y .1) (y .2)
       where
-        go : (x : Named) → x ∈ z .named → x .body ≡ r .body → AllAtoms P (r .body) × (¬ All (k .W) (r .body))
+        go : (x : Named) → x ∈ z .named → x .body ≡ r .body → AllAtoms N (r .body) × (¬ All (k .W) (r .body))
         go x n p =
             let i : T (isExternalName x) = any-decides (λ r. and-decides (itself (isExternal U r)) (sameList-decides (x .body) (r .body))) P .from (r, m, (e, p)) in
             let v : True (k .W) (negℤ (pos (x .name))) = f (negℤ (pos (x .name))) (Memᴰ·map (λ n. negℤ (pos n)) (Memᴰ·map (λ x. x .name) (keep← isExternalName n i))) in
             let q = k .named x n in
-            (subst (λ (l : List ℤ). AllAtoms P l) p (q .atoms), λ h. q .means .1 v (subst (λ (l : List ℤ). All (k .W) l) (sym p) h))
+            (subst (λ (l : List ℤ). AllAtoms N l) p (q .atoms), λ h. q .means .1 v (subst (λ (l : List ℤ). All (k .W) l) (sym p) h))
 
     -- then no atom of U is in the least model
     unfounded : All (k .W) externals → {a : ℕ} → LeastModel M P a → ¬ (pos a ∈ U)
@@ -138,7 +138,7 @@ module _ (P : List Rule) (M : ℕ → Type 0) (S : AnswerSet M P) (z : State) (k
                 and-decides (any-decides (λ x. has-decides x U) (r .heads)) (not-decides (any-decides (λ x. has-decides x U) (r .body)))
                 .from ((pos a, g .0, u), λ y. outside (y .0) (y .1) (y .2))
 
-    pub loop-fails : (h : ℤ) → h ∈ U → T (isAtom P (variable h)) → ¬ All (k .W) (h ∷ externals)
+    pub loop-fails : (h : ℤ) → h ∈ U → T (isAtom N (variable h)) → ¬ All (k .W) (h ∷ externals)
     loop-fails h m a f =
         let p = positive h m in
         atom→ h p a (f h (List·Memᴰ·head refl)) (λ d. unfounded (λ x u. f x (List·Memᴰ·tail u)) d (Memᴰ·cast (sym (positive-is h p)) m))

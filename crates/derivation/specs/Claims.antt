@@ -3,11 +3,12 @@
 use mathlib.Core.Path.{_≡_}
 use mathlib.Core.Logic.{_↔_}
 use mathlib.Core.Bool.{true}
-use mathlib.Core.List.{List, _++_}
-use Prim.Native.Nat.{ℕ}
+use mathlib.Core.List.{List, [], _++_}
+use Prim.Native.Nat.{ℕ, _≤_}
 use lib.IntN.{ℤ}
 use Rattle.words.specs.Lists.{_∈_}
-use Rattle.aspif.specs.Rules.{Rule}
+use Rattle.aspif.specs.Rules.{Rule, InputRule, expand, atoms, plainAtoms}
+use Rattle.aspif.specs.declared.Kind.the-variants.{Normal}
 use Rattle.aspif.specs.AnswerSets.{Constraint, AnswerSet}
 use Rattle.derivation.specs.Propagation.{Conflict, refuted}
 use Rattle.derivation.specs.States.{State, start}
@@ -24,11 +25,28 @@ NoAnswerSet P =
     → (M : ℕ → Type 0) → AnswerSet M (P ++ further) → ⊥)
 
 -- "For every program read and every list of steps of the seven letters from an empty store .. if every step is accepted in its
--- turn and the empty nogood is live after the last": of every list of rules, read or not
+-- turn and the empty nogood is live after the last": of every list of rules, read or not, with the atoms 1 to N for any N that
+-- is no less than the largest atom of the rules
 abbrev pub Sound : Type 1
 Sound =
-    (P : List Rule) (ts : List Step) (z : State)
-    → steps P start ts ≡ next z → emptyLive z ≡ true → NoAnswerSet P
+    (N : ℕ) (P : List Rule) → plainAtoms P ≤ N → (ts : List Step) (z : State)
+    → steps N P start ts ≡ next z → emptyLive z ≡ true → NoAnswerSet P
+
+-- The same for programs as they are written, whose answer sets are those of the plain rules that they stand for. A further constraint
+-- may be one with a weight body.
+abbrev pub WrittenConstraint : InputRule → Type 0
+WrittenConstraint r = (r .kind ≡ Normal) × (r .heads ≡ [])
+
+abbrev pub NoneAsWritten : List InputRule → Type 1
+NoneAsWritten ws =
+    ((M : ℕ → Type 0) → AnswerSet M (expand ws) → ⊥)
+    × ((further : List InputRule) → ((r : InputRule) → r ∈ further → WrittenConstraint r)
+    → (M : ℕ → Type 0) → AnswerSet M (expand (ws ++ further)) → ⊥)
+
+abbrev pub SoundAsWritten : Type 1
+SoundAsWritten =
+    (ws : List InputRule) (ts : List Step) (z : State)
+    → steps (atoms ws) (expand ws) start ts ≡ next z → emptyLive z ≡ true → NoneAsWritten ws
 
 -- the computation of an `a` step says what the least set says
 abbrev pub ClosureComputed : Type 0

@@ -7,7 +7,6 @@ use lib.Dec.{eqb, leb}
 use lib.IntN.{ℤ}
 use Rattle.words.specs.Lists.{any}
 use Rattle.words.specs.Literals.{sameList}
-use Rattle.aspif.specs.Rules.{Rule, atoms}
 
 -- a rule body with its name
 pub record Named : Type 0 where
@@ -25,13 +24,14 @@ pub record State : Type 0 where
 abbrev pub start : State
 start = record { live = []; introduced = []; named = [] }
 
--- "the atoms are 1 to N"
-abbrev pub isAtom : List Rule → ℕ → Bool
-isAtom P v = leb 1 v && leb v (atoms P)
+-- "the atoms are 1 to N". N, the program's largest atom, is given beside the rules: a program as written can name atoms that
+-- stand in no plain rule.
+abbrev pub isAtom : ℕ → ℕ → Bool
+isAtom N v = leb 1 v && leb v N
 
 -- "Known are the atoms, and the names that earlier `b` and `e` steps introduced."
-abbrev pub isKnown : List Rule → State → ℕ → Bool
-isKnown P z v = isAtom P v || any (eqb v) (z .introduced)
+abbrev pub isKnown : ℕ → State → ℕ → Bool
+isKnown N z v = isAtom N v || any (eqb v) (z .introduced)
 
 -- n is the name of the rule body
 abbrev pub isName : State → ℕ → List ℤ → Bool

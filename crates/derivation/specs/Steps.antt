@@ -36,11 +36,28 @@ define z n L named = record { live = z .live ++ definition n L; introduced = var
 abbrev pub isExternal : List ℤ → Rule → Bool
 isExternal U r = any (λ h. has h U) (r .heads) && not (any (λ x. has x U) (r .body))
 
-module _ (P : List Rule) (z : State) where
+-- What asks for the atoms, 1 to N
+
+module _ (N : ℕ) (z : State) where
   -- question 26 of a list of numbers: "Are all known, save the name introduced?"
   abbrev pub allKnown : List ℤ → Bool
-  allKnown L = all (λ x. isKnown P z (variable x)) L
+  allKnown L = all (λ x. isKnown N z (variable x)) L
 
+  -- question 31: "are all atoms?"
+  abbrev pub allAtoms : List ℤ → Bool
+  allAtoms U = all (λ x. isAtom N (variable x)) U
+
+  -- questions 26 and 27 of a step that introduces n, and those after them
+  abbrev pub naming : ℤ → List ℤ → Outcome → Outcome
+  naming n L o = cond (allKnown L) (cond (isKnown N z (variable n)) (refused 27) o) (refused 26)
+
+  -- question 26 of a step that introduces no name, and those after it
+  abbrev pub citing : List ℤ → Outcome → Outcome
+  citing L o = cond (allKnown L) o (refused 26)
+
+-- What asks for the rules
+
+module _ (P : List Rule) (z : State) where
   -- question 28: "is it an unnamed rule body?"
   abbrev pub isUnnamedBody : List ℤ → Bool
   isUnnamedBody L = any (λ r. sameList (r .body) (ascending L)) P && not (hasName z (ascending L))
@@ -63,37 +80,13 @@ module _ (P : List Rule) (z : State) where
   abbrev pub completion : ℤ → List ℤ → Outcome
   completion n hs = cond (isCompletion n hs) (next (add z (ascending (n ∷ map complement hs) ∷ []))) (refused 29)
 
-  -- question 30: "h is an atom, never a name; the n are the names of exactly the different bodies of all rules, choice included,
-  -- with h in the head"
-  abbrev pub isSupport : ℤ → List ℤ → Bool
-  isSupport h ns =
-      isAtom P (variable h)
-      && (all (λ r. not (has h (r .heads)) || any (λ n. isName z (variable n) (r .body)) ns) P
-      && all (λ n. any (λ r. has h (r .heads) && isName z (variable n) (r .body)) P) ns)
-
-  -- `s`: "Adds h with every -n."
-  abbrev pub support : ℤ → List ℤ → Outcome
-  support h ns = cond (isSupport h ns) (next (add z (ascending (h ∷ map complement ns) ∷ []))) (refused 30)
-
   -- the names of the external bodies
   abbrev pub externalNames : List ℤ → List ℕ
   externalNames U = map (λ x. x .name) (filter (λ x. any (λ r. isExternal U r && sameList (x .body) (r .body)) P) (z .named))
 
-  -- question 31: "are all atoms?"
-  abbrev pub allAtoms : List ℤ → Bool
-  allAtoms U = all (λ x. isAtom P (variable x)) U
-
   -- question 32: "is each external body named?"
   abbrev pub allNamed : List ℤ → Bool
   allNamed U = all (λ r. not (isExternal U r) || hasName z (r .body)) P
-
-  -- `l`: "a set U of atoms .. Adds the first h with minus the name of each."
-  abbrev pub loop : ℤ → List ℤ → Outcome
-  loop h hs =
-      cond (allAtoms (h ∷ hs))
-      (cond (allNamed (h ∷ hs))
-      (next (add z (ascending (h ∷ map (λ n. negℤ (pos n)) (externalNames (h ∷ hs))) ∷ []))) (refused 32))
-      (refused 31)
 
   -- `a`: "Accepted exactly when A has a literal and its complement, or the empty nogood is live. Adds L."
   abbrev pub addition : List ℤ → Outcome
@@ -104,28 +97,43 @@ module _ (P : List Rule) (z : State) where
   deletion L =
       next (record { live = dropFirst (λ g. sameList g (ascending L)) (z .live); introduced = z .introduced; named = z .named })
 
-  -- questions 26 and 27 of a step that introduces n, and those after them
-  abbrev pub naming : ℤ → List ℤ → Outcome → Outcome
-  naming n L o = cond (allKnown L) (cond (isKnown P z (variable n)) (refused 27) o) (refused 26)
+-- What asks for both
 
-  -- question 26 of a step that introduces no name, and those after it
-  abbrev pub citing : List ℤ → Outcome → Outcome
-  citing L o = cond (allKnown L) o (refused 26)
+module _ (N : ℕ) (P : List Rule) (z : State) where
+  -- question 30: "h is an atom, never a name; the n are the names of exactly the different bodies of all rules, choice included,
+  -- with h in the head"
+  abbrev pub isSupport : ℤ → List ℤ → Bool
+  isSupport h ns =
+      isAtom N (variable h)
+      && (all (λ r. not (has h (r .heads)) || any (λ n. isName z (variable n) (r .body)) ns) P
+      && all (λ n. any (λ r. has h (r .heads) && isName z (variable n) (r .body)) P) ns)
+
+  -- `s`: "Adds h with every -n."
+  abbrev pub support : ℤ → List ℤ → Outcome
+  support h ns = cond (isSupport h ns) (next (add z (ascending (h ∷ map complement ns) ∷ []))) (refused 30)
+
+  -- `l`: "a set U of atoms .. Adds the first h with minus the name of each."
+  abbrev pub loop : ℤ → List ℤ → Outcome
+  loop h hs =
+      cond (allAtoms N z (h ∷ hs))
+      (cond (allNamed P z (h ∷ hs))
+      (next (add z (ascending (h ∷ map (λ n. negℤ (pos n)) (externalNames P z (h ∷ hs))) ∷ []))) (refused 32))
+      (refused 31)
 
   -- questions 26 to 33, by letter; the cases without a first number are those of question 24
   abbrev pub byLetter : Letter → List ℤ → Outcome
-  byLetter Addition L = citing L (addition L)
+  byLetter Addition L = citing N z L (addition P z L)
   byLetter Body [] = refused 24
-  byLetter Body (n ∷ L) = naming n L (body n L)
+  byLetter Body (n ∷ L) = naming N z n L (body P z n L)
   byLetter Completion [] = refused 24
-  byLetter Completion (n ∷ hs) = citing (n ∷ hs) (completion n hs)
-  byLetter Deletion L = citing L (deletion L)
+  byLetter Completion (n ∷ hs) = citing N z (n ∷ hs) (completion P z n hs)
+  byLetter Deletion L = citing N z L (deletion P z L)
   byLetter Extension [] = refused 24
-  byLetter Extension (n ∷ L) = naming n L (extension n L)
+  byLetter Extension (n ∷ L) = naming N z n L (extension P z n L)
   byLetter Loop [] = refused 24
-  byLetter Loop (h ∷ hs) = citing (h ∷ hs) (loop h hs)
+  byLetter Loop (h ∷ hs) = citing N z (h ∷ hs) (loop h hs)
   byLetter Support [] = refused 24
-  byLetter Support (h ∷ ns) = citing (h ∷ ns) (support h ns)
+  byLetter Support (h ∷ ns) = citing N z (h ∷ ns) (support h ns)
 
   -- questions 22 to 33, "The first "no" decides": 22 asks of a line's numbers that none is 0
   abbrev pub step : Step → Outcome
@@ -134,9 +142,9 @@ module _ (P : List Rule) (z : State) where
       (elim (lineRefusal (t .letter) (t .numbers)) [ some k ↦ refused k | none ↦ byLetter (t .letter) (t .numbers) ])
 
 -- "Each step gets all three as the one before left them, and nothing else writes them."
-abbrev pub steps : List Rule → State → List Step → Outcome
-steps P z [] = next z
-steps P z (t ∷ ts) = elim (step P z t) [ refused k ↦ refused k | next z′ ↦ steps P z′ ts ]
+abbrev pub steps : ℕ → List Rule → State → List Step → Outcome
+steps N P z [] = next z
+steps N P z (t ∷ ts) = elim (step N P z t) [ refused k ↦ refused k | next z′ ↦ steps N P z′ ts ]
 
 -- "The empty nogood is looked for after the last step only"
 abbrev pub emptyLive : State → Bool

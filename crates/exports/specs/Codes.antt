@@ -24,7 +24,7 @@ pub record Told (code : ℕ) (numbers before after : List ℕ) (result : ℕ) : 
   pub returned : result ≡ code
   pub written : after ≡ sets before 0 numbers
 
--- The program reader: 0, or "the number and the line"; numbers 1 to 11
+-- The program reader: 0, or "the number and the line"; numbers 1 to 11, 54 and 55
 
 abbrev pub programCode : ProgramReading → ℕ
 programCode (Program.Read n rules) = 0

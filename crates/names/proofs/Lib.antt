@@ -1,2 +1,7 @@
 -- The laws that the proofs share.
-pub mod Picks
+pub mod Asked
+pub mod ByRule
+pub mod Called
+pub mod Choosing
+pub mod Outside
+pub mod Usable

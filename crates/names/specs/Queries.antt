@@ -1,48 +1,60 @@
--- What private functions of the checker cite, and no reader of a public contract needs: which rules a query asks for, and the names
--- of their bodies. The steps' own definitions are derivation's; crate checker shows that what is found here is what they ask for.
+-- What private functions of the checker cite, and no reader of a public contract needs: how the names of bodies are kept, which plain
+-- rules a query asks for, and the names of their bodies. The steps' own definitions are derivation's; crate checker shows that what is
+-- found here is what they ask for.
 -- Assumes nothing.
 use mathlib.Core.Path.{_≡_}
-use mathlib.Core.Bool.{Bool, true, cond, not, _&&_}
-use mathlib.Core.List.{List, [], _∷_}
-use Prim.Native.Nat.{ℕ}
+use mathlib.Core.Bool.{Bool, true, not, _&&_}
+use mathlib.Core.List.{List, map}
+use Prim.Native.Nat.{ℕ, _≤_}
+use lib.Dec.{eqb}
 use lib.IntN.{ℤ, pos}
 use lib.Signed.{ltZ}
-use lib.ListN.{getD, drop}
-use Rattle.words.specs.Lists.{any}
+use lib.ListN.{length, take}
+use Rattle.words.specs.Lists.{any, filter}
 use Rattle.words.specs.Literals.{variable, sameList, has}
-use Rattle.aspif.specs.Rules.{Rule, isNormal}
+use Rattle.aspif.specs.Rules.{Rule, Body, plain, weights, InputRule, isNormal}
 use Rattle.aspif.specs.Tables.{rulesAt, soundRules}
 use Rattle.marks.specs.Marks.{marked}
+use Rattle.names.specs.ByName.{Called}
 use Rattle.names.specs.declared.queries.Query.{Query}
-use Rattle.names.specs.declared.queries.Query.the-variants.{Body, Normal, Head, External}
+use Rattle.names.specs.declared.queries.Query.the-variants.{Head, External}
 
--- the table holds so many rules, which are sound and are those of P
-pub record HoldsRules (table : List ℤ) (rules : ℕ) (P : List Rule) : Type 0 where
+-- the table holds so many rules, which are sound and are those of ws
+pub record HoldsRules (table : List ℤ) (rules : ℕ) (ws : List InputRule) : Type 0 where
   pub sound : soundRules rules table ≡ true
-  pub are : rulesAt rules table ≡ P
+  pub are : rulesAt rules table ≡ ws
+
+-- Names. `called` gives a body's name, 0 where it has none.
+
+-- what is kept by rule: the name of a plain body; those of a weight body's bodies are kept by name alone
+abbrev pub entry : (List ℤ → ℕ) → Body → ℕ
+entry called (plain ls) = called ls
+entry called (weights b l) = 0
+
+pub record Kept (names : List ℕ) (bodies : List ℤ) (called : List ℤ → ℕ) (ws : List InputRule) : Type 0 where
+  pub rules : length ws ≤ length names
+  pub byRule : take (length ws) names ≡ map (λ r. entry called (r .body)) ws
+  pub byName : Called bodies called
+
+-- Queries
 
 -- a positive literal whose atom is marked
 abbrev pub isInside : List ℕ → ℤ → Bool
 isInside m x = ltZ (pos 0) x && marked m (variable x)
 
--- a head in the set that is marked, and no positive atom in it
-abbrev pub isExternalBy : List ℕ → Rule → Bool
-isExternalBy m r = any (isInside m) (r .heads) && not (any (isInside m) (r .body))
+-- the query asks for rules with these heads: with the head h, or with a head in the set that is marked
+abbrev pub asksHeads : Query → List ℕ → List ℤ → Bool
+asksHeads (Head h) m hs = has h hs
+asksHeads External m hs = any (isInside m) hs
 
--- the rule is asked for: it has the body; it is normal and has just the heads; it has the head; it is external to the marked set
-abbrev pub asks : Query → List ℤ → List ℕ → Rule → Bool
-asks Body L m r = sameList (r .body) L
-asks Normal L m r = isNormal (r .kind) && sameList (r .heads) L
-asks (Head h) L m r = has h (r .heads)
-asks External L m r = isExternalBy m r
+-- the plain rule is asked for: by its heads, and no positive atom of its body is in the set
+abbrev pub asks : Query → List ℕ → Rule → Bool
+asks q m r = asksHeads q m (r .heads) && not (any (isInside m) (r .body))
 
-module _ (f : Rule → Bool) where
-  -- of the rules that pass, the names, which are kept by rule
-  abbrev pub picks : List Rule → List ℕ → List ℕ
-  picks [] ns = []
-  picks (r ∷ rs) ns = cond (f r) (getD ns 0 0 ∷ picks rs (drop 1 ns)) (picks rs (drop 1 ns))
+-- the names of the bodies of those that are asked for
+abbrev pub askedNames : Query → List ℕ → (List ℤ → ℕ) → List Rule → List ℕ
+askedNames q m called P = map (λ r. called (r .body)) (filter (asks q m) P)
 
-  -- the rules that pass get the name n
-  abbrev pub renamed : ℕ → List Rule → List ℕ → List ℕ
-  renamed n [] ns = ns
-  renamed n (r ∷ rs) ns = cond (f r) n (getD ns 0 0) ∷ renamed n rs (drop 1 ns)
+-- question 29 of a plain rule: it is normal, has just the heads, and its body has the name
+abbrev pub completing : (List ℤ → ℕ) → List ℤ → ℕ → Rule → Bool
+completing called hs n r = isNormal (r .kind) && (sameList (r .heads) hs && eqb (called (r .body)) n)

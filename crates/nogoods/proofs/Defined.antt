@@ -11,11 +11,10 @@ use lib.Seq.{length-take-le, take-suc, take-at, drop-at}
 use borrow.Rule.Slice.PartMut.{putMid}
 use Rattle.words.specs.Lists.{_∈_}
 use Rattle.words.specs.Literals.{complement, ascending}
-use Rattle.words.proofs.Lists.{each-cons}
+use Rattle.words.proofs.Lists.{concat-append, each-cons}
 use Rattle.words.proofs.Literals.{ascending→}
 use Rattle.words.proofs.Sorting.{length-ascending}
 use Rattle.words.proofs.Parts.{tail-of, mid-put, length-put}
-use Rattle.words.proofs.Segments.{record-append}
 use Rattle.derivation.specs.Steps.{definition}
 use Rattle.nogoods.specs.Store.{recordHeader, headerSize, nogoodWords, recordSize, liveWords}
 use Rattle.nogoods.specs.Keeps.{Literals, WrittenFront}
@@ -72,7 +71,7 @@ module _ (n : ℤ) where
       let more : map (pair n) (take (i + 1) l) ≡ done ++ (g ∷ []) =
       rw (add-one, take-suc l i (pos 0) h) (map-append (pair n) (take i l) (getD l i (pos 0) ∷ [])) in
       let words : liveWords (map (pair n) (take (i + 1) l)) ≡ liveWords done ++ nogoodWords g =
-      ap liveWords more ∙ record-append nogoodWords done (g ∷ []) ∙ ap (λ (t : List ℤ). liveWords done ++ t) (append-nil (nogoodWords g)) in
+      ap liveWords more ∙ concat-append nogoodWords done (g ∷ []) ∙ ap (λ (t : List ℤ). liveWords done ++ t) (append-nil (nogoodWords g)) in
       rw words (written-next (liveWords done) (nogoodWords g) before free ys at front e w)
 
   -- all pairs, after the first nogood

@@ -12,10 +12,9 @@ use lib.Seq.{drop-drop, take-at, drop-at}
 use borrow.Rule.Slice.PartMut.{putMid}
 use Rattle.words.specs.Lists.{_∈_, dropFirst}
 use Rattle.words.specs.Literals.{sameList}
-use Rattle.words.proofs.Lists.{dropFirst→}
+use Rattle.words.proofs.Lists.{concat-append, dropFirst→}
 use Rattle.words.proofs.Literals.{sameList-decides}
 use Rattle.words.proofs.Parts.{put-next}
-use Rattle.words.proofs.Segments.{record-append}
 use Rattle.drupe.proofs.Lines.{drop-replicate}
 use Rattle.nogoods.specs.Store.{nogoodWords, recordSize, liveWords}
 use Rattle.nogoods.specs.Keeps.{WrittenFront, Literals, Holds}
@@ -51,7 +50,7 @@ written-next a b before s ys at n w v =
 module _ {store : List ℤ} {used : ℕ} {live : List (List ℤ)} (H : Holds store used live) (gs : List (List ℤ)) {size : ℕ}
     (n : length (liveWords gs) ≡ size) where
   more-words : length (liveWords (live ++ gs)) ≡ used + size
-  more-words = omega (arith, n, H .extent, ap length (record-append nogoodWords live gs), length-append (liveWords live) (liveWords gs))
+  more-words = omega (arith, n, H .extent, ap length (concat-append nogoodWords live gs), length-append (liveWords live) (liveWords gs))
 
   -- the free words are too few for the words of gs
   pub full : length store - used < size → length store < length (liveWords (live ++ gs))
@@ -66,7 +65,7 @@ module _ {store : List ℤ} {used : ℕ} {live : List (List ℤ)} (H : Holds sto
       let w : putMid used free store ys ≡ liveWords (live ++ gs) ++ zeros =
       put-next (liveWords live) (replicate free (pos 0)) (liveWords gs) store ys used (sym (H .extent)) (holds→ H) e
       ∙ ap (λ (l : List ℤ). liveWords live ++ (liveWords gs ++ l)) (drop-replicate (length (liveWords gs)) free (pos 0))
-      ∙ sym (append-assoc (liveWords live) (liveWords gs) zeros) ∙ ap (λ (l : List ℤ). l ++ zeros) (sym (record-append nogoodWords live gs)) in
+      ∙ sym (append-assoc (liveWords live) (liveWords gs) zeros) ∙ ap (λ (l : List ℤ). l ++ zeros) (sym (concat-append nogoodWords live gs)) in
       holds← {live = live ++ gs} (free - length (liveWords gs)) w (sym more-words)
       (λ g m. elim (List·Memᴰ·append-cases live m) [ inl i ↦ H .literals g i | inr i ↦ lits g i ])
 
@@ -122,7 +121,7 @@ module _ {store : List ℤ} {used : ℕ} {live : List (List ℤ)} (H : Holds sto
 
   -- the words used: the older nogoods', the nogood's, and the newer ones'
   parts : liveWords live ≡ older ++ (nogoodWords L ++ newer)
-  parts = ap liveWords (h .is) ∙ record-append nogoodWords (h .done) (L ∷ h .rest)
+  parts = ap liveWords (h .is) ∙ concat-append nogoodWords (h .done) (L ∷ h .rest)
 
   -- how many they are
   sizes : (length older ≡ j) × (length (nogoodWords L ++ newer) ≡ used - j) × (used ≡ j + recordSize L + length newer)
@@ -158,7 +157,7 @@ module _ {store : List ℤ} {used : ℕ} {live : List (List ℤ)} (H : Holds sto
       ap₂ (λ a b. a ++ (ys ++ b)) before after ∙ ap (λ (l : List ℤ). older ++ (l ++ unused)) y
       ∙ ap (λ (l : List ℤ). older ++ l) (append-assoc newer (replicate k (pos 0)) unused)
       ∙ ap (λ (l : List ℤ). older ++ (newer ++ l)) (replicate-append-replicate k (length store - used) (pos 0))
-      ∙ sym (append-assoc older newer zeros) ∙ ap (λ (l : List ℤ). l ++ zeros) (sym (record-append nogoodWords (h .done) (h .rest))) in
+      ∙ sym (append-assoc older newer zeros) ∙ ap (λ (l : List ℤ). l ++ zeros) (sym (concat-append nogoodWords (h .done) (h .rest))) in
       let u : used - k ≡ length (liveWords (h .done ++ h .rest)) =
-      omega (arith, n, sizes, ap length (record-append nogoodWords (h .done) (h .rest)), length-append older newer) in
+      omega (arith, n, sizes, ap length (concat-append nogoodWords (h .done) (h .rest)), length-append older newer) in
       rw (h .gone) (holds← n-zeros w u (λ g m. H .literals g (dropFirst→ (λ x. sameList x L) live (rw (h .gone) m))))

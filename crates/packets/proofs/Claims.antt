@@ -13,7 +13,7 @@ use lib.ListN.{length, take, drop, length-append, length-drop, take-append-drop}
 use lib.Seq.{take-at, drop-at, drop-drop, length-take-le}
 use Rattle.words.specs.Limits.{longest, mostRules}
 use Rattle.words.proofs.Lists.{and-left, and-right, zero-one}
-use Rattle.aspif.specs.Rules.{Rule, tableWords}
+use Rattle.aspif.specs.Rules.{InputRule, programWords, tableWords}
 use Rattle.text.specs.Strings.{startsWith}
 use Rattle.aspif.specs.Tables.{rulesOf}
 use Rattle.aspif.proofs.Cursors.{rules-of}
@@ -23,7 +23,7 @@ use Rattle.drupe.specs.Texts.{Step, StepsRead, steps, stepText, textOf, stepsOf
 use Rattle.drupe.specs.Texts as Texts
 use Rattle.drupe.proofs.Texts.{AllPass, some-byte, steps-exact, read-back}
 use Rattle.packets.specs.Bytes.{little, value, bytesOf, numbersFrom}
-use Rattle.packets.specs.Packets.{mark, packetWords, stepsBytes, packetOf, wordCount, stepCount, wordPart, stepPart, fills, lengthsFit, rulesFrom, rulesIn, stepsFrom, ifShort, stepsIn, PacketRead, refused, pair, paired, ifHeld, partsRead, reading, unwritten, written, stepsTaken, held, writing}
+use Rattle.packets.specs.Packets.{mark, allPlain, packetWords, stepsBytes, packetOf, wordCount, stepCount, wordPart, stepPart, fills, lengthsFit, rulesFrom, rulesIn, stepsFrom, ifShort, stepsIn, PacketRead, refused, pair, paired, ifHeld, partsRead, reading, unwritten, written, stepsTaken, held, ifPlain, writing}
 use Rattle.packets.specs.Claims.{WrittenAgain, Bytes, PairOf, ReadsBack, OneForm, ReadSound}
 use Rattle.packets.proofs.Littles.{bytes-part, value-little, little-value, length-bytes, numbers-back, length-numbers, numbers-whole}
 use Rattle.packets.proofs.StepParts.{fills-back, steps-back, steps-there}
@@ -32,9 +32,10 @@ use Rattle.packets.proofs.RuleParts.{AllFormed, rules-back, rules-there
 
 -- The bytes of a pair that passes are read
 
-pub record Sound (P : List Rule) (ts : List Step) : Type 0 where
+pub record Sound (P : List InputRule) (ts : List Step) : Type 0 where
   pub few : length P ≤ mostRules
   pub formed : AllFormed P
+  pub all-plain : allPlain P ≡ true
   pub passes : AllPass ts
   pub short : length (textOf ts) ≤ longest
 
@@ -44,7 +45,7 @@ unfolding textOf
 steps-few [] = omega arith
 steps-few (t ∷ ts) = omega (arith, some-byte t, length-append (stepText t) (textOf ts), steps-few ts)
 
-module _ (P : List Rule) (ts : List Step) (s : Sound P ts) where
+module _ (P : List InputRule) (ts : List Step) (s : Sound P ts) where
   abbrev ws : List ℤ
   ws = packetWords P
 
@@ -92,40 +93,40 @@ module _ (P : List Rule) (ts : List Step) (s : Sound P ts) where
   unfolding rulesIn
   rules-read =
       let e : numbersFrom 4 (length ws) (bytesOf 4 ws) ≡ ws = ap (numbersFrom 4 (length ws)) (sym (append-nil (bytesOf 4 ws))) ∙ numbers-back 3 ws [] (words-range P (s .formed)) in
-      rw (word-part, words-stated, e) (rules-back mostRules P (s .formed) (s .few))
+      rw (word-part, words-stated, e) (rules-back mostRules P (s .formed) (s .all-plain) (s .few))
 
   steps-read : stepsIn (stepCount packet) (stepPart packet) ≡ some ts
   unfolding stepsIn
   steps-read = rw (step-part, steps-stated, steps-back ts (s .passes), le-leb (length (textOf ts)) longest (s .short))
 
-  pub packet-read : (tableSize textSize : ℕ) → length ws ≤ tableSize → length (textOf ts) ≤ textSize → reading packet tableSize textSize ≡ pair P ts
+  pub packet-read : (tableSize textSize : ℕ) → length (programWords P) ≤ tableSize → length (textOf ts) ≤ textSize → reading packet tableSize textSize ≡ pair P ts
   unfolding reading partsRead
   packet-read tableSize textSize h k =
-      rw (marked, lengths, rules-read, steps-read, le-leb (length ws) tableSize h, le-leb (length (textOf ts)) textSize k)
+      rw (marked, lengths, rules-read, steps-read, le-leb (length (programWords P)) tableSize h, le-leb (length (textOf ts)) textSize k)
 
 -- What the reader takes
 
-pub record Taken (packet : List ℕ) (tableSize textSize : ℕ) (P : List Rule) (ts : List Step) : Type 0 where
+pub record Taken (packet : List ℕ) (tableSize textSize : ℕ) (P : List InputRule) (ts : List Step) : Type 0 where
   pub marked : startsWith mark packet ≡ true
   pub lengths : lengthsFit packet ≡ true
   pub rules : rulesFrom mostRules (numbersFrom 4 (wordCount packet) (wordPart packet)) ≡ some P
   pub steps : stepsFrom (stepCount packet) (stepPart packet) ≡ some ts
   pub short : length (textOf ts) ≤ longest
-  pub room : length (packetWords P) ≤ tableSize
+  pub room : length (programWords P) ≤ tableSize
 
 -- a pair that is given is the one that was read, and fits
-held-pair : (tableSize textSize : ℕ) (o : Option (List Rule)) (q : Option (List Step)) (P : List Rule) (ts : List Step)
-    → ifHeld tableSize textSize (paired o q) ≡ pair P ts → (o ≡ some P) × ((q ≡ some ts) × (length (packetWords P) ≤ tableSize))
+held-pair : (tableSize textSize : ℕ) (o : Option (List InputRule)) (q : Option (List Step)) (P : List InputRule) (ts : List Step)
+    → ifHeld tableSize textSize (paired o q) ≡ pair P ts → (o ≡ some P) × ((q ≡ some ts) × (length (programWords P) ≤ tableSize))
 held-pair tableSize textSize none q P ts e = absurd (zero-one (cc))
 held-pair tableSize textSize (some Q) none P ts e = absurd (zero-one (cc))
-held-pair tableSize textSize (some Q) (some us) P ts e = by (leb (length (packetWords Q)) tableSize && leb (length (textOf us)) textSize) refl e
+held-pair tableSize textSize (some Q) (some us) P ts e = by (leb (length (programWords Q)) tableSize && leb (length (textOf us)) textSize) refl e
   where
-    by : (b : Bool) → (leb (length (packetWords Q)) tableSize && leb (length (textOf us)) textSize) ≡ b → cond b (pair Q us) (refused 52) ≡ pair P ts
-        → (some Q ≡ some P) × ((some us ≡ some ts) × (length (packetWords P) ≤ tableSize))
+    by : (b : Bool) → (leb (length (programWords Q)) tableSize && leb (length (textOf us)) textSize) ≡ b → cond b (pair Q us) (refused 52) ≡ pair P ts
+        → (some Q ≡ some P) × ((some us ≡ some ts) × (length (programWords P) ≤ tableSize))
     by false k e = absurd (zero-one (cc))
     by true k e =
         let p : Q ≡ P = cc in
-        (ap some p, (cc, subst (λ (R : List Rule). length (packetWords R) ≤ tableSize) p (leb-true (length (packetWords Q)) tableSize (and-left _ _ k))))
+        (ap some p, (cc, subst (λ (R : List InputRule). length (programWords R) ≤ tableSize) p (leb-true (length (programWords Q)) tableSize (and-left _ _ k))))
 
 short-steps : (q : Option (List Step)) (ts : List Step) → ifShort q ≡ some ts → (q ≡ some ts) × (length (textOf ts) ≤ longest)
 short-steps none ts e = absurd (Option·none-ne-some ts e)
@@ -135,7 +136,7 @@ short-steps (some us) ts e = by (leb (length (textOf us)) longest) refl e
     by false k e = absurd (Option·none-ne-some ts e)
     by true k e = (e, subst (λ (l : List Step). length (textOf l) ≤ longest) (Option·some-injective _ _ e) (leb-true (length (textOf us)) longest k))
 
-pub taken : (packet : List ℕ) (tableSize textSize : ℕ) (P : List Rule) (ts : List Step) → reading packet tableSize textSize ≡ pair P ts
+pub taken : (packet : List ℕ) (tableSize textSize : ℕ) (P : List InputRule) (ts : List Step) → reading packet tableSize textSize ≡ pair P ts
     → Taken packet tableSize textSize P ts
 unfolding reading partsRead rulesIn stepsIn
 taken packet tableSize textSize P ts e = by (startsWith mark packet) (lengthsFit packet) refl refl e
@@ -158,7 +159,7 @@ front-is (x ∷ front) [] e = absurd (true≢false (sym e))
 front-is (x ∷ front) (b ∷ text) e =
     ap₂ (λ (a : ℕ) (l : List ℕ). a ∷ l) (eqb-true b x (and-left _ _ e)) (front-is front text (and-right (eqb b x) _ e))
 
-module _ (packet : List ℕ) (tableSize textSize : ℕ) (P : List Rule) (ts : List Step) (t : Taken packet tableSize textSize P ts) where
+module _ (packet : List ℕ) (tableSize textSize : ℕ) (P : List InputRule) (ts : List Step) (t : Taken packet tableSize textSize P ts) where
   long : (13 ≤ length packet) × ((13 + 4 * wordCount packet ≤ length packet) × (fills (stepCount packet) (stepPart packet) ≡ true))
   long = fit-parts packet (t .lengths)
 
@@ -166,7 +167,7 @@ module _ (packet : List ℕ) (tableSize textSize : ℕ) (P : List Rule) (ts : Li
   sound =
       let r = rules-there mostRules _ P (t .rules) in
       let s = steps-there (stepCount packet) (stepPart packet) ts (long .1 .1) (t .steps) in
-      record { few = r .few; formed = r .formed; passes = s .passes; short = t .short }
+      record { few = r .few; formed = r .formed; all-plain = r .all-plain; passes = s .passes; short = t .short }
 
   module _ (f : Bytes packet) where
     abbrev w : ℕ
@@ -217,46 +218,57 @@ read-sound packet tableSize textSize P ts e =
 -- What the writer takes
 
 -- the bytes written are those of the pair that was read from the table and the text
-held-bytes : (size : ℕ) (o : Option (List Rule)) (q : Option (List Step)) (packet : List ℕ) → held size (paired o q) ≡ written packet
-    → (P : List Rule) × ((ts : List Step) × ((o ≡ some P) × ((q ≡ some ts) × (packet ≡ packetOf P ts))))
+held-bytes : (size : ℕ) (o : Option (List InputRule)) (q : Option (List Step)) (packet : List ℕ) → held size (paired o q) ≡ written packet
+    → (P : List InputRule) × ((ts : List Step) × ((o ≡ some P) × ((q ≡ some ts) × (packet ≡ packetOf P ts))))
 held-bytes size none q packet e = absurd (zero-one (cc))
 held-bytes size (some P) none packet e = absurd (zero-one (cc))
 held-bytes size (some P) (some ts) packet e = by (leb (length (packetOf P ts)) size) e
   where
     by : (b : Bool) → cond b (written (packetOf P ts)) (unwritten 52) ≡ written packet
-        → (Q : List Rule) × ((us : List Step) × ((some P ≡ some Q) × ((some ts ≡ some us) × (packet ≡ packetOf Q us))))
+        → (Q : List InputRule) × ((us : List Step) × ((some P ≡ some Q) × ((some ts ≡ some us) × (packet ≡ packetOf Q us))))
     by false e = absurd (zero-one (cc))
     by true e = (P, (ts, (refl, (refl, cc))))
+
+plain-rules : (o : Option (List InputRule)) (P : List InputRule) → ifPlain o ≡ some P → (o ≡ some P) × (allPlain P ≡ true)
+plain-rules none P e = absurd (Option·none-ne-some P e)
+plain-rules (some Q) P e = by (allPlain Q) refl e
+  where
+    by : (b : Bool) → allPlain Q ≡ b → cond b (some Q) none ≡ some P → (some Q ≡ some P) × (allPlain P ≡ true)
+    by true k e = (e, ap allPlain (sym (Option·some-injective _ _ e)) ∙ k)
+    by false k e = absurd (Option·none-ne-some P e)
 
 steps-taken : (o : StepsRead) (ts : List Step) → stepsTaken o ≡ some ts → o ≡ steps ts
 steps-taken (steps us) ts e = ap steps (Option·some-injective _ _ e)
 steps-taken (Texts.refused before k n) ts e = absurd (Option·none-ne-some ts e)
 
-pair-back : (table : List ℤ) (rules : ℕ) (proof bs : List ℕ) (P : List Rule) (ts : List Step) → rulesOf table rules ≡ some P → stepsOf proof ≡ steps ts → bs ≡ packetOf P ts
+pair-back : (table : List ℤ) (rules : ℕ) (proof bs : List ℕ) (P : List InputRule) (ts : List Step) → rulesOf table rules ≡ some P → allPlain P ≡ true → stepsOf proof ≡ steps ts
+    → bs ≡ packetOf P ts
     → PairOf table rules proof bs
-pair-back table rules proof bs P ts p q e =
+pair-back table rules proof bs P ts p a q e =
     let r = rules-of table rules P p in
     let s = steps-exact proof ts .0 q in
     let f = subst (FitsTable (length table)) (r .1) (table-fits table rules (r .0)) in
-    let sound : Sound P ts = record { few = f .few; formed = f .formed; passes = s .2; short = rw (sym (s .0)) (s .1) } in
+    let sound : Sound P ts = record { few = f .few; formed = f .formed; all-plain = a; passes = s .2; short = rw (sym (s .0)) (s .1) } in
     record {
       P = P;
       ts = ts;
-      reads = λ tableSize textSize a b. rw e (packet-read P ts sound tableSize textSize a (rw (s .0) at b));
+      reads = λ tableSize textSize h k. rw e (packet-read P ts sound tableSize textSize h (rw (s .0) at k));
       count = ap length (sym (r .1)) ∙ rules-count rules table;
-      words = subst (λ (Q : List Rule). table ≡ tableWords (length table) Q) (r .1) (table-words table rules (r .0));
+      words = subst (λ (Q : List InputRule). table ≡ tableWords (length table) Q) (r .1) (table-words table rules (r .0));
       text = s .0;
     }
 
 pub reads-back : ReadsBack
 unfolding writing
 reads-back table rules proof room bs e =
-    let h = held-bytes room (rulesOf table rules) (stepsTaken (stepsOf proof)) bs e in
-    pair-back table rules proof bs (h .0) (h .1 .0) (h .1 .1 .0) (steps-taken (stepsOf proof) (h .1 .0) (h .1 .1 .1 .0)) (h .1 .1 .1 .1)
+    let h = held-bytes room (ifPlain (rulesOf table rules)) (stepsTaken (stepsOf proof)) bs e in
+    let p = plain-rules (rulesOf table rules) (h .0) (h .1 .1 .0) in
+    pair-back table rules proof bs (h .0) (h .1 .0) (p .0) (p .1) (steps-taken (stepsOf proof) (h .1 .0) (h .1 .1 .1 .0)) (h .1 .1 .1 .1)
 
 pub written-again : WrittenAgain
 unfolding writing
 written-again packet tableSize textSize size P ts f e h =
     let s = read-sound packet tableSize textSize P ts e in
     let o = one-form packet tableSize textSize P ts f e in
-    rw (s .0, s .1, le-leb (length (packetOf P ts)) size (rw o at h)) (ap written (sym o))
+    let p = sound packet tableSize textSize P ts (taken packet tableSize textSize P ts e) .all-plain in
+    rw (s .0, p, s .1, le-leb (length (packetOf P ts)) size (rw o at h)) (ap written (sym o))

@@ -1,20 +1,20 @@
--- What the loops of the reader cite: one rule, or one step, off the front.
+-- What the reader's loops over steps cite: the lengths, and one step off the front.
 -- Assumes nothing.
 use mathlib.Core.Path.{_≡_, refl, sym, _∙_, ap}
 use mathlib.Core.Bool.{Bool, true, false, cond, not, _&&_, _||_, true≢false}
 use mathlib.Core.Option.{Option, none, some}
+use mathlib.Core.Logic.{inr}
 use mathlib.Core.List.{List, [], _∷_, _++_, append-nil}
 use Prim.Native.Nat.{ℕ, zero, suc, _+_, _-_, _*_, _<_, _≤_}
 use native.Mathlib.Omega.{arith}
 use borrow.Author.Tests.{le-leb, lt-leb, leb-true, lt-ltb, eq-eqb, ne-eqb}
 use lib.Dec.{leb, ltb, eqb}
 use lib.IntN.{ℤ, pos}
-use lib.ListN.{length, take, drop, getD, length-append, length-drop}
-use lib.Seq.{drop-drop, getD-take, length-take-le, length-sets}
+use lib.ListN.{length, drop, getD, length-append, length-drop}
+use lib.Seq.{drop-drop, length-sets}
 use Rattle.words.specs.Limits.{longest, mostNumbers}
 use Rattle.words.specs.Literals.{has}
-use Rattle.words.proofs.Lists.{and-left, and-right, zero-one}
-use Rattle.words.proofs.Parts.{mid-front}
+use Rattle.words.proofs.Lists.{passed, is-true, or-decides, and-left, and-right, zero-one}
 use Rattle.text.specs.Bytes.{classOf}
 use Rattle.text.specs.Line.{anyOutside}
 use Rattle.text.specs.Writing.{Put}
@@ -22,17 +22,14 @@ use Rattle.text.specs.declared.Letter.{Letter}
 use Rattle.text.specs.declared.Class.{Class}
 use Rattle.text.specs.declared.Class.the-variants as Class
 use Rattle.text.proofs.Puts.{put-on, put-none}
-use Rattle.aspif.specs.Rules.{Rule, isCount}
-use Rattle.aspif.specs.Tables.{isHeaded, headCount, bodyCount, sizeAt, headsAt, bodyAt, headsSound, bodySound, shapeSound, soundAt}
-use Rattle.aspif.proofs.Cursors.{shaped}
-use Rattle.aspif.proofs.Counts.{count-small}
 use Rattle.drupe.specs.Lines.{allPassed, lineRefusal}
 use Rattle.drupe.specs.Texts.{Step, stepText, textOf}
 use Rattle.drupe.proofs.Texts.{text-append}
 use Rattle.packets.specs.Bytes.{numbersFrom}
-use Rattle.packets.specs.Packets.{wordCount, stepCount, stepPart, fills, lengthsFit, ruleIn, ruleBefore, rulesFrom, letterIn, stepPasses, stepBefore, stepWith, stepsFrom, ifShort, stepsIn}
-use Rattle.packets.specs.Parts.{sizeIfSound, counted, stepSize, ifPasses, stepAt, StepTold, TextTold}
+use Rattle.packets.specs.Packets.{wordCount, stepCount, stepPart, fills, lengthsFit, prepend, letterIn, stepPasses, stepWith, stepsFrom, ifShort, stepsIn}
+use Rattle.packets.specs.Parts.{stepSize, ifPasses, stepAt, StepTold, TextTold}
 use Rattle.packets.specs.declared.reader.Part.{Part}
+use Rattle.packets.proofs.RulesRead.{onto, onto-one, onto-none, onto-some}
 
 -- Steps: lengths
 
@@ -128,102 +125,6 @@ module _ (packet : List ℕ) where
       let m = and-right (leb 13 (length packet)) _ l in
       (leb-true 13 (length packet) (and-left _ _ l), (leb-true _ (length packet) (and-left _ _ m), and-right (leb (13 + 4 * wordCount packet) (length packet)) _ m))
 
--- Rules
-
--- a rule's size and soundness show in its first 131 words
-module _ (ws : List ℤ) (h : 131 ≤ length ws) where
-  abbrev front : List ℤ
-  front = take 131 ws
-
-  word : (i : ℕ) → i < 131 → getD front i (pos 0) ≡ getD ws i (pos 0)
-  word i l = getD-take 131 ws i (pos 0) l
-
-  sizes : sizeAt front ≡ sizeAt ws
-  unfolding sizeAt
-  sizes = rw (word 1 (omega arith), word 2 (omega arith))
-
-  shapes : shapeSound front ≡ shapeSound ws
-  unfolding shapeSound sizeAt
-  shapes = rw (word 0 (omega arith), word 1 (omega arith), word 2 (omega arith), length-take-le 131 ws h) (by (isCount (getD ws 1 (pos 0))) (isCount (getD ws 2 (pos 0))) refl refl)
-    where
-      by : (a b : Bool) → isCount (getD ws 1 (pos 0)) ≡ a → isCount (getD ws 2 (pos 0)) ≡ b
-          → (a && (b && (isHeaded ws && leb (3 + headCount ws + bodyCount ws) 131)))
-          ≡ (a && (b && (isHeaded ws && leb (3 + headCount ws + bodyCount ws) (length ws))))
-      by false b p q = refl
-      by true false p q = refl
-      by true true p q =
-          let m = count-small (getD ws 1 (pos 0)) p in
-          let n = count-small (getD ws 2 (pos 0)) q in
-          rw (le-leb (3 + headCount ws + bodyCount ws) 131 (omega arith), le-leb (3 + headCount ws + bodyCount ws) (length ws) (omega arith))
-
-  heads-same : shapeSound ws ≡ true → headsAt front ≡ headsAt ws
-  unfolding headsAt
-  heads-same e = let f = shaped ws e in rw (word 1 (omega arith)) (mid-front 3 (headCount ws) 131 ws (omega arith))
-
-  body-same : shapeSound ws ≡ true → bodyAt front ≡ bodyAt ws
-  unfolding bodyAt
-  body-same e = let f = shaped ws e in rw (word 1 (omega arith), word 2 (omega arith)) (mid-front (3 + headCount ws) (bodyCount ws) 131 ws (omega arith))
-
-  sounds : soundAt front ≡ soundAt ws
-  unfolding soundAt
-  sounds = rw shapes (by (shapeSound ws) refl)
-    where
-      by : (t : Bool) → shapeSound ws ≡ t → (t && (headsSound (headsAt front) && bodySound (bodyAt front))) ≡ (t && (headsSound (headsAt ws) && bodySound (bodyAt ws)))
-      by false e = refl
-      by true e = rw (heads-same e, body-same e)
-
-  pub size-first : sizeIfSound front ≡ sizeIfSound ws
-  unfolding sizeIfSound
-  size-first = rw (sounds, sizes)
-
-pub size-sound : (ws : List ℤ) (r : ℕ) → soundAt ws ≡ true → r ≡ sizeAt ws → r ≡ sizeIfSound ws
-unfolding sizeIfSound
-size-sound ws r s e = rw s e
-
-pub size-unsound : (ws : List ℤ) → soundAt ws ≡ false → 0 ≡ sizeIfSound ws
-unfolding sizeIfSound
-size-unsound ws s = rw s
-
--- a rule that is sound has words
-pub rules-stop : (n : ℕ) (ws : List ℤ) → 0 < length ws → sizeIfSound ws ≡ 0 → rulesFrom n ws ≡ none
-unfolding rulesFrom sizeIfSound sizeAt
-rules-stop n [] h e = absurd (omega arith)
-rules-stop zero (w ∷ ws) h e = refl
-rules-stop (suc n) (w ∷ ws) h e = by (soundAt (w ∷ ws)) e
-  where
-    by : (t : Bool) → cond t (sizeAt (w ∷ ws)) 0 ≡ 0 → cond t (ruleBefore (ruleIn (w ∷ ws)) (rulesFrom n (drop (sizeAt (w ∷ ws)) (w ∷ ws)))) none ≡ none
-    by true e = absurd (omega arith)
-    by false e = refl
-
-pub rules-full : (n : ℕ) (ws : List ℤ) → 0 < length ws → n ≤ 0 → rulesFrom n ws ≡ none
-unfolding rulesFrom
-rules-full n [] h e = absurd (omega arith)
-rules-full zero (w ∷ ws) h e = refl
-rules-full (suc n) (w ∷ ws) h e = absurd (omega arith)
-
-pub rules-on : (n : ℕ) (ws : List ℤ) → 0 < n → 0 < length ws → (sizeIfSound ws ≡ 0 → ⊥)
-    → rulesFrom n ws ≡ ruleBefore (ruleIn ws) (rulesFrom (n - 1) (drop (sizeIfSound ws) ws))
-unfolding rulesFrom sizeIfSound
-rules-on zero ws z h e = absurd (omega arith)
-rules-on (suc n) [] z h e = absurd (omega arith)
-rules-on (suc n) (w ∷ ws) z h e = by (soundAt (w ∷ ws)) e
-  where
-    by : (t : Bool) → (cond t (sizeAt (w ∷ ws)) 0 ≡ 0 → ⊥)
-        → cond t (ruleBefore (ruleIn (w ∷ ws)) (rulesFrom n (drop (sizeAt (w ∷ ws)) (w ∷ ws)))) none
-        ≡ ruleBefore (ruleIn (w ∷ ws)) (rulesFrom (suc n - 1) (drop (cond t (sizeAt (w ∷ ws)) 0) (w ∷ ws)))
-    by true e = let p : suc n - 1 ≡ n = omega arith in rw p
-    by false e = absurd (e refl)
-
-pub rules-none : (n : ℕ) (ws : List ℤ) → length ws ≤ 0 → rulesFrom n ws ≡ some []
-unfolding rulesFrom
-rules-none zero [] h = refl
-rules-none (suc n) [] h = refl
-rules-none n (w ∷ ws) h = absurd (omega arith)
-
-pub counted-on : (n : ℕ) (r : Rule) (o : Option (List Rule)) → counted n (ruleBefore r o) ≡ counted (n + 1) o
-counted-on n r none = refl
-counted-on n r (some P) = ap Part.Taken (omega arith)
-
 -- Steps: questions 22 to 25
 
 module _ (x : Letter) (zs : List ℤ) where
@@ -244,12 +145,10 @@ module _ (x : Letter) (zs : List ℤ) where
   good e f = rw (e, f)
 
   pub too-many : mostNumbers < length zs → ifPasses (some x) zs ≡ none
-  too-many h = not-good (by (anyOutside zs || ltb mostNumbers (length zs)) _ (or-true (anyOutside zs) (lt-ltb mostNumbers (length zs) h)))
+  too-many h =
+      let d = or-decides (passed (anyOutside zs)) (passed (ltb mostNumbers (length zs))) in
+      not-good (by (anyOutside zs || ltb mostNumbers (length zs)) _ (is-true d (inr (lt-ltb mostNumbers (length zs) h))))
     where
-      or-true : (a : Bool) {b : Bool} → b ≡ true → (a || b) ≡ true
-      or-true true e = refl
-      or-true false e = e
-
       by : (t : Bool) (o : Option ℕ) → t ≡ true → allPassed (cond t (some 23) o) ≡ false
       by true o e = refl
       by false o e = absurd (true≢false (sym e))
@@ -286,7 +185,7 @@ fills-size n bs h e = by (stepSize bs) refl
 -- a step, where there is one, before others
 abbrev followed : Option Step → Option (List Step) → Option (List Step)
 followed none o = none
-followed (some t) o = stepBefore t o
+followed (some t) o = prepend t o
 
 steps-on : (n : ℕ) (bs : List ℕ) → 0 < n → 0 < stepSize bs → stepsFrom n bs ≡ followed (stepAt bs) (stepsFrom (n - 1) (drop (stepSize bs) bs))
 unfolding stepsFrom stepAt stepSize
@@ -299,7 +198,7 @@ steps-on (suc n) (x ∷ c ∷ bs) h s = by (leb (2 * c) (length bs)) s
     ahead none zs o = refl
     ahead (some y) zs o = over (stepPasses (record { letter = y; numbers = zs }))
       where
-        over : (t : Bool) → cond t (stepBefore (record { letter = y; numbers = zs }) o) none ≡ followed (cond t (some (record { letter = y; numbers = zs })) none) o
+        over : (t : Bool) → cond t (prepend (record { letter = y; numbers = zs }) o) none ≡ followed (cond t (some (record { letter = y; numbers = zs })) none) o
         over true = refl
         over false = refl
 
@@ -311,23 +210,6 @@ steps-on (suc n) (x ∷ c ∷ bs) h s = by (leb (2 * c) (length bs)) s
         let p : suc n - 1 ≡ n = omega arith in
         let q : 2 + 2 * c ≡ suc (suc (2 * c)) = omega arith in
         rw (p, q) (ahead (letterIn (classOf x)) (numbersFrom 2 c bs) (stepsFrom n (drop (2 * c) bs)))
-
--- steps before those that are read
-abbrev onto : List Step → Option (List Step) → Option (List Step)
-onto [] o = o
-onto (t ∷ ts) o = stepBefore t (onto ts o)
-
-onto-one : (ts : List Step) (t : Step) (o : Option (List Step)) → onto ts (stepBefore t o) ≡ onto (ts ++ (t ∷ [])) o
-onto-one [] t o = refl
-onto-one (u ∷ ts) t o = ap (stepBefore u) (onto-one ts t o)
-
-onto-none : (ts : List Step) → onto ts none ≡ none
-onto-none [] = refl
-onto-none (t ∷ ts) = ap (stepBefore t) (onto-none ts)
-
-onto-some : (ts us : List Step) → onto ts (some us) ≡ some (ts ++ us)
-onto-some [] us = refl
-onto-some (t ∷ ts) us = ap (stepBefore t) (onto-some ts us)
 
 -- After some steps the loop stands at byte i, with so many steps left; their text stands in the output.
 pub record Going (bytes : List ℕ) (count : ℕ) (proof₀ proof : List ℕ) (left i end : ℕ) : Type 0 where

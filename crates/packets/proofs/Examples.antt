@@ -3,14 +3,15 @@
 use mathlib.Core.Path.{refl}
 use Rattle.text.specs.Decimals.{decimals, decimal, numberBytes, spaced}
 use Rattle.text.specs.Line.{lineOf}
-use Rattle.aspif.specs.Tables.{sizeAt, headsAt, bodyAt, shapeSound, soundAt, soundTable}
+use Rattle.aspif.specs.Tables.{sizeAt, headsAt, bodyWordsAt, boundAt, bodyAt, shapeSound, weightsSound, bodySound, soundAt, soundTable}
+use Rattle.aspif.specs.Reading.{allWeights}
 use Rattle.drupe.specs.Texts.{stepText, textOf, stepsAt, stepsOf}
 use Rattle.packets.specs.Bytes.{little, value, signedBytes, highest, signedValue, bytesOf, numbersFrom}
-use Rattle.packets.specs.Packets.{packetOf, fills, lengthsFit, rulesFrom, rulesIn, stepPasses, stepsFrom, stepsIn, partsRead, reading, writing}
-use Rattle.packets.specs.Examples.{Example1, Refusals}
+use Rattle.packets.specs.Packets.{packetOf, fills, lengthsFit, withKind, rulesFrom, rulesIn, stepPasses, stepsFrom, stepsIn, partsRead, reading, writing}
+use Rattle.packets.specs.Examples.{Example1, WeightRule, Refusals}
 
 pub example1 : Example1
-unfolding decimals decimal numberBytes spaced lineOf sizeAt headsAt bodyAt shapeSound soundAt soundTable stepText textOf stepsAt stepsOf little value signedBytes highest signedValue bytesOf numbersFrom packetOf fills lengthsFit rulesFrom rulesIn stepPasses stepsFrom stepsIn partsRead reading writing
+unfolding decimals decimal numberBytes spaced lineOf sizeAt headsAt bodyWordsAt boundAt bodyAt shapeSound weightsSound bodySound soundAt soundTable stepText textOf stepsAt stepsOf little value signedBytes highest signedValue bytesOf numbersFrom packetOf fills lengthsFit withKind rulesFrom rulesIn stepPasses stepsFrom stepsIn partsRead reading writing
 example1 = record {
   bytes = refl;
   size = refl;
@@ -20,10 +21,17 @@ example1 = record {
   wrote = refl;
   short = refl;
   count-0 = refl;
+  rule-size = refl;
+  rule-read = refl;
+  rule-short = refl;
 }
 
+pub weight-rule : WeightRule
+unfolding sizeAt headsAt bodyWordsAt boundAt bodyAt shapeSound weightsSound bodySound soundAt soundTable allWeights lineOf stepsAt stepsOf writing
+weight-rule = record { passes = refl; refused-53 = refl; no-output = refl }
+
 pub refusals : Refusals
-unfolding decimals decimal numberBytes spaced lineOf sizeAt headsAt bodyAt shapeSound soundAt soundTable stepText textOf stepsAt stepsOf little value signedBytes highest signedValue bytesOf numbersFrom packetOf fills lengthsFit rulesFrom rulesIn stepPasses stepsFrom stepsIn partsRead reading writing
+unfolding decimals decimal numberBytes spaced lineOf sizeAt headsAt bodyWordsAt boundAt bodyAt shapeSound weightsSound bodySound soundAt soundTable stepText textOf stepsAt stepsOf little value signedBytes highest signedValue bytesOf numbersFrom packetOf fills lengthsFit withKind rulesFrom rulesIn stepPasses stepsFrom stepsIn partsRead reading writing
 refusals = record {
   nothing = refl;
   version = refl;

@@ -9,65 +9,71 @@ use native.Mathlib.Omega.{arith}
 use borrow.Author.Tests.{le-leb, lt-leb}
 use lib.Dec.{leb}
 use lib.IntN.{ℤ, pos}
-use lib.ListN.{length, drop, replicate, length-replicate}
+use lib.ListN.{length, replicate, length-replicate}
 use lib.Seq.{sets, sets-eq}
 use Rattle.words.specs.Limits.{mostRules}
 use Rattle.words.proofs.Lists.{zero-one}
-use Rattle.aspif.specs.Rules.{Rule}
+use Rattle.aspif.specs.Rules.{InputRule, programWords}
 use Rattle.text.specs.Strings.{startsWith}
 use Rattle.drupe.specs.Texts.{Step, textOf}
 use Rattle.drupe.proofs.Lines.{drop-replicate}
 use Rattle.packets.specs.Bytes.{numbersFrom}
-use Rattle.packets.specs.Packets.{mark, packetWords, wordCount, stepCount, wordPart, stepPart, lengthsFit, rulesIn, stepsIn, PacketRead, refused, pair, paired, ifHeld, partsRead, reading, filled, ReadLeaves}
-use Rattle.packets.specs.Parts.{counted, TextTold, Parts, Given, Zeros}
+use Rattle.packets.specs.Packets.{mark, wordCount, stepCount, wordPart, stepPart, lengthsFit, rulesIn, stepsIn, PacketRead, refused, pair, paired, ifHeld, partsRead, reading, filled, ReadLeaves}
+use Rattle.packets.specs.Parts.{TableTold, TextTold, Parts, Given, Zeros}
 use Rattle.packets.specs.declared.PacketReading.{PacketReading}
 use Rattle.packets.specs.declared.reader.Part.{Part}
-use Rattle.packets.proofs.RuleParts.{rules-there}
+use Rattle.packets.proofs.Littles.{length-numbers}
+use Rattle.packets.proofs.RuleParts.{rules-there, words-more}
 
 -- elements written at the front of zeros that hold them
 pub zeros-front : {A : Type 0} (z : A) (n : ℕ) (l : List A) → length l ≤ n → sets (replicate n z) 0 l ≡ filled z n l
 zeros-front z n l h =
     sets-eq l (replicate n z) 0 (omega (arith, length-replicate n z)) ∙ ap (λ t. l ++ t) (let e : 0 + length l ≡ length l = omega arith in rw e (drop-replicate (length l) n z))
 
+-- elements written onto zeros
+onto-zeros : {A : Type 0} (z : A) (l : List A) {before after : List A} → length after ≡ length before → Zeros z before → after ≡ sets before 0 l
+    → after ≡ sets (replicate (length after) z) 0 l
+onto-zeros z l e y p = p ∙ ap (λ k. sets k 0 l) (y ∙ ap (λ n. replicate n z) (sym e))
+
 -- The outputs' lengths
 
-module _ (P : List Rule) (ts : List Step) (tableSize textSize : ℕ) where
-  pub table-short : tableSize < length (packetWords P) → ifHeld tableSize textSize (pair P ts) ≡ refused 52
-  table-short h = rw (lt-leb (length (packetWords P)) tableSize h)
+module _ (P : List InputRule) (ts : List Step) (tableSize textSize : ℕ) where
+  pub table-short : tableSize < length (programWords P) → ifHeld tableSize textSize (pair P ts) ≡ refused 52
+  table-short h = rw (lt-leb (length (programWords P)) tableSize h)
 
   pub text-short : textSize < length (textOf ts) → ifHeld tableSize textSize (pair P ts) ≡ refused 52
-  text-short h = rw (lt-leb (length (textOf ts)) textSize h) (by (leb (length (packetWords P)) tableSize))
+  text-short h = rw (lt-leb (length (textOf ts)) textSize h) (by (leb (length (programWords P)) tableSize))
     where
       by : (t : Bool) → cond (t && false) (pair P ts) (refused 52) ≡ refused 52
       by true = refl
       by false = refl
 
-  both-held : length (packetWords P) ≤ tableSize → length (textOf ts) ≤ textSize → ifHeld tableSize textSize (pair P ts) ≡ pair P ts
-  both-held h k = rw (le-leb (length (packetWords P)) tableSize h, le-leb (length (textOf ts)) textSize k)
+  both-held : length (programWords P) ≤ tableSize → length (textOf ts) ≤ textSize → ifHeld tableSize textSize (pair P ts) ≡ pair P ts
+  both-held h k = rw (le-leb (length (programWords P)) tableSize h, le-leb (length (textOf ts)) textSize k)
 
--- the words are written, and the text stands
-pub given : (words new : List ℤ) (rules bytes count : ℕ) (table : List ℤ) (proof : List ℕ) (P : List Rule) (ts : List Step)
-    → Parts words rules bytes table proof P ts → new ≡ words → length words ≡ count → count ≤ length table → bytes ≤ length proof
-    → ReadLeaves (ifHeld (length table) (length proof) (pair P ts)) table (new ++ drop count table) proof proof (PacketReading.Read rules bytes)
-given words new rules bytes count table proof P ts k e q h l =
-    let w = ap length (k .words-of) in
-    let m = ap (drop count) (k .table-of) ∙ drop-replicate count (length table) (pos 0) in
-    let n : length table - count ≡ length table - length (packetWords P) = ap (λ (j : ℕ). length table - j) (sym q ∙ w) in
-    rw (both-held P ts (length table) (length proof) (omega arith) (omega (arith, k .bytes-of))) (record {
+-- the words and the text stand
+pub given : (size rules bytes : ℕ) (table : List ℤ) (proof : List ℕ) (P : List InputRule) (ts : List Step)
+    → Parts size rules bytes table proof P ts → size ≤ length table → bytes ≤ length proof
+    → ReadLeaves (ifHeld (length table) (length proof) (pair P ts)) table table proof proof (PacketReading.Read rules bytes)
+given size rules bytes table proof P ts k h l =
+    let n : length (programWords P) ≤ length table = omega (arith, k .size-of) in
+    let m : length (textOf ts) ≤ length proof = omega (arith, k .bytes-of) in
+    rw (both-held P ts (length table) (length proof) n m) (record {
       answer = ap₂ PacketReading.Read (k .rules-of) (k .bytes-of);
-      words = ap₂ (λ (a b : List ℤ). a ++ b) (e ∙ k .words-of) (m ∙ ap (λ (j : ℕ). replicate j (pos 0)) n);
-      text = k .text-of ∙ zeros-front 0 (length proof) (textOf ts) (omega (arith, k .bytes-of));
+      words = k .table-of ∙ zeros-front (pos 0) (length table) (programWords P) n;
+      text = k .text-of ∙ zeros-front 0 (length proof) (textOf ts) m;
     })
 
 -- Both parts
 
-counted-none : (o : Option (List Rule)) {r : Part} → r ≡ Part.Refused → r ≡ counted 0 o → o ≡ none
-counted-none none e c = refl
-counted-none (some P) e c = absurd (zero-one (let q = sym e ∙ c in cc))
+table-none : (o : Option (List InputRule)) (before after : List ℤ) {r : Part} → r ≡ Part.Refused → TableTold o before after r → o ≡ none
+table-none none before after e t = refl
+table-none (some P) before after e t = absurd (zero-one (let q = sym e ∙ t .0 in cc))
 
-counted-some : (o : Option (List Rule)) {r : Part} {n : ℕ} → r ≡ Part.Taken n → r ≡ counted 0 o → (P : List Rule) × ((o ≡ some P) × (n ≡ length P))
-counted-some none e c = absurd (zero-one (let q = sym e ∙ c in cc))
-counted-some (some P) {n = n} e c = let q = sym e ∙ c in let m : n ≡ 0 + length P = cc in (P, (refl, omega arith))
+table-some : (o : Option (List InputRule)) (before after : List ℤ) {r : Part} {n : ℕ} → r ≡ Part.Taken n → TableTold o before after r
+    → (P : List InputRule) × ((o ≡ some P) × ((n ≡ length P) × (after ≡ sets before 0 (programWords P))))
+table-some none before after e t = absurd (zero-one (let q = sym e ∙ t in cc))
+table-some (some P) before after {n = n} e t = let q = sym e ∙ t .0 in let m : n ≡ length P = cc in (P, (refl, (m, t .1)))
 
 text-none : (o : Option (List Step)) (before after : List ℕ) {r : Part} → r ≡ Part.Refused → TextTold o before after r → o ≡ none
 text-none none before after e t = refl
@@ -87,36 +93,47 @@ module _ (count : ℕ) (part : List ℕ) (steps : ℕ) (bytes : List ℕ) where
   abbrev ws : List ℤ
   ws = numbersFrom 4 count part
 
-  pub no-rules : (t p : ℕ) {r : Part} → r ≡ Part.Refused → r ≡ counted 0 (rulesIn ws) → partsRead count part steps bytes t p ≡ refused 53
+  pub no-rules : (t p : ℕ) (before after : List ℤ) {r : Part} → r ≡ Part.Refused → TableTold (rulesIn ws) before after r → partsRead count part steps bytes t p ≡ refused 53
   unfolding partsRead
-  no-rules t p e c = rw (counted-none (rulesIn ws) e c)
+  no-rules t p before after e c = rw (table-none (rulesIn ws) before after e c)
 
   pub no-steps : (t p : ℕ) (before after : List ℕ) {r : Part} → r ≡ Part.Refused → TextTold (stepsIn steps bytes) before after r → partsRead count part steps bytes t p ≡ refused 53
   unfolding partsRead
   no-steps t p before after e c = rw (text-none (stepsIn steps bytes) before after e c) (by (rulesIn ws))
     where
-      by : (o : Option (List Rule)) → ifHeld t p (paired o none) ≡ refused 53
+      by : (o : Option (List InputRule)) → ifHeld t p (paired o none) ≡ refused 53
       by none = refl
       by (some P) = refl
 
-  pub both : (table table′ : List ℤ) (proof after proof′ : List ℕ) (rules n : ℕ) {r s : Part} (answer : PacketReading) → Zeros (pos 0) table → Zeros 0 proof → length after ≡ length proof
-      → r ≡ Part.Taken rules → r ≡ counted 0 (rulesIn ws) → s ≡ Part.Taken n → TextTold (stepsIn steps bytes) proof after s
-      → Given ws rules n table table′ after proof′ answer
+  -- the rules are few
+  pub rules-few : (before after : List ℤ) {r : Part} {n : ℕ} → r ≡ Part.Taken n → TableTold (rulesIn ws) before after r → n ≤ mostRules
+  unfolding rulesIn
+  rules-few before after e t =
+      let a = table-some (rulesIn ws) before after e t in
+      omega (arith, a .1 .1 .0, rules-there mostRules ws (a .0) (a .1 .0) .few)
+
+  pub both : (table filled table′ : List ℤ) (proof after proof′ : List ℕ) (rules n : ℕ) {r s : Part} (answer : PacketReading)
+      → Zeros (pos 0) table → Zeros 0 proof → length filled ≡ length table → length after ≡ length proof
+      → r ≡ Part.Taken rules → TableTold (rulesIn ws) table filled r → s ≡ Part.Taken n → TextTold (stepsIn steps bytes) proof after s
+      → Given (count + rules) rules n filled table′ after proof′ answer
       → ReadLeaves (partsRead count part steps bytes (length table) (length proof)) table table′ proof proof′ answer
   unfolding partsRead rulesIn
-  both table table′ proof after proof′ rules n answer z y l p c q t g =
-      let a = counted-some (rulesIn ws) p c in
+  both table filled table′ proof after proof′ rules n answer z y j l p c q t g =
+      let a = table-some (rulesIn ws) table filled p c in
       let b = text-some (stepsIn steps bytes) proof after q t in
-      let e : after ≡ sets (replicate (length after) 0) 0 (textOf (b .0)) = b .1 .1 .1 ∙ ap (λ (k : List ℕ). sets k 0 (textOf (b .0))) (y ∙ ap (λ (k : ℕ). replicate k 0) (sym l)) in
-      let k : Parts ws rules n table after (a .0) (b .0) = record {
-        words-of = rules-there mostRules ws (a .0) (a .1 .0) .words;
-        rules-of = a .1 .1;
+      let P = a .0 in
+      let ts = b .0 in
+      let there = rules-there mostRules ws P (a .1 .0) in
+      let k : Parts (count + rules) rules n filled after P ts = record {
+        size-of = omega (arith, words-more P (there .all-plain), ap length (there .words), length-numbers 4 count part, a .1 .1 .0);
+        rules-of = a .1 .1 .0;
         bytes-of = b .1 .1 .0;
-        table-of = z;
-        text-of = e;
+        table-of = onto-zeros (pos 0) (programWords P) j z (a .1 .1 .1);
+        text-of = onto-zeros 0 (textOf ts) l y (b .1 .1 .1);
       } in
-      let x = subst (λ (m : ℕ). ReadLeaves (ifHeld (length table) m (pair (a .0) (b .0))) table table′ after proof′ answer) l (g (a .0) (b .0) k) in
-      rw (a .1 .0, b .1 .0) (read-kept {table = table} {proof = proof} refl l x)
+      let x = subst (λ (m : ℕ). ReadLeaves (ifHeld (length filled) m (pair P ts)) filled table′ after proof′ answer) l (g P ts k) in
+      let w = subst (λ (m : ℕ). ReadLeaves (ifHeld m (length proof) (pair P ts)) filled table′ after proof′ answer) j x in
+      rw (a .1 .0, b .1 .0) (read-kept {table = table} {proof = proof} j l w)
 
 -- The whole packet
 

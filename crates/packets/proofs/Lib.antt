@@ -2,6 +2,7 @@
 pub mod Littles
 pub mod StepParts
 pub mod RuleParts
+pub mod RulesRead
 pub mod Decoded
 pub mod Given
 pub mod Writes

@@ -52,9 +52,9 @@ little-value (b ∷ bs) f =
 
 -- Two's complement
 
-pub plain : (bs : List ℕ) → map (flipIf false) bs ≡ bs
-plain [] = refl
-plain (b ∷ bs) = ap (λ (t : List ℕ). b ∷ t) (plain bs)
+pub plain-bytes : (bs : List ℕ) → map (flipIf false) bs ≡ bs
+plain-bytes [] = refl
+plain-bytes (b ∷ bs) = ap (λ (t : List ℕ). b ∷ t) (plain-bytes bs)
 
 flip-twice : (bs : List ℕ) → Bytes bs → map (flipIf true) (map (flipIf true) bs) ≡ bs
 flip-twice [] f = refl
@@ -91,7 +91,7 @@ flip-high (b ∷ bs) h l = rw (high-flip b bs) (omega arith)
 
 with-plus : (bs : List ℕ) (n : ℕ) → highest bs < 128 → value bs ≡ n → signedValue bs ≡ pos n
 unfolding signedValue
-with-plus bs n l e = rw (lt-leb 128 (highest bs) l, plain bs, e)
+with-plus bs n l e = rw (lt-leb 128 (highest bs) l, plain-bytes bs, e)
 
 with-minus : (bs : List ℕ) (n : ℕ) → 128 ≤ highest bs → value (map (flipIf true) bs) ≡ n → signedValue bs ≡ negsuc n
 unfolding signedValue
@@ -103,7 +103,7 @@ pow-half k n h = rw (pow-suc 256 k) (omega arith)
 -- a number in the range of suc k bytes is read back from them
 pub signed-little : (k : ℕ) (z : ℤ) → mag z < 128 * 256 ^ k → signedValue (signedBytes (suc k) z) ≡ z
 unfolding signedBytes
-signed-little k (pos n) h = rw (plain (little (suc k) n)) (with-plus (little (suc k) n) n (high-low k n h) (value-little (suc k) n (pow-half k n h)))
+signed-little k (pos n) h = rw (plain-bytes (little (suc k) n)) (with-plus (little (suc k) n) n (high-low k n h) (value-little (suc k) n (pow-half k n h)))
 signed-little k (negsuc n) h =
     with-minus (map (flipIf true) (little (suc k) n)) n (flip-high (little (suc k) n) (omega (arith, length-little (suc k) n)) (high-low k n h))
     (ap value (flip-twice (little (suc k) n) (bytes-little (suc k) n)) ∙ value-little (suc k) n (pow-half k n h))
@@ -117,7 +117,7 @@ signed-value bs f = by (isNegative bs)
     by true =
         let m = map (flipIf true) bs in
         ap (map (flipIf true)) (ap (λ (k : ℕ). little k (value m)) (sym (length-map bs (flipIf true))) ∙ little-value m (bytes-flip bs)) ∙ flip-twice bs f
-    by false = rw (plain bs) (plain (little (length bs) (value bs)) ∙ little-value bs f)
+    by false = rw (plain-bytes bs) (plain-bytes (little (length bs) (value bs)) ∙ little-value bs f)
 
 pub length-signed : (k : ℕ) (z : ℤ) → length (signedBytes k z) ≡ k
 unfolding signedBytes
@@ -176,7 +176,7 @@ bytes-all (b ∷ bs) f c (List·Memᴰ·tail m) = bytes-all bs (λ i. f (suc i))
 
 pub bytes-flips : (t : Bool) (bs : List ℕ) → Bytes bs → Bytes (map (flipIf t) bs)
 bytes-flips true bs f = bytes-flip bs
-bytes-flips false bs f = rw (plain bs) f
+bytes-flips false bs f = rw (plain-bytes bs) f
 
 pub value-small : (k : ℕ) (bs : List ℕ) → length bs ≤ k → Bytes bs → value bs < 256 ^ k
 unfolding value
@@ -222,7 +222,7 @@ sign-bits bs z h f = by (isNegative bs) refl
   where
     by : (t : Bool) → isNegative bs ≡ t → value (map (flipIf t) bs) < 2147483648
     by true e = value-low 3 (map (flipIf true) bs) (rw (length-map bs (flipIf true)) h) (flip-low bs (leb-true 128 (highest bs) e)) (bytes-flip bs)
-    by false e = rw (plain bs) (value-low 3 bs h (leb-false 128 (highest bs) e) f)
+    by false e = rw (plain-bytes bs) (value-low 3 bs h (leb-false 128 (highest bs) e) f)
 
 pub number-at : (k n : ℕ) (bs : List ℕ) (i : ℕ) → i < n → getD (numbersFrom k n bs) i (pos 0) ≡ signedValue (take k (drop (k * i) bs))
 unfolding numbersFrom

@@ -26,7 +26,7 @@ use Rattle.drupe.specs.Lines.{allPassed, lineRefusal}
 use Rattle.drupe.specs.Texts.{Step, LinePasses}
 use Rattle.drupe.proofs.Texts.{AllPass, pass-one}
 use Rattle.packets.specs.Bytes.{bytesOf, numbersFrom}
-use Rattle.packets.specs.Packets.{stepsBytes, fills, letterIn, stepPasses, stepBefore, stepWith, stepsFrom}
+use Rattle.packets.specs.Packets.{stepsBytes, fills, letterIn, stepPasses, prepend, stepWith, stepsFrom}
 use Rattle.packets.specs.Claims.{Bytes}
 use Rattle.packets.proofs.Littles.{InRange, bytes-tail, bytes-part, length-bytes, numbers-back, length-numbers, numbers-whole}
 
@@ -104,7 +104,7 @@ first-read none zs o ts e = absurd (Option·none-ne-some ts e)
 first-read (some x) zs o ts e = by (stepPasses (record { letter = x; numbers = zs })) o refl e
   where
     by : (b : Bool) (o : Option (List Step)) → stepPasses (record { letter = x; numbers = zs }) ≡ b
-        → cond b (stepBefore (record { letter = x; numbers = zs }) o) none ≡ some ts → FirstRead (some x) zs o ts
+        → cond b (prepend (record { letter = x; numbers = zs }) o) none ≡ some ts → FirstRead (some x) zs o ts
     by false o p e = absurd (Option·none-ne-some ts e)
     by true none p e = absurd (Option·none-ne-some ts e)
     by true (some us) p e = record { x = x; us = us; letter = refl; passes = p; later = refl; all = sym (Option·some-injective _ _ e) }

@@ -1,7 +1,7 @@
 -- What the loops of the writer cite: bytes put one after another.
 -- Assumes nothing.
 use mathlib.Core.Path.{_≡_, refl, sym, _∙_, ap, ap₂, subst}
-use mathlib.Core.Bool.{Bool, true, false, cond, true≢false}
+use mathlib.Core.Bool.{Bool, true, false, cond, not, true≢false}
 use mathlib.Core.Option.{some}
 use mathlib.Core.Logic.{inl}
 use mathlib.Core.List.{List, [], _∷_, _++_, map, append-nil, append-assoc}
@@ -16,12 +16,13 @@ use lib.Seq.{drop-cons, take-append-seam, set-comm, sets, sets-eq, length-sets}
 use Rattle.words.specs.Limits.{longest, mostNumbers}
 use Rattle.words.specs.Lists.{concat}
 use Rattle.words.specs.Literals.{variable}
-use Rattle.words.proofs.Lists.{zero-one}
+use Rattle.words.proofs.Lists.{zero-one, concat-append}
+use Rattle.weights.specs.Weights.{paired}
 use Rattle.text.specs.declared.Letter.{Letter}
 use Rattle.text.specs.Writing.{Put}
 use Rattle.text.proofs.Puts.{put-on, put-one, put-none}
-use Rattle.aspif.specs.Rules.{Rule, kindWord}
-use Rattle.aspif.specs.Tables.{rulesAt, soundTable}
+use Rattle.aspif.specs.Rules.{plain, weights, InputRule, literalsOf, kindWord}
+use Rattle.aspif.specs.Tables.{isWeighted, bodyWordsAt, boundAt, bodyAt, ruleAt, rulesAt, soundTable}
 use Rattle.drupe.specs.Lines.{LineAt, line, lineAt, lineAnswer, numbersOf, AnswerBounds, ProofLineRead}
 use Rattle.drupe.specs.Lines as Lines
 use Rattle.drupe.specs.Texts.{Step, StepsRead, steps, stepsOf}
@@ -32,11 +33,12 @@ use Rattle.drupe.specs.declared.LineReading.{LineReading}
 use Rattle.drupe.proofs.Lines.{drop-replicate, passed-line}
 use Rattle.drupe.proofs.Texts.{Walked, walked-start, walked-on, walked-end, walked-refused, refused-exact}
 use Rattle.packets.specs.Bytes.{little, flipIf, signedBytes, bytesOf}
-use Rattle.packets.specs.Packets.{mark, packetRule, packetWords, stepBytes, stepsBytes, packetOf, paired, PacketWritten, unwritten, written, stepsTaken, held, writing, writingAnswer, packetLeft, WritingLeaves, WrittenPacket}
-use Rattle.packets.specs.Writes.{isRead, stepsRead, StepsPutAs, writingTold}
+use Rattle.packets.specs.Packets as Packets
+use Rattle.packets.specs.Packets.{mark, packetRule, isPlainBody, isPlain, allPlain, packetWords, stepBytes, stepsBytes, packetOf, PacketWritten, unwritten, written, stepsTaken, held, writing, writingAnswer, packetLeft, WritingLeaves, WrittenPacket}
+use Rattle.packets.specs.Writes.{stepRoom, isRead, stepsRead, StepsPutAs, writingTold}
 use Rattle.packets.specs.declared.PacketWriting.{PacketWriting}
 use Rattle.packets.specs.declared.PacketWriting.the-variants as Writing
-use Rattle.packets.proofs.Littles.{plain, length-bytes}
+use Rattle.packets.proofs.Littles.{plain-bytes, length-bytes}
 
 -- Of some bytes that are put from `at` on, those before `end` stand in the buffer, and `left` are yet to be put.
 pub record Going (whole left before now : List ℕ) (at end : ℕ) : Type 0 where
@@ -102,10 +104,6 @@ pub numbers-none : (k : ℕ) (zs : List ℤ) (i : ℕ) → length zs ≤ i → b
 unfolding bytesOf
 numbers-none k zs i h = rw (drop-of-length-le zs {i = i} h)
 
-concat-append : {A : Type 0} (f : A → List ℕ) (xs ys : List A) → concat (map f (xs ++ ys)) ≡ concat (map f xs) ++ concat (map f ys)
-concat-append f [] ys = refl
-concat-append f (x ∷ xs) ys = ap (λ (l : List ℕ). f x ++ l) (concat-append f xs ys) ∙ sym (append-assoc (f x) (concat (map f xs)) (concat (map f ys)))
-
 pub bytes-append : (k : ℕ) (xs ys : List ℤ) → bytesOf k (xs ++ ys) ≡ bytesOf k xs ++ bytesOf k ys
 unfolding bytesOf
 bytes-append k xs ys = concat-append (signedBytes k) xs ys
@@ -113,9 +111,28 @@ bytes-append k xs ys = concat-append (signedBytes k) xs ys
 -- a count is a word that is not negative
 pub count-bytes : (k n : ℕ) → signedBytes k (pos n) ≡ little k n
 unfolding signedBytes
-count-bytes k n = plain (little k n)
+count-bytes k n = plain-bytes (little k n)
 
 -- Rules
+
+-- no weight body, of a rule in the table
+pub plain-at : (ws : List ℤ) → isPlain (ruleAt ws) ≡ not (isWeighted ws)
+unfolding bodyAt
+plain-at ws = by (isWeighted ws)
+  where
+    by : (t : Bool) → isPlainBody (cond t (weights (boundAt ws) (paired (bodyWordsAt ws))) (plain (bodyWordsAt ws))) ≡ not t
+    by true = refl
+    by false = refl
+
+-- the words of its body are its literals
+pub plain-literals : (ws : List ℤ) → isPlain (ruleAt ws) ≡ true → bodyWordsAt ws ≡ literalsOf (bodyAt ws)
+unfolding bodyAt
+plain-literals ws = by (isWeighted ws)
+  where
+    by : (t : Bool) → isPlainBody (cond t (weights (boundAt ws) (paired (bodyWordsAt ws))) (plain (bodyWordsAt ws))) ≡ true
+        → bodyWordsAt ws ≡ literalsOf (cond t (weights (boundAt ws) (paired (bodyWordsAt ws))) (plain (bodyWordsAt ws)))
+    by true e = absurd (true≢false (sym e))
+    by false e = refl
 
 module _ {b₀ b₁ b₂ b₃ : List ℕ} {at₀ at₁ at₂ at₃ : ℕ} where
   -- a kind and two counts
@@ -125,12 +142,13 @@ module _ {b₀ b₁ b₂ b₃ : List ℕ} {at₀ at₁ at₂ at₃ : ℕ} where
   counts-put w k h n e p q r = rw (e, count-bytes 4 k, count-bytes 4 h, count-bytes 4 n) (put-on p (put-on q (put-on r (put-none _ _))))
 
   -- then the heads and the body
-  pub rule-put : (r : Rule) → Put (bytesOf 4 (kindWord (r .kind) ∷ pos (length (r .heads)) ∷ pos (length (r .body)) ∷ [])) b₀ b₁ at₀ at₁
-      → Put (bytesOf 4 (r .heads)) b₁ b₂ at₁ at₂ → Put (bytesOf 4 (r .body)) b₂ b₃ at₂ at₃ → Put (bytesOf 4 (packetRule r)) b₀ b₃ at₀ at₃
+  pub rule-put : (r : InputRule) → (let ls = literalsOf (r .body) in Put (bytesOf 4 (kindWord (r .kind) ∷ pos (length (r .heads)) ∷ pos (length ls) ∷ [])) b₀ b₁ at₀ at₁
+      → Put (bytesOf 4 (r .heads)) b₁ b₂ at₁ at₂ → Put (bytesOf 4 ls) b₂ b₃ at₂ at₃ → Put (bytesOf 4 (packetRule r)) b₀ b₃ at₀ at₃)
   rule-put r p q t =
-      rw (bytes-append 4 (kindWord (r .kind) ∷ pos (length (r .heads)) ∷ pos (length (r .body)) ∷ []) (r .heads ++ r .body), bytes-append 4 (r .heads) (r .body)) (put-on p (put-on q t))
+      let ls = literalsOf (r .body) in
+      rw (bytes-append 4 (kindWord (r .kind) ∷ pos (length (r .heads)) ∷ pos (length ls) ∷ []) (r .heads ++ ls), bytes-append 4 (r .heads) ls) (put-on p (put-on q t))
 
-pub rule-on : {whole before now after : List ℕ} {at end next : ℕ} (r : Rule) (P Q : List Rule) → P ≡ r ∷ Q
+pub rule-on : {whole before now after : List ℕ} {at end next : ℕ} (r : InputRule) (P Q : List InputRule) → P ≡ r ∷ Q
     → Going whole (bytesOf 4 (packetWords P)) before now at end → Put (bytesOf 4 (packetRule r)) now after end next
     → Going whole (bytesOf 4 (packetWords Q)) before after at next
 rule-on r P Q e g p = going-on (rw (e, bytes-append 4 (packetRule r) (packetWords Q)) at g) p
@@ -165,7 +183,7 @@ pub record Stepping (text before now : List ℕ) (at position n end : ℕ) : Typ
   pub done : List Step
   pub walked : Walked text position n done
   pub put : Put (stepsBytes done) before now at end
-  pub near : end ≤ at + 132 * position
+  pub near : end ≤ at + stepRoom * position
   pub within : position ≤ length text
   pub few : n ≤ position
 
@@ -176,7 +194,7 @@ stepping-start before at h =
 module _ {text before now : List ℕ} {at position n end : ℕ} (S : Stepping text before now at position n end) where
   -- one step more
   pub stepping-on : {x : Letter} {zs : List ℤ} {place next : ℕ} {after : List ℕ} → lineAt text position ≡ line x zs place
-      → Put (stepBytes (record { letter = x; numbers = zs })) now after end next → next ≤ end + 132 → Stepping text before after at place (n + 1) next
+      → Put (stepBytes (record { letter = x; numbers = zs })) now after end next → next ≤ end + stepRoom → Stepping text before after at place (n + 1) next
   stepping-on {x} {zs} e p h =
       let t : Step = record { letter = x; numbers = zs } in
       let u = passed-line text position e in
@@ -222,7 +240,7 @@ put-first {xs} {ys} {before} {at = at} {from} p q =
     (record { stands = q .stands ∙ rw (p .stands) (sets-first xs ys before at from (omega (arith, q .ends))); ends = p .ends })
 
 -- the rules, the steps, and the header last, with the words counted by the bytes that they take
-pub packet-put : (P : List Rule) (ts : List Step) (n : ℕ) {b₀ b₁ b₂ b₃ : List ℕ} {middle next : ℕ}
+pub packet-put : (P : List InputRule) (ts : List Step) (n : ℕ) {b₀ b₁ b₂ b₃ : List ℕ} {middle next : ℕ}
     → Put (bytesOf 4 (packetWords P)) b₀ b₁ 13 middle → Put (stepsBytes ts) b₁ b₂ middle next → n ≡ length ts
     → Put (mark ++ (little 4 ((middle - 13) / 4) ++ little 4 n)) b₂ b₃ 0 13 → Put (packetOf P ts) b₀ b₃ 0 next
 unfolding packetOf
@@ -230,7 +248,7 @@ packet-put P ts n {middle = middle} p q e h =
     let w : (middle - 13) / 4 ≡ length (packetWords P) = omega (arith, p .ends, length-bytes 4 (packetWords P)) in
     put-first (put-on p q) (rw (w, e) at h)
 
-pub packet-ends : (P : List Rule) (ts : List Step) {b₀ b₁ b₂ : List ℕ} {middle next : ℕ}
+pub packet-ends : (P : List InputRule) (ts : List Step) {b₀ b₁ b₂ : List ℕ} {middle next : ℕ}
     → Put (bytesOf 4 (packetWords P)) b₀ b₁ 13 middle → Put (stepsBytes ts) b₁ b₂ middle next → next ≡ length (packetOf P ts)
 unfolding packetOf little
 packet-ends P ts p q = omega (arith, p .ends, q .ends, length-append (bytesOf 4 (packetWords P)) (stepsBytes ts))
@@ -249,15 +267,19 @@ module _ (table : List ℤ) (rules : ℕ) (proof : List ℕ) (size : ℕ) where
   abbrev pub bytes : List ℕ
   bytes = packetOf (rulesAt rules table) (stepsRead (stepsOf proof))
 
-  -- the questions that are left of a table that passed
-  pub asked : soundTable table rules ≡ true → writing table rules proof size ≡ byQuestions (isRead (stepsOf proof)) (leb (length bytes) size) bytes
+  pub no-packet : soundTable table rules ≡ true → allPlain (rulesAt rules table) ≡ false → writing table rules proof size ≡ unwritten 53
   unfolding writing
-  asked e = rw e (by (stepsOf proof))
+  no-packet e p = rw (e, p)
+
+  -- the questions that are left of a table that passed
+  pub asked : soundTable table rules ≡ true → allPlain (rulesAt rules table) ≡ true → writing table rules proof size ≡ byQuestions (isRead (stepsOf proof)) (leb (length bytes) size) bytes
+  unfolding writing
+  asked e p = rw (e, p) (by (stepsOf proof))
     where
-      P : List Rule
+      P : List InputRule
       P = rulesAt rules table
 
-      by : (o : StepsRead) → held size (paired (some P) (stepsTaken o)) ≡ byQuestions (isRead o) (leb (length (packetOf P (stepsRead o))) size) (packetOf P (stepsRead o))
+      by : (o : StepsRead) → held size (Packets.paired (some P) (stepsTaken o)) ≡ byQuestions (isRead o) (leb (length (packetOf P (stepsRead o))) size) (packetOf P (stepsRead o))
       by (steps us) = refl
       by (Texts.refused us k n) = refl
 

@@ -1,5 +1,6 @@
--- Case packets: Change 1. The pair is the rules P of a table and the steps ts of a proof text; `packetOf P ts` is its one byte form,
--- and `writing` and `reading` are what the writer and the reader come to, question by question.
+-- Case packets: Change 1, with "Packets keep the old table and refuse a weight rule with 53" of Change 3. The pair is the rules P of a
+-- table, none with a weight body, and the steps ts of a proof text; `packetOf P ts` is its one byte form, and `writing` and `reading` are
+-- what the writer and the reader come to, question by question.
 -- Assumes nothing.
 use mathlib.Core.Path.{_≡_}
 use mathlib.Core.Bool.{Bool, true, false, cond, not, _&&_}
@@ -10,13 +11,13 @@ use lib.Dec.{leb}
 use lib.IntN.{ℤ, pos}
 use lib.ListN.{length, take, drop, replicate}
 use Rattle.words.specs.Limits.{longest, mostRules}
-use Rattle.words.specs.Lists.{concat}
+use Rattle.words.specs.Lists.{concat, all}
 use Rattle.words.specs.Literals.{has}
 use Rattle.text.specs.Bytes.{byteOf, classOf}
 use Rattle.text.specs.declared.Letter.{Letter}
 use Rattle.text.specs.declared.Class.{Class}
 use Rattle.text.specs.declared.Class.the-variants as Class
-use Rattle.aspif.specs.Rules.{Rule, kindWord, programWords, tableWords}
+use Rattle.aspif.specs.Rules.{Body, plain, weights, InputRule, literalsOf, kindWord, programWords, tableWords}
 use Rattle.text.specs.Strings.{startsWith}
 use Rattle.aspif.specs.Tables.{ruleAt, sizeAt, soundAt, rulesOf}
 use Rattle.drupe.specs.Lines.{allPassed, lineRefusal}
@@ -36,11 +37,23 @@ mark = 82 ∷ 86 ∷ 80 ∷ 1 ∷ 0 ∷ []
 
 -- A rule's words in a packet: "head kind, head count, body count, heads ascending, body literals ascending by atom". They are
 -- written out here and not taken from the table's layout, since "Packets keep the old table".
-abbrev pub packetRule : Rule → List ℤ
-packetRule r = kindWord (r .kind) ∷ pos (length (r .heads)) ∷ pos (length (r .body)) ∷ (r .heads ++ r .body)
+abbrev pub packetRule : InputRule → List ℤ
+packetRule r =
+    kindWord (r .kind) ∷ pos (length (r .heads)) ∷ pos (length (literalsOf (r .body))) ∷ (r .heads ++ literalsOf (r .body))
+
+-- no weight body, of one rule and of all
+abbrev pub isPlainBody : Body → Bool
+isPlainBody (plain ls) = true
+isPlainBody (weights b l) = false
+
+abbrev pub isPlain : InputRule → Bool
+isPlain r = isPlainBody (r .body)
+
+abbrev pub allPlain : List InputRule → Bool
+allPlain P = all isPlain P
 
 -- the "table words in use"
-abbrev pub packetWords : List Rule → List ℤ
+abbrev pub packetWords : List InputRule → List ℤ
 packetWords P = concat (map packetRule P)
 
 -- "each step as a letter byte, a count byte and its 16-bit signed numbers without the closing 0"
@@ -51,11 +64,11 @@ abbrev pub stepsBytes : List Step → List ℕ
 stepsBytes ts = concat (map stepBytes ts)
 
 -- "then the number of table words in use and the number of steps, 32 bits each"
-abbrev pub packetHeader : List Rule → List Step → List ℕ
+abbrev pub packetHeader : List InputRule → List Step → List ℕ
 packetHeader P ts = mark ++ (little 4 (length (packetWords P)) ++ little 4 (length ts))
 
 -- ".. those words, and each step"
-unfoldable pub packetOf : List Rule → List Step → List ℕ
+unfoldable pub packetOf : List InputRule → List Step → List ℕ
 packetOf P ts = packetHeader P ts ++ (bytesOf 4 (packetWords P) ++ stepsBytes ts)
 
 -- What stands in the bytes of a packet
@@ -88,33 +101,37 @@ unfoldable pub lengthsFit : List ℕ → Bool
 lengthsFit packet =
     leb 13 (length packet) && (leb (13 + 4 * wordCount packet) (length packet) && fills (stepCount packet) (stepPart packet))
 
--- Rules. "a table that 41 .. would refuse": a rule stands at the front of a packet's words, so many words long. A packet's words are
--- those of the table today, so question 41's tests of one rule are cited; where the table's layout changes, these three stay as they
--- are now.
+-- an element before a list, where there is one
+abbrev pub prepend : {A : Type 0} → A → Option (List A) → Option (List A)
+prepend x none = none
+prepend x (some l) = some (x ∷ l)
+
+-- Rules. "a table that 41 .. would refuse": a rule stands at the front of a packet's words, so many words long. Question 41's tests of
+-- one rule are asked of the words as the table has them.
+
+-- a packet's words with the table's "body kind after the head count", which is 0
+unfoldable pub withKind : List ℤ → List ℤ
+withKind ws = take 2 ws ++ (pos 0 ∷ drop 2 ws)
 
 abbrev pub rulePasses : List ℤ → Bool
-rulePasses ws = soundAt ws
+rulePasses ws = soundAt (withKind ws)
 
 abbrev pub ruleSize : List ℤ → ℕ
-ruleSize ws = sizeAt ws
+ruleSize ws = sizeAt (withKind ws) - 1
 
-abbrev pub ruleIn : List ℤ → Rule
-ruleIn ws = ruleAt ws
-
-abbrev pub ruleBefore : Rule → Option (List Rule) → Option (List Rule)
-ruleBefore r none = none
-ruleBefore r (some P) = some (r ∷ P)
+abbrev pub ruleIn : List ℤ → InputRule
+ruleIn ws = ruleAt (withKind ws)
 
 -- the rules, rule after rule off the words until none is left, and so many at most
-unfoldable pub rulesFrom : ℕ → List ℤ → Option (List Rule)
+unfoldable pub rulesFrom : ℕ → List ℤ → Option (List InputRule)
 rulesFrom zero [] = some []
 rulesFrom zero (w ∷ ws) = none
 rulesFrom (suc n) [] = some []
 rulesFrom (suc n) (w ∷ ws) =
-    cond (rulePasses (w ∷ ws)) (ruleBefore (ruleIn (w ∷ ws)) (rulesFrom n (drop (ruleSize (w ∷ ws)) (w ∷ ws)))) none
+    cond (rulePasses (w ∷ ws)) (prepend (ruleIn (w ∷ ws)) (rulesFrom n (drop (ruleSize (w ∷ ws)) (w ∷ ws)))) none
 
 -- "At most 1,024 rules."
-unfoldable pub rulesIn : List ℤ → Option (List Rule)
+unfoldable pub rulesIn : List ℤ → Option (List InputRule)
 rulesIn ws = rulesFrom mostRules ws
 
 -- Steps. "a proof text that 21 to 25 would refuse"
@@ -132,15 +149,11 @@ letterIn Class.Other = none
 unfoldable pub stepPasses : Step → Bool
 stepPasses t = not (has (pos 0) (t .numbers)) && allPassed (lineRefusal (t .letter) (t .numbers))
 
-abbrev pub stepBefore : Step → Option (List Step) → Option (List Step)
-stepBefore t none = none
-stepBefore t (some ts) = some (t ∷ ts)
-
 -- a letter, its numbers and the steps after them
 abbrev pub stepWith : Option Letter → List ℤ → Option (List Step) → Option (List Step)
 stepWith none zs o = none
 stepWith (some x) zs o =
-    cond (stepPasses (record { letter = x; numbers = zs })) (stepBefore (record { letter = x; numbers = zs }) o) none
+    cond (stepPasses (record { letter = x; numbers = zs })) (prepend (record { letter = x; numbers = zs }) o) none
 
 -- so many steps
 unfoldable pub stepsFrom : ℕ → List ℕ → Option (List Step)
@@ -162,10 +175,10 @@ stepsIn n bs = ifShort (stepsFrom n bs)
 -- the pair, or the number of a refusal
 pub data PacketRead : Type 0 where
   refused : ℕ → PacketRead
-  pair : List Rule → List Step → PacketRead
+  pair : List InputRule → List Step → PacketRead
 
 -- "a table that 41 or a proof text that 21 to 25 would refuse 53"
-abbrev pub paired : Option (List Rule) → Option (List Step) → PacketRead
+abbrev pub paired : Option (List InputRule) → Option (List Step) → PacketRead
 paired none o = refused 53
 paired (some P) none = refused 53
 paired (some P) (some ts) = pair P ts
@@ -232,9 +245,14 @@ abbrev pub held : ℕ → PacketRead → PacketWritten
 held size (refused k) = unwritten k
 held size (pair P ts) = cond (leb (length (packetOf P ts)) size) (written (packetOf P ts)) (unwritten 52)
 
+-- "Packets .. refuse a weight rule with 53"
+abbrev pub ifPlain : Option (List InputRule) → Option (List InputRule)
+ifPlain none = none
+ifPlain (some P) = cond (allPlain P) (some P) none
+
 -- The writer has no mark to test, so 53 comes first, and then 52.
 unfoldable pub writing : List ℤ → ℕ → List ℕ → ℕ → PacketWritten
-writing table rules proof size = held size (paired (rulesOf table rules) (stepsTaken (stepsOf proof)))
+writing table rules proof size = held size (paired (ifPlain (rulesOf table rules)) (stepsTaken (stepsOf proof)))
 
 abbrev pub writingAnswer : PacketWritten → PacketWriting
 writingAnswer (unwritten k) = Writing.Refused k

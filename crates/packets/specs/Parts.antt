@@ -4,7 +4,7 @@ use mathlib.Core.Path.{_≡_}
 use mathlib.Core.Bool.{cond}
 use mathlib.Core.Option.{Option, none, some}
 use mathlib.Core.List.{List, [], _∷_}
-use Prim.Native.Nat.{ℕ, _+_, _*_}
+use Prim.Native.Nat.{ℕ, _+_, _*_, _<_, _≤_}
 use lib.Dec.{leb}
 use lib.IntN.{ℤ, pos}
 use lib.ListN.{length, replicate}
@@ -12,24 +12,35 @@ use lib.Seq.{sets}
 use Rattle.text.specs.Bytes.{classOf}
 use Rattle.text.specs.Writing.{Put}
 use Rattle.text.specs.declared.Letter.{Letter}
-use Rattle.aspif.specs.Rules.{Rule}
+use Rattle.words.specs.Limits.{mostLiterals}
+use Rattle.aspif.specs.Rules.{InputRule, ruleWords, programWords}
 use Rattle.drupe.specs.Texts.{Step, stepText, textOf}
 use Rattle.packets.specs.Bytes.{numbersFrom}
-use Rattle.packets.specs.Packets.{packetWords, rulePasses, ruleSize, letterIn, stepPasses, pair, ifHeld, ReadLeaves}
+use Rattle.packets.specs.Packets.{rulePasses, ruleSize, ruleIn, letterIn, stepPasses, pair, ifHeld, ReadLeaves}
 use Rattle.packets.specs.declared.PacketReading.{PacketReading}
 use Rattle.packets.specs.declared.reader.Part.{Part}
 use Rattle.packets.specs.declared.reader.Part.the-variants.{Taken, Refused}
 
 -- The reader's rules
 
+-- the words of the longest rule of a packet: a kind, two counts, and both parts
+abbrev pub mostWords : ℕ
+mostWords = 3 + mostLiterals + mostLiterals
+
 -- how many words the rule at the front takes; 0 where none stands there
 unfoldable pub sizeIfSound : List ℤ → ℕ
 sizeIfSound ws = cond (rulePasses ws) (ruleSize ws) 0
 
--- how many rules there are, after n of them
-abbrev pub counted : ℕ → Option (List Rule) → Part
-counted n none = Refused
-counted n (some P) = Taken (n + length P)
+-- how many words of the packet the rule at their front takes, and its words stand in the table from `at` on, as many as fit
+pub record RuleTold (ws before after : List ℤ) (at r : ℕ) : Type 0 where
+  pub size : r ≡ sizeIfSound ws
+  pub within : r ≤ length ws
+  pub words : 0 < r → after ≡ sets before at (ruleWords (ruleIn ws))
+
+-- the words of rules stand in the table from its front on, as many as fit, and it is told how many rules they are
+abbrev pub TableTold : Option (List InputRule) → List ℤ → List ℤ → Part → Type 0
+TableTold none before after r = r ≡ Refused
+TableTold (some P) before after r = (r ≡ Taken (length P)) × (after ≡ sets before 0 (programWords P))
 
 -- The reader's steps
 
@@ -62,19 +73,18 @@ TextTold (some ts) before after r = (r ≡ Taken (length (textOf ts))) × (after
 
 -- The reader's outputs
 
--- what the parts of a packet that are read come to: the words that stand for the rules P, and the text of the steps ts, which stands in
--- the output already
-pub record Parts (words : List ℤ) (rules bytes : ℕ) (table : List ℤ) (proof : List ℕ) (P : List Rule) (ts : List Step) : Type 0 where
-  pub words-of : words ≡ packetWords P
+-- what the parts of a packet that are read come to: so many words of the table and bytes of the text, which stand in the outputs already
+pub record Parts (size rules bytes : ℕ) (table : List ℤ) (proof : List ℕ) (P : List InputRule) (ts : List Step) : Type 0 where
+  pub size-of : size ≡ length (programWords P)
   pub rules-of : rules ≡ length P
   pub bytes-of : bytes ≡ length (textOf ts)
-  pub table-of : table ≡ replicate (length table) (pos 0)
+  pub table-of : table ≡ sets (replicate (length table) (pos 0)) 0 (programWords P)
   pub text-of : proof ≡ sets (replicate (length proof) 0) 0 (textOf ts)
 
 -- what is given of the parts of a packet, whatever pair they are the parts of: the pair, where the outputs hold it
-abbrev pub Given : List ℤ → ℕ → ℕ → List ℤ → List ℤ → List ℕ → List ℕ → PacketReading → Type 0
-Given words rules bytes table table′ proof proof′ r =
-    (P : List Rule) (ts : List Step) → Parts words rules bytes table proof P ts
+abbrev pub Given : ℕ → ℕ → ℕ → List ℤ → List ℤ → List ℕ → List ℕ → PacketReading → Type 0
+Given size rules bytes table table′ proof proof′ r =
+    (P : List InputRule) (ts : List Step) → Parts size rules bytes table proof P ts
     → ReadLeaves (ifHeld (length table) (length proof) (pair P ts)) table table′ proof proof′ r
 
 -- the outputs hold zeros

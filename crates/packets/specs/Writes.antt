@@ -3,14 +3,27 @@
 use mathlib.Core.Path.{_≡_}
 use mathlib.Core.Bool.{Bool, true, false, cond}
 use mathlib.Core.List.{List}
-use Prim.Native.Nat.{ℕ}
+use Prim.Native.Nat.{ℕ, _+_, _*_}
 use lib.ListN.{length}
+use Rattle.words.specs.Limits.{mostRules, mostNumbers}
 use Rattle.text.specs.Writing.{Put}
 use Rattle.drupe.specs.Texts.{Step, StepsRead, steps, refused}
 use Rattle.packets.specs.Packets.{stepsBytes}
+use Rattle.packets.specs.Parts.{mostWords}
 use Rattle.packets.specs.declared.PacketWriting.{PacketWriting}
 use Rattle.packets.specs.declared.PacketWriting.the-variants.{Written, Refused}
 use Rattle.packets.specs.declared.writer.StepsPut.{StepsPut}
+
+-- Bounds on positions, which only keep sums from wrapping: room for a rule, and for a step were its numbers 4 bytes each, and where the
+-- last rule ends at the latest
+abbrev pub ruleRoom : ℕ
+ruleRoom = 4 * mostWords
+
+abbrev pub stepRoom : ℕ
+stepRoom = 2 + 4 * mostNumbers
+
+abbrev pub lastRuleEnd : ℕ
+lastRuleEnd = 13 + ruleRoom * mostRules
 
 -- a proof text passes
 abbrev pub isRead : StepsRead → Bool

@@ -8,6 +8,9 @@ mod writer;
 ghost use Rattle.packets.specs.Packets.{ReadPacket, WrittenPacket};
 use aspif::tables;
 
+// The mark, with the version.
+const MARK: [u8; 5] = *b"RVP\x01\x00";
+
 // The header's bytes: the mark with the version, and two counts.
 const HEADER: usize = 13;
 
@@ -32,6 +35,9 @@ pub fn write_packet(table: &[i32], rules: usize, proof: &[u8], packet: &mut [u8]
     if !tables::is_readable(table, rules) {
         return PacketWriting::Refused(53);
     }
+    if !writer::all_plain(table, rules) {
+        return PacketWriting::Refused(53);
+    }
     writer::write_pair(table, rules, proof, packet)
 }
 
@@ -42,7 +48,7 @@ pub fn read_packet(packet: &[u8], table: &mut [i32], proof: &mut [u8]) -> Packet
 {
     words::zero_all(table);
     numbers::zero_all(proof);
-    if !text::starts_with(packet, b"RVP\x01\x00") {
+    if !text::starts_with(packet, &MARK) {
         return PacketReading::Refused(51);
     }
     if !reader::lengths_fit(packet) {

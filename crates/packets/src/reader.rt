@@ -1,23 +1,27 @@
 // The packet reader: `reading` of specs/Packets.antt. The lengths are tested first; then each rule and each step is decoded into a row
-// of its own and asked, and the proof text is written on the way.
+// of its own and asked, and the table and the proof text are written on the way, as much as fits.
 ghost use mathlib.Core.Path.{_≡_};
 ghost use mathlib.Core.Bool.{true};
 ghost use mathlib.Core.Option.{some};
-ghost use Prim.Native.Nat.{_+_, _*_, _<_, _≤_};
+ghost use Prim.Native.Nat.{_+_, _-_, _*_, _<_, _≤_};
 ghost use lib.IntN.{pos};
 ghost use lib.ListN.{length, take, drop};
+ghost use lib.Seq.{sets};
 ghost use Rattle.words.specs.Limits.{longest, mostNumbers};
 ghost use Rattle.packets.specs.Bytes.{value, numbersFrom};
-ghost use Rattle.packets.specs.Packets.{fills, lengthsFit, rulesIn, stepsIn, refused, partsRead, ReadLeaves};
-ghost use Rattle.packets.specs.Parts.{sizeIfSound, counted, stepSize, ifPasses, stepAt, StepTold, TextTold, Given, Zeros};
+ghost use Rattle.packets.specs.Packets.{fills, lengthsFit, withKind, rulesIn, stepsIn, refused, partsRead, ReadLeaves};
+ghost use Rattle.packets.specs.Parts.{RuleTold, TableTold, stepSize, ifPasses, stepAt, StepTold, TextTold, Given, Zeros};
 use crate::HEADER;
 use crate::PacketReading;
 use crate::numbers;
 use text::Class;
 use text::Letter;
 
-// The words of the longest rule: a kind, two counts, and both parts.
-const ROW: usize = 3 + words::MOST_LITERALS + words::MOST_LITERALS;
+// The words before a rule's heads: a kind and two counts.
+const FRONT: usize = 3;
+
+// The words of the longest rule, and the body kind that they lack.
+const ROW: usize = FRONT + 1 + words::MOST_LITERALS + words::MOST_LITERALS;
 
 // How many rules, or bytes of text, a part of the packet comes to; or that it is refused.
 pub enum Part {
@@ -79,35 +83,64 @@ pub fn lengths_fit(packet: &[u8]) -> bool
     are_steps(&packet[middle..], count_at(packet, 9))
 }
 
-// How many words the rule takes whose words the row is filled with; 0 where none stands there.
-fn decode_rule(row: &mut [i32], bytes: &[u8]) -> usize
-    requires { ⌜ 4 * length (now row) ≤ length (now bytes) ⌝ }
-    ensures { λ r. ⌜ (r ≡ sizeIfSound (numbersFrom 4 (length (now (row .entry))) (now (bytes .entry)))) ×
-        (r ≤ length (now (row .entry))) ⌝ }
+// A packet's words stand in the row from its second place on, and become the table's: the body kind 0 comes after the head count.
+fn put_kind(row: &mut [i32])
+    requires { ⌜ 3 ≤ length (now row) ⌝ }
+    ensures { λ _. ⌜ now (row .exit) ≡ withKind (drop 1 (now (row .entry))) ⌝ }
 {
-    numbers::read_numbers(row, bytes, 4);
+    row[0] = row[1];
+    row[1] = row[2];
+    row[2] = 0;
+}
+
+// Words go to the table from `at` on, as many as fit.
+fn put_at(table: &mut [i32], at: usize, row: &[i32])
+    ensures { λ _. ⌜ now (table .exit) ≡ sets (now (table .entry)) at (now (row .entry)) ⌝ }
+{
+    if at <= table.len() {
+        words::put_words(&mut table[at..], row);
+    }
+}
+
+// The rule whose words fill the row but for one place: they go to the table from `at` on, and how many the packet has is told; 0 where
+// no rule stands there.
+fn decode_rule(row: &mut [i32], bytes: &[u8], table: &mut [i32], at: usize) -> usize
+    requires { ⌜ (3 ≤ length (now row)) × (4 * (length (now row) - 1) ≤ length (now bytes)) ⌝ }
+    ensures { λ r. ⌜ RuleTold (numbersFrom 4 (length (now (row .entry)) - 1) (now (bytes .entry))) (now (table .entry))
+        (now (table .exit)) at r ⌝ }
+{
+    numbers::read_numbers(&mut row[1..], bytes, 4);
+    put_kind(row);
     if aspif::tables::is_sound(row) {
-        return aspif::tables::rule_size(row);
+        let size = aspif::tables::rule_size(row);
+        put_at(table, at, &row[..size]);
+        return size - 1;
     }
     0
 }
 
-// How many of the words the rule at the front takes; 0 where none stands there.
-fn rule_there(bytes: &[u8], count: usize) -> usize
+// The rule at the front of so many words: it goes to the table from `at` on, and how many of the words it takes is told; 0 where none
+// stands there.
+fn read_rule(bytes: &[u8], count: usize, table: &mut [i32], at: usize) -> usize
     requires { ⌜ 4 * count ≤ length (now bytes) ⌝ }
-    ensures { λ r. ⌜ (r ≡ sizeIfSound (numbersFrom 4 count (now (bytes .entry)))) × (r ≤ count) ⌝ }
+    ensures { λ r. ⌜ RuleTold (numbersFrom 4 count (now (bytes .entry))) (now (table .entry)) (now (table .exit)) at r ⌝ }
 {
     let mut row = [0; ROW];
-    if count < ROW {
-        return decode_rule(&mut row[..count], bytes);
+    if count < FRONT {
+        return 0;
     }
-    decode_rule(&mut row, bytes)
+    if count < ROW {
+        let end = count + 1;
+        return decode_rule(&mut row[..end], bytes, table, at);
+    }
+    decode_rule(&mut row, bytes, table, at)
 }
 
-// How many rules the words fall into.
-fn count_rules(bytes: &[u8], count: usize) -> Part
+// The rules that the words fall into go to the table, as many words as fit; how many rules they are is told. In the table each rule
+// has a word more.
+fn read_rules(bytes: &[u8], count: usize, table: &mut [i32]) -> Part
     requires { ⌜ 4 * count ≤ length (now bytes) ⌝ }
-    ensures { λ r. ⌜ r ≡ counted 0 (rulesIn (numbersFrom 4 count (now (bytes .entry)))) ⌝ }
+    ensures { λ r. ⌜ TableTold (rulesIn (numbersFrom 4 count (now (bytes .entry)))) (now (table .entry)) (now (table .exit)) r ⌝ }
 {
     let mut rules = 0;
     let mut i = 0;
@@ -116,7 +149,7 @@ fn count_rules(bytes: &[u8], count: usize) -> Part
             return Part::Refused;
         }
         let from = 4 * i;
-        let size = rule_there(&bytes[from..], count - i);
+        let size = read_rule(&bytes[from..], count - i, table, i + rules);
         if size == 0 {
             return Part::Refused;
         }
@@ -209,27 +242,23 @@ fn refuse(number: u8, table: &mut [i32], proof: &mut [u8]) -> PacketReading
     PacketReading::Refused(number)
 }
 
-// The words go to the table, where the outputs hold both parts; the text stands in the output already. The packet's words are the
-// table's today, so they are copied.
+// What both parts come to, where the outputs hold them: so many words of the table and bytes of the text, which stand there already.
 fn give(
-    part: &[u8],
-    count: usize,
+    size: usize,
     rules: usize,
     bytes: usize,
     table: &mut [i32],
     proof: &mut [u8],
 ) -> PacketReading
-    requires { ⌜ 4 * count ≤ length (now part) ⌝ }
-    ensures { λ r. ⌜ Given (numbersFrom 4 count (now (part .entry))) rules bytes (now (table .entry)) (now (table .exit))
-        (now (proof .entry)) (now (proof .exit)) r ⌝ }
+    ensures { λ r. ⌜ Given size rules bytes (now (table .entry)) (now (table .exit)) (now (proof .entry))
+        (now (proof .exit)) r ⌝ }
 {
-    if table.len() < count {
+    if table.len() < size {
         return refuse(52, table, proof);
     }
     if proof.len() < bytes {
         return refuse(52, table, proof);
     }
-    numbers::read_numbers(&mut table[..count], part, 4);
     PacketReading::Read { rules, bytes }
 }
 
@@ -248,12 +277,12 @@ pub fn read_parts(
         (length (now (proof .entry)))) (now (table .entry)) (now (table .exit)) (now (proof .entry)) (now (proof .exit)) r ⌝ }
 {
     let text = read_steps(bytes, steps, proof);
-    let rules = count_rules(words, count);
+    let rules = read_rules(words, count, table);
     match rules {
         Part::Refused => refuse(53, table, proof),
         Part::Taken(rules) => match text {
             Part::Refused => refuse(53, table, proof),
-            Part::Taken(end) => give(words, count, rules, end, table, proof),
+            Part::Taken(end) => give(count + rules, rules, end, table, proof),
         },
     }
 }

@@ -13,9 +13,10 @@ ghost use Rattle.aspif.specs.Rules.{kindWord};
 ghost use Rattle.aspif.specs.Tables.{ruleAt, soundAt, rulesAt, soundRules, soundTable};
 ghost use Rattle.drupe.specs.Texts.{stepsOf};
 ghost use Rattle.packets.specs.Bytes.{little, flipIf, signedBytes, bytesOf};
-ghost use Rattle.packets.specs.Packets.{mark, packetRule, packetWords, stepBytes, WrittenPacket};
-ghost use Rattle.packets.specs.Writes.{StepsPutAs, writingTold};
+ghost use Rattle.packets.specs.Packets.{mark, packetRule, isPlain, allPlain, packetWords, stepBytes, WrittenPacket};
+ghost use Rattle.packets.specs.Writes.{ruleRoom, stepRoom, lastRuleEnd, StepsPutAs, writingTold};
 use crate::HEADER;
+use crate::MARK;
 use crate::PacketWriting;
 use crate::numbers;
 use aspif::Kind;
@@ -106,11 +107,11 @@ fn put_counts(buffer: &mut [u8], at: usize, kind: Kind, heads: usize, body: usiz
     put_count(buffer, second, body)
 }
 
-// The rule at the front of some words of the table.
+// The rule at the front of some words of the table, which has no weight body.
 fn put_rule(buffer: &mut [u8], at: usize, rule: &[i32]) -> usize
-    requires { ⌜ (soundAt (now rule) ≡ true) × (at + 524 ≤ farthest) ⌝ }
+    requires { ⌜ (soundAt (now rule) ≡ true) × ((isPlain (ruleAt (now rule)) ≡ true) × (at + ruleRoom ≤ farthest)) ⌝ }
     ensures { λ r. ⌜ Put (bytesOf 4 (packetRule (ruleAt (now (rule .entry))))) (now (buffer .entry)) (now (buffer .exit)) at r ⌝ }
-    ensures { λ r. ⌜ r ≤ at + 524 ⌝ }
+    ensures { λ r. ⌜ r ≤ at + ruleRoom ⌝ }
 {
     let heads = tables::heads_of(rule);
     let body = tables::body_of(rule);
@@ -120,12 +121,31 @@ fn put_rule(buffer: &mut [u8], at: usize, rule: &[i32]) -> usize
     put_all(buffer, middle, body, 4)
 }
 
+// No rule of the table has a weight body.
+pub fn all_plain(table: &[i32], rules: usize) -> bool
+    requires { ⌜ soundRules rules (now table) ≡ true ⌝ }
+    ensures { λ r. ⌜ r ≡ allPlain (rulesAt rules (now (table .entry))) ⌝ }
+{
+    let mut left = rules;
+    let mut i = 0;
+    while 0 < left {
+        let rest = &table[i..];
+        if tables::is_weighted(rest) {
+            return false;
+        }
+        i = tables::next_rule(table, i);
+        left -= 1;
+    }
+    true
+}
+
 // The rules of a table, one after another.
 fn put_rules(buffer: &mut [u8], at: usize, table: &[i32], rules: usize) -> usize
-    requires { ⌜ (soundRules rules (now table) ≡ true) × ((rules ≤ mostRules) × (at ≤ 1000)) ⌝ }
+    requires { ⌜ (soundRules rules (now table) ≡ true) × (allPlain (rulesAt rules (now table)) ≡ true) ⌝ }
+    requires { ⌜ (rules ≤ mostRules) × (at ≤ 13) ⌝ }
     ensures { λ r. ⌜ Put (bytesOf 4 (packetWords (rulesAt rules (now (table .entry))))) (now (buffer .entry))
         (now (buffer .exit)) at r ⌝ }
-    ensures { λ r. ⌜ r ≤ 1000000 ⌝ }
+    ensures { λ r. ⌜ r ≤ lastRuleEnd ⌝ }
 {
     let mut left = rules;
     let mut i = 0;
@@ -141,10 +161,10 @@ fn put_rules(buffer: &mut [u8], at: usize, table: &[i32], rules: usize) -> usize
 
 // The step's letter, count and numbers.
 fn put_step(buffer: &mut [u8], at: usize, letter: Letter, numbers: &[i32]) -> usize
-    requires { ⌜ (length (now numbers) ≤ mostNumbers) × (at + 300 ≤ farthest) ⌝ }
+    requires { ⌜ (length (now numbers) ≤ mostNumbers) × (at + stepRoom ≤ farthest) ⌝ }
     ensures { λ r. ⌜ Put (stepBytes (record { letter = letter; numbers = now (numbers .entry) })) (now (buffer .entry))
         (now (buffer .exit)) at r ⌝ }
-    ensures { λ r. ⌜ r ≤ at + 132 ⌝ }
+    ensures { λ r. ⌜ r ≤ at + stepRoom ⌝ }
 {
     writing::put(buffer, at, writing::byte_of(letter));
     writing::put(buffer, at + 1, numbers.len() as u8);
@@ -153,7 +173,7 @@ fn put_step(buffer: &mut [u8], at: usize, letter: Letter, numbers: &[i32]) -> us
 
 // The steps of a proof text that is not too long, up to the first line that is refused.
 fn put_lines(buffer: &mut [u8], at: usize, text: &[u8]) -> StepsPut
-    requires { ⌜ (length (now text) ≤ longest) × (at ≤ 1000000) ⌝ }
+    requires { ⌜ (length (now text) ≤ longest) × (at ≤ lastRuleEnd) ⌝ }
     ensures { λ r. ⌜ StepsPutAs (stepsOf (now (text .entry))) (now (buffer .entry)) (now (buffer .exit)) at r ⌝ }
 {
     let mut position = 0;
@@ -193,7 +213,7 @@ fn put_lines(buffer: &mut [u8], at: usize, text: &[u8]) -> StepsPut
 
 // The steps of a proof text, up to the first line that is refused; none where the text is too long.
 fn put_steps(buffer: &mut [u8], at: usize, text: &[u8]) -> StepsPut
-    requires { ⌜ at ≤ 1000000 ⌝ }
+    requires { ⌜ at ≤ lastRuleEnd ⌝ }
     ensures { λ r. ⌜ StepsPutAs (stepsOf (now (text .entry))) (now (buffer .entry)) (now (buffer .exit)) at r ⌝ }
 {
     if words::LONGEST < text.len() {
@@ -210,7 +230,7 @@ fn put_steps(buffer: &mut [u8], at: usize, text: &[u8]) -> StepsPut
 fn put_header(packet: &mut [u8], words: usize, steps: usize)
     ensures { λ _. ⌜ Put (mark ++ (little 4 words ++ little 4 steps)) (now (packet .entry)) (now (packet .exit)) 0 13 ⌝ }
 {
-    let first = writing::put_bytes(packet, 0, b"RVP\x01\x00");
+    let first = writing::put_bytes(packet, 0, &MARK);
     let second = put_count(packet, first, words);
     put_count(packet, second, steps);
 }
@@ -228,9 +248,10 @@ fn answer_of(good: bool, size: usize, fits: bool) -> PacketWriting
     PacketWriting::Refused(53)
 }
 
-// The packet of a table that passed question 41, to an output of zeros.
+// The packet of a table that passed question 41 and has no weight body, to an output of zeros.
 pub fn write_pair(table: &[i32], rules: usize, proof: &[u8], packet: &mut [u8]) -> PacketWriting
-    requires { ⌜ (soundTable (now table) rules ≡ true) × (now packet ≡ replicate (length (now packet)) 0) ⌝ }
+    requires { ⌜ (soundTable (now table) rules ≡ true) × (allPlain (rulesAt rules (now table)) ≡ true) ⌝ }
+    requires { ⌜ now packet ≡ replicate (length (now packet)) 0 ⌝ }
     ensures { λ r. ⌜ WrittenPacket (now (table .entry)) rules (now (proof .entry)) (now (packet .entry))
         (now (packet .exit)) r ⌝ }
 {

@@ -197,7 +197,7 @@ fn write_from(text: &[u8], table: &mut [i32], rules: usize, proof: &[u8], packet
 }
 
 fn write_case(text: &[u8], rules: usize, proof: &[u8], bytes: usize) {
-    let mut table = [0i32; 4096];
+    let mut table = [0i32; 4100];
     let mut packet = [7u8; 33000];
     if bytes <= 33000 {
         write_from(text, &mut table, rules, proof, &mut packet[..bytes]);

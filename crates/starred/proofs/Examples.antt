@@ -9,9 +9,10 @@ use Rattle.words.specs.Limits.{entries}
 use Rattle.words.specs.Literals.{insert, insertAll}
 use Rattle.text.specs.Decimals.{decimals, decimal}
 use Rattle.text.specs.Line.{lineOf}
-use Rattle.aspif.specs.Rules.{Rule, programWords}
-use Rattle.aspif.specs.Reading.{shapeOf, program, readLines, readText, linesFrom}
-use Rattle.aspif.specs.Tables.{sizeAt, headsAt, bodyAt, shapeSound, soundAt, soundTable}
+use Rattle.weights.specs.Weights.{sublists, minimalSets, bodies}
+use Rattle.aspif.specs.Rules.{plain, InputRule, bodiesOf, expandRule, expand, programWords}
+use Rattle.aspif.specs.Reading.{allWeights, ranged, shapeOf, arranged, program, readLines, readText, linesFrom}
+use Rattle.aspif.specs.Tables.{sizeAt, headsAt, bodyWordsAt, boundAt, bodyAt, shapeSound, weightsSound, bodySound, soundAt, soundTable}
 use Rattle.aspif.specs.declared.Kind.the-variants.{Normal, Choice}
 use Rattle.marks.specs.Marks.{listed}
 use Rattle.answer_set.specs.SetTest.{giveHead, giveRule, least, yes, differs, verdictOf, asked, setAnswer}
@@ -22,26 +23,26 @@ use Rattle.answer_set.proofs.Answered.{yes-answer-set}
 use Rattle.drupe.specs.Texts.{stepsAt, stepsOf}
 use Rattle.checker.specs.Report.{lent, printed}
 use Rattle.checker.specs.Check.{course, check}
-use Rattle.starred.specs.Examples.{SetPasses, SetFails, Starred, Source000, LongLines}
+use Rattle.starred.specs.Examples.{SetPasses, SetFails, Starred, Source000, WeightBodies, LongLines}
 
 -- Which sets pass: the programs as they are read
 
-abbrev rules6 : List Rule
-rules6 = record { kind = Normal; heads = pos 1 ∷ []; body = pos 2 ∷ [] } ∷ record { kind = Normal; heads = pos 2 ∷ []; body = pos 1 ∷ [] } ∷ []
+abbrev rules6 : List InputRule
+rules6 = record { kind = Normal; heads = pos 1 ∷ []; body = plain (pos 2 ∷ []) } ∷ record { kind = Normal; heads = pos 2 ∷ []; body = plain (pos 1 ∷ []) } ∷ []
 
-abbrev rules7 : List Rule
-rules7 = record { kind = Choice; heads = pos 1 ∷ []; body = [] } ∷ []
+abbrev rules7 : List InputRule
+rules7 = record { kind = Choice; heads = pos 1 ∷ []; body = plain [] } ∷ []
 
-abbrev rules8 : List Rule
-rules8 = record { kind = Normal; heads = pos 1 ∷ []; body = negsuc 0 ∷ [] } ∷ record { kind = Normal; heads = pos 1 ∷ []; body = [] } ∷ []
+abbrev rules8 : List InputRule
+rules8 = record { kind = Normal; heads = pos 1 ∷ []; body = plain (negsuc 0 ∷ []) } ∷ record { kind = Normal; heads = pos 1 ∷ []; body = plain [] } ∷ []
 
 -- by what the set test computes: `yes-answer-set` says what its yes means
-passes : (text l : List ℕ) (P : List Rule) → readText lent text ≡ program P → Ready (programWords P) (length P) l P → verdictOf (listed l) P ≡ yes
+passes : (text l : List ℕ) (P : List InputRule) → readText lent text ≡ program P → Ready (programWords P) (length P) l P → verdictOf (listed l) P ≡ yes
     → setAnswer l (asked (programWords P) (length P) l entries) ≡ Yes → SetPasses text l
 passes text l P e ready v a = record { P = P; read = e; answer = a; answerSet = yes-answer-set (programWords P) (length P) l P ready .0 v }
 
 -- the set test's own verdict is not yes
-fails : (text l : List ℕ) (P : List Rule) (r : SetAnswer) → readText lent text ≡ program P → Ready (programWords P) (length P) l P
+fails : (text l : List ℕ) (P : List InputRule) (r : SetAnswer) → readText lent text ≡ program P → Ready (programWords P) (length P) l P
     → {v : ℕ} → verdictOf (listed l) P ≡ differs v → setAnswer l (asked (programWords P) (length P) l entries) ≡ r → SetFails text l r
 fails text l P r e ready d a =
     record { P = P; read = e; answer = a; none = λ s. not-yes (sym d ∙ yes-answer-set (programWords P) (length P) l P ready .1 s) }
@@ -50,7 +51,7 @@ fails text l P r e ready d a =
     not-yes p = let z : _≡_ {A = ℕ} 0 1 = cc in omega arith
 
 pub starred : Starred
-unfolding check course stepsOf stepsAt readText readLines linesFrom shapeOf lineOf insert insertAll printed decimal decimals asked soundTable soundAt shapeSound sizeAt headsAt bodyAt verdictOf least giveRule giveHead
+unfolding check course stepsOf stepsAt readText readLines linesFrom shapeOf lineOf insert insertAll printed decimal decimals asked soundTable soundAt bodySound shapeSound sizeAt headsAt bodyWordsAt bodyAt expand expandRule bodiesOf verdictOf least giveRule giveHead
 starred = record {
   onePrints = refl;
   one = refl;
@@ -79,8 +80,12 @@ starred = record {
 }
 
 pub source000 : Source000
-unfolding check course stepsOf stepsAt readText readLines linesFrom shapeOf lineOf insert insertAll
+unfolding check course stepsOf stepsAt readText readLines linesFrom shapeOf lineOf insert insertAll expand expandRule bodiesOf
 source000 = refl
+
+pub weight-bodies : WeightBodies
+unfolding check course stepsOf stepsAt readText readLines linesFrom shapeOf ranged allWeights arranged lineOf insert insertAll expand expandRule bodiesOf bodies minimalSets sublists
+weight-bodies = record { refuted = refl; wholeSet = refl; weightRange = refl; tooMany = refl }
 
 pub long-lines : LongLines
 unfolding decimal decimals

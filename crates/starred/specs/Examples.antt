@@ -8,7 +8,7 @@ use Prim.Native.String.{String}
 use lib.IntN.{ℤ, pos, negℤ}
 use lib.ListN.{length, replicate}
 use Rattle.words.specs.Limits.{entries}
-use Rattle.aspif.specs.Rules.{Rule, programWords}
+use Rattle.aspif.specs.Rules.{InputRule, expand, programWords}
 use Rattle.aspif.specs.Reading.{program, readText}
 use Rattle.aspif.specs.AnswerSets.{AnswerSet}
 use Rattle.answer_set.specs.SetTest.{asked, setAnswer}
@@ -77,9 +77,9 @@ refusedProof k n = RefusedProof (record { number = k; step = n })
 abbrev pub neg : ℕ → ℤ
 neg v = negℤ (pos v)
 
--- example 1's rule: normal, one head, one body literal
+-- example 1's rule: normal, one head, body kind 0, one body literal; the head; the literal
 abbrev pub table1 : List ℤ
-table1 = pos 0 ∷ pos 1 ∷ pos 1 ∷ pos 1 ∷ neg 1 ∷ []
+table1 = pos 0 ∷ pos 1 ∷ pos 0 ∷ pos 1 ∷ pos 1 ∷ neg 1 ∷ []
 
 -- "Store: 2 -1 -2, 2 1 2, 2 -1 2, 2 1 -2, 1 1, 0. These are 15 words"
 abbrev pub store1 : List ℤ
@@ -94,25 +94,25 @@ store1 =
 -- A set listed, and the program that a text holds: what the set test answers on the table of its words and 4,096 marks, and whether the
 -- set is an answer set.
 pub record SetPasses (text l : List ℕ) : Type 0 where
-  pub P : List Rule
+  pub P : List InputRule
   pub read : readText lent text ≡ program P
   pub answer : setAnswer l (asked (programWords P) (length P) l entries) ≡ Yes
-  pub answerSet : AnswerSet (Listed l) P
+  pub answerSet : AnswerSet (Listed l) (expand P)
 
 pub record SetFails (text l : List ℕ) (r : SetAnswer) : Type 0 where
-  pub P : List Rule
+  pub P : List InputRule
   pub read : readText lent text ≡ program P
   pub answer : setAnswer l (asked (programWords P) (length P) l entries) ≡ r
-  pub none : ¬ AnswerSet (Listed l) P
+  pub none : ¬ AnswerSet (Listed l) (expand P)
 
 pub record Starred : Type 0 where
   -- 1: "Prints `inconsistent 1 1 5 6`", with its store; "These are 15 words; a store of 14 gives 34 at step 5."
   pub onePrints : printed program1 proof1 ≡ lines ("inconsistent 1 1 5 6" ∷ [])
   pub one : check program1 proof1 lent lent
-      ≡ record { verdict = inconsistent 1 1 5 6; table = table1 ++ replicate 16379 (pos 0); store = store1 ++ replicate 16369 (pos 0) }
-  pub oneFits : check program1 proof1 5 15 ≡ record { verdict = inconsistent 1 1 5 6; table = table1; store = store1 }
-  pub oneShort : check program1 proof1 5 14
-      ≡ record { verdict = refusedProof 34 5; table = replicate 5 (pos 0); store = replicate 14 (pos 0) }
+      ≡ record { verdict = inconsistent 1 1 5 6; table = table1 ++ replicate 16378 (pos 0); store = store1 ++ replicate 16369 (pos 0) }
+  pub oneFits : check program1 proof1 6 15 ≡ record { verdict = inconsistent 1 1 5 6; table = table1; store = store1 }
+  pub oneShort : check program1 proof1 6 14
+      ≡ record { verdict = refusedProof 34 5; table = replicate 6 (pos 0); store = replicate 14 (pos 0) }
   -- 2: "example 1 with `d 0` added: `open 1 1 6 5`"
   pub two : verdict program1 (proof1 ++ lines ("d 0" ∷ [])) ≡ undecided 1 1 6 5
   pub twoPrints : printed program1 (proof1 ++ lines ("d 0" ∷ [])) ≡ lines ("open 1 1 6 5" ∷ [])
@@ -162,6 +162,20 @@ proof000 =
 
 abbrev pub Source000 : Type 0
 Source000 = verdict program000 proof000 ≡ inconsistent 5 8 26 39
+
+-- Weight bodies (Change 3), no starred ones: a choice over 1 to 3, a constraint with bound 4 on 1=3, 2=2, 3=2, and a demand of 1 and of
+-- 2. Its minimal sets are {1, 2}, {1, 3} and {2, 3}.
+
+abbrev pub weightRules : List ℕ
+weightRules = rules ("1 1 3 1 2 3 0 0" ∷ "1 0 0 1 4 3 1 3 2 2 3 2" ∷ "1 0 0 0 1 -1" ∷ "1 0 0 0 1 -2" ∷ [])
+
+pub record WeightBodies : Type 0 where
+  pub refuted : verdict weightRules (lines ("b 4 1 2 0" ∷ "b 5 -1 0" ∷ "b 6 -2 0" ∷ "c 4 0" ∷ "c 5 0" ∷ "c 6 0" ∷ "a 0" ∷ [])) ≡ inconsistent 3 4 7 11
+  -- the whole literal set reaches the bound and is not minimal
+  pub wholeSet : verdict weightRules (lines ("b 4 1 2 3 0" ∷ [])) ≡ refusedProof 28 1
+  -- "a weight or bound out of its range is 54, more than 12 literals 55"
+  pub weightRange : verdict (rules ("1 0 1 1 1 3 1 2 -1" ∷ [])) [] ≡ refusedProgram 54 2
+  pub tooMany : verdict (rules ("1 0 0 1 1 13 1 1 2 1 3 1 4 1 5 1 6 1 7 1 8 1 9 1 10 1 11 1 12 1 13 1" ∷ [])) [] ≡ refusedProgram 55 2
 
 -- lines with numbers of several digits, of which the starred examples have none
 pub record LongLines : Type 0 where

@@ -17,15 +17,10 @@ use lib.Seq.{sets, take-suc, length-take-le}
 use mir.Syntax.{w32}
 use mir.Val.{SFits}
 use Rattle.words.specs.Literals.{variable}
+use Rattle.words.proofs.Laws.{sets-append}
 use Rattle.text.specs.Decimals.{decimals, digitsOf, digitByte, decimal, numberBytes, spaced}
 use Rattle.text.specs.Writing.{Put, signBytes}
 use Rattle.text.proofs.Decimals.{tenth}
-
-sets-append : (xs ys l : List ℕ) (i : ℕ) → sets l i (xs ++ ys) ≡ sets (sets l i xs) (i + length xs) ys
-sets-append [] ys l i = let e : i + 0 ≡ i = omega arith in rw e
-sets-append (x ∷ xs) ys l i =
-    let e : i + suc (length xs) ≡ suc i + length xs = omega arith in
-    rw e (sets-append xs ys (set l i x) (suc i))
 
 -- one byte more
 pub sets-more : (xs l : List ℕ) (at i : ℕ) → i < length xs → set (sets l at (take i xs)) (at + i) (getD xs i 0) ≡ sets l at (take (i + 1) xs)

@@ -1,9 +1,9 @@
 -- What a test over a list says. A test is a Boolean; `Decides b A` ties it to the statement that it answers, and the laws below
 -- read a test made of smaller ones part by part. The words are those of specs/Lists.antt. Assumes nothing.
-use mathlib.Core.Path.{_≡_, refl, sym, subst}
+use mathlib.Core.Path.{_≡_, refl, sym, ap, subst, _∙_}
 use mathlib.Core.Logic.{_⊎_, inl, inr}
 use mathlib.Core.Bool.{Bool, true, false, not, cond, _&&_, _||_, and-eq-true-iff, true≢false}
-use mathlib.Core.List.{List, [], _∷_, List·Memᴰ·head, List·Memᴰ·tail, List·Memᴰ·append-cases, Memᴰ·append-left, Memᴰ·append-right}
+use mathlib.Core.List.{List, [], _∷_, _++_, map, append-assoc, List·Memᴰ·head, List·Memᴰ·tail, List·Memᴰ·append-cases, Memᴰ·append-left, Memᴰ·append-right}
 use Prim.Native.Nat.{ℕ, suc, _≤_, _<_, _-_}
 use native.Mathlib.Omega.{arith}
 use lib.Dec.{T, T-not, not-T, eqb, leb, eqb→eq, eqb-refl, leb→le, le→leb}
@@ -232,3 +232,10 @@ one-less n h = omega arith
 -- a loop's number that is not above 0 is 0
 pub nothing-left : (n : ℕ) → n ≤ 0 → n ≡ 0
 nothing-left n h = omega arith
+
+-- Lists one after another
+
+pub concat-append : {A B : Type 0} (f : A → List B) (xs ys : List A) → concat (map f (xs ++ ys)) ≡ concat (map f xs) ++ concat (map f ys)
+concat-append f [] ys = refl
+concat-append {B = B} f (x ∷ xs) ys =
+    ap (λ (l : List B). f x ++ l) (concat-append f xs ys) ∙ sym (append-assoc (f x) (concat (map f xs)) (concat (map f ys)))

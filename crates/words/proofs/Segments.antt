@@ -14,10 +14,6 @@ module _ {A : Type 0} (f : A → List ℤ) where
   abbrev pub recordWords : List A → List ℤ
   recordWords xs = concat (map f xs)
 
-  pub record-append : (xs ys : List A) → recordWords (xs ++ ys) ≡ recordWords xs ++ recordWords ys
-  record-append [] ys = refl
-  record-append (x ∷ xs) ys = ap (λ (l : List ℤ). f x ++ l) (record-append xs ys) ∙ sym (append-assoc (f x) (recordWords xs) (recordWords ys))
-
   -- the words of s from i up to e are those of the records
   pub record Segment (s : List ℤ) (i e : ℕ) (left : List A) : Type 0 where
     pub words : drop i s ≡ recordWords left ++ drop e s

@@ -53,7 +53,7 @@ mul-rest : tie.Need-mul-rest Inv-loop μ-loop
 mul-rest c = let w = c .before .loop .inv .0 .within in search needs
 
 is-broken-requires : tie.Need-is-broken-requires Inv-loop μ-loop
-is-broken-requires c κs = rw (tail-of (i c) (t c)) (at c .here .1)
+is-broken-requires c κs = rw (tail-of (i c) (t c)) (at c .sound)
 
 returns : tie.Need-returns Inv-loop μ-loop
 returns c = let d = c .before .before in rw (whole d, tells (c .before) ∙ c .if1 .taken) refl

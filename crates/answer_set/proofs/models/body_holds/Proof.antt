@@ -1,55 +1,43 @@
-use native.Mathlib.Omega.{arith}
-use lib.IntN.{pos}
-use lib.ListN.{length, drop, getD}
 use mathlib.Core.Path.{_≡_, sym, _∙_}
-use Prim.Native.Nat.{_≤_, _-_}
-use Rattle.words.proofs.Laws.{all-on, all-here, all-none}
-use Rattle.words.proofs.Words.{back}
-use Rattle.marks.specs.Marks.{marked}
-use Rattle.answer_set.specs.SetTest.{literalHolds, bodyHolds}
+use Rattle.aspif.specs.Tables.{isWeighted, bodyAt}
+use Rattle.aspif.proofs.Cursors.{shape-of}
+use Rattle.aspif.proofs.SoundWeights.{weighing}
 use borrow.Author.Needs.{needs}
 use Rattle.answer_set.proofs.models.body_holds.Statement.{statement}
 use Rattle.answer_set.proofs.models.body_holds.Tie as tie
 
-abbrev Inv-loop : tie.InvT-loop
-Inv-loop body inside marks i₀ i = (i ≤ length body) × (bodyHolds (marked inside) (marked marks) body ≡ bodyHolds (marked inside) (marked marks) (drop i body))
+-- the call tells of the body's kind
+tells : (c : tie.After-is-weighted) → isWeighted (c .before .before .before .before .args .words .now) ≡ c .is-weighted .result
+tells c = sym (c .is-weighted .ensures)
 
-abbrev μ-loop : tie.MeasureT-loop
-μ-loop body inside marks i₀ i = length body - i
+body-of-requires : tie.Need-body-of-requires
+body-of-requires c κs = shape-of _ (c .before .before .pre)
 
--- the call tells of the word at i
-tells : (c : tie.After-literal-holds Inv-loop μ-loop)
-    → (let a = c .before .before .before .before .before .before .args in
-    let l = c .before .before .before .loop in
-    literalHolds (marked (a .inside .now)) (marked (a .marks .now)) (getD (a .body .now) (l .i) (pos 0)) ≡ c .literal-holds .result)
-tells c = sym (rw (back (getD (c .before .before .before .before .before .before .args .body .now) (c .before .before .before .loop .i) (pos 0)) (c .before .literal-holds-arg .given)) at (c .literal-holds .ensures))
+sum-held-requires : tie.Need-sum-held-requires
+sum-held-requires c κs =
+    let d = c .before .before in
+    rw (d .before .body-of .ensures) (weighing _ (d .before .before .before .before .pre) (tells d ∙ c .before .if1 .taken) .light)
 
-loop-again : tie.Need-loop-again Inv-loop μ-loop
-loop-again c =
-    let l = c .before .before .before .before .loop in
-    (omega arith, l .inv .1 ∙ all-on _ _ (l .i) (pos 0) (c .before .before .before .loop-test .taken) (tells (c .before) ∙ c .if1 .taken))
-
-returns : tie.Need-returns Inv-loop μ-loop
+returns : tie.Need-returns
+unfolding bodyAt
 returns c =
-    let l = c .before .before .before .before .loop in
-    sym (l .inv .1 ∙ all-here _ _ (l .i) (pos 0) (c .before .before .before .loop-test .taken) (tells (c .before) ∙ c .if1 .left))
+    let d = c .before .before .before in
+    rw (tells d ∙ c .before .before .if1 .taken, c .before .bound-of .ensures, ← d .before .body-of .ensures, c .sum-held .ensures)
 
-returns-2 : tie.Need-returns-2 Inv-loop μ-loop
+returns-2 : tie.Need-returns-2
+unfolding bodyAt
 returns-2 c =
-    let l = c .before .loop in sym (l .inv .1 ∙ all-none _ _ (c .loop-test .left))
+    let d = c .before .before in
+    rw (tells d ∙ c .before .if1 .left, ← d .before .body-of .ensures) (c .all-hold .ensures)
 
 pub body-holds-spec : {M : Type 1} → statement M
 body-holds-spec =
     tie.close
     (tie.spec
-    Inv-loop
-    μ-loop
-    (λ c. search needs)
-    (λ c. search needs)
-    (λ c. search needs)
+    body-of-requires
     (λ c κs. search needs)
-    (λ c. search needs)
-    (λ c. search needs)
-    loop-again
+    (λ c κs. search needs)
+    sum-held-requires
     returns
+    (λ c κs. search needs)
     returns-2)

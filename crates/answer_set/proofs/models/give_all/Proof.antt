@@ -6,7 +6,7 @@ use Prim.Native.Nat.{ℕ}
 use native.Mathlib.Omega.{arith}
 use lib.IntN.{ℤ}
 use lib.ListN.{length, drop}
-use Rattle.aspif.specs.Rules.{Rule}
+use Rattle.aspif.specs.Rules.{InputRule}
 use Rattle.words.proofs.Parts.{tail-of}
 use Rattle.aspif.specs.Tables.{ruleAt, rulesAt}
 use Rattle.marks.specs.Marks.{marked, Marking}
@@ -53,7 +53,7 @@ mul-rest : tie.Need-mul-rest Inv-loop μ-loop
 mul-rest c = let w = c .before .loop .inv .0 .within in search needs
 
 give-rule-requires : tie.Need-give-rule-requires Inv-loop μ-loop
-give-rule-requires c κs = let d = c .before in rw (tail-of (i d) (t d)) (at d .here .1)
+give-rule-requires c κs = let d = c .before in rw (tail-of (i d) (t d)) (at d .sound)
 
 next-rule-requires : tie.Need-next-rule-requires Inv-loop μ-loop
 next-rule-requires c κs = at (c .before .before .before .before .before) .here
@@ -69,7 +69,7 @@ loop-again c =
     rw (c .next-rule .ensures .0) (
       at d .next,
       c .before .before .before .marks .given ∙ l .inv .1,
-      l .inv .2 ∙ ap (λ (rs : List Rule). round (marked (s d .args .inside .now)) rs (l .marks)) (at d .rules) ∙ rw (told g .marks),
+      l .inv .2 ∙ ap (λ (rs : List InputRule). round (marked (s d .args .inside .now)) rs (l .marks)) (at d .rules) ∙ rw (told g .marks),
       ⊎-elim (λ w z. absurd (true≢false (sym (w .1) ∙ z))) (λ w z. told g .still (w .0 .left) ∙ l .inv .3 (sym (w .1) ∙ z)) (c .before .if1 .came),
     )
 

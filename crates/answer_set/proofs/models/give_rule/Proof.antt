@@ -2,15 +2,19 @@ use mathlib.Core.Path.{_≡_, sym, _∙_, refl}
 use Rattle.aspif.specs.Tables.{bodyAt}
 use Rattle.marks.specs.Marks.{marked}
 use Rattle.answer_set.specs.SetTest.{bodyHolds, giveRule}
+use Rattle.aspif.proofs.Cursors.{shape-of}
 use borrow.Author.Needs.{needs}
 use Rattle.answer_set.proofs.models.give_rule.Statement.{statement}
 use Rattle.answer_set.proofs.models.give_rule.Tie as tie
 
 -- the call tells of the body
 tells : (c : tie.After-body-holds)
-    → (let a = c .before .before .before .before .before .args in
+    → (let a = c .before .before .before .before .args in
     bodyHolds (marked (a .inside .now)) (marked (a .marks .now)) (bodyAt (a .words .now)) ≡ c .body-holds .result)
-tells c = sym (rw (c .before .before .body-of .ensures) at (c .body-holds .ensures))
+tells c = sym (c .body-holds .ensures)
+
+heads-of-requires : tie.Need-heads-of-requires
+heads-of-requires c κs = shape-of _ (c .before .before .before .before .before .before .pre)
 
 returns : tie.Need-returns
 unfolding giveRule
@@ -30,8 +34,7 @@ give-rule-spec =
     (tie.spec
     (λ c κs. search needs)
     (λ c κs. search needs)
-    (λ c κs. search needs)
-    (λ c κs. search needs)
+    heads-of-requires
     (λ c κs. search needs)
     (λ c. search needs)
     returns

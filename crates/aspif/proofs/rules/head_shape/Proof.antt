@@ -34,7 +34,7 @@ add-if2 c =
 
 body-shape-requires : tie.Need-body-shape-requires
 body-shape-requires c κs =
-    small (c .before)
+    (small (c .before), c .before .before .before .before .before .pre)
 
 returns : tie.Need-returns
 returns c =

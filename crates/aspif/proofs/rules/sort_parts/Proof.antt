@@ -45,7 +45,7 @@ module _ (c : tie.After-row2) where
   of-heads = rw eh at (c .before .before .before .before .sort-heads .ensures)
 
   size-heads : length hs ≡ h
-  size-heads = ap length (of-heads .1) ∙ length-ascending (rowHeads row h) ∙ heads-long row h b fits
+  size-heads = ap length (of-heads .1) ∙ length-ascending (rowHeads row h) ∙ heads-long row h (omega (arith, fits))
 
   of-body : (c .before .sort-body .result ≡ bodyGood (rowBody row h b)) × (ls ≡ ascending (rowBody row h b))
   of-body = rw (eh, eb, body-kept row h b fits hs size-heads) at (c .before .sort-body .ensures)

@@ -10,13 +10,17 @@ use Rattle.aspif.proofs.rules.write_counts.Statement.{statement}
 use Rattle.aspif.proofs.rules.write_counts.Tie as tie
 
 slice-set-from-free-2 : tie.Need-slice-set-from-free-2
-slice-set-from-free-2 c =
-    simp length-set (omega (arith, c .before .pre))
+slice-set-from-free-2 c = simp length-set (omega (arith, c .before .pre))
+
+slice-set-from-body-kind : tie.Need-slice-set-from-body-kind
+slice-set-from-body-kind c = simp length-set (omega (arith, c .before .pre))
 
 returns : tie.Need-returns
 returns c =
     let s = c .before in
-    counts-written (s .args .free .now) _ _ _ (s .pre .2) (toZ-ofZ (sfits-of {z = c .kind-word .result} (c .kind-word .ok)) ∙ c .kind-word .ensures) (toZ-pos w32 (omega (arith, s .pre))) (toZ-pos w32 (omega (arith, s .pre)))
+    let k = toZ-ofZ (sfits-of {z = c .kind-word .result} (c .kind-word .ok)) ∙ c .kind-word .ensures in
+    counts-written (s .args .free .now) _ _ _ _ (s .pre .2) k (toZ-pos w32 (omega (arith, s .pre))) (toZ-ofZ (s .fits .body-kind))
+    (toZ-pos w32 (omega (arith, s .pre)))
 
 pub write-counts-spec : {M : Type 1} → statement M
 write-counts-spec =
@@ -26,6 +30,7 @@ write-counts-spec =
     (λ c. search needs)
     (λ c. search needs)
     slice-set-from-free-2
+    slice-set-from-body-kind
     (λ c. search needs)
     (λ c. search needs)
     (λ c. search needs)

@@ -17,13 +17,16 @@ returns c =
     let row = a .row .now in
     let h = a .heads in
     let b = a .body in
-    let counts = kindWord (a .kind) ∷ pos h ∷ pos b ∷ [] in
+    let counts = kindWord (a .kind) ∷ pos h ∷ pos 0 ∷ pos b ∷ [] in
     let nh : 3 + h - 3 ≡ h = omega arith in
     let nb : 5 + h + b - (5 + h) ≡ b = omega arith in
-    let lh = heads-long row h b (s .pre .2) in
+    let lh = heads-long row h (omega (arith, s .pre)) in
     let lb = body-long row h b (s .pre .2) in
-    rule-written counts (rowHeads row h) (rowBody row h b) (a .free .now) (c .before .before .before .before .before .before .before .before .before .write-counts .last .0) (c .before .before .before .before .before .copy .last .0) (c .before .copy2 .last .0) (3 + h)
-    refl (c .before .before .before .before .before .before .before .before .before .write-counts .ensures) (rw nh at (c .before .before .before .before .before .copy .ensures)) (rw lh) (rw nb at (c .before .copy2 .ensures))
+    let w = c .before .before .before .before .before .before .before .before .before .write-counts in
+    let u = c .before .before .before .before .before .copy in
+    let v = c .before .copy2 in
+    rule-written counts (rowHeads row h) (rowBody row h b) (a .free .now) (w .last .0) (u .last .0) (v .last .0) 4 (4 + h) refl (w .ensures) (rw nh at (u .ensures))
+    (rw lh) (rw nb at (v .ensures))
     ∙ rw (lh, lb)
 
 pub write-rule-spec : {M : Type 1} → statement M
@@ -31,6 +34,7 @@ write-rule-spec =
     tie.close
     (tie.spec
     (λ c κs. search needs)
+    (λ c. search needs)
     (λ c. search needs)
     (λ c. search needs)
     (λ c. search needs)

@@ -27,16 +27,15 @@ ascending c = sym (rw (c .before .before .before .heads-of .ensures) at (c .asce
 heads-of-requires : tie.Need-heads-of-requires
 heads-of-requires c κs = shape c
 
-body-of-requires : tie.Need-body-of-requires
-body-of-requires c κs = shape (c .before .before .before .before .before)
+body-sound-requires : tie.Need-body-sound-requires
+body-sound-requires c κs = shape (c .before .before .before .before .before)
 
 returns : tie.Need-returns
 unfolding soundAt
 returns c =
-    let d = c .before .before .before in
+    let d = c .before .before in
     let o = d .before .before in
-    rw (shape (o .before .before), positive o ∙ d .before .if2 .taken, ascending d ∙ c .before .before .if3 .taken)
-    (rw (c .before .body-of .ensures) at (c .ascends-by-variable2 .ensures))
+    rw (shape (o .before .before), positive o ∙ d .before .if2 .taken, ascending d ∙ c .before .if3 .taken) (c .body-sound .ensures)
 
 returns-2 : tie.Need-returns-2
 unfolding soundAt
@@ -61,8 +60,7 @@ is-sound-spec =
     heads-of-requires
     (λ c κs. search needs)
     (λ c κs. search needs)
-    body-of-requires
-    (λ c κs. search needs)
+    body-sound-requires
     returns
     returns-2
     returns-3

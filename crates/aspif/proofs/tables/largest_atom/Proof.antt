@@ -4,7 +4,7 @@ use Prim.Native.Nat.{ℕ, max}
 use native.Mathlib.Omega.{arith}
 use lib.IntN.{ℤ}
 use lib.ListN.{drop}
-use Rattle.aspif.specs.Rules.{Rule, atoms}
+use Rattle.aspif.specs.Rules.{InputRule, atoms}
 use Rattle.words.proofs.Parts.{tail-of}
 use Rattle.aspif.specs.Tables.{rulesAt}
 use Rattle.aspif.proofs.Cursors.{Cursor, AtRule, at-rule, no-rules}
@@ -50,7 +50,7 @@ loop-again c =
     let l = d .before .before .loop in
     let v = rw (tail-of (i d) (t d)) at (c .before .before .rule-top .ensures) in
     let m = c .before .larger .ensures in
-    rw (c .next-rule .ensures .0) (at d .next, l .inv .1 ∙ ap (λ (rs : List Rule). max (l .most) (atoms rs)) (at d .rules) ∙ omega arith)
+    rw (c .next-rule .ensures .0) (at d .next, l .inv .1 ∙ ap (λ (rs : List InputRule). max (l .most) (atoms rs)) (at d .rules) ∙ omega arith)
 
 returns : tie.Need-returns Inv-loop μ-loop
 returns c =

@@ -12,13 +12,13 @@ use Rattle.checker.proofs.additions.addition.Tie as tie
 
 returns : tie.Need-returns
 returns c =
-    λ P names z T H.
+    λ N ws names bodies z T H.
     let s = c .before .before .before .before in
     rw (cited z T Addition _ (s .pre .1) refl (sym (c .before .all-marked .ensures) ∙ not-true _ (c .if1 .taken))) refl
 
 returns-2 : tie.Need-returns-2
 returns-2 c =
-    λ P names z T H.
+    λ N ws names bodies z T H.
     let k = c .before .before .before .before in
     let s = k .before .before .before .before in
     rw (cited z T Addition _ (s .pre .1) refl (sym (k .before .all-marked .ensures) ∙ not-false _ (k .if1 .left)), sym (c .before .refutes .ensures (z .live) H) ∙ not-true _ (c .if2 .taken)) refl
@@ -32,7 +32,7 @@ append-requires c κs =
 
 returns-3 : tie.Need-returns-3
 returns-3 c =
-    λ P names z T H.
+    λ N ws names bodies z T H.
     let o = c .before .before .before .before .before .before in
     let m = o .before .before in
     let k = m .before .before .before .before in

@@ -8,13 +8,13 @@ use Rattle.checker.proofs.additions.deletion.Tie as tie
 
 returns : tie.Need-returns
 returns c =
-    λ P names z T H.
+    λ N ws names bodies z T H.
     let s = c .before .before .before .before in
     rw (cited z T Deletion _ (s .pre .1) refl (sym (c .before .all-marked .ensures) ∙ not-true _ (c .if1 .taken))) refl
 
 returns-2 : tie.Need-returns-2
 returns-2 c =
-    λ P names z T H.
+    λ N ws names bodies z T H.
     let d = c .before in
     let o = d .before .before .before .before in
     let k = o .before .before in

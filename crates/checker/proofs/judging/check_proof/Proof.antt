@@ -1,9 +1,9 @@
-use mathlib.Core.Path.{_≡_, sym, _∙_, ap}
+use mathlib.Core.Path.{_≡_, sym, _∙_, ap, subst}
 use mathlib.Core.List.{List}
 use Prim.Native.Nat.{ℕ}
 use lib.IntN.{ℤ, pos}
 use lib.ListN.{length, replicate}
-use Rattle.aspif.specs.Rules.{Rule}
+use Rattle.aspif.specs.Rules.{InputRule, expand, atoms}
 use Rattle.checker.specs.Check.{Course, course}
 use Rattle.checker.specs.Held.{Program, Ran}
 use Rattle.checker.proofs.Tracking.{rules-held}
@@ -20,17 +20,17 @@ module _ (c : tie.After-run-lines) where
   abbrev store′ : List ℤ
   store′ = c .run-lines .last .1 .1 .1 .1 .0
 
-  abbrev came : List Rule → Course
-  came P = course P (length (start .args .store .now)) (start .args .proof .now)
+  abbrev came : List InputRule → Course
+  came ws = course (atoms ws) (expand ws) (length (start .args .store .now)) (start .args .proof .now)
 
-  ran : (P : List Rule) → Program (start .args .table .now) (start .args .rules) (start .args .atoms) P → Ran store′ (came P) (c .run-lines .result)
-  ran = c .run-lines .ensures
+  ran : (ws : List InputRule) → Program (start .args .table .now) (start .args .rules) (start .args .atoms) ws → Ran store′ (came ws) (c .run-lines .result)
+  ran ws p = subst (λ (n : ℕ). Ran store′ (course n (expand ws) (length (start .args .store .now)) (start .args .proof .now)) (c .run-lines .result)) (p .top) (c .run-lines .ensures ws p)
 
 returns : tie.Need-returns
-returns c = λ P p w.
+returns c = λ ws p w.
     let a = c .before .before .before .before .before .before .before .args in
     let r = c .before .before .refuse .ensures in
-    judged-stopped _ _ P _ _ (too-long P _ (a .proof .now) (search needs)) (r .0) (r .1 .0) (r .1 .1)
+    judged-stopped _ _ ws _ _ (too-long _ (expand ws) _ (a .proof .now) (search needs)) (r .0) (r .1 .0) (r .1 .1)
 
 conclude-requires : tie.Need-conclude-requires
 conclude-requires c κs =
@@ -40,19 +40,19 @@ conclude-requires c κs =
     (r .0 .live, r .2)
 
 returns-2 : tie.Need-returns-2
-returns-2 c = λ P p w.
+returns-2 c = λ ws p w.
     let q = c .before .before .before .before .before .before .before .before .before in
     let r = c .before .before .refuse2 .ensures in
     let same : length (store′ q) ≡ length (start q .args .store .now) = search needs in
-    let o = ran-stopped (store′ q) (came q P) _ (ran q P p) (c .before .before .before .before .before .before .run .given .1) in
-    judged-stopped _ _ P _ _ o (r .0) (r .1 .0) (r .1 .1 ∙ ap (λ (k : ℕ). replicate k (pos 0)) same)
+    let o = ran-stopped (store′ q) (came q ws) _ (ran q ws p) (c .before .before .before .before .before .before .run .given .1) in
+    judged-stopped _ _ ws _ _ o (r .0) (r .1 .0) (r .1 .1 ∙ ap (λ (k : ℕ). replicate k (pos 0)) same)
 
 returns-3 : tie.Need-returns-3
-returns-3 c = λ P p w.
+returns-3 c = λ ws p w.
     let q = c .before .before .before .before .before .before in
     let same : length (store′ q) ≡ length (start q .args .store .now) = search needs in
-    let t = ran-through (store′ q) (came q P) _ _ (ran q P p) (c .before .before .before .run2 .given .1) in
-    judged-through _ _ P _ _ _ _ _ (t .0) (t .1) (c .conclude .ensures (t .0 .live) (t .2)) (p .top) (sym (rules-held (p .holds))) w (t .2) same
+    let t = ran-through (store′ q) (came q ws) _ _ (ran q ws p) (c .before .before .before .run2 .given .1) in
+    judged-through _ _ ws _ _ _ _ _ (t .0) (t .1) (c .conclude .ensures (t .0 .live) (t .2)) (p .top) (sym (rules-held (p .holds))) w (t .2) same
 
 pub check-proof-spec : {M : Type 1} → statement M
 check-proof-spec =

@@ -17,7 +17,7 @@ part-all-marked-start c = search (needs, some-number Extension refl (c .before .
 
 returns : tie.Need-returns
 returns c =
-    λ P names z T H.
+    λ N ws names bodies z T H.
     let s = c .before .before .before .before .before .before in
     rw (introduced z T Extension _ (s .pre .1) refl refl (sym (c .before .all-marked .ensures) ∙ not-true _ (c .if1 .taken)) refl) refl
 
@@ -31,7 +31,7 @@ named c = rw (c .before .variable-of .ensures, back _ (c .before .before .variab
 
 returns-2 : tie.Need-returns-2
 returns-2 c =
-    λ P names z T H.
+    λ N ws names bodies z T H.
     let k = c .before .before .before .before .before in
     let s = k .before .before .before .before .before .before in
     rw (introduced z T Extension _ (s .pre .1) refl refl (sym (k .before .all-marked .ensures) ∙ not-false _ (k .if1 .left)) (sym (named (c .before)) ∙ c .if2 .taken)) refl
@@ -44,7 +44,7 @@ define-requires c κs =
 
 returns-3 : tie.Need-returns-3
 returns-3 c =
-    λ P names z T H.
+    λ N ws names bodies z T H.
     let d = c .before .before .before .before in
     let m = d .before .before .before .before in
     let k = m .before .before .before .before .before in

@@ -5,6 +5,7 @@ use lib.IntN.{pos}
 use lib.ListN.{take}
 use lib.Seq.{length-take-le}
 use Rattle.words.specs.Literals.{has}
+use Rattle.aspif.specs.Rules.{expand}
 use Rattle.drupe.specs.Lines.{lineRefusal, line, lineAt}
 use Rattle.drupe.proofs.Lines.{passed-line}
 use Rattle.checker.proofs.Turns.{good-line, step-is, read-end, read-refused, read-line, read-count}
@@ -32,23 +33,24 @@ slice-aggregate-line c = let d = c .before .before in sym (length-take-le _ _ (r
 
 step-requires : tie.Need-step-requires
 step-requires c κs =
-    let d = c .before .before .before .before .before in
+    let d = c .before .before .before .before .before .before in
     let s = d .before .before .before .before .before .before .before in
-    (s .pre .0, (s .pre .1, good-line _ _ (good d .0) (good d .1)))
+    (s .pre .0, (s .pre .1 .0, (s .pre .1 .1, good-line _ _ (good d .0) (good d .1))))
 
 returns : tie.Need-returns
-returns c = λ P p z T H. rw (read-end (c .before .before .before .step-at .ensures) (c .enum-told .given .1)) (refl, H)
+returns c = λ ws p z T H. rw (read-end (c .before .before .before .step-at .ensures) (c .enum-told .given .1)) (refl, H)
 
 returns-2 : tie.Need-returns-2
-returns-2 c = λ P p z T H. rw (read-refused (c .before .before .before .before .step-at .ensures) _ (c .before .answer .given .1)) refl
+returns-2 c = λ ws p z T H. rw (read-refused (c .before .before .before .before .step-at .ensures) _ (c .before .answer .given .1)) refl
 
 returns-3 : tie.Need-returns-3
-returns-3 c = λ P p z T H.
-    let t = c .before .before .before .before .before .before .before .step in
-    let d = c .before .before .before .before .before .before .before .before .before .before .before .before .before in
+returns-3 c = λ ws p z T H.
+    let t = c .before .before .before .before .before .before .before .before .step in
+    let d = c .before .before .before .before .before .before .before .before .before .before .before .before .before .before .before in
+    let a = b d .before .before .before .before .args in
     let g = d .answer2 .given .0 in
     let zs = take (g .1 .0) (b d .step-at .result .numbers) in
-    rw (there d, step-is (g .0) zs (good d .0) (good d .1) P z) (t .result, c .turn-of .ensures, t .ensures P p z T H)
+    rw (there d, step-is (g .0) zs (good d .0) (good d .1) (a .atoms) (expand ws) z) (t .result, c .turn-of .ensures, t .ensures ws p z T H)
 
 pub turn-at-spec : {M : Type 1} → statement M
 turn-at-spec =
@@ -64,6 +66,7 @@ turn-at-spec =
     (λ c κs. search needs)
     returns
     returns-2
+    (λ c. search needs)
     (λ c. search needs)
     (λ c. search needs)
     (λ c. search needs)

@@ -1,7 +1,7 @@
 use mathlib.Core.Path.{_≡_, refl, sym, ap, subst, _∙_}
 use mathlib.Core.Bool.{true}
 use mathlib.Core.List.{List}
-use Prim.Native.Nat.{ℕ, _≤_}
+use Prim.Native.Nat.{_≤_}
 use native.Mathlib.Omega.{arith}
 use borrow.Author.Tests.{not-true, not-false}
 use lib.IntN.{ℤ, pos}
@@ -32,38 +32,38 @@ module _ (c : tie.Else2) where
   U = s .args .numbers .now
 
   line : PassedLine Loop U
-  line = s .pre .1 .1
+  line = s .pre .1 .1 .1
 
   known : all (λ x. marked (s .args .known .now) (variable x)) U ≡ true
   known = let d = c .before .before in sym (d .before .all-marked .ensures) ∙ not-false _ (d .if1 .left)
 
-  low : {N : ℕ} → s .args .atoms ≡ N → top U ≤ N
-  low e = omega (arith, c .if2 .left, c .before .largest-variable .ensures)
+  low : top U ≤ s .args .atoms
+  low = omega (arith, c .if2 .left, c .before .largest-variable .ensures)
 
 returns : tie.Need-returns
 returns c =
     let s = c .before .before .before .before in
-    λ P p z tracks H. rw (cited z tracks Loop (s .args .numbers .now) (s .pre .1 .1) refl (sym (c .before .all-marked .ensures) ∙ not-true _ (c .if1 .taken))) refl
+    λ ws p z tracks H. rw (cited z tracks Loop (s .args .numbers .now) (s .pre .1 .1 .1) refl (sym (c .before .all-marked .ensures) ∙ not-true _ (c .if1 .taken))) refl
 
 returns-2 : tie.Need-returns-2
 returns-2 c =
     let d = c .before .before in
     let s = d .before .before .before .before in
-    λ P p z tracks H.
-    loop-atoms z tracks _ (s .args .numbers .now) (s .pre .1 .1) (sym (d .before .all-marked .ensures) ∙ not-false _ (d .if1 .left))
-    (omega (arith, c .if2 .taken, c .before .largest-variable .ensures, p .top))
+    λ ws p z tracks H.
+    loop-atoms z tracks _ (s .args .numbers .now) (s .pre .1 .1 .1) (sym (d .before .all-marked .ensures) ∙ not-false _ (d .if1 .left))
+    (omega (arith, c .if2 .taken, c .before .largest-variable .ensures))
 
 returns-3 : tie.Need-returns-3
 returns-3 c =
     let n = c .before .before .before in
     let m = n .before .before in
     let e = m .before in
-    λ P p z tracks H. loop-named z tracks _ (n .names-of .ensures P (p .holds)) (U e) (line e) (known e) (low e (p .top)) (m .marks-of .ensures) (sym (c .before .is-marked .ensures) ∙ c .if3 .taken)
+    λ ws p z tracks H. loop-named z tracks _ (n .names-of .ensures ws (p .holds) _ (tracks .kept)) (U e) (line e) (known e) (low e) (m .marks-of .ensures) (sym (c .before .is-marked .ensures) ∙ c .if3 .taken)
 
 shared-slice-copy-out-gather : tie.Need-shared-slice-copy-out-gather
 shared-slice-copy-out-gather c =
     let s = c .before .before .before .before .before .before .before .before .before .before .before .before in
-    some-number Loop refl (s .pre .1 .1)
+    some-number Loop refl (s .pre .1 .1 .1)
 
 abbrev names : tie.After-gather → tie.After-names-of
 names c = c .before .before .before .before .before .before .before
@@ -87,7 +87,7 @@ append-requires c κs =
     let d = c .before .before .before in
     let g = d .gather in
     let e = tests d in
-    (s e .pre .1 .0, (subst Literals (sym (gives d)) (gathered-literals (marked (names d .names-of .result)) (getD (U e) 0 (pos 0)) largest 1 (omega arith) (omega arith)), omega (arith, size d, g .ensures .0)))
+    (s e .pre .1 .1 .0, (subst Literals (sym (gives d)) (gathered-literals (marked (names d .names-of .result)) (getD (U e) 0 (pos 0)) largest 1 (omega arith) (omega arith)), omega (arith, size d, g .ensures .0)))
 
 returns-4 : tie.Need-returns-4
 returns-4 c =
@@ -96,9 +96,9 @@ returns-4 c =
     let d = g .before .before .before .before in
     let n = names g in
     let e = tests g in
-    λ P p z tracks H.
-    loop-added z tracks _ (n .names-of .ensures P (p .holds)) (U e) (line e) (known e) (low e (p .top)) (n .before .before .marks-of .ensures) (sym (d .before .is-marked .ensures) ∙ d .if3 .left)
-    (omega (arith, p .top, p .high)) (c .fitted .result) (kept-added (z .live) _ (a .append .result) (c .fitted .ensures) (gives g) (a .append .ensures (z .live) H))
+    λ ws p z tracks H.
+    loop-added z tracks _ (n .names-of .ensures ws (p .holds) _ (tracks .kept)) (U e) (line e) (known e) (low e) (n .before .before .marks-of .ensures) (sym (d .before .is-marked .ensures) ∙ d .if3 .left)
+    (p .high) (c .fitted .result) (kept-added (z .live) _ (a .append .result) (c .fitted .ensures) (gives g) (a .append .ensures (z .live) H))
 
 pub loops-spec : {M : Type 1} → statement M
 loops-spec =

@@ -1,30 +1,31 @@
-use mathlib.Core.Path.{_≡_, sym}
-use mathlib.Core.Bool.{Bool, cond}
-use mathlib.Core.List.{List}
-use Prim.Native.Nat.{ℕ, _+_, _-_}
+use mathlib.Core.Path.{_≡_, refl, sym, _∙_}
+use mathlib.Core.List.{List, _++_}
+use Prim.Native.Nat.{ℕ, _-_}
 use native.Mathlib.Omega.{arith}
 use lib.IntN.{ℤ}
-use lib.ListN.{drop, getD, set}
+use lib.ListN.{length, drop}
+use Rattle.words.specs.Limits.{entries}
 use Rattle.words.proofs.Parts.{tail-of}
-use Rattle.aspif.specs.Rules.{Rule}
-use Rattle.aspif.specs.Tables.{sizeAt, ruleAt, rulesAt}
-use Rattle.aspif.proofs.Cursors.{Cursor, AtRule, at-rule, no-rules}
-use Rattle.names.specs.Queries.{asks, picks}
+use Rattle.aspif.specs.Rules.{expandRule, expand}
+use Rattle.aspif.specs.Tables.{ruleAt, rulesAt}
 use Rattle.marks.proofs.Sets.{MarkedSoFar, found-none, found-all}
-use Rattle.names.proofs.Picks.{found-pick}
+use Rattle.names.specs.Minimal.{AlsoMarks}
+use Rattle.names.specs.Queries.{Kept, askedNames}
+use Rattle.names.proofs.Asked.{asked-more, found-more}
+use Rattle.names.proofs.ByRule.{Course, course-start, rest, no-plain-rules, Turn, turn}
 use borrow.Author.Needs.{needs}
 use Rattle.names.proofs.queries.names_of.Statement.{statement}
 use Rattle.names.proofs.queries.names_of.Tie as tie
 
 abbrev Inv-loop : tie.InvT-loop
-Inv-loop table rules names query literals inside found₀ k₀ i₀ found k i =
-    (left : ℕ)
-    × (k + left ≡ rules)
-    × Cursor table left i
-    × MarkedSoFar found (picks (asks query literals inside) (rulesAt left (drop i table)) (drop k names)) (picks (asks query literals inside) (rulesAt rules table) names)
+Inv-loop table rules names bodies query inside found₀ k₀ i₀ found k i =
+    (c : Course table rules names names k i)
+    × (length found ≡ entries)
+    × ((called : List ℤ → ℕ) → Kept names bodies called (rulesAt rules table)
+    → MarkedSoFar found (askedNames query inside called (expand (rest c))) (askedNames query inside called (expand (rulesAt rules table))))
 
 abbrev μ-loop : tie.MeasureT-loop
-μ-loop table rules names query literals inside found₀ k₀ i₀ found k i = rules - k
+μ-loop table rules names bodies query inside found₀ k₀ i₀ found k i = rules - k
 
 -- the words from i on, and the rule there
 module _ (c : tie.After-rest Inv-loop μ-loop) where
@@ -37,36 +38,45 @@ module _ (c : tie.After-rest Inv-loop μ-loop) where
   abbrev i : ℕ
   i = c .before .before .loop .i
 
-  abbrev k : ℕ
-  k = c .before .before .loop .k
+  at : Turn (c .before .before .loop .inv .0)
+  at = turn (c .before .before .loop .inv .0) (c .before .loop-test .taken)
 
-  abbrev f : Rule → Bool
-  f = asks (s .args .query) (s .args .literals .now) (s .args .inside .now)
+-- what is left to mark
+left : (d : tie.After-rest Inv-loop μ-loop) (called : List ℤ → ℕ) {m whole : List ℕ}
+    → (let a = s d .args in
+    MarkedSoFar m (askedNames (a .query) (a .inside .now) called (expand (rest (d .before .before .loop .inv .0)))) whole
+    → MarkedSoFar m (askedNames (a .query) (a .inside .now) called (expandRule (ruleAt (drop (i d) (t d))))
+    ++ askedNames (a .query) (a .inside .now) called (expand (rest (at d .next)))) whole)
+left d called f = rw (at d .splits, asked-more (ruleAt (drop (i d) (t d))) (rest (at d .next)) _ _ called) at f
 
-  at : AtRule t (c .before .before .loop .inv .0) i
-  at = let l = c .before .before .loop in at-rule (omega (arith, c .before .loop-test .taken, l .inv .1)) (l .inv .2)
-
--- what the call tells of the rule and its name
-told : (c : tie.After-mark-asked Inv-loop μ-loop)
+-- what the call marks
+told : (c : tie.After-mark-asked Inv-loop μ-loop) (called : List ℤ → ℕ)
     → (let d = c .before .before .before in
-    let l = d .before .before .loop in
-    c .mark-asked .last .1 .1 .1 .1 .1 .0 ≡ cond (f d (ruleAt (drop (i d) (t d)))) (set (l .found) (getD (s d .args .names .now) (k d) 0) 1) (l .found))
-told c = let d = c .before .before .before in rw (tail-of (i d) (t d)) at (c .mark-asked .ensures)
+    let a = s d .args in
+    Kept (a .names .now) (a .bodies .now) called (rulesAt (a .rules) (t d))
+    → AlsoMarks (d .before .before .loop .found) (c .mark-asked .last .1 .1 .1 .1 .1 .0)
+    (askedNames (a .query) (a .inside .now) called (expandRule (ruleAt (drop (i d) (t d))))))
+told c called K =
+    let d = c .before .before .before in
+    rw (tail-of (i d) (t d)) at (c .mark-asked .ensures called (K .byName) (rw (tail-of (i d) (t d)) (at d .kept called (K .byRule))))
 
 loop-holds : tie.Need-loop-holds Inv-loop μ-loop
-loop-holds c = let s = c .before .before in (s .args .rules, omega arith, record { within = omega arith; sound = s .pre .0 .1 .sound }, found-none _)
+loop-holds c =
+    let s = c .before .before in
+    (course-start (s .args .table .now) (s .args .rules) (s .args .names .now) (s .pre .0 .0 .1 .sound), refl, λ called K. found-none _)
 
 mul-rest : tie.Need-mul-rest Inv-loop μ-loop
-mul-rest c = let w = c .before .loop .inv .2 .within in search needs
+mul-rest c = let w = c .before .loop .inv .0 .cursor .within in search needs
 
 shared-slice-read-mark-asked : tie.Need-shared-slice-read-mark-asked Inv-loop μ-loop
-shared-slice-read-mark-asked c = omega (arith, s (c .before) .pre .1, c .before .before .loop-test .taken)
+shared-slice-read-mark-asked c = omega (arith, s (c .before) .pre .0 .1, c .before .before .loop-test .taken)
 
 slice-aggregate-mark-asked : tie.Need-slice-aggregate-mark-asked Inv-loop μ-loop
-slice-aggregate-mark-asked c = sym (c .before .before .before .before .loop .inv .3 .long)
+slice-aggregate-mark-asked c = sym (c .before .before .before .before .loop .inv .1)
 
 mark-asked-requires : tie.Need-mark-asked-requires Inv-loop μ-loop
-mark-asked-requires c κs = let d = c .before .before in rw (tail-of (i d) (t d)) (at d .here .1)
+mark-asked-requires c κs =
+    let d = c .before .before in rw (tail-of (i d) (t d)) (at d .sound, (s d .pre .1, d .before .before .loop .inv .1))
 
 next-rule-requires : tie.Need-next-rule-requires Inv-loop μ-loop
 next-rule-requires c κs = at (c .before .before .before .before) .here
@@ -77,17 +87,15 @@ loop-again c =
     let d = m .before .before .before in
     let l = d .before .before .loop in
     rw (c .next-rule .ensures .0) (
-      l .inv .0 - 1,
-      omega (arith, d .before .loop-test .taken, l .inv .1),
       at d .next,
-      found-pick (f d) _ (rulesAt (l .inv .0 - 1) (drop (i d + sizeAt (drop (i d) (t d))) (t d))) (s d .args .names .now) (k d) (rw (at d .rules) at (l .inv .3)) (told m),
+      m .mark-asked .kept .1 .1 .1 .1 .1 .0 ∙ l .inv .1,
+      λ called K. found-more (left d called (l .inv .2 called K)) (told m called K),
     )
 
 returns : tie.Need-returns Inv-loop μ-loop
 returns c =
     let l = c .before .loop in
-    let none = no-rules (l .inv .0) (drop (l .i) (c .before .before .before .before .args .table .now)) (omega (arith, c .loop-test .left, l .inv .1)) in
-    λ P H. rw (← H .are) (found-all (rw none at (l .inv .3)))
+    λ ws H. rw (← H .are) (λ called K. found-all (rw (no-plain-rules (l .inv .0) (c .loop-test .left)) at (l .inv .2 called K)))
 
 pub names-of-spec : {M : Type 1} → statement M
 names-of-spec =

@@ -1,30 +1,68 @@
--- `packets::reader::decode_rule` meets its contract.
+-- `packets::reader::decode_rule` meets its contract: the row holds the words with the body kind.
 -- Assumes nothing.
-use mathlib.Core.Path.{sym, _∙_}
+use mathlib.Core.Path.{_≡_, sym, _∙_, ap}
+use mathlib.Core.List.{List}
+use Prim.Native.Nat.{_-_}
 use native.Mathlib.Omega.{arith}
+use lib.IntN.{ℤ}
 use lib.ListN.{length}
+use lib.Seq.{length-take-le}
 use borrow.Author.Needs.{needs}
 use Rattle.aspif.proofs.Cursors.{shape-of}
-use Rattle.packets.proofs.Littles.{length-numbers}
-use Rattle.packets.proofs.Decoded.{size-sound, size-unsound}
+use Rattle.packets.specs.Bytes.{numbersFrom}
+use Rattle.packets.specs.Packets.{withKind}
+use Rattle.packets.proofs.RuleParts.{size-large}
+use Rattle.packets.proofs.RulesRead.{row-words, told-sound, told-unsound}
 use Rattle.packets.proofs.reader.decode_rule.Statement.{statement}
 use Rattle.packets.proofs.reader.decode_rule.Tie as tie
+
+-- the words, and the row that has them
+module _ (c : tie.After-put-kind) where
+  abbrev ws : List ℤ
+  ws = let a = c .before .before .before .before .before .before .args in numbersFrom 4 (length (a .row .now) - 1) (a .bytes .now)
+
+  abbrev row : List ℤ
+  row = c .put-kind .last .0
+
+  row-is : row ≡ withKind ws
+  row-is =
+      let a = c .before .before .before .before .before .before in
+      c .put-kind .ensures ∙ ap withKind (row-words (a .args .row .now) (a .args .bytes .now) (omega (arith, a .pre .0)) (c .before .before .before .read-numbers .ensures))
 
 rule-size-requires : tie.Need-rule-size-requires
 rule-size-requires c κs = shape-of _ (sym (c .before .before .is-sound .ensures) ∙ c .before .if1 .taken)
 
+slice-aggregate-put-at : tie.Need-slice-aggregate-put-at
+slice-aggregate-put-at c = sym (length-take-le _ _ (c .before .before .rule-size .ensures .1))
+
+sub-result : tie.Need-sub-result
+sub-result c = let n = c .before .before .before .before .rule-size .ensures .0 in omega (arith, n, size-large (row (c .before .before .before .before .before .before .before .before .before .before)))
+
 returns : tie.Need-returns
 returns c =
-    let a = c .before .before .before .before .before .before .before .before .before .args in
-    let e = c .before .before .before .before .before .before .read-numbers .ensures in
-    let s = rw e at (c .rule-size .ensures) in (
-      size-sound _ _ (sym (rw e at (c .before .before .before .is-sound .ensures)) ∙ c .before .before .if1 .taken) (s .0),
-      omega (arith, s .1, length-numbers 4 (length (a .row .now)) (a .bytes .now)),
-    )
+    let d = c .before .before .before .before .before .before .before .before .before .before in
+    told-sound (ws d) (row-is d) (sym (c .before .before .before .before .before .before .before .is-sound .ensures) ∙ c .before .before .before .before .before .before .if1 .taken) (c .before .before .before .before .rule-size .ensures .0) (c .before .put-at .ensures)
 
 returns-2 : tie.Need-returns-2
-returns-2 c = (size-unsound _ (sym (rw (c .before .before .before .before .read-numbers .ensures) at (c .before .is-sound .ensures)) ∙ c .if1 .left), omega arith)
+returns-2 c = let d = c .before .before .before .before in told-unsound (ws d) (row-is d) (sym (c .before .is-sound .ensures) ∙ c .if1 .left)
 
 pub decode-rule-spec : {M : Type 1} → statement M
 decode-rule-spec =
-    tie.close (tie.spec (λ c κs. search needs) (λ c κs. search needs) rule-size-requires (λ c. search needs) returns (λ c. search needs) returns-2)
+    tie.close
+    (tie.spec
+    (λ c. search needs)
+    (λ c. search needs)
+    (λ c. search needs)
+    (λ c κs. search needs)
+    (λ c κs. search needs)
+    (λ c κs. search needs)
+    rule-size-requires
+    (λ c. search needs)
+    slice-aggregate-put-at
+    (λ c κs. search needs)
+    sub-result
+    (λ c. search needs)
+    (λ c. search needs)
+    returns
+    (λ c. search needs)
+    returns-2)

@@ -2,7 +2,7 @@
 -- Assumes nothing.
 use native.Mathlib.Omega.{arith}
 use borrow.Author.Needs.{needs}
-use Rattle.packets.proofs.Littles.{plain, length-little}
+use Rattle.packets.proofs.Littles.{plain-bytes, length-little}
 use Rattle.packets.specs.Bytes.{little}
 use Rattle.packets.proofs.writer.put_count.Statement.{statement}
 use Rattle.packets.proofs.writer.put_count.Tie as tie
@@ -10,7 +10,7 @@ use Rattle.packets.proofs.writer.put_count.Tie as tie
 returns : tie.Need-returns
 returns c =
     let n = c .before .before .before .before .before .args .count in
-    let p = rw (plain (little 4 n)) at (c .before .before .put-little .ensures) in
+    let p = rw (plain-bytes (little 4 n)) at (c .before .before .put-little .ensures) in
     (p, omega (arith, p .ends, length-little 4 n))
 
 pub put-count-spec : {M : Type 1} → statement M

@@ -1,26 +1,30 @@
 -- `packets::writer::put_rules` meets its contract. After a turn the rules before word i are put.
 -- Assumes nothing.
-use mathlib.Core.List.{List}
-use Prim.Native.Nat.{ℕ, _+_, _*_, _≤_}
+use mathlib.Core.Path.{_≡_}
+use mathlib.Core.Bool.{true}
+use mathlib.Core.List.{List, _∷_}
+use Prim.Native.Nat.{ℕ, _+_, _-_, _*_, _≤_}
 use native.Mathlib.Omega.{arith}
 use lib.IntN.{ℤ}
 use lib.ListN.{drop}
 use borrow.Author.Needs.{needs}
+use Rattle.words.proofs.Lists.{and-left, and-right}
 use Rattle.words.proofs.Parts.{tail-of}
 use Rattle.text.specs.Writing.{Put}
-use Rattle.aspif.specs.Tables.{ruleAt, rulesAt}
+use Rattle.aspif.specs.Tables.{sizeAt, ruleAt, rulesAt}
 use Rattle.aspif.proofs.Cursors.{Cursor, AtRule, at-rule, no-rules}
 use Rattle.packets.specs.Bytes.{bytesOf}
-use Rattle.packets.specs.Packets.{packetWords}
+use Rattle.packets.specs.Packets.{isPlain, allPlain, packetWords}
+use Rattle.packets.specs.Writes.{ruleRoom}
 use Rattle.packets.proofs.Writes.{put-length, Going, going-start, going-end, rule-on}
 use Rattle.packets.proofs.writer.put_rules.Statement.{statement}
 use Rattle.packets.proofs.writer.put_rules.Tie as tie
 
 abbrev Inv-loop : tie.InvT-loop
 Inv-loop buffer₀ at table rules left₀ i₀ end₀ buffer left i end =
-    Cursor table left i
+    (Cursor table left i × (allPlain (rulesAt left (drop i table)) ≡ true))
     × (Going (bytesOf 4 (packetWords (rulesAt rules table))) (bytesOf 4 (packetWords (rulesAt left (drop i table)))) buffer₀ buffer at end
-    × (end + 524 * left ≤ at + 524 * rules))
+    × (end + ruleRoom * left ≤ at + ruleRoom * rules))
 
 abbrev μ-loop : tie.MeasureT-loop
 μ-loop buffer₀ at table rules left₀ i₀ end₀ buffer left i end = left
@@ -34,19 +38,23 @@ module _ (c : tie.After-rest Inv-loop μ-loop) where
   i = c .before .before .loop .i
 
   at : AtRule t (c .before .before .loop .left) i
-  at = at-rule (c .before .loop-test .taken) (c .before .before .loop .inv .0)
+  at = at-rule (c .before .loop-test .taken) (c .before .before .loop .inv .0 .0)
+
+  -- it and those after it have no weight body
+  plain-here : allPlain (ruleAt (drop i t) ∷ rulesAt (c .before .before .loop .left - 1) (drop (i + sizeAt (drop i t)) t)) ≡ true
+  plain-here = rw (at .rules) at (c .before .before .loop .inv .0 .1)
 
 loop-holds : tie.Need-loop-holds Inv-loop μ-loop
-loop-holds c = (record { within = omega arith; sound = c .before .pre .0 }, (going-start _ _ _, omega arith))
+loop-holds c = ((record { within = omega arith; sound = c .before .pre .0 .0 }, c .before .pre .0 .1), (going-start _ _ _, omega arith))
 
 mul-rest : tie.Need-mul-rest Inv-loop μ-loop
-mul-rest c = let w = c .before .loop .inv .0 .within in search needs
+mul-rest c = let w = c .before .loop .inv .0 .0 .within in search needs
 
 put-rule-requires : tie.Need-put-rule-requires Inv-loop μ-loop
 put-rule-requires c κs =
     let d = c .before in
     let p = d .before .before .before .before .pre in
-    (rw (tail-of (i d) (t d)) (at d .sound), omega (arith, d .before .before .loop .inv .1 .1, d .before .loop-test .taken, p .1 .0, p .1 .1))
+    (rw (tail-of (i d) (t d)) (at d .sound), (rw (tail-of (i d) (t d)) (and-left (isPlain (ruleAt (drop (i d) (t d)))) _ (plain-here d)), omega (arith, d .before .before .loop .inv .1 .1, d .before .loop-test .taken, p .1 .0, p .1 .1)))
 
 next-rule-requires : tie.Need-next-rule-requires Inv-loop μ-loop
 next-rule-requires c κs = at (c .before .before .before .before) .here
@@ -60,7 +68,7 @@ loop-again c =
     let l = d .before .before .loop in
     let p = rw (tail-of (i d) (t d)) at (c .before .before .before .put-rule .ensures) in
     rw (c .next-rule .ensures .0)
-    (at d .next, (rule-on (ruleAt (drop (i d) (t d))) _ _ (at d .rules) (l .inv .1 .0) (p .0), omega (arith, p .1, l .inv .1 .1, d .before .loop-test .taken)))
+    ((at d .next, and-right (isPlain (ruleAt (drop (i d) (t d)))) _ (plain-here d)), (rule-on (ruleAt (drop (i d) (t d))) _ _ (at d .rules) (l .inv .1 .0) (p .0), omega (arith, p .1, l .inv .1 .1, d .before .loop-test .taken)))
 
 -- all of them are put
 all : (c : tie.After-loop Inv-loop μ-loop) → (let a = c .before .before .before .args in let l = c .before .loop in

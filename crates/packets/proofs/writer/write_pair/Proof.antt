@@ -9,7 +9,7 @@ use lib.Dec.{leb}
 use lib.ListN.{length, replicate}
 use borrow.Author.Needs.{needs}
 use Rattle.text.specs.Writing.{Put}
-use Rattle.aspif.specs.Rules.{Rule}
+use Rattle.aspif.specs.Rules.{InputRule}
 use Rattle.aspif.specs.Tables.{rulesAt}
 use Rattle.aspif.proofs.Cursors.{few-rules, sound-rules}
 use Rattle.drupe.specs.Texts.{Step, stepsOf}
@@ -23,7 +23,7 @@ use Rattle.packets.proofs.writer.write_pair.Tie as tie
 put-rules-requires : tie.Need-put-rules-requires
 put-rules-requires c κs =
     let a = c .before .before .before in
-    (sound-rules (a .args .table .now) (a .args .rules) (a .pre .0), (few-rules (a .args .table .now) (a .args .rules) (a .pre .0), omega arith))
+    ((sound-rules (a .args .table .now) (a .args .rules) (a .pre .0 .0), a .pre .0 .1), (few-rules (a .args .table .now) (a .args .rules) (a .pre .0 .0), omega arith))
 
 -- the rules and the steps are put, and the questions asked
 module _ (c : tie.After-answer-of) where
@@ -42,7 +42,7 @@ module _ (c : tie.After-answer-of) where
   abbrev packet : List ℕ
   packet = s .args .packet .now
 
-  abbrev P : List Rule
+  abbrev P : List InputRule
   P = rulesAt (s .args .rules) (s .args .table .now)
 
   abbrev ts : List Step
@@ -70,7 +70,7 @@ module _ (c : tie.After-answer-of) where
   told = answer-told _ _ _ _ (length (steps-put .put-steps .last .0)) _ (c .answer-of .ensures) (S .good) (packet-ends P ts R (S .put)) same
 
   comes-to : writing (s .args .table .now) (s .args .rules) proof (length packet) ≡ byQuestions good fits whole
-  comes-to = asked (s .args .table .now) (s .args .rules) proof (length packet) (s .pre .0)
+  comes-to = asked (s .args .table .now) (s .args .rules) proof (length packet) (s .pre .0 .0) (s .pre .0 .1)
 
 returns : tie.Need-returns
 returns c =

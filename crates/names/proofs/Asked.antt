@@ -1,0 +1,140 @@
+-- What is asked of the plain rules of a program: rule by rule as written, and of one such rule body by body.
+-- Assumes nothing.
+use mathlib.Core.Path.{_≡_, refl, sym, ap, _∙_}
+use mathlib.Core.Bool.{Bool, true, false, cond, not, _&&_, _||_, or-assoc}
+use mathlib.Core.List.{List, [], _∷_, _++_, map, map-append, map-map}
+use Prim.Native.Nat.{ℕ, _≤_}
+use native.Mathlib.Omega.{arith}
+use lib.Dec.{eqb}
+use lib.IntN.{ℤ}
+use lib.ListN.{length, take, length-map}
+use Rattle.words.specs.Lists.{_∈_, any, filter}
+use Rattle.words.specs.Literals.{sameList}
+use Rattle.words.proofs.Lists.{if-true, any-decides}
+use Rattle.words.proofs.Literals.{sameList-decides}
+use Rattle.weights.specs.Weights.{Weighted, literals, bodies, paired, mostWeighted}
+use Rattle.weights.specs.Claims.{_⊑_, none, with-it, without}
+use Rattle.weights.proofs.Sublists.{filter-append, filter-map, filter-none, any-append, any-map, any-same, none-pass}
+use Rattle.weights.proofs.Minimal.{body→}
+use Rattle.aspif.specs.Rules.{Rule, Body, InputRule, isNormal, bodiesOf, withBody, expandRule, expand}
+use Rattle.aspif.specs.Tables.{isWeighted, bodyWordsAt, boundAt, bodyAt}
+use Rattle.aspif.proofs.SoundWeights.{Weighing}
+use Rattle.marks.specs.Marks.{listed, marked}
+use Rattle.marks.proofs.Sets.{MarkedSoFar}
+use Rattle.names.specs.ByName.{Called, Told}
+use Rattle.names.specs.Minimal.{AlsoMarks}
+use Rattle.names.specs.Queries.{entry, isInside, asksHeads, asks, askedNames, completing}
+use Rattle.names.specs.declared.queries.Query.{Query}
+use Rattle.names.specs.declared.by_name.Recorded.{Recorded}
+use Rattle.names.specs.declared.by_name.Recorded.the-variants as Recorded
+
+-- One rule more
+
+module _ (r : InputRule) (ws : List InputRule) where
+  pub any-more : (f : Rule → Bool) → any f (expand (r ∷ ws)) ≡ (any f (expandRule r) || any f (expand ws))
+  unfolding expand
+  any-more f = any-append f (expandRule r) (expand ws)
+
+  pub asked-more : (q : Query) (m : List ℕ) (called : List ℤ → ℕ)
+      → askedNames q m called (expand (r ∷ ws)) ≡ askedNames q m called (expandRule r) ++ askedNames q m called (expand ws)
+  unfolding expand
+  asked-more q m called =
+      ap (map (λ x. called (x .body))) (filter-append (asks q m) (expandRule r) (expand ws))
+      ∙ map-append (λ x. called (x .body)) (filter (asks q m) (expandRule r)) (filter (asks q m) (expand ws))
+
+-- a loop that marks, after the names of one rule more
+pub found-more : {m after l left whole : List ℕ} → MarkedSoFar m (l ++ left) whole → AlsoMarks m after l → MarkedSoFar after left whole
+found-more {m} {after} {l} {left} f a = record {
+  long = a .long ∙ f .long;
+  has = λ v h.
+      ap (λ (t : Bool). t || listed left v) (a .has v h) ∙ or-assoc (marked m v) (listed l v) (listed left v)
+      ∙ ap (λ (t : Bool). marked m v || t) (sym (any-append (eqb v) l left)) ∙ f .has v h;
+}
+
+-- The plain rules of one rule
+
+module _ (r : InputRule) where
+  pub any-bodies : (f : List ℤ → Bool) → any (λ x. f (x .body)) (expandRule r) ≡ any f (bodiesOf (r .body))
+  unfolding expandRule
+  any-bodies f = any-map (withBody r) (λ x. f (x .body)) (bodiesOf (r .body))
+
+  pub completing-bodies : (called : List ℤ → ℕ) (hs : List ℤ) (n : ℕ)
+      → any (completing called hs n) (expandRule r)
+      ≡ ((isNormal (r .kind) && sameList (r .heads) hs) && any (λ ls. eqb (called ls) n) (bodiesOf (r .body)))
+  unfolding expandRule
+  completing-bodies called hs n =
+      any-map (withBody r) (completing called hs n) (bodiesOf (r .body)) ∙ by (isNormal (r .kind)) (sameList (r .heads) hs) (bodiesOf (r .body))
+    where
+      by : (a b : Bool) (l : List (List ℤ)) → any (λ ls. a && (b && eqb (called ls) n)) l ≡ ((a && b) && any (λ ls. eqb (called ls) n) l)
+      by true true l = refl
+      by true false l = none-pass (λ ls. false) l (λ ls i. refl)
+      by false b l = none-pass (λ ls. false) l (λ ls i. refl)
+
+  pub asked-bodies : (q : Query) (m : List ℕ) (called : List ℤ → ℕ)
+      → askedNames q m called (expandRule r)
+      ≡ cond (asksHeads q m (r .heads)) (map called (filter (λ ls. not (any (isInside m) ls)) (bodiesOf (r .body)))) []
+  unfolding expandRule
+  asked-bodies q m called =
+      ap (map (λ x. called (x .body))) (filter-map (withBody r) (asks q m) (bodiesOf (r .body)))
+      ∙ map-map (λ x. called (x .body)) (withBody r) (filter (λ ls. asks q m (withBody r ls)) (bodiesOf (r .body)))
+      ∙ by (asksHeads q m (r .heads)) (bodiesOf (r .body))
+    where
+      by : (t : Bool) (l : List (List ℤ))
+          → map called (filter (λ ls. t && not (any (isInside m) ls)) l) ≡ cond t (map called (filter (λ ls. not (any (isInside m) ls)) l)) []
+      by true l = refl
+      by false l = ap (map called) (filter-none (λ ls. false) l (λ ls i. refl))
+
+-- The bodies of the rule at the front
+
+module _ (ws : List ℤ) where
+  module _ (e : isWeighted ws ≡ true) where
+    pub weight-bodies : bodiesOf (bodyAt ws) ≡ bodies (boundAt ws) (paired (bodyWordsAt ws))
+    unfolding bodiesOf bodyAt
+    weight-bodies = rw e
+
+    pub weight-entry : (called : List ℤ → ℕ) → entry called (bodyAt ws) ≡ 0
+    unfolding bodyAt
+    weight-entry called = rw e
+
+  module _ (e : isWeighted ws ≡ false) where
+    pub plain-bodies : bodiesOf (bodyAt ws) ≡ bodyWordsAt ws ∷ []
+    unfolding bodiesOf bodyAt
+    plain-bodies = rw e
+
+    pub plain-entry : (called : List ℤ → ℕ) → entry called (bodyAt ws) ≡ called (bodyWordsAt ws)
+    unfolding bodyAt
+    plain-entry called = rw e
+
+part-short : {s l : List Weighted} → s ⊑ l → length s ≤ length l
+part-short none = omega arith
+part-short (with-it {s = s} {l = l} h) = omega (arith, part-short h)
+part-short (without {s = s} {l = l} h) = omega (arith, part-short h)
+
+-- a body of a weight rule has few literals
+pub body-short : {ws : List ℤ} (L : List ℤ) → Weighing ws → L ∈ bodies (boundAt ws) (paired (bodyWordsAt ws)) → length L ≤ mostWeighted
+body-short {ws} L w i =
+    let s = body→ (boundAt ws) (paired (bodyWordsAt ws)) i in
+    rw (← s.3) (omega (arith, length-map (s .0) (λ x. x .literal), part-short (s .1), w .few))
+
+-- the literals are one of the bodies
+pub one-of : {B : List ℤ} {l : List (List ℤ)} → any (sameList B) l ≡ true → B ∈ l
+one-of {B} {l} e = let m = if-true (any-decides (λ L. sameList-decides B L) l) e in rw m.2 (m .1)
+
+-- What is recorded of the body with a name
+
+pub told-few : (m row : List ℤ) (name : ℕ) {n : ℕ} {r : Recorded} → r ≡ Recorded.Body n → Told m name row r → n ≤ mostWeighted
+told-few m row name {n} e t = let told : Told m name row (Recorded.Body n) = rw e at t in told .0
+
+-- and whether a weight rule has that body
+module _ {ws m : List ℤ} {name : ℕ} {called : List ℤ → ℕ} (w : Weighing ws) (C : Called m called) (above : 1 ≤ name) where
+  pub named-body : (row : List ℤ) {r : Recorded} {n : ℕ} → r ≡ Recorded.Body n → Told m name row r
+      → (let bs = bodies (boundAt ws) (paired (bodyWordsAt ws)) in any (λ ls. eqb (called ls) name) bs ≡ any (sameList (take n row)) bs)
+  named-body row {n = n} e t =
+      let told : Told m name row (Recorded.Body n) = rw e at t in
+      any-same _ _ (bodies (boundAt ws) (paired (bodyWordsAt ws))) (λ L i. told .1 called C above L (body-short L w i))
+
+  pub named-none : (row : List ℤ) {r : Recorded} → r ≡ Recorded.Nothing → Told m name row r
+      → any (λ ls. eqb (called ls) name) (bodies (boundAt ws) (paired (bodyWordsAt ws))) ≡ false
+  named-none row e t =
+      let told : Told m name row Recorded.Nothing = rw e at t in
+      none-pass _ (bodies (boundAt ws) (paired (bodyWordsAt ws))) (λ L i. told called C above L (body-short L w i))
