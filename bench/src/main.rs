@@ -1,15 +1,19 @@
 //! The benchmark: the whole check through the static library beside an unverified checker, on inputs made from fixed seeds. Both
-//! must give the same verdict on each input. Then the packet of the longest proof, written and read back. The last line is 'N passed, M
-//! failed'; the exit status is 0 where none failed.
+//! must give the same verdict on each input. Then the packet of the longest proof, written and read back, and reading alone. The last line
+//! is 'N passed, M failed'; the exit status is 0 where none failed.
 //!
 //! With `--once` each input is run once by each checker. Without arguments the times are medians of 31 repetitions; a number as
 //! the argument says how many others there are to be. With `--slow` the inputs that were made to be slow are run once in place of the others.
+//! With `--beside OTHER`, and a number where it is not to be 31, this program and OTHER, a build of it over another library, are run in turn;
+//! each does a `--round`.
 
 #![forbid(unsafe_code)]
 
+mod beside;
 mod cases;
 mod measure;
 mod packets;
+mod reading;
 mod report;
 mod unverified;
 
@@ -20,20 +24,27 @@ use std::process::ExitCode;
 const REPETITIONS: usize = 31;
 
 fn main() -> ExitCode {
-    let argument = std::env::args().nth(1);
-    let repetitions = match argument.as_deref() {
-        None => REPETITIONS,
-        Some("--once" | "--slow") => 1,
-        Some(word) => match word.parse() {
-            Ok(count) if count > 0 => count,
-            _ => {
-                eprintln!("usage: bench [--once | --slow | REPETITIONS]");
-                return ExitCode::from(2);
-            }
-        },
+    let words: Vec<String> = std::env::args().skip(1).collect();
+    let words: Vec<&str> = words.iter().map(String::as_str).collect();
+    let failed = match words.as_slice() {
+        [] => Some(run_all(REPETITIONS)),
+        ["--once"] => Some(run_all(1)),
+        ["--slow"] => Some(run_slow()),
+        ["--round"] => Some(beside::round()),
+        ["--beside", other] => Some(beside::run(other, REPETITIONS)),
+        ["--beside", other, count] => repetitions(count).map(|count| beside::run(other, count)),
+        [count] => repetitions(count).map(run_all),
+        _ => None,
     };
-    let failed = if argument.as_deref() == Some("--slow") { run_slow() } else { run_all(repetitions) };
+    let Some(failed) = failed else {
+        eprintln!("usage: bench [--once | --slow | REPETITIONS | --beside OTHER [REPETITIONS] | --round]");
+        return ExitCode::from(2);
+    };
     ExitCode::from(u8::from(failed > 0))
+}
+
+fn repetitions(word: &str) -> Option<usize> {
+    word.parse().ok().filter(|count| *count > 0)
 }
 
 /// Runs the inputs that were made to be slow, once; on how many the checkers differ.
@@ -46,15 +57,18 @@ fn run_slow() -> usize {
     failed
 }
 
-/// Runs all inputs and the packet of the longest proof; on how many inputs the checkers differ, and one more where the packet is not read back.
+/// Runs all inputs, the packet of the longest proof and reading alone; on how many inputs the checkers differ, one more where the packet is not
+/// read back, and one more where a text is refused that should be read.
 fn run_all(repetitions: usize) -> usize {
     let inputs = cases::all();
     let measured = measure::measure(&inputs, repetitions);
     let packed = packets::measure(&inputs, repetitions);
+    let read = reading::measure(&inputs, repetitions);
     report::heading(repetitions);
-    let failed = report_inputs(&inputs, &measured) + usize::from(packed.is_none());
+    let failed = report_inputs(&inputs, &measured) + usize::from(packed.is_none()) + usize::from(read.is_none());
     report::packet(packed.as_ref());
-    println!("{} passed, {failed} failed", inputs.len() + 1 - failed);
+    report::reading(read.as_ref());
+    println!("{} passed, {failed} failed", inputs.len() + 2 - failed);
     failed
 }
 

@@ -11,17 +11,17 @@ use std::time::{Duration, Instant};
 pub type Answer = Result<Verdict, UnknownAnswer>;
 
 /// A table and a store, lent to each check through the library. The check itself zeroes them.
-struct Buffers {
+pub struct Buffers {
     table: Vec<i32>,
     store: Vec<i32>,
 }
 
 impl Buffers {
-    fn new() -> Self {
+    pub fn new() -> Self {
         Buffers { table: vec![0; ROOM], store: vec![0; ROOM] }
     }
 
-    fn verified(&mut self, input: &Input) -> Answer {
+    pub fn verified(&mut self, input: &Input) -> Answer {
         aspdrupe::check_texts(black_box(&input.texts.program), black_box(&input.texts.proof), &mut self.table, &mut self.store)
     }
 }

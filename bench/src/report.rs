@@ -1,8 +1,9 @@
-//! What is printed: a row for each input, and a line on the packet.
+//! What is printed: a row for each input, lines on the packet and on reading, and the rows of two programs side by side.
 
 use crate::cases::Input;
-use crate::measure::{Answer, Measured};
+use crate::measure::{Answer, Measured, Times};
 use crate::packets::Packed;
+use crate::reading::{Amount, Reading};
 use aspdrupe::Verdict;
 use std::time::Duration;
 
@@ -56,6 +57,48 @@ pub fn packet(packed: Option<&Packed>) {
         milliseconds(packed.writing.least),
         milliseconds(packed.reading.median),
         milliseconds(packed.reading.least),
+    );
+}
+
+/// The lines on reading.
+pub fn reading(reading: Option<&Reading>) {
+    let Some(reading) = reading else {
+        println!("FAILED: a text that should be read is refused");
+        return;
+    };
+    reading_row("read_program", "rules", &reading.program);
+    reading_row("read_line", "lines", &reading.proof);
+}
+
+fn reading_row(service: &str, what: &str, (amount, times): &(Amount, Times)) {
+    println!(
+        "{service} on {}: {} bytes, {} {what} in {:.3} ms (least {:.3}), {:.2} ns a byte",
+        amount.name,
+        amount.bytes,
+        amount.count,
+        milliseconds(times.median),
+        milliseconds(times.least),
+        times.median.as_secs_f64() * 1e9 / amount.bytes as f64,
+    );
+}
+
+pub fn beside_heading(repetitions: usize) {
+    println!("The other program and this one in turn, {repetitions} times; milliseconds.");
+    println!("{:<26} {:>17} {:>17} {:>17}", "", "other", "this one", "difference");
+    println!("{:<26} {:>8} {:>8} {:>8} {:>8} {:>8} {:>8}", "", "median", "least", "median", "least", "median", "least");
+}
+
+pub fn beside(name: &str, other: &Times, own: &Times) {
+    let pair = |times: &Times| (milliseconds(times.median), milliseconds(times.least));
+    let (other, own) = (pair(other), pair(own));
+    println!(
+        "{name:<26} {:>8.4} {:>8.4} {:>8.4} {:>8.4} {:>8.4} {:>8.4}",
+        other.0,
+        other.1,
+        own.0,
+        own.1,
+        own.0 - other.0,
+        own.1 - other.1
     );
 }
 

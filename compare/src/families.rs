@@ -5,7 +5,7 @@ use inputs::rules::{program_text, Rule};
 use inputs::{programs, Pair, ROOM};
 
 use crate::cases::refutations::{go_on, refute, Author, Found};
-use crate::cases::{self, changes, deep, fixed, guided, limits, noise, weights};
+use crate::cases::{self, bytes, changes, deep, fixed, guided, limits, noise, weights};
 use crate::comparison::Comparison;
 use crate::packets;
 use crate::reference::check::{most_live_words, verdict_line};
@@ -31,6 +31,7 @@ pub fn families() -> Vec<Family> {
         listed("files", 1, run_files),
         listed("limits", limits::cases().len(), run_limit),
         listed("wide-tables", 1, run_wide_tables),
+        listed("byte-values", 256, run_byte_values),
         family("refutation", 100, run_refutation),
         family("weights", 60, run_weights),
         family("weight-lines", 300, run_weight_lines),
@@ -167,6 +168,15 @@ fn run_wide_tables(comparison: &mut Comparison, _: u64) {
         for set in [vec![], vec![1], vec![4_095], vec![0], vec![1, 2, 4_095], vec![4_096], vec![65_535]] {
             comparison.test_set(&table, rules, &set, MARKS);
         }
+    }
+}
+
+/// The value of the index in every place of a rule and of a step.
+fn run_byte_values(comparison: &mut Comparison, index: u64) {
+    for pair in bytes::pairs(index as u8) {
+        comparison.check_texts(&pair, 20, 20);
+        comparison.read_program(&pair.program, 20);
+        comparison.read_line(&pair.proof, 0);
     }
 }
 

@@ -1,5 +1,6 @@
 //! Where the texts and packets come from: fixed cases, cases at the limits, random proofs for programs, changes of them, and noise.
 
+pub mod bytes;
 pub mod changes;
 pub mod deep;
 pub mod fixed;

@@ -47,7 +47,8 @@ pub fn read_program(text: &[u8], table: &mut [i32]) -> ProgramReading
     if !text::starts_with(text, b"asp 1 0 0\n") {
         return refuse(table, ProgramRefusal { number: 2, line: 1 });
     }
-    let read = lines::read_lines(text, table);
+    let classes = text::CLASSES;
+    let read = lines::read_lines(text, table, &classes);
     match read {
         Lines::Refused(refusal) => refuse(table, refusal),
         Lines::Program { atoms, rules, used } => {

@@ -13,6 +13,7 @@ ghost use Prim.Native.Nat.{_+_, _<_, _≤_};
 ghost use lib.ListN.{length};
 ghost use Rattle.words.specs.Limits.{longest, mostNumbers};
 ghost use Rattle.text.specs.Bytes.{classOf};
+ghost use Rattle.text.specs.Classes.{byteClasses};
 ghost use Rattle.text.specs.Line.{anyOutside, lineOf};
 ghost use Rattle.drupe.specs.Lines.{ProofLineRead, afterLetter, allPassed, lineAsked, lineRefusal, isSpace, lineFrom, ofNumbers, placeOf, readingOf, refused, signed, signsOf};
 
@@ -150,12 +151,13 @@ fn ask(letter: Letter, numbers: &mut [i32], next: usize) -> LineReading
 }
 
 // The numbers of a line, which begin at position `from`: the text is what is left there.
-fn read_numbers(letter: Letter, text: &[u8], from: usize) -> LineReading
+fn read_numbers(letter: Letter, text: &[u8], from: usize, classes: &[u8; 256]) -> LineReading
     requires { ⌜ from + length (now text) ≤ longest ⌝ }
+    requires { ⌜ now classes ≡ byteClasses ⌝ }
     ensures { λ r. ⌜ r ≡ readingOf (ofNumbers letter from (lineOf (now (text .entry)))) ⌝ }
 {
     let mut row = [0; MOST_NUMBERS + 1];
-    let read = text::read_line(text, &mut row);
+    let read = text::read_line(text, &mut row, classes);
     match read {
         LineRead::Numbers {
             count,
@@ -179,10 +181,11 @@ fn read_numbers(letter: Letter, text: &[u8], from: usize) -> LineReading
     }
 }
 
-fn is_space(b: u8) -> bool
+fn is_space(b: u8, classes: &[u8; 256]) -> bool
+    requires { ⌜ now classes ≡ byteClasses ⌝ }
     ensures { λ r. ⌜ r ≡ isSpace (classOf b) ⌝ }
 {
-    let class = text::class_of(b);
+    let class = text::class_of(classes, b);
     match class {
         Class::Space => true,
         Class::Newline => false,
@@ -194,30 +197,32 @@ fn is_space(b: u8) -> bool
 }
 
 // The space after the letter, and what follows it.
-fn read_space(letter: Letter, text: &[u8], from: usize) -> LineReading
+fn read_space(letter: Letter, text: &[u8], from: usize, classes: &[u8; 256]) -> LineReading
     requires { ⌜ from + length (now text) ≤ longest ⌝ }
+    requires { ⌜ now classes ≡ byteClasses ⌝ }
     ensures { λ r. ⌜ r ≡ readingOf (afterLetter letter from (now (text .entry))) ⌝ }
 {
     if text.len() == 0 {
         return refuse(22);
     }
-    if !is_space(text[0]) {
+    if !is_space(text[0], classes) {
         return refuse(22);
     }
-    read_numbers(letter, &text[1..], from + 1)
+    read_numbers(letter, &text[1..], from + 1, classes)
 }
 
 // The line that begins at position `from`: the text is what is left there.
-fn read_letter(text: &[u8], from: usize) -> LineReading
+fn read_letter(text: &[u8], from: usize, classes: &[u8; 256]) -> LineReading
     requires { ⌜ from + length (now text) ≤ longest ⌝ }
+    requires { ⌜ now classes ≡ byteClasses ⌝ }
     ensures { λ r. ⌜ r ≡ readingOf (lineFrom from (now (text .entry))) ⌝ }
 {
     if text.len() == 0 {
         return refuse(22);
     }
-    let class = text::class_of(text[0]);
+    let class = text::class_of(classes, text[0]);
     match class {
-        Class::Step(letter) => read_space(letter, &text[1..], from + 1),
+        Class::Step(letter) => read_space(letter, &text[1..], from + 1, classes),
         Class::Newline => refuse(22),
         Class::Space => refuse(22),
         Class::Minus => refuse(22),
@@ -242,5 +247,6 @@ pub fn read_line(text: &[u8], position: usize) -> LineReading
     if text.len() < position {
         return refuse(22);
     }
-    read_letter(&text[position..], position)
+    let classes = text::CLASSES;
+    read_letter(&text[position..], position, &classes)
 }

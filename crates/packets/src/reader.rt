@@ -8,6 +8,7 @@ ghost use lib.IntN.{pos};
 ghost use lib.ListN.{length, take, drop};
 ghost use lib.Seq.{sets};
 ghost use Rattle.words.specs.Limits.{longest, mostNumbers};
+ghost use Rattle.text.specs.Classes.{byteClasses};
 ghost use Rattle.packets.specs.Bytes.{value, numbersFrom};
 ghost use Rattle.packets.specs.Packets.{fills, lengthsFit, withKind, rulesIn, stepsIn, refused, partsRead, ReadLeaves};
 ghost use Rattle.packets.specs.Parts.{RuleTold, TableTold, stepSize, ifPasses, stepAt, StepTold, TextTold, Given, Zeros};
@@ -190,12 +191,13 @@ fn step_with(letter: Letter, count: usize, bytes: &[u8], proof: &mut [u8], at: u
 }
 
 // The step at the front.
-fn read_step(bytes: &[u8], proof: &mut [u8], at: usize) -> Part
+fn read_step(bytes: &[u8], proof: &mut [u8], at: usize, classes: &[u8; 256]) -> Part
     requires { ⌜ (0 < stepSize (now bytes)) × (at ≤ longest) ⌝ }
+    requires { ⌜ now classes ≡ byteClasses ⌝ }
     ensures { λ r. ⌜ StepTold (stepAt (now (bytes .entry))) (now (proof .entry)) (now (proof .exit)) at r ⌝ }
 {
     let count = numbers::wide(bytes[1]);
-    let class = text::class_of(bytes[0]);
+    let class = text::class_of(classes, bytes[0]);
     match class {
         Class::Step(letter) => step_with(letter, count, &bytes[2..], proof, at),
         Class::Newline => Part::Refused,
@@ -207,8 +209,9 @@ fn read_step(bytes: &[u8], proof: &mut [u8], at: usize) -> Part
 }
 
 // The text of so many steps.
-fn read_steps(bytes: &[u8], count: usize, proof: &mut [u8]) -> Part
+fn read_steps(bytes: &[u8], count: usize, proof: &mut [u8], classes: &[u8; 256]) -> Part
     requires { ⌜ fills count (now bytes) ≡ true ⌝ }
+    requires { ⌜ now classes ≡ byteClasses ⌝ }
     ensures { λ r. ⌜ TextTold (stepsIn count (now (bytes .entry))) (now (proof .entry)) (now (proof .exit)) r ⌝ }
 {
     let mut left = count;
@@ -218,7 +221,7 @@ fn read_steps(bytes: &[u8], count: usize, proof: &mut [u8]) -> Part
         let rest = &bytes[i..];
         i += step_size(rest);
         left -= 1;
-        let read = read_step(rest, proof, end);
+        let read = read_step(rest, proof, end, classes);
         match read {
             Part::Refused => return Part::Refused,
             Part::Taken(next) => {
@@ -276,7 +279,8 @@ pub fn read_parts(
     ensures { λ r. ⌜ ReadLeaves (partsRead count (now (words .entry)) steps (now (bytes .entry)) (length (now (table .entry)))
         (length (now (proof .entry)))) (now (table .entry)) (now (table .exit)) (now (proof .entry)) (now (proof .exit)) r ⌝ }
 {
-    let text = read_steps(bytes, steps, proof);
+    let classes = text::CLASSES;
+    let text = read_steps(bytes, steps, proof, &classes);
     let rules = read_rules(words, count, table);
     match rules {
         Part::Refused => refuse(53, table, proof),

@@ -4,7 +4,8 @@ pub mod writing;
 
 ghost use mathlib.Core.Path.{_≡_};
 ghost use lib.ListN.{set};
-ghost use Rattle.text.specs.Bytes.{classOf, letterOr};
+ghost use Rattle.text.specs.Bytes.{classOf};
+ghost use Rattle.text.specs.Classes.{byteClasses, classAt};
 ghost use Rattle.text.specs.Strings.{startsWith};
 ghost use Rattle.text.specs.Scanned.{LineScanned};
 ghost use Rattle.text.specs.Scan.{actionOf, digitOf, endOf, firstOf, moreOf, seeing, valueOf};
@@ -69,32 +70,57 @@ struct Seen {
 // One past the largest variable. It stands for every larger size, so that no size wraps.
 const CAP: u16 = words::ENTRIES as u16;
 
-fn letter_or(b: u8) -> Class
-    ensures { λ r. ⌜ r ≡ letterOr b ⌝ }
+// By byte value, the number of its class: 0 to 9 the digits, 10 newline, 11 space, 12 minus, 13 to 19 the letters a, b, c, d, e, l
+// and s, 20 other. 16 rows of 16, laid out by hand. A constant array is built anew wherever it is indexed: take it into a local once,
+// and lend that.
+pub const CLASSES: [u8; 256] = [
+    20, 20, 20, 20, 20, 20, 20, 20, 20, 20, 10, 20, 20, 20, 20, 20,
+    20, 20, 20, 20, 20, 20, 20, 20, 20, 20, 20, 20, 20, 20, 20, 20,
+    11, 20, 20, 20, 20, 20, 20, 20, 20, 20, 20, 20, 20, 12, 20, 20,
+    0, 1, 2, 3, 4, 5, 6, 7, 8, 9, 20, 20, 20, 20, 20, 20,
+    20, 20, 20, 20, 20, 20, 20, 20, 20, 20, 20, 20, 20, 20, 20, 20,
+    20, 20, 20, 20, 20, 20, 20, 20, 20, 20, 20, 20, 20, 20, 20, 20,
+    20, 13, 14, 15, 16, 17, 20, 20, 20, 20, 20, 20, 18, 20, 20, 20,
+    20, 20, 20, 19, 20, 20, 20, 20, 20, 20, 20, 20, 20, 20, 20, 20,
+    20, 20, 20, 20, 20, 20, 20, 20, 20, 20, 20, 20, 20, 20, 20, 20,
+    20, 20, 20, 20, 20, 20, 20, 20, 20, 20, 20, 20, 20, 20, 20, 20,
+    20, 20, 20, 20, 20, 20, 20, 20, 20, 20, 20, 20, 20, 20, 20, 20,
+    20, 20, 20, 20, 20, 20, 20, 20, 20, 20, 20, 20, 20, 20, 20, 20,
+    20, 20, 20, 20, 20, 20, 20, 20, 20, 20, 20, 20, 20, 20, 20, 20,
+    20, 20, 20, 20, 20, 20, 20, 20, 20, 20, 20, 20, 20, 20, 20, 20,
+    20, 20, 20, 20, 20, 20, 20, 20, 20, 20, 20, 20, 20, 20, 20, 20,
+    20, 20, 20, 20, 20, 20, 20, 20, 20, 20, 20, 20, 20, 20, 20, 20,
+];
+
+// The class of a number in the table. The digits come first: most bytes are digits.
+fn class_at(number: u8) -> Class
+    ensures { λ r. ⌜ r ≡ classAt number ⌝ }
 {
-    match b {
-        b'a' => Class::Step(Letter::Addition),
-        b'b' => Class::Step(Letter::Body),
-        b'c' => Class::Step(Letter::Completion),
-        b'd' => Class::Step(Letter::Deletion),
-        b'e' => Class::Step(Letter::Extension),
-        b'l' => Class::Step(Letter::Loop),
-        b's' => Class::Step(Letter::Support),
+    if number <= 9 {
+        return Class::Digit(number);
+    }
+    match number {
+        10 => Class::Newline,
+        11 => Class::Space,
+        12 => Class::Minus,
+        13 => Class::Step(Letter::Addition),
+        14 => Class::Step(Letter::Body),
+        15 => Class::Step(Letter::Completion),
+        16 => Class::Step(Letter::Deletion),
+        17 => Class::Step(Letter::Extension),
+        18 => Class::Step(Letter::Loop),
+        19 => Class::Step(Letter::Support),
         _ => Class::Other,
     }
 }
 
-// The only comparisons that class a byte.
-pub fn class_of(b: u8) -> Class
+// The class of a byte, by the table.
+pub fn class_of(classes: &[u8; 256], b: u8) -> Class
+    requires { ⌜ now classes ≡ byteClasses ⌝ }
     ensures { λ r. ⌜ r ≡ classOf b ⌝ }
 {
-    match b {
-        b'\n' => Class::Newline,
-        b' ' => Class::Space,
-        b'-' => Class::Minus,
-        b'0'..=b'9' => Class::Digit(b - b'0'),
-        _ => letter_or(b),
-    }
+    let i = b as usize;
+    class_at(classes[i])
 }
 
 // One more digit, up to the cap.
@@ -199,7 +225,8 @@ fn store(row: &mut [i32], n: usize, neg: bool, m: u16)
 }
 
 // The numbers of the line that the text begins with, into the row, as many as fit.
-pub fn read_line(text: &[u8], row: &mut [i32]) -> LineRead
+pub fn read_line(text: &[u8], row: &mut [i32], classes: &[u8; 256]) -> LineRead
+    requires { ⌜ now classes ≡ byteClasses ⌝ }
     ensures { λ r. ⌜ LineScanned (now (text .entry)) (now (row .entry)) (now (row .exit)) r ⌝ }
 {
     let mut state = State::Start;
@@ -212,7 +239,7 @@ pub fn read_line(text: &[u8], row: &mut [i32]) -> LineRead
     while i < text.len() {
         let at = i;
         i += 1;
-        let action = next_step(state, class_of(text[at]));
+        let action = next_step(state, class_of(classes, text[at]));
         match action {
             Action::Go(s) => state = s,
             Action::Put(neg, m) => {

@@ -1,4 +1,5 @@
 use Rattle.aspif.specs.Reading.{header}
+use Rattle.text.specs.Classes.{byteClasses}
 use Rattle.text.specs.Strings.{startsWith}
 use mathlib.Core.Path.{_≡_, sym, _∙_}
 use mathlib.Core.Bool.{true}
@@ -17,13 +18,13 @@ begins c = sym (c .before .starts-with .ensures) ∙ not-false _ (c .if2 .left)
 -- past the last line
 done : (c : tie.After-read2)
     → (let d = c .before .before .before in
-    let a = d .before .before .before .before .before .before .before .args in
+    let a = d .before .before .before .before .before .before .before .before .args in
     let g = c .read2 .given .0 in
-    Done (a .text .now) (a .table .now) (d .before .before .before .before .before .if1 .left) (begins (d .before .before)) (d .read-lines .ensures) (g .0) (g .1 .0) (g .1 .1 .0))
+    Done (a .text .now) (a .table .now) (d .before .before .before .before .before .before .if1 .left) (begins (d .before .before .before)) (d .read-lines .ensures) (g .0) (g .1 .0) (g .1 .1 .0))
 done c =
     let d = c .before .before .before in
-    let a = d .before .before .before .before .before .before .before .args in
-    read-done (a .text .now) (a .table .now) (d .before .before .before .before .before .if1 .left) (begins (d .before .before)) (d .read-lines .ensures) (c .read2 .given .1)
+    let a = d .before .before .before .before .before .before .before .before .args in
+    read-done (a .text .now) (a .table .now) (d .before .before .before .before .before .before .if1 .left) (begins (d .before .before .before)) (d .read-lines .ensures) (c .read2 .given .1)
 
 returns : tie.Need-returns
 returns c =
@@ -37,12 +38,13 @@ returns-2 c =
     (read-other (a .text .now) (a .table .now) (d .before .before .if1 .left) (sym (d .starts-with .ensures) ∙ not-true _ (c .before .before .before .if2 .taken)))
 
 read-lines-requires : tie.Need-read-lines-requires
+unfolding byteClasses
 read-lines-requires c κs =
-    front-long header (c .before .before .before .before .before .before .args .text .now) (begins (c .before))
+    (front-long header (c .before .before .before .before .before .before .before .args .text .now) (begins (c .before .before)), search needs)
 
 mul-zero-all : tie.Need-mul-zero-all
 mul-zero-all c =
-    record { fits = omega (arith, done (c .before) .fits, c .before .before .before .before .read-lines .kept .1 .0, c .before .before .before .before .before .before .before .before .before .before .before .good .1 .0) }
+    record { fits = omega (arith, done (c .before) .fits, c .before .before .before .before .read-lines .kept .1 .0, c .before .before .before .before .before .before .before .before .before .before .before .before .good .1 .0) }
 
 sub-zero-all : tie.Need-sub-zero-all
 sub-zero-all c =
@@ -56,9 +58,9 @@ returns-3 : tie.Need-returns-3
 returns-3 c =
     let r = c .before .before .before .before in
     let d = r .before .before .before in
-    let a = d .before .before .before .before .before .before .before .args in
+    let a = d .before .before .before .before .before .before .before .before .args in
     rw (c .before .refuse3 .ensures .0, c .before .refuse3 .ensures .1)
-    (read-refused (a .text .now) (a .table .now) (d .before .before .before .before .before .if1 .left) (begins (d .before .before)) (d .read-lines .ensures) (r .read .given .1))
+    (read-refused (a .text .now) (a .table .now) (d .before .before .before .before .before .before .if1 .left) (begins (d .before .before .before)) (d .read-lines .ensures) (r .read .given .1))
 
 returns-4 : tie.Need-returns-4
 returns-4 c =

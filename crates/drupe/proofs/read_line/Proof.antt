@@ -2,6 +2,7 @@
 -- Assumes nothing.
 use mathlib.Core.Path.{sym, ap, _∙_}
 use borrow.Rule.Slice.PartAt.{part-to-end}
+use Rattle.text.specs.Classes.{byteClasses}
 use Rattle.drupe.specs.Lines.{readingOf}
 use Rattle.drupe.proofs.Lines.{at-long, at-end, at-past, at-line, reads-of}
 use borrow.Author.Needs.{needs}
@@ -24,9 +25,13 @@ returns-3 c =
     let a = b .before .before .args in
     reads-of (c .refuse2 .ensures ∙ ap readingOf (sym (at-past (a .text .now) (a .position) (b .if1 .left) (c .before .if3 .taken))))
 
+read-letter-requires : tie.Need-read-letter-requires
+unfolding byteClasses
+read-letter-requires c κs = search needs
+
 returns-4 : tie.Need-returns-4
 returns-4 c =
-    let b = c .before .before .before in
+    let b = c .before .before .before .before in
     let a = b .before .before .before .args in
     reads-of (rw (part-to-end (a .text .now) (a .position)) at (c .read-letter .ensures) ∙ ap readingOf (sym (at-line (a .text .now) (a .position) (b .before .if1 .left) (b .if2 .left))))
 
@@ -42,5 +47,5 @@ read-line-spec =
     (λ c. search needs)
     (λ c. search needs)
     (λ c. search needs)
-    (λ c κs. search needs)
+    read-letter-requires
     returns-4)

@@ -19,12 +19,12 @@ use Rattle.text.proofs.read_line.Statement.{statement}
 use Rattle.text.proofs.read_line.Tie as tie
 
 abbrev Inv-loop : tie.InvT-loop
-Inv-loop text row₀ state₀ count₀ seen₀ i₀ row state count seen i =
+Inv-loop text row₀ classes state₀ count₀ seen₀ i₀ row state count seen i =
     (i ≤ length text) × (count ≤ i) × (length row ≡ length row₀)
     × (scan (map classOf text) Start 0 unseen row₀ 0 ≡ scan (map classOf (drop i text)) state count seen row i)
 
 abbrev μ-loop : tie.MeasureT-loop
-μ-loop text row₀ state₀ count₀ seen₀ i₀ row state count seen i = length text - i
+μ-loop text row₀ classes state₀ count₀ seen₀ i₀ row state count seen i = length text - i
 
 -- one turn of the scan, at the i-th byte, by the action a that the byte makes
 one : (s : List ℕ) (i : ℕ) → i < length s → (st : State) (n : ℕ) (seen : Seen) (row : List ℤ) (a : Action)

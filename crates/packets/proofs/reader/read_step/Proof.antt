@@ -13,29 +13,29 @@ use Rattle.packets.proofs.reader.read_step.Statement.{statement}
 use Rattle.packets.proofs.reader.read_step.Tie as tie
 
 shared-slice-read-wide : tie.Need-shared-slice-read-wide
-shared-slice-read-wide c = let a = c .before .before .before in omega (arith, size-bytes (a .args .bytes .now) (a .pre .0) .0)
+shared-slice-read-wide c = let a = c .before .before .before in omega (arith, size-bytes (a .args .bytes .now) (a .pre .0 .0) .0)
 
 shared-slice-read-class-of : tie.Need-shared-slice-read-class-of
-shared-slice-read-class-of c = let a = c .before .before .before .before .before in omega (arith, size-bytes (a .args .bytes .now) (a .pre .0) .0)
+shared-slice-read-class-of c = let a = c .before .before .before .before .before in omega (arith, size-bytes (a .args .bytes .now) (a .pre .0 .0) .0)
 
 sub-step-with : tie.Need-sub-step-with
-sub-step-with c = let a = c .before .before .before .before .before .before .before .before .before in size-bytes (a .args .bytes .now) (a .pre .0) .0
+sub-step-with c = let a = c .before .before .before .before .before .before .before .before .before in size-bytes (a .args .bytes .now) (a .pre .0 .0) .0
 
 part-step-with-start : tie.Need-part-step-with-start
-part-step-with-start c = let a = c .before .before .before .before .before .before .before .before .before in let s = size-bytes (a .args .bytes .now) (a .pre .0) .0 in search needs
+part-step-with-start c = let a = c .before .before .before .before .before .before .before .before .before in let s = size-bytes (a .args .bytes .now) (a .pre .0 .0) .0 in search needs
 
 step-with-requires : tie.Need-step-with-requires
 step-with-requires c κs =
     let a = c .before .before .before .before .before .before .before .before .before .before .before in
     let bs = a .args .bytes .now in
-    let s = size-bytes bs (a .pre .0) in
-    rw (tail-of 2 bs) (omega (arith, s .1, length-drop 2 bs, c .before .before .before .before .before .before .before .wide .ensures), a .pre .1)
+    let s = size-bytes bs (a .pre .0 .0) in
+    rw (tail-of 2 bs) (omega (arith, s .1, length-drop 2 bs, c .before .before .before .before .before .before .before .wide .ensures), a .pre .0 .1)
 
 returns : tie.Need-returns
 returns c =
     let a = c .before .before .before .before .before .before .before .before .before .before .before .before .before .before in
     let bs = a .args .bytes .now in
-    let s = size-bytes bs (a .pre .0) .0 in
+    let s = size-bytes bs (a .pre .0 .0) .0 in
     rw (step-letter bs s (c .before .before .before .before .before .before .class .given .0 .0) (sym (c .before .before .before .before .before .before .before .before .class-of .ensures) ∙ c .before .before .before .before .before .before .class .given .1)) (rw (tail-of 2 bs, c .before .before .before .before .before .before .before .before .before .before .wide .ensures) at (c .before .before .step-with .ensures))
 
 -- the first byte is no letter
@@ -43,7 +43,7 @@ module _ (c : tie.After-class-of) where
   nothing : letterIn (c .class-of .result) ≡ none → stepAt (c .before .before .before .before .before .before .args .bytes .now) ≡ none
   nothing e =
       let a = c .before .before .before .before .before .before in
-      no-letter (a .args .bytes .now) (size-bytes (a .args .bytes .now) (a .pre .0) .0) (ap letterIn (sym (c .class-of .ensures)) ∙ e)
+      no-letter (a .args .bytes .now) (size-bytes (a .args .bytes .now) (a .pre .0 .0) .0) (ap letterIn (sym (c .class-of .ensures)) ∙ e)
 
 returns-2 : tie.Need-returns-2
 returns-2 c = rw (nothing (c .before .before) (ap letterIn (c .enum-told .given .1))) refl

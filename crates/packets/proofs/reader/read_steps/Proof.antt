@@ -13,13 +13,13 @@ use Rattle.packets.proofs.reader.read_steps.Statement.{statement}
 use Rattle.packets.proofs.reader.read_steps.Tie as tie
 
 abbrev Inv-loop : tie.InvT-loop
-Inv-loop bytes count proof₀ left₀ i₀ end₀ proof left i end = Going bytes count proof₀ proof left i end
+Inv-loop bytes count proof₀ classes left₀ i₀ end₀ proof left i end = Going bytes count proof₀ proof left i end
 
 abbrev μ-loop : tie.MeasureT-loop
-μ-loop bytes count proof₀ left₀ i₀ end₀ proof left i end = left
+μ-loop bytes count proof₀ classes left₀ i₀ end₀ proof left i end = left
 
 loop-holds : tie.Need-loop-holds Inv-loop μ-loop
-loop-holds c = let a = c .before .before in going-start (a .args .bytes .now) (a .args .count) (a .args .proof .now) (a .pre)
+loop-holds c = let a = c .before .before in going-start (a .args .bytes .now) (a .args .count) (a .args .proof .now) (a .pre .0)
 
 sub-rest : tie.Need-sub-rest Inv-loop μ-loop
 sub-rest c = c .before .loop .inv .within
@@ -41,7 +41,8 @@ add-i c =
 read-step-requires : tie.Need-read-step-requires Inv-loop μ-loop
 read-step-requires c κs =
     let l = c .before .before .before .before .loop in
-    rw (tail-of (l .i) (c .before .before .before .before .before .before .before .args .bytes .now)) (going-size (l .inv) (c .before .before .before .loop-test .taken), l .inv .short)
+    let a = c .before .before .before .before .before .before .before in
+    rw (tail-of (l .i) (a .args .bytes .now)) ((going-size (l .inv) (c .before .before .before .loop-test .taken), l .inv .short), a .pre .1)
 
 -- what is told of the step
 module _ (c : tie.After-read-step Inv-loop μ-loop) where
