@@ -1,0 +1,2 @@
+-- What private functions of the checker cite of loops.
+pub mod Relevance

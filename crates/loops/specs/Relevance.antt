@@ -1,0 +1,26 @@
+-- Which literals of the rules' weight bodies stand in some plain body, by rule and pair: what private functions of the checker cite.
+-- Assumes nothing.
+use mathlib.Core.Path.{_≡_}
+use mathlib.Core.Bool.{Bool, cond}
+use mathlib.Core.List.{List, [], _∷_, map}
+use Prim.Native.Nat.{ℕ, _<_}
+use lib.IntN.{ℤ}
+use lib.ListN.{length, take, drop}
+use Rattle.words.specs.Lists.{any}
+use Rattle.words.specs.Literals.{has}
+use Rattle.weights.specs.Weights.{Weighted, bodies, mostWeighted}
+use Rattle.aspif.specs.Rules.{Body, plain, weights, InputRule}
+
+-- the literal stands in some plain body of the weight body
+abbrev pub isRelevant : ℕ → List Weighted → ℤ → Bool
+isRelevant b l x = any (has x) (bodies b l)
+
+-- of a weight body: 1 at each pair whose literal stands in some of its plain bodies, 0 at the others; nothing is said of a plain body
+abbrev pub RelevantPairs : List ℕ → Body → Type 0
+RelevantPairs m (plain ls) = Unit {0}
+RelevantPairs m (weights b l) = take (length l) m ≡ map (λ x. cond (isRelevant b l (x .literal)) 1 0) l
+
+-- an entry for each of twelve pairs, rule after rule; nothing is said of a rule without heads
+unfoldable pub Relevant : List ℕ → List InputRule → Type 0
+Relevant m [] = Unit {0}
+Relevant m (r ∷ ws) = (0 < length (r .heads) → RelevantPairs m (r .body)) × Relevant (drop mostWeighted m) ws

@@ -1,0 +1,1 @@
+// Which literals of the rules' weight bodies stand in some plain body, by rule and pair.
