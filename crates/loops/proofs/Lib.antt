@@ -1,1 +1,5 @@
 -- The laws that the proofs share.
+pub mod Placing
+pub mod Filling
+pub mod Expanded
+pub mod Reaching
