@@ -60,6 +60,13 @@ filled F none = record { long = F .long; has = whole-is F none }
 pub more-none : (e : List ℕ) (f : ℕ → ℕ → Bool) → length e ≡ cells → ((i j : ℕ) → f i j ≡ false) → More f e e
 more-none e f h none = filling-end (filling-start e f h) none
 
+-- the same, in other words
+pub more-same : {e after : List ℕ} {f g : ℕ → ℕ → Bool} → More f e after → ((i j : ℕ) → f i j ≡ g i j) → More g e after
+more-same {e} M same = record {
+  long = M .long;
+  has = λ i j h k. M .has i j h k ∙ ap (λ (b : Bool). edgeAt e i j || b) (same i j);
+}
+
 -- no place is 0, as they are counted from 1
 pub no-place : {a : ℕ} (i : ℕ) → a ≤ 0 → eqb a (suc i) ≡ false
 no-place {a} i h = ne-eqb a (suc i) (λ e. omega (arith, e))

@@ -1,76 +1,72 @@
+use mathlib.Core.Path.{_≡_, refl, sym, _∙_}
+use mathlib.Core.Bool.{true, false, and-false}
+use borrow.Author.Tests.{not-true, not-false}
+use Rattle.words.specs.Lists.{any}
+use Rattle.aspif.specs.Rules.{bodiesOf}
+use Rattle.aspif.specs.Tables.{isWeighted, bodyAt}
+use Rattle.loops.specs.Relevance.{RelevantPairs}
+use Rattle.loops.specs.Edges.{isAt}
+use Rattle.loops.proofs.Filling.{more-none, more-same}
+use Rattle.loops.proofs.Expanded.{plain-edge, weight-edge}
 use borrow.Author.Needs.{needs}
 use Rattle.loops.proofs.edges.mark_rule.Statement.{statement}
 use Rattle.loops.proofs.edges.mark_rule.Tie as tie
-use Rattle.loops.proofs.edges.mark_rule.Reads as reads
-use Rattle.loops.proofs.edges.mark_rule.Lts as lts
-use Rattle.aspif.proofs.tables.body_of.Reads as body-of-reads
-use Rattle.aspif.proofs.tables.heads_of.Reads as heads-of-reads
-use Rattle.aspif.proofs.tables.is_weighted.Reads as is-weighted-reads
-use Rattle.loops.proofs.edges.any_placed.Reads as any-placed-reads
-use Rattle.loops.proofs.edges.mark_body.Reads as mark-body-reads
-use Rattle.loops.proofs.edges.mark_pairs.Reads as mark-pairs-reads
 
--- src/edges.rt:157:9
-heads-of-requires : tie.Need-heads-of-requires
-heads-of-requires c κs = search needs
-
--- src/edges.rt:158:9
-any-placed-requires : tie.Need-any-placed-requires
-any-placed-requires c κs = search needs
-
--- src/edges.rt:159:9
 returns : tie.Need-returns
-returns c = ?
+returns c =
+    let p = c .before in
+    let h = p .before in
+    let s = h .before .before .before .before in
+    let none = rw (h .heads-of .ensures) at (p .any-placed .ensures .1 (not-true _ (c .if1 .taken))) in
+    more-none _ _ (s .pre .1 .0) (λ i j. rw (none j) (and-false (any (any (isAt (s .args .places .now) i)) (bodiesOf (bodyAt (s .args .words .now))))))
 
--- src/edges.rt:161:8
-is-weighted-requires : tie.Need-is-weighted-requires
-is-weighted-requires c κs = search needs
+-- a rule with a head that has a place
+module _ (c : tie.After-is-weighted) where
+  abbrev h : tie.After-heads-of
+  h = c .before .before .before
 
--- src/edges.rt:162:20
-body-of-requires : tie.Need-body-of-requires
-body-of-requires c κs = search needs
+  abbrev s : tie.Start
+  s = h .before .before .before .before
 
--- src/edges.rt:162:9
-mark-pairs-requires : tie.Need-mark-pairs-requires
-mark-pairs-requires c κs = search needs
+  weighted : isWeighted (s .args .words .now) ≡ c .is-weighted .result
+  weighted = sym (c .is-weighted .ensures)
 
--- src/edges.rt:163:9
-same-length : tie.Need-same-length
-same-length c = search needs
+  relevant : RelevantPairs (s .args .relevant .now) (bodyAt (s .args .words .now))
+  relevant = s .pre .0 .1 (rw (h .heads-of .ensures) at (c .before .before .any-placed .ensures .0 (not-false _ (c .before .if1 .left))))
 
--- src/edges.rt:163:9
 returns-2 : tie.Need-returns-2
-returns-2 c = ?
+returns-2 c =
+    let m = c .before .before in
+    let b = m .before .before in
+    let w = b .before .before in
+    let a = s w .args in
+    let e = weighted w ∙ b .before .if2 .taken in
+    more-same (rw (b .body-of .ensures, h w .heads-of .ensures) at (m .mark-pairs .ensures))
+    (λ i j. rw (weight-edge (isAt (a .places .now) i) (a .relevant .now) (a .words .now) e (relevant w)) refl)
 
--- src/edges.rt:165:15
-body-of-requires-2 : tie.Need-body-of-requires-2
-body-of-requires-2 c κs = search needs
-
--- src/edges.rt:165:5
-mark-body-requires : tie.Need-mark-body-requires
-mark-body-requires c κs = search needs
-
--- src/edges.rt:152:1
-same-length-2 : tie.Need-same-length-2
-same-length-2 c = search needs
-
--- src/edges.rt:152:1
 returns-3 : tie.Need-returns-3
-returns-3 c = ?
+returns-3 c =
+    let m = c .before .before in
+    let b = m .before .before in
+    let w = b .before .before in
+    let a = s w .args in
+    let e = weighted w ∙ b .before .if2 .left in
+    more-same (rw (b .body-of2 .ensures, h w .heads-of .ensures) at (m .mark-body .ensures))
+    (λ i j. rw (plain-edge (isAt (a .places .now) i) (a .words .now) e) refl)
 
 pub mark-rule-spec : {M : Type 1} → statement M
 mark-rule-spec =
     tie.close
     (tie.spec
-    heads-of-requires
-    any-placed-requires
+    (λ c κs. search needs)
+    (λ c κs. search needs)
     returns
-    is-weighted-requires
-    body-of-requires
-    mark-pairs-requires
-    same-length
+    (λ c κs. search needs)
+    (λ c κs. search needs)
+    (λ c κs. search needs)
+    (λ c. search needs)
     returns-2
-    body-of-requires-2
-    mark-body-requires
-    same-length-2
+    (λ c κs. search needs)
+    (λ c κs. search needs)
+    (λ c. search needs)
     returns-3)
