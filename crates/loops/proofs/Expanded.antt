@@ -17,11 +17,12 @@ use Rattle.weights.specs.Weights.{Weighted, literals, bodies, paired, mostWeigh
 use Rattle.weights.proofs.Sublists.{in-whole}
 use Rattle.weights.proofs.Minimal.{body→}
 use Rattle.aspif.specs.Rules.{Rule, Body, weights, InputRule, bodiesOf, withBody, expand}
-use Rattle.aspif.specs.Tables.{isWeighted, boundAt, bodyWordsAt, bodyAt}
+use Rattle.aspif.specs.Tables.{isWeighted, boundAt, headsAt, bodyWordsAt, bodyAt, ruleAt}
 use Rattle.aspif.proofs.Expansion.{Expanded, expand→, expand←}
 use Rattle.derivation.specs.Loops.{isEdge}
 use Rattle.loops.specs.Relevance.{isRelevant, RelevantPairs, Relevant}
-use Rattle.loops.specs.Edges.{placeBy, Placed, isAt, edgeAt, anyMarked, ruleEdge, Edges}
+use Rattle.loops.specs.Edges.{placeBy, Placed, isAt, edgeAt, More, anyMarked, ruleEdge, Edges}
+use Rattle.loops.proofs.Filling.{more-same}
 
 -- Rules as written
 
@@ -66,7 +67,7 @@ module _ {U : List ℤ} {m : List ℕ} (p : Placed m U) where
 
 -- Plain bodies and weight bodies
 
-pub plain-edge : (f : ℤ → Bool) (ws : List ℤ) → isWeighted ws ≡ false → any (any f) (bodiesOf (bodyAt ws)) ≡ any f (bodyWordsAt ws)
+plain-edge : (f : ℤ → Bool) (ws : List ℤ) → isWeighted ws ≡ false → any (any f) (bodiesOf (bodyAt ws)) ≡ any f (bodyWordsAt ws)
 unfolding bodiesOf bodyAt
 plain-edge f ws e = rw e (or-false (any f (bodyWordsAt ws)))
 
@@ -103,13 +104,24 @@ entries-say f g (n ∷ m) (x ∷ l) e =
     is true = refl
     is false = refl
 
-pub weight-edge : (f : ℤ → Bool) (m : List ℕ) (ws : List ℤ) → isWeighted ws ≡ true → RelevantPairs m (bodyAt ws)
+weight-edge : (f : ℤ → Bool) (m : List ℕ) (ws : List ℤ) → isWeighted ws ≡ true → RelevantPairs m (bodyAt ws)
     → any (any f) (bodiesOf (bodyAt ws)) ≡ anyMarked f m 0 (paired (bodyWordsAt ws))
 unfolding bodiesOf bodyAt
 weight-edge f m ws e r =
     let l = paired (bodyWordsAt ws) in
     let q : RelevantPairs m (weights (boundAt ws) l) = rw e at r in
     rw e (sym (relevant-edge f (boundAt ws) l) ∙ sym (entries-say f (λ x. isRelevant (boundAt ws) l (x .literal)) m l q))
+
+-- the edges of the rule at the front, from the words of its body and of its heads
+module _ (places : List ℕ) (ws : List ℤ) {e after : List ℕ} {body heads : List ℤ} (b : body ≡ bodyWordsAt ws) (h : heads ≡ headsAt ws) where
+  pub plain-more : More (λ i j. any (isAt places i) body && any (isAt places j) heads) e after → isWeighted ws ≡ false
+      → More (λ i j. ruleEdge places i j (ruleAt ws)) e after
+  plain-more M t = more-same M (λ i j. rw (b, h, plain-edge (isAt places i) ws t) refl)
+
+  pub weight-more : (relevant : List ℕ)
+      → More (λ i j. anyMarked (isAt places i) relevant 0 (paired body) && any (isAt places j) heads) e after → isWeighted ws ≡ true
+      → RelevantPairs relevant (bodyAt ws) → More (λ i j. ruleEdge places i j (ruleAt ws)) e after
+  weight-more relevant M t r = more-same M (λ i j. rw (b, h, weight-edge (isAt places i) relevant ws t r) refl)
 
 -- one rule more
 pub relevant-on : (m : List ℕ) (r : InputRule) (ws : List InputRule) → Relevant m (r ∷ ws)

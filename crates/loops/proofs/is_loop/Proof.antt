@@ -6,13 +6,13 @@ use Rattle.loops.proofs.is_loop.Statement.{statement}
 use Rattle.loops.proofs.is_loop.Tie as tie
 
 edges-of-requires : tie.Need-edges-of-requires
-edges-of-requires c κs = let s = c .before .before in (s .pre .0, placed-low (s .pre .1 .few) (c .before .places-of .ensures))
+edges-of-requires c κs = let s = c .before .before .before in (s .pre .0, placed-low (s .pre .1 .few) (c .before .places-of .ensures))
 
 search-requires : tie.Need-search-requires
-search-requires c κs = c .before .before .before .before .pre .1 .few
+search-requires c κs = c .before .before .before .before .before .pre .1 .few
 
 search-requires-2 : tie.Need-search-requires-2
-search-requires-2 c κs = c .before .before .before .before .before .before .before .before .before .pre .1 .few
+search-requires-2 c κs = c .before .before .before .before .before .before .before .before .before .before .pre .1 .few
 
 returns : tie.Need-returns
 returns c =
@@ -22,7 +22,7 @@ returns c =
     let a = f .before .before in
     let e = a .before .before in
     let p = e .before .before in
-    let s = p .before in
+    let s = p .before .before in
     loop-if (rulesAt (s .args .rules) (s .args .table .now)) (s .args .numbers .now) (s .pre .1) (p .places-of .ensures) (e .edges-of .ensures) _ _ _ _
     (a .search .ensures) (f .is-full .ensures) (y .if1 .taken) (b .search2 .ensures) (c .is-full2 .ensures)
 
@@ -32,7 +32,7 @@ returns-2 c =
     let a = f .before .before in
     let e = a .before .before in
     let p = e .before .before in
-    let s = p .before in
+    let s = p .before .before in
     no-loop (rulesAt (s .args .rules) (s .args .table .now)) (s .args .numbers .now) (s .pre .1) (p .places-of .ensures) (e .edges-of .ensures) _ _
     (a .search .ensures) (f .is-full .ensures) (c .if1 .left)
 

@@ -1,4 +1,4 @@
-use mathlib.Core.Path.{_≡_, refl, sym, _∙_}
+use mathlib.Core.Path.{_≡_, sym, _∙_}
 use mathlib.Core.Bool.{true, false, and-false}
 use borrow.Author.Tests.{not-true, not-false}
 use Rattle.words.specs.Lists.{any}
@@ -6,8 +6,8 @@ use Rattle.aspif.specs.Rules.{bodiesOf}
 use Rattle.aspif.specs.Tables.{isWeighted, bodyAt}
 use Rattle.loops.specs.Relevance.{RelevantPairs}
 use Rattle.loops.specs.Edges.{isAt}
-use Rattle.loops.proofs.Filling.{more-none, more-same}
-use Rattle.loops.proofs.Expanded.{plain-edge, weight-edge}
+use Rattle.loops.proofs.Filling.{more-none}
+use Rattle.loops.proofs.Expanded.{plain-more, weight-more}
 use borrow.Author.Needs.{needs}
 use Rattle.loops.proofs.edges.mark_rule.Statement.{statement}
 use Rattle.loops.proofs.edges.mark_rule.Tie as tie
@@ -39,20 +39,15 @@ returns-2 c =
     let m = c .before .before in
     let b = m .before .before in
     let w = b .before .before in
-    let a = s w .args in
-    let e = weighted w ∙ b .before .if2 .taken in
-    more-same (rw (b .body-of .ensures, h w .heads-of .ensures) at (m .mark-pairs .ensures))
-    (λ i j. rw (weight-edge (isAt (a .places .now) i) (a .relevant .now) (a .words .now) e (relevant w)) refl)
+    weight-more (s w .args .places .now) (s w .args .words .now) (b .body-of .ensures) (h w .heads-of .ensures)
+    (s w .args .relevant .now) (m .mark-pairs .ensures) (weighted w ∙ b .before .if2 .taken) (relevant w)
 
 returns-3 : tie.Need-returns-3
 returns-3 c =
     let m = c .before .before in
     let b = m .before .before in
     let w = b .before .before in
-    let a = s w .args in
-    let e = weighted w ∙ b .before .if2 .left in
-    more-same (rw (b .body-of2 .ensures, h w .heads-of .ensures) at (m .mark-body .ensures))
-    (λ i j. rw (plain-edge (isAt (a .places .now) i) (a .words .now) e) refl)
+    plain-more (s w .args .places .now) (s w .args .words .now) (b .body-of2 .ensures) (h w .heads-of .ensures) (m .mark-body .ensures) (weighted w ∙ b .before .if2 .left)
 
 pub mark-rule-spec : {M : Type 1} → statement M
 mark-rule-spec =
