@@ -1,7 +1,7 @@
 -- The edges of a rule as written are those of its plain rules, and of a weight body those of its relevant literals.
 -- Assumes nothing.
 use mathlib.Core.Path.{_≡_, refl, sym, _∙_, ap, fun-ext}
-use mathlib.Core.Bool.{Bool, true, false, cond, _&&_, _||_, or-false}
+use mathlib.Core.Bool.{Bool, true, false, cond, _&&_, or-false}
 use mathlib.Core.List.{List, [], _∷_, map, nil≢cons, head-eq-of-cons-eq, tail-eq-of-cons-eq, Memᴰ·of-map}
 use Prim.Native.Nat.{ℕ, suc, _<_, _≤_}
 use native.Mathlib.Omega.{arith}
@@ -16,7 +16,7 @@ use Rattle.words.proofs.Literals.{same-decides, has-decides}
 use Rattle.weights.specs.Weights.{Weighted, literals, bodies, paired, mostWeighted}
 use Rattle.weights.proofs.Sublists.{in-whole}
 use Rattle.weights.proofs.Minimal.{body→}
-use Rattle.aspif.specs.Rules.{Rule, Body, weights, InputRule, bodiesOf, withBody, expand}
+use Rattle.aspif.specs.Rules.{Rule, weights, InputRule, bodiesOf, withBody, expand}
 use Rattle.aspif.specs.Tables.{isWeighted, boundAt, headsAt, bodyWordsAt, bodyAt, ruleAt}
 use Rattle.aspif.proofs.Expansion.{Expanded, expand→, expand←}
 use Rattle.derivation.specs.Loops.{isEdge}
@@ -41,7 +41,8 @@ module _ (ws : List InputRule) (a b : ℤ) where
 
   expanded-edge : any edgeOf ws ≡ isEdge (expand ws) a b
   expanded-edge =
-      same-test (any-decides edge-of ws) (any-decides (λ r. and-decides (has-decides a (r .body)) (has-decides b (r .heads))) (expand ws))
+      same-test (any-decides edge-of ws)
+      (any-decides (λ r. and-decides (has-decides a (r .body)) (has-decides b (r .heads))) (expand ws))
       (λ p. (withBody (p .0) (p .2 .0 .0), expand← (p .1) (p .2 .0 .1), (p .2 .0 .2, p .2 .1)))
       (λ q. back (expand→ ws (q .1)) (q .2))
     where
@@ -58,7 +59,8 @@ module _ {U : List ℤ} {m : List ℕ} (p : Placed m U) where
       fun-ext (λ x. same-test (eqb-decides (placeBy m x) (suc i)) (same-decides (getD U i (pos 0)) x)
       (λ e. p .to x i e .1) (λ e. rw (← e) (p .from i h)))
 
-  pub edge-is : {ws : List InputRule} {e : List ℕ} → length U ≤ mostNumbers → Edges m ws e → (i j : ℕ) → i < length U → j < length U
+  pub edge-is : {ws : List InputRule} {e : List ℕ} → length U ≤ mostNumbers → Edges m ws e → (i j : ℕ) → i < length U
+      → j < length U
       → edgeAt e i j ≡ isEdge (expand ws) (getD U i (pos 0)) (getD U j (pos 0))
   edge-is {ws} {e} few E i j g h =
       E .has i j (omega arith) (omega arith)
@@ -75,7 +77,8 @@ plain-edge f ws e = rw e (or-false (any f (bodyWordsAt ws)))
 module _ (f : ℤ → Bool) (b : ℕ) (l : List Weighted) where
   relevant-edge : any (λ x. isRelevant b l (x .literal) && f (x .literal)) l ≡ any (any f) (bodies b l)
   relevant-edge =
-      same-test (any-decides (λ x. and-decides (any-decides (λ ls. has-decides (x .literal) ls) (bodies b l)) (itself (f (x .literal)))) l)
+      same-test
+      (any-decides (λ x. and-decides (any-decides (λ ls. has-decides (x .literal) ls) (bodies b l)) (itself (f (x .literal)))) l)
       (any-decides (λ ls. any-decides (λ y. itself (f y)) ls) (bodies b l))
       (λ p. (p .2 .0 .0, p .2 .0 .1, (p .0 .literal, p .2 .0 .2, p .2 .1)))
       (λ q. back (q .1) (q .2 .1) (q .2 .2))
@@ -93,7 +96,8 @@ shifted f n m k [] = refl
 shifted f n m k (x ∷ l) = rw (shifted f n m (suc k) l) refl
 
 -- the entries say which
-entries-say : (f : ℤ → Bool) (g : Weighted → Bool) (m : List ℕ) (l : List Weighted) → take (length l) m ≡ map (λ x. cond (g x) 1 0) l
+entries-say : (f : ℤ → Bool) (g : Weighted → Bool) (m : List ℕ) (l : List Weighted)
+    → take (length l) m ≡ map (λ x. cond (g x) 1 0) l
     → anyMarked f m 0 l ≡ any (λ x. g x && f (x .literal)) l
 entries-say f g m [] e = refl
 entries-say f g [] (x ∷ l) e = absurd (nil≢cons e)
@@ -113,13 +117,15 @@ weight-edge f m ws e r =
     rw e (sym (relevant-edge f (boundAt ws) l) ∙ sym (entries-say f (λ x. isRelevant (boundAt ws) l (x .literal)) m l q))
 
 -- the edges of the rule at the front, from the words of its body and of its heads
-module _ (places : List ℕ) (ws : List ℤ) {e after : List ℕ} {body heads : List ℤ} (b : body ≡ bodyWordsAt ws) (h : heads ≡ headsAt ws) where
+module _ (places : List ℕ) (ws : List ℤ) {e after : List ℕ} {body heads : List ℤ} (b : body ≡ bodyWordsAt ws)
+    (h : heads ≡ headsAt ws) where
   pub plain-more : More (λ i j. any (isAt places i) body && any (isAt places j) heads) e after → isWeighted ws ≡ false
       → More (λ i j. ruleEdge places i j (ruleAt ws)) e after
   plain-more M t = more-same M (λ i j. rw (b, h, plain-edge (isAt places i) ws t) refl)
 
   pub weight-more : (relevant : List ℕ)
-      → More (λ i j. anyMarked (isAt places i) relevant 0 (paired body) && any (isAt places j) heads) e after → isWeighted ws ≡ true
+      → More (λ i j. anyMarked (isAt places i) relevant 0 (paired body) && any (isAt places j) heads) e after
+      → isWeighted ws ≡ true
       → RelevantPairs relevant (bodyAt ws) → More (λ i j. ruleEdge places i j (ruleAt ws)) e after
   weight-more relevant M t r = more-same M (λ i j. rw (b, h, weight-edge (isAt places i) relevant ws t r) refl)
 

@@ -13,7 +13,6 @@ use lib.ListN.{length, getD, drop, set, replicate, length-set, length-replicate}
 use lib.Seq.{drop-cons}
 use Rattle.words.specs.Limits.{mostNumbers}
 use Rattle.words.specs.Lists.{any}
-use Rattle.words.specs.Literals.{variable}
 use Rattle.words.proofs.Lists.{same-test, and-decides, eqb-decides}
 use Rattle.weights.specs.Weights.{paired}
 use Rattle.weights.proofs.Matching.{pair-on}
@@ -82,7 +81,8 @@ module _ (a b : ℕ) (h₁ : 1 ≤ a) (h₂ : a ≤ mostNumbers) (h₃ : 1 ≤ b
       (λ p. omega (arith, p .0, p .1))
 
   -- one more
-  pub more-one : (e after : List ℕ) → length e ≡ cells → after ≡ set e cell 1 → More (λ i j. eqb a (suc i) && eqb b (suc j)) e after
+  pub more-one : (e after : List ℕ) → length e ≡ cells → after ≡ set e cell 1
+      → More (λ i j. eqb a (suc i) && eqb b (suc j)) e after
   more-one e after l q = record {
     long = ap length q ∙ length-set e cell 1 ∙ l;
     has = λ i j g k.

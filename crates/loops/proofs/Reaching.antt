@@ -3,7 +3,7 @@
 use mathlib.Core.Path.{_≡_, refl, sym, _∙_, ap}
 use mathlib.Core.Logic.{_⊎_, inl, inr}
 use mathlib.Core.Bool.{Bool, true, false, cond, not, _&&_, _||_, or-false, true≢false}
-use mathlib.Core.List.{List, [], _∷_, List·Memᴰ·head, List·Memᴰ·tail, Memᴰ·cast}
+use mathlib.Core.List.{List, [], _∷_, List·Memᴰ·head, List·Memᴰ·tail}
 use Prim.Native.Nat.{ℕ, zero, suc, _≤_, _<_}
 use native.Mathlib.Omega.{arith}
 use borrow.Author.Tests.{eq-eqb}
@@ -20,7 +20,7 @@ use Rattle.marks.specs.Marks.{marked}
 use Rattle.derivation.specs.Loops.{isEdge, reachesAll, isLoop}
 use Rattle.derivation.proofs.Loops as Ways
 use Rattle.derivation.proofs.Loops.{reaches-all}
-use Rattle.loops.specs.Edges.{Members, Placed, edgeAt, Edges}
+use Rattle.loops.specs.Edges.{Members, Placed, Edges}
 use Rattle.loops.specs.Searches.{steps, Noted, Spread, Open, Way, first, on, Searched, Full}
 use Rattle.marks.proofs.Sets.{marked-set, none-marked}
 use Rattle.loops.proofs.Expanded.{edge-is}
@@ -52,7 +52,8 @@ pub record Spreading (f : ℕ → Bool) (n b : ℕ) (before m : List ℕ) : Type
   pub past : (c : ℕ) → c < b → marked m c ≡ (marked before c || f c)
   pub left : (c : ℕ) → b ≤ c → c < n → marked m c ≡ marked before c
 
-pub spreading-on : {f : ℕ → Bool} {n b b′ : ℕ} {before m after : List ℕ} → n ≤ mostNumbers → b < n → b′ ≡ suc b → Spreading f n b before m → Noted b (f b) m after
+pub spreading-on : {f : ℕ → Bool} {n b b′ : ℕ} {before m after : List ℕ} → n ≤ mostNumbers → b < n → b′ ≡ suc b
+    → Spreading f n b before m → Noted b (f b) m after
     → Spreading f n b′ before after
 spreading-on {f} {n} {b} {b′} {before} {m} {after} k h e s w = record {
   long = w .long;
@@ -69,7 +70,8 @@ spreading-on {f} {n} {b} {b′} {before} {m} {after} k h e s w = record {
 
     past : (c : ℕ) → c < b′ → (c ≡ b) ⊎ (¬ (c ≡ b)) → marked after c ≡ (marked before c || f c)
     past c l (inl q) = rw q (w .has b (omega arith) ∙ rw (eq-eqb b b refl, s .left b (omega arith) h) refl)
-    past c l (inr q) = w .has c (omega arith) ∙ none (eqb c b) (λ t. q (eqb-decides c b .to t)) (marked m c) ∙ s .past c (omega (arith, q))
+    past c l (inr q) =
+        w .has c (omega arith) ∙ none (eqb c b) (λ t. q (eqb-decides c b .to t)) (marked m c) ∙ s .past c (omega (arith, q))
 
 -- The search
 
@@ -85,13 +87,15 @@ way-low (first h t) = h
 way-low (on w h t) = h
 
 module _ (f : ℕ → ℕ → Bool) (n : ℕ) where
-  spread-decides : {g : ℕ → Bool} {before after : List ℕ} → Spread g n before after → (b : ℕ) → b < n → Decides (marked after b) (T (marked before b) ⊎ T (g b))
+  spread-decides : {g : ℕ → Bool} {before after : List ℕ} → Spread g n before after → (b : ℕ) → b < n
+      → Decides (marked after b) (T (marked before b) ⊎ T (g b))
   spread-decides {g} {before} s b h = rw (s .has b h) (or-decides (itself (marked before b)) (itself (g b)))
 
   unmarked : (k b : ℕ) → ¬ T (marked (replicate k 0) b)
   unmarked k b t = rw (none-marked k b) at t
 
-  pub reaching-start : {found : List ℕ} → Spread (f 0) n (replicate mostNumbers 0) found → Reaching f n found (replicate mostNumbers 0)
+  pub reaching-start : {found : List ℕ} → Spread (f 0) n (replicate mostNumbers 0) found
+      → Reaching f n found (replicate mostNumbers 0)
   reaching-start s = record {
     long = s .long;
     wide = length-replicate {A = ℕ} mostNumbers 0;
@@ -100,7 +104,8 @@ module _ (f : ℕ → ℕ → Bool) (n : ℕ) where
     closed = λ a b h t u. absurd (unmarked mostNumbers a t);
   }
 
-  pub reaching-on : {found done after : List ℕ} (a : ℕ) → a < n → n ≤ mostNumbers → Reaching f n found done → T (marked found a) → Spread (f a) n found after
+  pub reaching-on : {found done after : List ℕ} (a : ℕ) → a < n → n ≤ mostNumbers → Reaching f n found done → T (marked found a)
+      → Spread (f a) n found after
       → Reaching f n after (set done a 1)
   reaching-on {found} {done} {after} a h k r t s = record {
     long = s .long;
@@ -136,9 +141,11 @@ below-in (suc n) v h = elim (equal? v n) [ inl e ↦ List·Memᴰ·head e | inr 
 unfoldable pub undone : ℕ → List ℕ → ℕ
 undone n done = length (filter (λ v. not (marked done v)) (below n))
 
-pub undone-less : (n a : ℕ) (done : List ℕ) → a < n → n ≤ mostNumbers → length done ≡ mostNumbers → marked done a ≡ false → undone n (set done a 1) < undone n done
+pub undone-less : (n a : ℕ) (done : List ℕ) → a < n → n ≤ mostNumbers → length done ≡ mostNumbers → marked done a ≡ false
+    → undone n (set done a 1) < undone n done
 unfolding undone
-undone-less n a done h k l e = keep-lt (λ v. not (marked (set done a 1) v)) (λ v. not (marked done v)) sub (below-in n a h) here (rw e tt)
+undone-less n a done h k l e =
+    keep-lt (λ v. not (marked (set done a 1) v)) (λ v. not (marked done v)) sub (below-in n a h) here (rw e tt)
   where
     sub : (v : ℕ) → T (not (marked (set done a 1) v)) → T (not (marked done v))
     sub v t = elim (equal? v a) [ inl q ↦ rw (q, e) tt | inr q ↦ rw (getD-set-other done a v 1 0 q) at t ]
@@ -171,7 +178,8 @@ module _ (U : List ℤ) (e : ℕ → ℕ → Bool) (f : ℤ → ℤ → Bool)
   all-is m r s full = same-test (passed r) (reaches-all f U head) to from
     where
       to : r ≡ true → (x : ℤ) → x ∈ U → Ways.Way f U head x
-      to q x i = let p = place-of (pos 0) i in rw (p .2) at (way-to (s .to (p .0) (p .1) (passed _ .from (full .to q (p .0) (p .1)))))
+      to q x i =
+          let p = place-of (pos 0) i in rw (p .2) at (way-to (s .to (p .0) (p .1) (passed _ .from (full .to q (p .0) (p .1)))))
 
       from : ((x : ℤ) → x ∈ U → Ways.Way f U head x) → r ≡ true
       from g = full .from (λ b h. passed _ .to (s .from b (way-from (g (getD U b (pos 0)) (in-at (pos 0) U b h)) b h refl)))
@@ -182,7 +190,8 @@ module _ (ws : List InputRule) {places e : List ℕ} where
   ahead-is h hs u p E = all-is (h ∷ hs) (steps e false) (isEdge (expand ws)) (λ i j g k. edge-is p (u .few) E i j g k)
 
   behind-is : (h : ℤ) (hs : List ℤ) → Members (h ∷ hs) → Placed places (h ∷ hs) → Edges places ws e → (m : List ℕ) (r : Bool)
-      → Searched (steps e true) (length (h ∷ hs)) m → Full (length (h ∷ hs)) m r → r ≡ reachesAll (λ a b. isEdge (expand ws) b a) (h ∷ hs) h
+      → Searched (steps e true) (length (h ∷ hs)) m → Full (length (h ∷ hs)) m r
+      → r ≡ reachesAll (λ a b. isEdge (expand ws) b a) (h ∷ hs) h
   behind-is h hs u p E = all-is (h ∷ hs) (steps e true) (λ a b. isEdge (expand ws) b a) (λ i j g k. edge-is p (u .few) E j i k g)
 
   -- the first atom does not reach all

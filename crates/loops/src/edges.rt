@@ -51,10 +51,11 @@ pub fn places_of(numbers: &[i32]) -> [u8; ENTRIES]
 fn place_of(word: i32, places: &[u8]) -> usize
     ensures { λ r. ⌜ r ≡ placeBy (now (places .entry)) word ⌝ }
 {
-    if words::is_positive(word) {
-        return byte_at(places, words::variable_of(word));
+    let place = byte_at(places, words::variable_of(word));
+    if !words::is_positive(word) {
+        return 0;
     }
-    0
+    place
 }
 
 // An edge from place a to place b, both counted from 1; none where b is 0.
@@ -126,7 +127,13 @@ fn mark_pairs(pairs: &[i32], relevant: &[u8], heads: &[i32], places: &[u8], edge
     let mut k = 0;
     let mut i = 0;
     while i + 1 < pairs.len() {
-        mark_if(marks::is_marked(relevant, k), pairs[i], heads, places, edges);
+        mark_if(
+            marks::is_marked(relevant, k),
+            pairs[i],
+            heads,
+            places,
+            edges,
+        );
         i += 2;
         k += 1;
     }
@@ -150,9 +157,11 @@ fn any_placed(literals: &[i32], places: &[u8]) -> bool
 
 // The edges of the rule at the front; `relevant` has the entries of its pairs.
 fn mark_rule(words: &[i32], relevant: &[u8], places: &[u8], edges: &mut [u8])
-    requires rule { ⌜ (shapeSound (now words) ≡ true) × (0 < length (headsAt (now words)) → RelevantPairs (now relevant) (bodyAt (now words))) ⌝ }
+    requires rule { ⌜ (shapeSound (now words) ≡ true)
+        × (0 < length (headsAt (now words)) → RelevantPairs (now relevant) (bodyAt (now words))) ⌝ }
     requires sizes { ⌜ (length (now edges) ≡ cells) × Low (now places) ⌝ }
-    ensures { λ _. ⌜ More (λ i j. ruleEdge (now (places .entry)) i j (ruleAt (now (words .entry)))) (now (edges .entry)) (now (edges .exit)) ⌝ }
+    ensures { λ _. ⌜ More (λ i j. ruleEdge (now (places .entry)) i j (ruleAt (now (words .entry))))
+        (now (edges .entry)) (now (edges .exit)) ⌝ }
 {
     let heads = tables::heads_of(words);
     if !any_placed(heads, places) {

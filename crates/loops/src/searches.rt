@@ -77,12 +77,20 @@ fn advance(edges: &[u8], back: bool, n: usize, a: usize, found: &mut [u8], done:
     next_open(found, done, n)
 }
 
-// The places below n that place 0 reaches; where asked for, those that reach it. Place 0 is not found at the start.
+// The places below n that an edge leads to from place 0, which is not found itself.
+fn begin(edges: &[u8], back: bool, n: usize, found: &mut [u8])
+    requires { ⌜ (n ≤ mostNumbers) × (length (now found) ≡ mostNumbers) ⌝ }
+    ensures { λ _. ⌜ Spread (steps (now (edges .entry)) back 0) n (now (found .entry)) (now (found .exit)) ⌝ }
+{
+    spread(edges, back, n, 0, found);
+}
+
+// The places below n that place 0 reaches; where asked for, those that reach it.
 fn explore(edges: &[u8], back: bool, n: usize, found: &mut [u8], done: &mut [u8])
     requires { ⌜ (n ≤ mostNumbers) × (now found ≡ replicate mostNumbers 0) × (now done ≡ replicate mostNumbers 0) ⌝ }
     ensures { λ _. ⌜ Searched (steps (now (edges .entry)) back) n (now (found .exit)) ⌝ }
 {
-    spread(edges, back, n, 0, found);
+    begin(edges, back, n, found);
     let mut a = next_open(found, done, n);
     while a < n {
         a = advance(edges, back, n, a, found, done);

@@ -6,7 +6,8 @@ use Rattle.loops.proofs.is_loop.Statement.{statement}
 use Rattle.loops.proofs.is_loop.Tie as tie
 
 edges-of-requires : tie.Need-edges-of-requires
-edges-of-requires c κs = let s = c .before .before .before in (s .pre .0, placed-low (s .pre .1 .few) (c .before .places-of .ensures))
+edges-of-requires c κs =
+    let s = c .before .before .before in (s .pre .0, placed-low (s .pre .1 .few) (c .before .places-of .ensures))
 
 search-requires : tie.Need-search-requires
 search-requires c κs = c .before .before .before .before .before .pre .1 .few
@@ -23,7 +24,8 @@ returns c =
     let e = a .before .before in
     let p = e .before .before in
     let s = p .before .before in
-    loop-if (rulesAt (s .args .rules) (s .args .table .now)) (s .args .numbers .now) (s .pre .1) (p .places-of .ensures) (e .edges-of .ensures) _ _ _ _
+    loop-if (rulesAt (s .args .rules) (s .args .table .now)) (s .args .numbers .now) (s .pre .1) (p .places-of .ensures)
+    (e .edges-of .ensures) _ _ _ _
     (a .search .ensures) (f .is-full .ensures) (y .if1 .taken) (b .search2 .ensures) (c .is-full2 .ensures)
 
 returns-2 : tie.Need-returns-2
@@ -33,7 +35,8 @@ returns-2 c =
     let e = a .before .before in
     let p = e .before .before in
     let s = p .before .before in
-    no-loop (rulesAt (s .args .rules) (s .args .table .now)) (s .args .numbers .now) (s .pre .1) (p .places-of .ensures) (e .edges-of .ensures) _ _
+    no-loop (rulesAt (s .args .rules) (s .args .table .now)) (s .args .numbers .now) (s .pre .1) (p .places-of .ensures)
+    (e .edges-of .ensures) _ _
     (a .search .ensures) (f .is-full .ensures) (c .if1 .left)
 
 pub is-loop-spec : {M : Type 1} → statement M

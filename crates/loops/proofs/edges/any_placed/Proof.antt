@@ -14,7 +14,8 @@ use Rattle.loops.proofs.edges.any_placed.Statement.{statement}
 use Rattle.loops.proofs.edges.any_placed.Tie as tie
 
 abbrev Inv-loop : tie.InvT-loop
-Inv-loop literals places k₀ k = (k ≤ length literals) × ((j : ℕ) → any (isAt places j) literals ≡ any (isAt places j) (drop k literals))
+Inv-loop literals places k₀ k =
+    (k ≤ length literals) × ((j : ℕ) → any (isAt places j) literals ≡ any (isAt places j) (drop k literals))
 
 abbrev μ-loop : tie.MeasureT-loop
 μ-loop literals places k₀ k = length literals - k
@@ -26,11 +27,15 @@ loop-again c =
     let l = t .before .loop in
     let s = t .before .before .before in
     let x = getD (s .args .literals .now) (l .k) (pos 0) in
-    let e : p .place-of .result ≡ placeBy (s .args .places .now) x = rw (back x (p .before .place-of-arg .given)) at (p .place-of .ensures) in
-    (omega (arith, t .loop-test .taken), λ j. l .inv .1 j ∙ any-on _ _ (l .k) (pos 0) (t .loop-test .taken) (no-place {a = placeBy (s .args .places .now) x} j (omega (arith, e, c .if1 .left))))
+    let e : p .place-of .result ≡ placeBy (s .args .places .now) x =
+    rw (back x (p .before .place-of-arg .given)) at (p .place-of .ensures) in
+    let none : placeBy (s .args .places .now) x ≤ 0 = omega (arith, e, c .if1 .left) in
+    let here = t .loop-test .taken in
+    (omega (arith, here), λ j. l .inv .1 j ∙ any-on _ _ (l .k) (pos 0) here (no-place j none))
 
 returns-2 : tie.Need-returns-2 Inv-loop μ-loop
-returns-2 c = let l = c .before .loop in (λ e. absurd (true≢false (sym e)), λ e j. l .inv .1 j ∙ any-none _ _ (c .loop-test .left))
+returns-2 c =
+    let l = c .before .loop in (λ e. absurd (true≢false (sym e)), λ e j. l .inv .1 j ∙ any-none _ _ (c .loop-test .left))
 
 pub any-placed-spec : {M : Type 1} → statement M
 any-placed-spec =

@@ -1,4 +1,4 @@
-use mathlib.Core.Path.{_≡_, refl, sym}
+use mathlib.Core.Path.{refl, sym}
 use mathlib.Core.List.{List}
 use Prim.Native.Nat.{ℕ, _+_, _-_, _≤_, _<_}
 use native.Mathlib.Omega.{arith}
@@ -22,7 +22,8 @@ Inv-loop table rules relevant places edges₀ left₀ i₀ at₀ edges left i at
     Cursor table left i
     × (at ≤ length relevant)
     × Relevant (drop at relevant) (rulesAt left (drop i table))
-    × Filling edges (λ a b. any (ruleEdge places a b) (rulesAt left (drop i table))) (λ a b. any (ruleEdge places a b) (rulesAt rules table))
+    × Filling edges (λ a b. any (ruleEdge places a b) (rulesAt left (drop i table)))
+    (λ a b. any (ruleEdge places a b) (rulesAt rules table))
 
 abbrev μ-loop : tie.MeasureT-loop
 μ-loop table rules relevant places edges₀ left₀ i₀ at₀ edges left i at = left

@@ -1,4 +1,4 @@
-use mathlib.Core.Path.{_≡_, refl, sym, _∙_}
+use mathlib.Core.Path.{refl, sym, _∙_}
 use mathlib.Core.Bool.{_&&_, _||_}
 use Prim.Native.Nat.{_-_, _≤_}
 use native.Mathlib.Omega.{arith}
@@ -40,7 +40,8 @@ loop-again c =
     let more = rw (back x (a .mark-literal-arg .given)) at (m .mark-literal .ensures) in (
       omega (arith, t .loop-test .taken),
       filling-on (l .inv .1) more
-          (λ i j. body-split (isAt (s .args .places .now) i) body (l .k) (t .loop-test .taken) (any (isAt (s .args .places .now) j) (s .args .heads .now))),
+          (λ i j. body-split (isAt (s .args .places .now) i) body (l .k) (t .loop-test .taken)
+          (any (isAt (s .args .places .now) j) (s .args .heads .now))),
     )
 
 returns : tie.Need-returns Inv-loop μ-loop

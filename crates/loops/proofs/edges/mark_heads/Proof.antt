@@ -1,4 +1,4 @@
-use mathlib.Core.Path.{_≡_, sym, _∙_}
+use mathlib.Core.Path.{sym, _∙_}
 use mathlib.Core.Bool.{_&&_, _||_, and-false}
 use Prim.Native.Nat.{suc, _-_, _≤_}
 use native.Mathlib.Omega.{arith}
@@ -17,7 +17,8 @@ use Rattle.loops.proofs.edges.mark_heads.Tie as tie
 abbrev Inv-loop : tie.InvT-loop
 Inv-loop a heads places edges₀ k₀ edges k =
     (k ≤ length heads)
-    × Filling edges (λ i j. eqb a (suc i) && any (isAt places j) (drop k heads)) (λ i j. edgeAt edges₀ i j || (eqb a (suc i) && any (isAt places j) heads))
+    × Filling edges (λ i j. eqb a (suc i) && any (isAt places j) (drop k heads))
+    (λ i j. edgeAt edges₀ i j || (eqb a (suc i) && any (isAt places j) heads))
 
 abbrev μ-loop : tie.MeasureT-loop
 μ-loop a heads places edges₀ k₀ edges k = length heads - k
@@ -37,14 +38,20 @@ loop-again c =
     let l = t .before .loop in
     let s = t .before .before .before .before in
     let x = getD (s .args .heads .now) (l .k) (pos 0) in
-    let more = rw (v .place-of .ensures, back x (v .before .place-of-arg .given)) at (m .mark-edge .ensures) in
-    (omega (arith, t .loop-test .taken), filling-on (l .inv .1) more (λ i j. heads-split (isAt (s .args .places .now) j) (s .args .heads .now) (l .k) (t .loop-test .taken) (eqb (s .args .a) (suc i))))
+    let more = rw (v .place-of .ensures, back x (v .before .place-of-arg .given)) at (m .mark-edge .ensures) in (
+      omega (arith, t .loop-test .taken),
+      filling-on (l .inv .1) more
+          (λ i j. heads-split (isAt (s .args .places .now) j) (s .args .heads .now) (l .k) (t .loop-test .taken)
+          (eqb (s .args .a) (suc i))),
+    )
 
 returns : tie.Need-returns Inv-loop μ-loop
 returns c =
     let l = c .before .loop in
     let s = c .before .before .before .before in
-    filling-end (l .inv .1) (λ i j. rw (any-none (isAt (s .args .places .now) j) (s .args .heads .now) (c .loop-test .left)) (and-false (eqb (s .args .a) (suc i))))
+    filling-end (l .inv .1)
+    (λ i j. rw (any-none (isAt (s .args .places .now) j) (s .args .heads .now) (c .loop-test .left))
+    (and-false (eqb (s .args .a) (suc i))))
 
 pub mark-heads-spec : {M : Type 1} → statement M
 mark-heads-spec =

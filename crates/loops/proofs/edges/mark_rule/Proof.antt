@@ -1,5 +1,5 @@
 use mathlib.Core.Path.{_≡_, sym, _∙_}
-use mathlib.Core.Bool.{true, false, and-false}
+use mathlib.Core.Bool.{and-false}
 use borrow.Author.Tests.{not-true, not-false}
 use Rattle.words.specs.Lists.{any}
 use Rattle.aspif.specs.Rules.{bodiesOf}
@@ -18,7 +18,8 @@ returns c =
     let h = p .before in
     let s = h .before .before .before .before in
     let none = rw (h .heads-of .ensures) at (p .any-placed .ensures .1 (not-true _ (c .if1 .taken))) in
-    more-none _ _ (s .pre .1 .0) (λ i j. rw (none j) (and-false (any (any (isAt (s .args .places .now) i)) (bodiesOf (bodyAt (s .args .words .now))))))
+    more-none _ _ (s .pre .1 .0)
+    (λ i j. rw (none j) (and-false (any (any (isAt (s .args .places .now) i)) (bodiesOf (bodyAt (s .args .words .now))))))
 
 -- a rule with a head that has a place
 module _ (c : tie.After-is-weighted) where
@@ -32,7 +33,8 @@ module _ (c : tie.After-is-weighted) where
   weighted = sym (c .is-weighted .ensures)
 
   relevant : RelevantPairs (s .args .relevant .now) (bodyAt (s .args .words .now))
-  relevant = s .pre .0 .1 (rw (h .heads-of .ensures) at (c .before .before .any-placed .ensures .0 (not-false _ (c .before .if1 .left))))
+  relevant =
+      s .pre .0 .1 (rw (h .heads-of .ensures) at (c .before .before .any-placed .ensures .0 (not-false _ (c .before .if1 .left))))
 
 returns-2 : tie.Need-returns-2
 returns-2 c =
@@ -47,7 +49,8 @@ returns-3 c =
     let m = c .before .before in
     let b = m .before .before in
     let w = b .before .before in
-    plain-more (s w .args .places .now) (s w .args .words .now) (b .body-of2 .ensures) (h w .heads-of .ensures) (m .mark-body .ensures) (weighted w ∙ b .before .if2 .left)
+    plain-more (s w .args .places .now) (s w .args .words .now) (b .body-of2 .ensures) (h w .heads-of .ensures)
+    (m .mark-body .ensures) (weighted w ∙ b .before .if2 .left)
 
 pub mark-rule-spec : {M : Type 1} → statement M
 mark-rule-spec =

@@ -11,8 +11,11 @@ returns : tie.Need-returns
 returns c =
     let a = c .before .args in
     let h = c .if1 .taken in
-    let e = length-drop (a .at) (a .relevant .now) in
-    (omega arith, drop-length (a .relevant .now) ∙ sym (drop-of-length-le (drop (a .at) (a .relevant .now)) {i = mostWeighted} (omega (arith, e, h))))
+    let e = length-drop (a .at) (a .relevant .now) in (
+      omega arith,
+      drop-length (a .relevant .now)
+          ∙ sym (drop-of-length-le (drop (a .at) (a .relevant .now)) {i = mostWeighted} (omega (arith, e, h))),
+    )
 
 returns-2 : tie.Need-returns-2
 returns-2 c = let a = c .before .args in (omega (arith, c .if1 .left), sym (drop-drop mostWeighted (a .at) (a .relevant .now)))

@@ -1,7 +1,7 @@
 use mathlib.Core.Path.{_≡_, sym, _∙_, ap}
-use mathlib.Core.Bool.{true, false, not, _&&_}
+use mathlib.Core.Bool.{true, not, _&&_}
 use mathlib.Core.List.{List}
-use Prim.Native.Nat.{ℕ, _<_}
+use Prim.Native.Nat.{ℕ}
 use native.Mathlib.Omega.{arith}
 use borrow.Author.Tests.{not-true}
 use lib.ListN.{length, replicate, length-replicate}
@@ -23,14 +23,14 @@ abbrev μ-loop : tie.MeasureT-loop
 size : {m : List ℕ} → m ≡ replicate mostNumbers 0 → length m ≡ mostNumbers
 size e = ap length e ∙ length-replicate {A = ℕ} mostNumbers 0
 
-spread-requires : tie.Need-spread-requires Inv-loop μ-loop
-spread-requires c κs = let s = c .before .before .before .before in (s .pre .0, omega arith, size (s .pre .1))
+begin-requires : tie.Need-begin-requires Inv-loop μ-loop
+begin-requires c κs = let s = c .before .before .before .before in (s .pre .0, size (s .pre .1))
 
 loop-holds : tie.Need-loop-holds Inv-loop μ-loop
 loop-holds c =
     let p = c .before .before .before .before .before in
     let s = p .before .before .before .before .before in
-    (rw (s .pre .2) (reaching-start _ _ (rw (s .pre .1) at (p .spread .ensures))), c .next-open .ensures)
+    (rw (s .pre .2) (reaching-start _ _ (rw (s .pre .1) at (p .begin .ensures))), c .next-open .ensures)
 
 advance-requires : tie.Need-advance-requires Inv-loop μ-loop
 advance-requires c κs =
@@ -47,7 +47,8 @@ module _ (c : tie.After-advance Inv-loop μ-loop) where
   abbrev s : tie.Start Inv-loop μ-loop
   s = t .before .before .before .before .before .before .before .before .before .before .before .before
 
-  still : (marked (t .before .loop .found) (t .before .loop .a) && not (marked (t .before .loop .done) (t .before .loop .a))) ≡ true
+  still : (marked (t .before .loop .found) (t .before .loop .a)
+      && not (marked (t .before .loop .done) (t .before .loop .a))) ≡ true
   still = t .before .loop .inv .1 .is (t .loop-test .taken)
 
 loop-less : tie.Need-loop-less Inv-loop μ-loop
@@ -55,14 +56,16 @@ loop-less c =
     let a = c .before .before .before .before in
     let l = t a .before .loop in
     rw (a .advance .ensures .1)
-    (undone-less _ (l .a) (l .done) (t a .loop-test .taken) (s a .pre .0) (l .inv .0 .wide) (not-true _ (and-right (marked (l .found) (l .a)) _ (still a))))
+    (undone-less _ (l .a) (l .done) (t a .loop-test .taken) (s a .pre .0) (l .inv .0 .wide)
+    (not-true _ (and-right (marked (l .found) (l .a)) _ (still a))))
 
 loop-again : tie.Need-loop-again Inv-loop μ-loop
 loop-again c =
     let a = c .before .before .before .before in
     let l = t a .before .loop in (
       rw (a .advance .ensures .1)
-          (reaching-on _ _ (l .a) (t a .loop-test .taken) (s a .pre .0) (l .inv .0) (passed _ .from (and-left (marked (l .found) (l .a)) _ (still a))) (a .advance .ensures .0)),
+          (reaching-on _ _ (l .a) (t a .loop-test .taken) (s a .pre .0) (l .inv .0)
+          (passed _ .from (and-left (marked (l .found) (l .a)) _ (still a))) (a .advance .ensures .0)),
       a .advance .ensures .2,
     )
 
@@ -85,7 +88,7 @@ explore-spec =
     (tie.spec
     Inv-loop
     μ-loop
-    spread-requires
+    begin-requires
     (λ c κs. search needs)
     loop-holds
     advance-requires

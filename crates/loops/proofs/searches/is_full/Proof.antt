@@ -38,7 +38,8 @@ loop-again c =
     )
 
 returns-2 : tie.Need-returns-2 Inv-loop μ-loop
-returns-2 c = let l = c .before .loop in record { to = λ e b h. l .inv .1 b (omega (arith, c .loop-test .left)); from = λ g. refl }
+returns-2 c =
+    let l = c .before .loop in record { to = λ e b h. l .inv .1 b (omega (arith, c .loop-test .left)); from = λ g. refl }
 
 pub is-full-spec : {M : Type 1} → statement M
 is-full-spec =

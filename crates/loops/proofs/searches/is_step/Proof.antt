@@ -1,4 +1,3 @@
-use mathlib.Core.Path.{sym, _∙_, ap}
 use borrow.Author.Needs.{needs}
 use Rattle.loops.proofs.searches.is_step.Statement.{statement}
 use Rattle.loops.proofs.searches.is_step.Tie as tie

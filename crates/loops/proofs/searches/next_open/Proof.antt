@@ -1,5 +1,5 @@
 use mathlib.Core.Path.{_≡_, sym, _∙_}
-use mathlib.Core.Bool.{Bool, true, false, not, _&&_}
+use mathlib.Core.Bool.{true}
 use mathlib.Core.Logic.{inl, inr}
 use Prim.Native.Nat.{ℕ, _-_, _≤_, _<_}
 use native.Mathlib.Omega.{arith}
@@ -19,7 +19,10 @@ abbrev μ-loop : tie.MeasureT-loop
 returns : tie.Need-returns Inv-loop μ-loop
 returns c =
     let d = c .before in
-    record { is = λ h. sym (d .is-open .ensures) ∙ c .if1 .taken; none = λ h. absurd (omega (arith, d .before .loop-test .taken)) }
+    record {
+      is = λ h. sym (d .is-open .ensures) ∙ c .if1 .taken;
+      none = λ h. absurd (omega (arith, d .before .loop-test .taken));
+    }
 
 loop-again : tie.Need-loop-again Inv-loop μ-loop
 loop-again c =
@@ -36,7 +39,10 @@ loop-again c =
 returns-2 : tie.Need-returns-2 Inv-loop μ-loop
 returns-2 c =
     let l = c .before .loop in
-    record { is = λ h. absurd (omega (arith, c .loop-test .left)); none = λ g b h. l .inv .1 b (omega (arith, c .loop-test .left)) }
+    record {
+      is = λ h. absurd (omega (arith, c .loop-test .left));
+      none = λ g b h. l .inv .1 b (omega (arith, c .loop-test .left));
+    }
 
 pub next-open-spec : {M : Type 1} → statement M
 next-open-spec =

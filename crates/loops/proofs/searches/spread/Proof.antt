@@ -1,4 +1,4 @@
-use mathlib.Core.Path.{_≡_, refl, sym, _∙_}
+use mathlib.Core.Path.{refl, sym, _∙_}
 use Prim.Native.Nat.{_-_, _≤_}
 use native.Mathlib.Omega.{arith}
 use native.Mathlib.Numerals.{add-one}
@@ -15,7 +15,8 @@ abbrev μ-loop : tie.MeasureT-loop
 μ-loop edges back n a found₀ b₀ found b = n - b
 
 loop-holds : tie.Need-loop-holds Inv-loop μ-loop
-loop-holds c = (omega arith, record { long = c .before .before .pre .2; past = λ d h. absurd (omega arith); left = λ d g h. refl })
+loop-holds c =
+    (omega arith, record { long = c .before .before .pre .2; past = λ d h. absurd (omega arith); left = λ d g h. refl })
 
 note-requires : tie.Need-note-requires Inv-loop μ-loop
 note-requires c κs =
@@ -29,11 +30,16 @@ loop-again c =
     let m = c .before .before in
     let t = m .before .before in
     let l = t .before .loop in
-    let s = t .before .before .before .before in
-    (omega (arith, t .loop-test .taken), spreading-on (s .pre .0) (t .loop-test .taken) (add-one (l .b)) (l .inv .1) (m .note .ensures))
+    let s = t .before .before .before .before in (
+      omega (arith, t .loop-test .taken),
+      spreading-on (s .pre .0) (t .loop-test .taken) (add-one (l .b)) (l .inv .1)
+          (m .note .ensures),
+    )
 
 returns : tie.Need-returns Inv-loop μ-loop
-returns c = let l = c .before .loop in record { long = l .inv .1 .long; has = λ b h. l .inv .1 .past b (omega (arith, c .loop-test .left)) }
+returns c =
+    let l = c .before .loop in
+    record { long = l .inv .1 .long; has = λ b h. l .inv .1 .past b (omega (arith, c .loop-test .left)) }
 
 pub spread-spec : {M : Type 1} → statement M
 spread-spec =
