@@ -1,1 +1,3 @@
 -- The laws that the proofs share.
+pub mod Sums
+pub mod Filling

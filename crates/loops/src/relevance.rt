@@ -1,1 +1,74 @@
 // Which literals of the rules' weight bodies stand in some plain body, by rule and pair.
+ghost use mathlib.Core.Path.{_≡_};
+ghost use mathlib.Core.Bool.{true, cond};
+ghost use mathlib.Core.List.{List, map};
+ghost use Prim.Native.Nat.{ℕ, _+_, _*_, _-_, _<_, _≤_};
+ghost use lib.IntN.{ℤ};
+ghost use lib.ListN.{length, take};
+ghost use Rattle.words.specs.Lists.{_∈_};
+ghost use Rattle.words.specs.Literals.{variable, rising};
+ghost use Rattle.weights.specs.Weights.{sum, literals, paired, mostWeighted, mostSum};
+ghost use Rattle.loops.specs.Relevance.{isRelevant, RelevantPairs, hasSum, others};
+ghost use Rattle.aspif.specs.Rules.{weights};
+
+// The first number less the second, 0 where that is the larger.
+fn less(a: usize, b: usize) -> usize
+    ensures { λ r. ⌜ r ≡ a - b ⌝ }
+{
+    if b < a { a - b } else { 0 }
+}
+
+// Some of the pairs, but for that of the literal x, add up to `low` or more and to less than `high`; `left` is what they add up to.
+fn has_sum(pairs: &[i32], x: i32, low: usize, high: usize, left: usize) -> bool
+    requires { ⌜ left ≡ sum (others x (paired (now pairs))) ⌝ }
+    ensures { λ r. ⌜ r ≡ hasSum low high (others x (paired (now (pairs .entry)))) ⌝ }
+{
+    if low == 0 {
+        return 0 < high;
+    }
+    if left < low {
+        return false;
+    }
+    let rest = &pairs[2..];
+    if words::is_same(x, pairs[0]) {
+        return has_sum(rest, x, low, high, left);
+    }
+    let w = words::variable_of(pairs[1]);
+    if has_sum(rest, x, less(low, w), less(high, w), left - w) {
+        return true;
+    }
+    has_sum(rest, x, low, high, left - w)
+}
+
+// The literal, one of the pairs with its weight, stands in some body: some of the others reach the bound with it and not without it.
+fn is_relevant(pairs: &[i32], bound: usize, literal: i32, weight: i32) -> bool
+    requires { ⌜ (rising (literals (paired (now pairs))) ≡ true) × (sum (paired (now pairs)) ≤ mostSum)
+        × (record { literal = literal; weight = variable weight } ∈ paired (now pairs)) ⌝ }
+    ensures { λ r. ⌜ r ≡ isRelevant bound (paired (now (pairs .entry))) literal ⌝ }
+{
+    let w = words::variable_of(weight);
+    let left = weights::sum_of(pairs) - w;
+    has_sum(pairs, literal, less(bound, w), bound, left)
+}
+
+// An entry: 1 where it is so.
+fn one_if(so: bool) -> u8
+    ensures { λ r. ⌜ r ≡ cond so 1 0 ⌝ }
+{
+    if so { 1 } else { 0 }
+}
+
+// The entries of the pairs of a weight body.
+fn fill_pairs(pairs: &[i32], bound: usize, entries: &mut [u8])
+    requires { ⌜ (rising (literals (paired (now pairs))) ≡ true) × (sum (paired (now pairs)) ≤ mostSum)
+        × (length (paired (now pairs)) ≤ length (now entries)) ⌝ }
+    ensures { λ _. ⌜ RelevantPairs (now (entries .exit)) (weights bound (paired (now (pairs .entry)))) ⌝ }
+{
+    let mut n = 0;
+    let mut i = 0;
+    while i + 1 < pairs.len() {
+        entries[n] = one_if(is_relevant(pairs, bound, pairs[i], pairs[i + 1]));
+        n += 1;
+        i += 2;
+    }
+}
