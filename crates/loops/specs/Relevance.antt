@@ -21,10 +21,14 @@ abbrev pub RelevantPairs : List ℕ → Body → Type 0
 RelevantPairs m (plain ls) = Unit {0}
 RelevantPairs m (weights b l) = take (length l) m ≡ map (λ x. cond (isRelevant b l (x .literal)) 1 0) l
 
--- an entry for each of twelve pairs, rule after rule; nothing is said of a rule without heads
+-- nothing is said of a rule without heads
+abbrev pub RelevantRule : List ℕ → InputRule → Type 0
+RelevantRule m r = 0 < length (r .heads) → RelevantPairs m (r .body)
+
+-- an entry for each of twelve pairs, rule after rule
 unfoldable pub Relevant : List ℕ → List InputRule → Type 0
 Relevant m [] = Unit {0}
-Relevant m (r ∷ ws) = (0 < length (r .heads) → RelevantPairs m (r .body)) × Relevant (drop mostWeighted m) ws
+Relevant m (r ∷ ws) = RelevantRule m r × Relevant (drop mostWeighted m) ws
 
 -- How it is found, by sums alone
 

@@ -8,8 +8,11 @@ ghost use lib.ListN.{length, take};
 ghost use Rattle.words.specs.Lists.{_∈_};
 ghost use Rattle.words.specs.Literals.{variable, rising};
 ghost use Rattle.weights.specs.Weights.{sum, literals, paired, mostWeighted, mostSum};
-ghost use Rattle.loops.specs.Relevance.{isRelevant, RelevantPairs, hasSum, others};
+ghost use Rattle.loops.specs.Relevance.{isRelevant, RelevantPairs, RelevantRule, Relevant, hasSum, others};
 ghost use Rattle.aspif.specs.Rules.{weights};
+ghost use Rattle.aspif.specs.Tables.{ruleAt, soundAt, rulesAt, soundRules};
+use aspif::tables;
+use weights::MOST_WEIGHTED;
 
 // The first number less the second, 0 where that is the larger.
 fn less(a: usize, b: usize) -> usize
@@ -70,5 +73,35 @@ fn fill_pairs(pairs: &[i32], bound: usize, entries: &mut [u8])
         entries[n] = one_if(is_relevant(pairs, bound, pairs[i], pairs[i + 1]));
         n += 1;
         i += 2;
+    }
+}
+
+// The entries of the rule at the front; they matter where it has heads and a weight body.
+fn fill_rule(words: &[i32], entries: &mut [u8])
+    requires { ⌜ (soundAt (now words) ≡ true) × (mostWeighted ≤ length (now entries)) ⌝ }
+    ensures { λ _. ⌜ RelevantRule (now (entries .exit)) (ruleAt (now (words .entry))) ⌝ }
+{
+    if tables::is_weighted(words) {
+        let heads = tables::heads_of(words);
+        if 0 < heads.len() {
+            fill_pairs(tables::body_of(words), tables::bound_of(words), entries);
+        }
+    }
+}
+
+// The entries of all rules, twelve to a rule: found once for a program.
+pub fn fill(table: &[i32], rules: usize, relevant: &mut [u8])
+    requires { ⌜ (soundRules rules (now table) ≡ true) × (mostWeighted * rules ≤ length (now relevant)) ⌝ }
+    ensures { λ _. ⌜ Relevant (now (relevant .exit)) (rulesAt rules (now (table .entry))) ⌝ }
+{
+    let mut at = 0;
+    let mut left = rules;
+    let mut i = 0;
+    while 0 < left {
+        let rest = &table[i..];
+        fill_rule(rest, &mut relevant[at..]);
+        at += MOST_WEIGHTED;
+        i = tables::next_rule(table, i);
+        left -= 1;
     }
 }
