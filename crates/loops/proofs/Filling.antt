@@ -81,7 +81,8 @@ entries-as ws s m m′ e r = by (isWeighted ws) refl
     by true p =
         let few = weighing ws s p .few in
         let n = length (paired (bodyWordsAt ws)) in
-        let same : take n m′ ≡ take n m = sym (take-take n mostWeighted m′ few) ∙ ap (take n) (sym e) ∙ take-take n mostWeighted m few in
+        let same : take n m′ ≡ take n m =
+        sym (take-take n mostWeighted m′ few) ∙ ap (take n) (sym e) ∙ take-take n mostWeighted m few in
         rw (weights-of ws p) (same ∙ (rw (weights-of ws p) at r))
     by false p = plain-entries ws m′ p
 
@@ -89,12 +90,13 @@ entries-as ws s m m′ e r = by (isWeighted ws) refl
 drop-tail : (a : ℕ) (xs ys : List ℕ) → a ≤ length xs → length ys ≡ length xs - a → drop a (putMid a (length xs - a) xs ys) ≡ ys
 drop-tail a xs ys h n = rw (put-tail a xs ys h) (drop-at (take a xs) ys a (length-take-le a xs h))
 
--- The loop of `fill`: the entries before place `at` are made, of the rules before word i; whatever stands behind them, they are right
+-- The loop of `fill`: the entries before place `at` are made, of the rules before word i, and right whatever stands behind them
 
 pub record Entering (table : List ℤ) (rules : ℕ) (relevant : List ℕ) (at left i : ℕ) : Type 0 where
   pub cursor : Cursor table left i
   pub room : at + mostWeighted * left ≤ length relevant
-  pub done : (m : List ℕ) → take at m ≡ take at relevant → Relevant (drop at m) (rulesAt left (drop i table)) → Relevant m (rulesAt rules table)
+  pub done : (m : List ℕ) → take at m ≡ take at relevant → Relevant (drop at m) (rulesAt left (drop i table))
+      → Relevant m (rulesAt rules table)
 
 module _ {table : List ℤ} {rules : ℕ} where
   pub entering-none : {relevant : List ℕ} → soundRules rules table ≡ true → mostWeighted * rules ≤ length relevant

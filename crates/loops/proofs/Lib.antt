@@ -1,3 +1,4 @@
 -- The laws that the proofs share.
 pub mod Sums
 pub mod Filling
+pub mod WeightExamples

@@ -1,18 +1,19 @@
--- `RelevantBySums` of specs/Relevance.antt: a minimal set with a literal is some of the other pairs that reach the bound with it and not
--- without it; such pairs, with those left out that can go, are a minimal set with it. And what the code that looks for a sum holds on to.
+-- `RelevantBySums` of specs/Relevance.antt. A minimal set, without one literal of it, is some of the other pairs that reach the
+-- bound with it and not without it; of such pairs those that are needed make a minimal set with it. And the laws of the search.
 -- Assumes nothing.
 use mathlib.Core.Path.{_≡_, refl, sym, ap, _∙_}
 use mathlib.Core.Logic.{_⊎_, inl, inr}
-use mathlib.Core.Bool.{Bool, true, false, cond, not, _||_}
+use mathlib.Core.Bool.{Bool, true, false, not, _||_}
 use mathlib.Core.List.{List, [], _∷_, List·Memᴰ·head, List·Memᴰ·tail, Memᴰ·map, Memᴰ·of-map}
 use Prim.Native.Nat.{ℕ, _+_, _-_, _<_, _≤_}
 use native.Mathlib.Omega.{arith}
 use lib.Dec.{T, ltb}
 use lib.IntN.{ℤ, pos}
 use lib.ListN.{length, drop, getD}
-use Rattle.words.specs.Lists.{_∈_, any, filter}
-use Rattle.words.specs.Literals.{variable, same, has, rising, distinct}
-use Rattle.words.proofs.Lists.{Decides, reworded, passed, failed, is-true, if-true, same-test, and-decides, or-decides, not-decides, any-decides, leb-decides, keep→}
+use Rattle.words.specs.Lists.{_∈_}
+use Rattle.words.specs.Literals.{variable, same, rising, distinct}
+use Rattle.words.proofs.Lists.{Decides, reworded, failed, is-true, if-true, same-test, keep→}
+use Rattle.words.proofs.Lists.{and-decides, or-decides, not-decides, any-decides, leb-decides}
 use Rattle.words.proofs.Literals.{same-decides, has-decides}
 use Rattle.words.proofs.Places.{once-decides}
 use Rattle.weights.specs.Weights.{Weighted, sum, literals, sublists, isMinimal, bodies, paired}
@@ -21,7 +22,8 @@ use Rattle.weights.proofs.Sublists.{listed, is-sublist, through, kept, kept-of,
 use Rattle.weights.proofs.Minimal.{ltb-decides, parts, body→, body←}
 use Rattle.weights.proofs.Matching.{pair-on}
 use Rattle.weights.proofs.Reached.{Trimmed, trim}
-use Rattle.weights.proofs.Reordered.{as-it-was, and-back, reorder-in, reorder-sublist, reorder-sum, reorder-minimal, rising-distinct, rising-part}
+use Rattle.weights.proofs.Reordered.{as-it-was, and-back, reorder-in, reorder-sublist, reorder-sum, reorder-minimal}
+use Rattle.weights.proofs.Reordered.{rising-distinct, rising-part}
 use Rattle.loops.specs.Relevance.{isRelevant, hasSum, others, RelevantBySums}
 
 -- Sums
@@ -44,16 +46,18 @@ module _ (low high : ℕ) where
   pub sum-short : (l : List Weighted) → sum l < low → hasSum low high l ≡ false
   sum-short l h = failed _ (not-decides (sum-decides low high l) .from (λ r. omega (arith, sum-le (r .1), r .2 .0)))
 
-  -- nothing is to be reached, and none of them will do if any
+  -- nothing is to be reached: none of them will do, unless nothing is below `high`
   pub sum-empty : (l : List Weighted) → low ≡ 0 → hasSum low high l ≡ ltb 0 high
   sum-empty l h =
-      same-test (sum-decides low high l) (ltb-decides 0 high) (λ r. omega (arith, r .2 .1)) (λ k. ([], none-of l, (omega arith, k)))
+      same-test (sum-decides low high l) (ltb-decides 0 high) (λ r. omega (arith, r .2 .1))
+      (λ k. ([], none-of l, (omega arith, k)))
 
   -- the first of them is one, or is not
   pub sum-next : (x : Weighted) (l : List Weighted)
       → hasSum low high (x ∷ l) ≡ (hasSum (low - x .weight) (high - x .weight) l || hasSum low high l)
   sum-next x l =
-      same-test (sum-decides low high (x ∷ l)) (or-decides (sum-decides (low - x .weight) (high - x .weight) l) (sum-decides low high l))
+      same-test (sum-decides low high (x ∷ l))
+      (or-decides (sum-decides (low - x .weight) (high - x .weight) l) (sum-decides low high l))
       (λ r. to (r .1) (r .2)) from
     where
       to : {s : List Weighted} → s ⊑ x ∷ l → (low ≤ sum s) × (sum s < high)
@@ -110,15 +114,16 @@ in-literals i = Memᴰ·map (λ x. x .literal) i
 -- a pair first, and then the others
 pub first-of : {x : Weighted} {l : List Weighted} → distinct (literals l) ≡ true → x ∈ l → Reorder l (x ∷ others (x .literal) l)
 first-of {x} o (List·Memᴰ·head {x = y} {xs = l} p) =
-    rw (p, others-own (y .literal) y l (is-true (same-decides (y .literal) (y .literal)) refl), all-others (y .literal) l (once y l o))
-    (as-it-was (y ∷ l))
+    let own = others-own (y .literal) y l (is-true (same-decides (y .literal) (y .literal)) refl) in
+    rw (p, own, all-others (y .literal) l (once y l o)) (as-it-was (y ∷ l))
 first-of {x} o (List·Memᴰ·tail {x = y} {xs = l} i) =
     let n : ¬ (x .literal ≡ y .literal) = λ p. once y l o (rw p at (in-literals i)) in
     rw (others-other (x .literal) y l (failed _ (other-decides (x .literal) y .from n)))
     (one-more (first-stays (first-of (distinct-rest y l o) i)) exchange)
 
 -- what the others add up to
-pub others-sum : {x : Weighted} {l : List Weighted} → rising (literals l) ≡ true → x ∈ l → sum l ≡ x .weight + sum (others (x .literal) l)
+pub others-sum : {x : Weighted} {l : List Weighted} → rising (literals l) ≡ true → x ∈ l
+    → sum l ≡ x .weight + sum (others (x .literal) l)
 others-sum {l = l} e i = reorder-sum (first-of (rising-distinct (literals l) e) i)
 
 -- pairs of the same literal are the same pair

@@ -1,4 +1,4 @@
--- Which literals of the rules' weight bodies stand in some plain body, by rule and pair: what private functions of the checker cite.
+-- Which literals of the rules' weight bodies stand in some plain body, by rule and pair: what private functions cite.
 -- Assumes nothing.
 use mathlib.Core.Path.{_≡_}
 use mathlib.Core.Bool.{Bool, true, cond, not, _&&_}
@@ -16,7 +16,8 @@ use Rattle.aspif.specs.Rules.{Body, plain, weights, InputRule}
 abbrev pub isRelevant : ℕ → List Weighted → ℤ → Bool
 isRelevant b l x = any (has x) (bodies b l)
 
--- of a weight body: 1 at each pair whose literal stands in some of its plain bodies, 0 at the others; nothing is said of a plain body
+-- of a weight body: 1 at each pair whose literal stands in some of its plain bodies, 0 at the others; nothing is said of a plain
+-- body
 abbrev pub RelevantPairs : List ℕ → Body → Type 0
 RelevantPairs m (plain ls) = Unit {0}
 RelevantPairs m (weights b l) = take (length l) m ≡ map (λ x. cond (isRelevant b l (x .literal)) 1 0) l

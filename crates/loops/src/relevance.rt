@@ -1,10 +1,8 @@
 // Which literals of the rules' weight bodies stand in some plain body, by rule and pair.
 ghost use mathlib.Core.Path.{_≡_};
 ghost use mathlib.Core.Bool.{true, cond};
-ghost use mathlib.Core.List.{List, map};
-ghost use Prim.Native.Nat.{ℕ, _+_, _*_, _-_, _<_, _≤_};
-ghost use lib.IntN.{ℤ};
-ghost use lib.ListN.{length, take};
+ghost use Prim.Native.Nat.{_*_, _-_, _≤_};
+ghost use lib.ListN.{length};
 ghost use Rattle.words.specs.Lists.{_∈_};
 ghost use Rattle.words.specs.Literals.{variable, rising};
 ghost use Rattle.weights.specs.Weights.{sum, literals, paired, mostWeighted, mostSum};
@@ -21,7 +19,7 @@ fn less(a: usize, b: usize) -> usize
     if b < a { a - b } else { 0 }
 }
 
-// Some of the pairs, but for that of the literal x, add up to `low` or more and to less than `high`; `left` is what they add up to.
+// Some of the pairs but that of the literal x add up to `low` or more and to less than `high`; `left` is what they all add up to.
 fn has_sum(pairs: &[i32], x: i32, low: usize, high: usize, left: usize) -> bool
     requires { ⌜ left ≡ sum (others x (paired (now pairs))) ⌝ }
     ensures { λ r. ⌜ r ≡ hasSum low high (others x (paired (now (pairs .entry)))) ⌝ }
@@ -43,7 +41,8 @@ fn has_sum(pairs: &[i32], x: i32, low: usize, high: usize, left: usize) -> bool
     has_sum(rest, x, low, high, left - w)
 }
 
-// The literal, one of the pairs with its weight, stands in some body: some of the others reach the bound with it and not without it.
+// The literal, which with its weight is one of the pairs, stands in some body: some of the others reach the bound with it and not
+// without it.
 fn is_relevant(pairs: &[i32], bound: usize, literal: i32, weight: i32) -> bool
     requires { ⌜ (rising (literals (paired (now pairs))) ≡ true) × (sum (paired (now pairs)) ≤ mostSum)
         × (record { literal = literal; weight = variable weight } ∈ paired (now pairs)) ⌝ }

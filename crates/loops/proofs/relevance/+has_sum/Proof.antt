@@ -1,9 +1,9 @@
 -- `relevance::has_sum` meets its contract. The words of the pairs are the measure: each call of itself has two less.
 -- Assumes nothing.
-use mathlib.Core.Path.{_≡_, refl, sym, ap, _∙_}
+use mathlib.Core.Path.{_≡_, sym, ap, _∙_}
 use mathlib.Core.Bool.{Bool, _||_}
 use mathlib.Core.List.{List, _∷_}
-use Prim.Native.Nat.{ℕ, _+_, _-_, _<_, _≤_}
+use Prim.Native.Nat.{ℕ, _+_, _-_, _<_}
 use native.Mathlib.Omega.{arith}
 use lib.IntN.{ℤ, pos}
 use lib.ListN.{length, take, drop, getD, length-drop}
@@ -130,8 +130,9 @@ module _ (t : ℕ) where
     sums : left d ≡ c .variable-of .result + sum (others (z d) (paired (drop 2 (ws d))))
     sums = asked d ∙ ap sum splits ∙ ap (λ (w : ℕ). w + sum (others (z d) (paired (drop 2 (ws d))))) (sym weight)
 
-    rest-sums : left d - c .variable-of .result ≡ sum (others (toZ w32 (ofZ w32 (z d))) (paired (take (length (ws d) - 2) (drop 2 (ws d)))))
-    rest-sums = rw (own d, tail-of 2 (ws d)) (omega (arith, sums))
+    rest-sums : left d - c .variable-of .result
+        ≡ sum (others (toZ w32 (ofZ w32 (z d))) (paired (take (length (ws d) - 2) (drop 2 (ws d)))))
+    rest-sums = rw (same-rest d) (omega (arith, sums))
 
   -- the call with the first pair tells one half
   abbrev Searched : Type 0
@@ -163,7 +164,8 @@ module _ (t : ℕ) where
 
     halves : hasSum low high (others (z (d e)) (paired (ws (d e)))) ≡ (c .has-sum2 .result || hasSum low high rest)
     halves =
-        let r = sum-as low high (c .before .before .less .ensures) (c .before .less2 .ensures) (weight e) (same-rest (d e)) (c .has-sum2 .ensures) in
+        let lower = c .before .before .less .ensures in
+        let r = sum-as low high lower (c .before .less2 .ensures) (weight e) (same-rest (d e)) (c .has-sum2 .ensures) in
         ap (hasSum low high) (splits e) ∙ sum-next low high (pair (z (d e)) (ws (d e)) (first (d e))) rest
         ∙ ap (λ (t : Bool). t || hasSum low high rest) (sym r)
 

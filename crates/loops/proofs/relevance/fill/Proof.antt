@@ -1,11 +1,11 @@
 -- `relevance::fill` meets its contract: one pass over the rules, twelve entries to each.
 -- Assumes nothing.
-use mathlib.Core.Path.{_≡_, refl, sym, ap, _∙_}
+use mathlib.Core.Path.{_≡_, refl, ap, _∙_}
 use mathlib.Core.List.{List}
-use Prim.Native.Nat.{ℕ, _+_, _-_, _<_, _≤_}
+use Prim.Native.Nat.{ℕ, _+_, _-_, _≤_}
 use native.Mathlib.Omega.{arith}
 use lib.IntN.{ℤ}
-use lib.ListN.{length, take, drop, length-drop}
+use lib.ListN.{length, drop, length-drop}
 use Rattle.words.proofs.Parts.{tail-of}
 use Rattle.aspif.proofs.Cursors.{AtRule}
 use Rattle.loops.proofs.Filling.{Entering, entering-none, entering-all, entering-more, at-hand, fits, after-length}
@@ -14,7 +14,8 @@ use Rattle.loops.proofs.relevance.fill.Statement.{statement}
 use Rattle.loops.proofs.relevance.fill.Tie as tie
 
 abbrev Inv-loop : tie.InvT-loop
-Inv-loop table rules relevant₀ at₀ left₀ i₀ relevant at left i = Entering table rules relevant at left i × (length relevant ≡ length relevant₀)
+Inv-loop table rules relevant₀ at₀ left₀ i₀ relevant at left i =
+    Entering table rules relevant at left i × (length relevant ≡ length relevant₀)
 
 abbrev μ-loop : tie.MeasureT-loop
 μ-loop table rules relevant₀ at₀ left₀ i₀ relevant at left i = left
@@ -63,7 +64,8 @@ part-fill-rule-start c = omega (arith, room (c .before))
 fill-rule-requires : tie.Need-fill-rule-requires Inv-loop μ-loop
 fill-rule-requires c κs =
     let d = c .before .before in
-    (rw (tail-of (i d) (t d)) (rule d .sound), rw (tail-of (at d) (relevant d)) (omega (arith, room d, length-drop (at d) (relevant d))))
+    let twelve : 12 ≤ length (drop (at d) (relevant d)) = omega (arith, room d, length-drop (at d) (relevant d)) in
+    (rw (tail-of (i d) (t d)) (rule d .sound), rw (tail-of (at d) (relevant d)) twelve)
 
 add-at : tie.Need-add-at Inv-loop μ-loop
 add-at c = let h = room (c .before .before .before .before .before) in search needs

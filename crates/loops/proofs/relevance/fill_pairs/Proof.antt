@@ -4,7 +4,6 @@ use mathlib.Core.Path.{_≡_, refl, ap, _∙_}
 use mathlib.Core.Bool.{Bool, cond}
 use mathlib.Core.List.{List}
 use Prim.Native.Nat.{ℕ, _+_, _-_, _<_}
-use native.Mathlib.Omega.{arith}
 use lib.IntN.{ℤ, pos}
 use lib.ListN.{length, getD, length-set}
 use mir.Syntax.{w32}
@@ -22,7 +21,8 @@ abbrev entry : ℕ → List ℤ → Weighted → ℕ
 entry bound pairs x = cond (isRelevant bound (paired pairs) (x .literal)) 1 0
 
 abbrev Inv-loop : tie.InvT-loop
-Inv-loop pairs bound entries₀ n₀ i₀ entries n i = Filled (entry bound pairs) pairs entries n i × (length entries ≡ length entries₀)
+Inv-loop pairs bound entries₀ n₀ i₀ entries n i =
+    Filled (entry bound pairs) pairs entries n i × (length entries ≡ length entries₀)
 
 abbrev μ-loop : tie.MeasureT-loop
 μ-loop pairs bound entries₀ n₀ i₀ entries n i = length pairs - i
@@ -68,7 +68,8 @@ loop-again c =
     let d = c .before .before in
     let l = d .before .before .before .loop in
     let e = rw (literal d) at (c .before .is-relevant .ensures) in
-    (filled-more _ _ (filled d) (in-loop d) (c .one-if .ensures ∙ ap (λ (t : Bool). cond t 1 0) e), length-set (l .entries) (l .n) _ ∙ l .inv .1)
+    let more = filled-more _ _ (filled d) (in-loop d) (c .one-if .ensures ∙ ap (λ (t : Bool). cond t 1 0) e) in
+    (more, length-set (l .entries) (l .n) _ ∙ l .inv .1)
 
 same-length : tie.Need-same-length Inv-loop μ-loop
 same-length c = c .before .loop .inv .1

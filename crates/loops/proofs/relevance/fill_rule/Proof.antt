@@ -1,12 +1,8 @@
 -- `relevance::fill_rule` meets its contract.
 -- Assumes nothing.
-use mathlib.Core.Path.{_≡_, sym, ap, _∙_}
-use mathlib.Core.List.{List}
-use Prim.Native.Nat.{_≤_}
+use mathlib.Core.Path.{sym, ap, _∙_}
 use native.Mathlib.Omega.{arith}
-use lib.IntN.{ℤ}
 use lib.ListN.{length}
-use Rattle.aspif.specs.Tables.{isWeighted}
 use Rattle.aspif.proofs.Cursors.{shape-of}
 use Rattle.aspif.proofs.SoundWeights.{weighing}
 use Rattle.loops.proofs.Filling.{weights-of, plain-entries}

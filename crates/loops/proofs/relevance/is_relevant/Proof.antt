@@ -48,4 +48,12 @@ returns c =
     ∙ sym (relevant-by-sums b (all d) _ (s d .pre .0) (s d .pre .2))
 
 pub is-relevant-spec : {M : Type 1} → statement M
-is-relevant-spec = tie.close (tie.spec (λ c κs. search needs) (λ c κs. search needs) sub-left (λ c κs. search needs) has-sum-requires returns)
+is-relevant-spec =
+    tie.close
+    (tie.spec
+    (λ c κs. search needs)
+    (λ c κs. search needs)
+    sub-left
+    (λ c κs. search needs)
+    has-sum-requires
+    returns)
