@@ -1,7 +1,7 @@
 -- The edges of a rule as written are those of its plain rules, and of a weight body those of its relevant literals.
 -- Assumes nothing.
 use mathlib.Core.Path.{_≡_, refl, sym, _∙_, ap, fun-ext}
-use mathlib.Core.Bool.{Bool, true, false, cond, _&&_, or-false}
+use mathlib.Core.Bool.{Bool, true, false, cond, _&&_, or-false, true≢false}
 use mathlib.Core.List.{List, [], _∷_, map, nil≢cons, head-eq-of-cons-eq, tail-eq-of-cons-eq, Memᴰ·of-map}
 use Prim.Native.Nat.{ℕ, suc, _<_, _≤_}
 use native.Mathlib.Omega.{arith}
@@ -11,18 +11,18 @@ use lib.ListN.{length, getD, take, drop}
 use Rattle.words.specs.Limits.{mostNumbers}
 use Rattle.words.specs.Lists.{_∈_, any}
 use Rattle.words.specs.Literals.{same, has}
-use Rattle.words.proofs.Lists.{Decides, itself, same-test, and-decides, any-decides, eqb-decides}
+use Rattle.words.proofs.Lists.{Decides, itself, same-test, and-decides, any-decides, eqb-decides, and-left, and-right}
 use Rattle.words.proofs.Literals.{same-decides, has-decides}
 use Rattle.weights.specs.Weights.{Weighted, literals, bodies, paired, mostWeighted}
 use Rattle.weights.proofs.Sublists.{in-whole}
 use Rattle.weights.proofs.Minimal.{body→}
-use Rattle.aspif.specs.Rules.{Rule, weights, InputRule, bodiesOf, withBody, expand}
+use Rattle.aspif.specs.Rules.{Rule, Body, plain, weights, InputRule, isPlainBody, isPlain, allPlain, bodiesOf, withBody, expand}
 use Rattle.aspif.specs.Tables.{isWeighted, boundAt, headsAt, bodyWordsAt, bodyAt, ruleAt}
 use Rattle.aspif.proofs.Expansion.{Expanded, expand→, expand←}
 use Rattle.derivation.specs.Loops.{isEdge}
-use Rattle.loops.specs.Relevance.{isRelevant, RelevantPairs, Relevant}
+use Rattle.loops.specs.Relevance.{isRelevant, RelevantPairs, RelevantRule, Relevant}
 use Rattle.loops.specs.Edges.{placeBy, Placed, isAt, edgeAt, More, anyMarked, ruleEdge, Edges}
-use Rattle.loops.proofs.Filling.{more-same}
+use Rattle.loops.proofs.EdgeMarks.{more-same}
 
 -- Rules as written
 
@@ -129,8 +129,21 @@ module _ (places : List ℕ) (ws : List ℤ) {e after : List ℕ} {body heads : 
       → RelevantPairs relevant (bodyAt ws) → More (λ i j. ruleEdge places i j (ruleAt ws)) e after
   weight-more relevant M t r = more-same M (λ i j. rw (b, h, weight-edge (isAt places i) relevant ws t r) refl)
 
+-- What is known of the entries
+
 -- one rule more
 pub relevant-on : (m : List ℕ) (r : InputRule) (ws : List InputRule) → Relevant m (r ∷ ws)
-    → (0 < length (r .heads) → RelevantPairs m (r .body)) × Relevant (drop mostWeighted m) ws
+    → RelevantRule m r × Relevant (drop mostWeighted m) ws
 unfolding Relevant
 relevant-on m r ws R = R
+
+-- no entries are read where there is no weight body
+pub relevant-plain : (m : List ℕ) (ws : List InputRule) → allPlain ws ≡ true → Relevant m ws
+unfolding Relevant
+relevant-plain m [] e = tt
+relevant-plain m (r ∷ ws) e =
+    (λ h. plain-pairs (r .body) (and-left (isPlain r) _ e), relevant-plain (drop mostWeighted m) ws (and-right (isPlain r) _ e))
+  where
+    plain-pairs : (b : Body) → isPlainBody b ≡ true → RelevantPairs m b
+    plain-pairs (plain ls) p = tt
+    plain-pairs (weights n l) p = absurd (true≢false (sym p))

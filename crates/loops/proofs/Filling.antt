@@ -1,126 +1,149 @@
--- The edges between places, marked one after another: what is marked and what is left make the whole.
+-- Entries for each pair of a weight body, and for each rule of a table: what one more makes of those that are there.
 -- Assumes nothing.
-use mathlib.Core.Path.{_≡_, refl, sym, _∙_, ap}
-use mathlib.Core.Bool.{Bool, true, false, _&&_, _||_, or-assoc, or-comm, or-false}
-use mathlib.Core.List.{List}
-use Prim.Native.Nat.{ℕ, suc, _+_, _*_, _-_, _≤_, _<_}
+use mathlib.Core.Path.{_≡_, refl, sym, ap, _∙_}
+use mathlib.Core.Bool.{Bool, true, false}
+use mathlib.Core.List.{List, [], _∷_, _++_, map, append-nil, append-assoc, List·Memᴰ·head, List·Memᴰ·tail}
+use Prim.Native.Nat.{ℕ, _+_, _*_, _-_, _<_, _≤_}
 use native.Mathlib.Omega.{arith}
 use native.Mathlib.Numerals.{add-one}
-use borrow.Author.Tests.{ne-eqb}
-use lib.Dec.{eqb}
 use lib.IntN.{ℤ, pos}
-use lib.ListN.{length, getD, drop, set, replicate, length-set, length-replicate}
-use lib.Seq.{drop-cons}
-use Rattle.words.specs.Limits.{mostNumbers}
-use Rattle.words.specs.Lists.{any}
-use Rattle.words.proofs.Lists.{same-test, and-decides, eqb-decides}
-use Rattle.weights.specs.Weights.{paired}
-use Rattle.weights.proofs.Matching.{pair-on}
-use Rattle.aspif.specs.Rules.{InputRule}
-use Rattle.marks.specs.Marks.{marked}
-use Rattle.marks.proofs.Sets.{marked-set, none-marked}
-use Rattle.loops.specs.Edges.{cells, edgeAt, More, anyMarked, ruleEdge, Edges}
+use lib.ListN.{length, take, drop, getD, set, length-set, length-map}
+use lib.Seq.{length-take-le, take-suc-set, take-take, drop-drop, drop-at}
+use borrow.Rule.Slice.PartMut.{putMid, midOf}
+use Rattle.words.specs.Lists.{_∈_}
+use Rattle.words.specs.Literals.{variable}
+use Rattle.words.proofs.Parts.{put-tail, mid-front, before-put, length-put}
+use Rattle.weights.specs.Weights.{Weighted, paired, mostWeighted}
+use Rattle.weights.proofs.Matching.{pair-on, pair-none}
+use Rattle.aspif.specs.Rules.{weights}
+use Rattle.aspif.specs.Tables.{isWeighted, sizeAt, bodyWordsAt, boundAt, bodyAt, ruleAt, soundAt, rulesAt, soundRules}
+use Rattle.aspif.proofs.Cursors.{Cursor, AtRule, at-rule, no-rules}
+use Rattle.aspif.proofs.SoundWeights.{weighing}
+use Rattle.loops.specs.Relevance.{RelevantPairs, RelevantRule, Relevant}
 
-pub record Filling (e : List ℕ) (left whole : ℕ → ℕ → Bool) : Type 0 where
-  pub long : length e ≡ cells
-  pub has : (i j : ℕ) → i < mostNumbers → j < mostNumbers → (edgeAt e i j || left i j) ≡ whole i j
+-- The loop of `fill_pairs`: n entries are made, of the pairs before word i
 
-pub filling-start : (e : List ℕ) (left : ℕ → ℕ → Bool) → length e ≡ cells → Filling e left (λ i j. edgeAt e i j || left i j)
-filling-start e left h = record { long = h; has = λ i j g k. refl }
+module _ (g : Weighted → ℕ) (pairs : List ℤ) where
+  pub record Filled (entries : List ℕ) (n i : ℕ) : Type 0 where
+    pub within : i ≤ length pairs
+    pub room : n + length (paired (drop i pairs)) ≤ length entries
+    pub are : take n entries ++ map g (paired (drop i pairs)) ≡ map g (paired pairs)
+    pub of : (x : Weighted) → x ∈ paired (drop i pairs) → x ∈ paired pairs
 
-pub filling-none : (left : ℕ → ℕ → Bool) → Filling (replicate cells 0) left left
-filling-none left = record {
-  long = length-replicate {A = ℕ} cells 0;
-  has = λ i j g k. rw (none-marked cells (i * mostNumbers + j)) refl;
-}
+  pub filled-none : {entries : List ℕ} → length (paired pairs) ≤ length entries → Filled entries 0 0
+  filled-none h = record { within = omega arith; room = omega arith; are = refl; of = λ x i. i }
 
-pub filling-on : {e after : List ℕ} {left whole f rest : ℕ → ℕ → Bool} → Filling e left whole → More f e after
-    → ((i j : ℕ) → left i j ≡ (f i j || rest i j)) → Filling after rest whole
-filling-on {e} {after} {left} {whole} {f} {rest} F M split = record {
-  long = M .long;
-  has = λ i j g k. rw (M .has i j g k, or-assoc (edgeAt e i j) (f i j) (rest i j), ← split i j) (F .has i j g k);
-}
+  module _ {entries : List ℕ} {n i : ℕ} (f : Filled entries n i) where
+    pub filled-all : length pairs ≤ i + 1 → take (length (paired pairs)) entries ≡ map g (paired pairs)
+    filled-all h =
+        let e : take n entries ≡ map g (paired pairs) = rw (pair-none pairs i h, append-nil) at (f .are) in
+        let k : length (take n entries) ≡ n = length-take-le n entries (omega (arith, f .room)) in
+        let c : length (paired pairs) ≡ n = sym (length-map (paired pairs) g) ∙ sym (ap length e) ∙ k in
+        rw c e
 
--- nothing is left
-module _ {e : List ℕ} {left whole : ℕ → ℕ → Bool} (F : Filling e left whole) (none : (i j : ℕ) → left i j ≡ false) where
-  whole-is : (i j : ℕ) → i < mostNumbers → j < mostNumbers → edgeAt e i j ≡ whole i j
-  whole-is i j g k =
-      sym (or-false (edgeAt e i j)) ∙ ap (λ (b : Bool). edgeAt e i j || b) (sym (none i j)) ∙ F .has i j g k
+    module _ (h : i + 1 < length pairs) where
+      abbrev x : Weighted
+      x = record { literal = getD pairs i (pos 0); weight = variable (getD pairs (i + 1) (pos 0)) }
 
-pub filling-end : {e before : List ℕ} {left f : ℕ → ℕ → Bool} → Filling e left (λ i j. edgeAt before i j || f i j)
-    → ((i j : ℕ) → left i j ≡ false) → More f before e
-filling-end F none = record { long = F .long; has = whole-is F none }
+      pub filled-room : n < length entries
+      filled-room = omega (arith, f .room, ap length (pair-on pairs i h))
 
-pub filled : {e m : List ℕ} {ws : List InputRule} {left : ℕ → ℕ → Bool} → Filling e left (λ i j. any (ruleEdge m i j) ws)
-    → ((i j : ℕ) → left i j ≡ false) → Edges m ws e
-filled F none = record { long = F .long; has = whole-is F none }
+      pub filled-in : x ∈ paired pairs
+      filled-in = f .of x (rw (pair-on pairs i h) (List·Memᴰ·head refl))
 
--- nothing more
-pub more-none : (e : List ℕ) (f : ℕ → ℕ → Bool) → length e ≡ cells → ((i j : ℕ) → f i j ≡ false) → More f e e
-more-none e f h none = filling-end (filling-start e f h) none
+      pub filled-more : {v : ℕ} → v ≡ g x → Filled (set entries n v) (n + 1) (i + 2)
+      filled-more {v} e = record {
+        within = omega arith;
+        room = omega (arith, f .room, ap length (pair-on pairs i h), length-set entries n v);
+        are = rw (add-one n, take-suc-set entries n v filled-room, e)
+            (append-assoc (take n entries) (g x ∷ []) (map g (paired (drop (i + 2) pairs)))
+            ∙ ap (λ (l : List Weighted). take n entries ++ map g l) (sym (pair-on pairs i h)) ∙ f .are);
+        of = λ y j. f .of y (rw (pair-on pairs i h) (List·Memᴰ·tail j));
+      }
 
--- the same, in other words
-pub more-same : {e after : List ℕ} {f g : ℕ → ℕ → Bool} → More f e after → ((i j : ℕ) → f i j ≡ g i j) → More g e after
-more-same {e} M same = record {
-  long = M .long;
-  has = λ i j h k. M .has i j h k ∙ ap (λ (b : Bool). edgeAt e i j || b) (same i j);
-}
+-- A rule with a weight body
 
--- no place is 0, as they are counted from 1
-pub no-place : {a : ℕ} (i : ℕ) → a ≤ 0 → eqb a (suc i) ≡ false
-no-place {a} i h = ne-eqb a (suc i) (λ e. omega (arith, e))
+pub weights-of : (ws : List ℤ) → isWeighted ws ≡ true → bodyAt ws ≡ weights (boundAt ws) (paired (bodyWordsAt ws))
+unfolding bodyAt
+weights-of ws e = rw e
 
-module _ (a b : ℕ) (h₁ : 1 ≤ a) (h₂ : a ≤ mostNumbers) (h₃ : 1 ≤ b) (h₄ : b ≤ mostNumbers) where
-  abbrev cell : ℕ
-  cell = (a - 1) * mostNumbers + (b - 1)
+-- nothing is said of a plain body
+pub plain-entries : (ws : List ℤ) (m : List ℕ) → isWeighted ws ≡ false → RelevantPairs m (bodyAt ws)
+unfolding bodyAt
+plain-entries ws m e = rw e tt
 
-  cell-is : (i j : ℕ) → j < mostNumbers → eqb (i * mostNumbers + j) cell ≡ (eqb a (suc i) && eqb b (suc j))
-  cell-is i j k =
-      same-test (eqb-decides (i * mostNumbers + j) cell) (and-decides (eqb-decides a (suc i)) (eqb-decides b (suc j)))
-      (λ e. (omega (arith, e), omega (arith, e)))
-      (λ p. omega (arith, p .0, p .1))
+-- twelve entries are all that is read
+entries-as : (ws : List ℤ) → soundAt ws ≡ true → (m m′ : List ℕ) → take mostWeighted m ≡ take mostWeighted m′
+    → RelevantPairs m (bodyAt ws) → RelevantPairs m′ (bodyAt ws)
+entries-as ws s m m′ e r = by (isWeighted ws) refl
+  where
+    by : (t : Bool) → isWeighted ws ≡ t → RelevantPairs m′ (bodyAt ws)
+    by true p =
+        let few = weighing ws s p .few in
+        let n = length (paired (bodyWordsAt ws)) in
+        let same : take n m′ ≡ take n m =
+        sym (take-take n mostWeighted m′ few) ∙ ap (take n) (sym e) ∙ take-take n mostWeighted m few in
+        rw (weights-of ws p) (same ∙ (rw (weights-of ws p) at r))
+    by false p = plain-entries ws m′ p
 
-  -- one more
-  pub more-one : (e after : List ℕ) → length e ≡ cells → after ≡ set e cell 1
-      → More (λ i j. eqb a (suc i) && eqb b (suc j)) e after
-  more-one e after l q = record {
-    long = ap length q ∙ length-set e cell 1 ∙ l;
-    has = λ i j g k.
-        rw (q, marked-set e cell (i * mostNumbers + j) (omega arith), cell-is i j k)
-        (or-comm (eqb a (suc i) && eqb b (suc j)) (edgeAt e i j));
-  }
+-- a lent tail that is back is what was put
+drop-tail : (a : ℕ) (xs ys : List ℕ) → a ≤ length xs → length ys ≡ length xs - a → drop a (putMid a (length xs - a) xs ys) ≡ ys
+drop-tail a xs ys h n = rw (put-tail a xs ys h) (drop-at (take a xs) ys a (length-take-le a xs h))
 
--- One element off what is left
+-- The loop of `fill`: the entries before place `at` are made, of the rules before word i, and right whatever stands behind them
 
-and-or : (p x r : Bool) → (p && (x || r)) ≡ ((p && x) || (p && r))
-and-or true x r = refl
-and-or false x r = refl
+pub record Entering (table : List ℤ) (rules : ℕ) (relevant : List ℕ) (at left i : ℕ) : Type 0 where
+  pub cursor : Cursor table left i
+  pub room : at + mostWeighted * left ≤ length relevant
+  pub done : (m : List ℕ) → take at m ≡ take at relevant → Relevant (drop at m) (rulesAt left (drop i table))
+      → Relevant m (rulesAt rules table)
 
-or-and : (x r p : Bool) → ((x || r) && p) ≡ ((x && p) || (r && p))
-or-and true true true = refl
-or-and true true false = refl
-or-and true false true = refl
-or-and true false false = refl
-or-and false r p = refl
+module _ {table : List ℤ} {rules : ℕ} where
+  pub entering-none : {relevant : List ℕ} → soundRules rules table ≡ true → mostWeighted * rules ≤ length relevant
+      → Entering table rules relevant 0 rules 0
+  entering-none s h = record { cursor = record { within = omega arith; sound = s }; room = omega arith; done = λ m e r. r }
 
-module _ (f : ℤ → Bool) (l : List ℤ) (k : ℕ) (h : k < length l) where
-  split-any : any f (drop k l) ≡ (f (getD l k (pos 0)) || any f (drop (k + 1) l))
-  split-any = rw (drop-cons l k (pos 0) h, add-one) refl
+  module _ {relevant : List ℕ} {at left i : ℕ} (f : Entering table rules relevant at left i) where
+    pub entering-all : left ≤ 0 → Relevant relevant (rulesAt rules table)
+    unfolding Relevant
+    entering-all h = f .done relevant refl (rw (no-rules left (drop i table) h) tt)
 
-  pub heads-split : (p : Bool) → (p && any f (drop k l)) ≡ ((p && f (getD l k (pos 0))) || (p && any f (drop (k + 1) l)))
-  heads-split p = ap (λ (b : Bool). p && b) split-any ∙ and-or p (f (getD l k (pos 0))) (any f (drop (k + 1) l))
+    module _ (h : 0 < left) where
+      pub at-hand : AtRule table left i
+      at-hand = at-rule h (f .cursor)
 
-  pub body-split : (p : Bool) → (any f (drop k l) && p) ≡ ((f (getD l k (pos 0)) && p) || (any f (drop (k + 1) l) && p))
-  body-split p = ap (λ (b : Bool). b && p) split-any ∙ or-and (f (getD l k (pos 0))) (any f (drop (k + 1) l)) p
+      pub fits : at + mostWeighted ≤ length relevant
+      fits = omega (arith, f .room)
 
--- one pair
-module _ (f : ℤ → Bool) (m : List ℕ) (k : ℕ) (ws : List ℤ) (i : ℕ) (h : i + 1 < length ws) where
-  split-pair : anyMarked f m k (paired (drop i ws))
-      ≡ ((marked m k && f (getD ws i (pos 0))) || anyMarked f m (k + 1) (paired (drop (i + 2) ws)))
-  split-pair = rw (pair-on ws i h, add-one) refl
+      abbrev after : List ℕ → List ℕ
+      after ys = putMid at (length relevant - at) relevant ys
 
-  pub pair-split : (p : Bool) → (anyMarked f m k (paired (drop i ws)) && p)
-      ≡ (((marked m k && f (getD ws i (pos 0))) && p) || (anyMarked f m (k + 1) (paired (drop (i + 2) ws)) && p))
-  pair-split p =
-      ap (λ (b : Bool). b && p) split-pair
-      ∙ or-and (marked m k && f (getD ws i (pos 0))) (anyMarked f m (k + 1) (paired (drop (i + 2) ws))) p
+      pub after-length : (ys : List ℕ) → length ys ≡ length relevant - at → length (after ys) ≡ length relevant
+      after-length ys n = length-put at (length relevant - at) relevant ys (omega (arith, fits)) n
+
+      -- the entries of one more rule, at the front of what was lent
+      pub entering-more : (ys : List ℕ) → length ys ≡ length relevant - at → RelevantRule ys (ruleAt (drop i table))
+          → Entering table rules (after ys) (at + mostWeighted) (left - 1) (i + sizeAt (drop i table))
+      unfolding Relevant
+      entering-more ys n r = record {
+        cursor = at-hand .next;
+        room = omega (arith, f .room, after-length ys n);
+        done = λ m e q. f .done m (first m e) (rw (at-hand .rules) (λ k. rule m e (r k), rw (drop-drop mostWeighted at m) q));
+      }
+        where
+          first : (m : List ℕ) → take (at + mostWeighted) m ≡ take (at + mostWeighted) (after ys) → take at m ≡ take at relevant
+          first m e =
+              sym (take-take at (at + mostWeighted) m (omega arith)) ∙ ap (take at) e
+              ∙ take-take at (at + mostWeighted) (after ys) (omega arith)
+              ∙ before-put at (length relevant - at) relevant ys (omega (arith, fits)) n at (omega arith)
+
+          twelve : (m : List ℕ) → take (at + mostWeighted) m ≡ take (at + mostWeighted) (after ys)
+              → take mostWeighted ys ≡ take mostWeighted (drop at m)
+          twelve m e =
+              ap (take mostWeighted) (sym (drop-tail at relevant ys (omega (arith, fits)) n))
+              ∙ sym (mid-front at mostWeighted (at + mostWeighted) (after ys) (omega arith))
+              ∙ ap (midOf at mostWeighted) (sym e) ∙ mid-front at mostWeighted (at + mostWeighted) m (omega arith)
+
+          rule : (m : List ℕ) → take (at + mostWeighted) m ≡ take (at + mostWeighted) (after ys)
+              → RelevantPairs ys (bodyAt (drop i table)) → RelevantPairs (drop at m) (bodyAt (drop i table))
+          rule m e = entries-as (drop i table) (at-hand .sound) ys (drop at m) (twelve m e)

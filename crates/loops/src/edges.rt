@@ -7,8 +7,8 @@ ghost use lib.ListN.{length, getD, drop};
 ghost use Rattle.words.specs.Limits.{mostNumbers};
 ghost use Rattle.words.specs.Lists.{any};
 ghost use Rattle.weights.specs.Weights.{paired, mostWeighted};
-ghost use Rattle.aspif.specs.Tables.{headsAt, bodyAt, ruleAt, shapeSound, rulesAt, soundRules};
-ghost use Rattle.loops.specs.Relevance.{RelevantPairs, Relevant};
+ghost use Rattle.aspif.specs.Tables.{ruleAt, shapeSound, rulesAt, soundRules};
+ghost use Rattle.loops.specs.Relevance.{RelevantRule, Relevant};
 ghost use Rattle.loops.specs.Edges.{Members, placeBy, Placed, Low, isAt, cells, More, anyMarked, ruleEdge, Edges};
 use aspif::tables;
 use weights::MOST_WEIGHTED;
@@ -157,8 +157,7 @@ fn any_placed(literals: &[i32], places: &[u8]) -> bool
 
 // The edges of the rule at the front; `relevant` has the entries of its pairs.
 fn mark_rule(words: &[i32], relevant: &[u8], places: &[u8], edges: &mut [u8])
-    requires rule { ⌜ (shapeSound (now words) ≡ true)
-        × (0 < length (headsAt (now words)) → RelevantPairs (now relevant) (bodyAt (now words))) ⌝ }
+    requires rule { ⌜ (shapeSound (now words) ≡ true) × RelevantRule (now relevant) (ruleAt (now words)) ⌝ }
     requires sizes { ⌜ (length (now edges) ≡ cells) × Low (now places) ⌝ }
     ensures { λ _. ⌜ More (λ i j. ruleEdge (now (places .entry)) i j (ruleAt (now (words .entry))))
         (now (edges .entry)) (now (edges .exit)) ⌝ }

@@ -8,7 +8,7 @@ use Rattle.words.specs.Lists.{any}
 use Rattle.words.proofs.Laws.{any-on, any-none}
 use Rattle.words.proofs.Words.{back}
 use Rattle.loops.specs.Edges.{placeBy, isAt}
-use Rattle.loops.proofs.Filling.{no-place}
+use Rattle.loops.proofs.EdgeMarks.{no-place}
 use borrow.Author.Needs.{needs}
 use Rattle.loops.proofs.edges.any_placed.Statement.{statement}
 use Rattle.loops.proofs.edges.any_placed.Tie as tie

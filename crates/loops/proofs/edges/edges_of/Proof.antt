@@ -1,17 +1,17 @@
 use mathlib.Core.Path.{refl, sym}
 use mathlib.Core.List.{List}
-use Prim.Native.Nat.{ℕ, _+_, _-_, _≤_, _<_}
+use Prim.Native.Nat.{ℕ, _+_, _-_, _≤_}
 use native.Mathlib.Omega.{arith}
 use lib.IntN.{ℤ}
 use lib.ListN.{length, drop}
 use Rattle.words.specs.Lists.{any}
 use Rattle.words.proofs.Parts.{tail-of}
 use Rattle.weights.specs.Weights.{mostWeighted}
-use Rattle.aspif.specs.Tables.{sizeAt, headsAt, bodyAt, ruleAt, rulesAt}
+use Rattle.aspif.specs.Tables.{sizeAt, ruleAt, rulesAt}
 use Rattle.aspif.proofs.Cursors.{Cursor, AtRule, at-rule, no-rules}
-use Rattle.loops.specs.Relevance.{RelevantPairs, Relevant}
+use Rattle.loops.specs.Relevance.{RelevantRule, Relevant}
 use Rattle.loops.specs.Edges.{ruleEdge}
-use Rattle.loops.proofs.Filling.{Filling, filling-none, filling-on, filled}
+use Rattle.loops.proofs.EdgeMarks.{Filling, filling-none, filling-on, filled}
 use Rattle.loops.proofs.Expanded.{relevant-on}
 use borrow.Author.Needs.{needs}
 use Rattle.loops.proofs.edges.edges_of.Statement.{statement}
@@ -46,8 +46,8 @@ module _ (c : tie.In-loop Inv-loop μ-loop) where
   here : AtRule t (c .before .loop .left) i
   here = at-rule (c .loop-test .taken) (c .before .loop .inv .0)
 
-  relevant : (0 < length (headsAt (drop i t)) → RelevantPairs m (bodyAt (drop i t)))
-      × Relevant (drop mostWeighted m) (rulesAt (c .before .loop .left - 1) (drop (i + sizeAt (drop i t)) t))
+  relevant : RelevantRule m (ruleAt (drop i t)) × Relevant (drop mostWeighted m)
+      (rulesAt (c .before .loop .left - 1) (drop (i + sizeAt (drop i t)) t))
   relevant = relevant-on m (ruleAt (drop i t)) _ (rw (here .rules) at (c .before .loop .inv .2))
 
 loop-holds : tie.Need-loop-holds Inv-loop μ-loop

@@ -1,7 +1,7 @@
 use mathlib.Core.Bool.{and-false}
 use Prim.Native.Nat.{suc}
 use lib.Dec.{eqb}
-use Rattle.loops.proofs.Filling.{more-one, more-none, no-place}
+use Rattle.loops.proofs.EdgeMarks.{more-one, more-none, no-place}
 use borrow.Author.Needs.{needs}
 use Rattle.loops.proofs.edges.mark_edge.Statement.{statement}
 use Rattle.loops.proofs.edges.mark_edge.Tie as tie

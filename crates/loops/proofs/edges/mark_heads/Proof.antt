@@ -9,7 +9,7 @@ use Rattle.words.specs.Lists.{any}
 use Rattle.words.proofs.Laws.{any-none}
 use Rattle.words.proofs.Words.{back}
 use Rattle.loops.specs.Edges.{isAt, edgeAt}
-use Rattle.loops.proofs.Filling.{Filling, filling-start, filling-on, filling-end, heads-split}
+use Rattle.loops.proofs.EdgeMarks.{Filling, filling-start, filling-on, filling-end, heads-split}
 use borrow.Author.Needs.{needs}
 use Rattle.loops.proofs.edges.mark_heads.Statement.{statement}
 use Rattle.loops.proofs.edges.mark_heads.Tie as tie

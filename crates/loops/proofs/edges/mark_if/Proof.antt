@@ -1,6 +1,6 @@
 use mathlib.Core.Path.{refl}
 use mir.Facts.{toZ-ofZ}
-use Rattle.loops.proofs.Filling.{more-none}
+use Rattle.loops.proofs.EdgeMarks.{more-none}
 use borrow.Author.Needs.{needs}
 use Rattle.loops.proofs.edges.mark_if.Statement.{statement}
 use Rattle.loops.proofs.edges.mark_if.Tie as tie

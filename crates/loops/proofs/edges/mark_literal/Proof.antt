@@ -3,7 +3,7 @@ use Prim.Native.Nat.{_≤_}
 use native.Mathlib.Omega.{arith}
 use mir.Facts.{toZ-ofZ}
 use Rattle.loops.specs.Edges.{placeBy}
-use Rattle.loops.proofs.Filling.{more-none, no-place}
+use Rattle.loops.proofs.EdgeMarks.{more-none, no-place}
 use borrow.Author.Needs.{needs}
 use Rattle.loops.proofs.edges.mark_literal.Statement.{statement}
 use Rattle.loops.proofs.edges.mark_literal.Tie as tie

@@ -9,7 +9,7 @@ use Rattle.words.proofs.Words.{back}
 use Rattle.weights.specs.Weights.{paired}
 use Rattle.weights.proofs.Matching.{pair-none}
 use Rattle.loops.specs.Edges.{isAt, edgeAt, anyMarked}
-use Rattle.loops.proofs.Filling.{Filling, filling-start, filling-on, filling-end, pair-split}
+use Rattle.loops.proofs.EdgeMarks.{Filling, filling-start, filling-on, filling-end, pair-split}
 use borrow.Author.Needs.{needs}
 use Rattle.loops.proofs.edges.mark_pairs.Statement.{statement}
 use Rattle.loops.proofs.edges.mark_pairs.Tie as tie

@@ -6,7 +6,7 @@ use Rattle.aspif.specs.Rules.{bodiesOf}
 use Rattle.aspif.specs.Tables.{isWeighted, bodyAt}
 use Rattle.loops.specs.Relevance.{RelevantPairs}
 use Rattle.loops.specs.Edges.{isAt}
-use Rattle.loops.proofs.Filling.{more-none}
+use Rattle.loops.proofs.EdgeMarks.{more-none}
 use Rattle.loops.proofs.Expanded.{plain-more, weight-more}
 use borrow.Author.Needs.{needs}
 use Rattle.loops.proofs.edges.mark_rule.Statement.{statement}
