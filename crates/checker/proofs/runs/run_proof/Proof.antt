@@ -1,58 +1,36 @@
+use mathlib.Core.Path.{_≡_, sym, _∙_}
+use mathlib.Core.Bool.{true, true≢false}
+use Rattle.aspif.specs.Rules.{allPlain}
+use Rattle.aspif.specs.Tables.{rulesAt}
+use Rattle.loops.proofs.Expanded.{relevant-plain}
 use borrow.Author.Needs.{needs}
 use Rattle.checker.proofs.runs.run_proof.Statement.{statement}
 use Rattle.checker.proofs.runs.run_proof.Tie as tie
-use Rattle.checker.proofs.runs.run_proof.Reads as reads
-use Rattle.checker.proofs.runs.run_proof.Lts as lts
-use Rattle.aspif.proofs.tables.all_plain.Reads as all-plain-reads
-use Rattle.checker.proofs.runs.run_lines.Reads as run-lines-reads
-use Rattle.checker.proofs.runs.run_weighted.Reads as run-weighted-reads
 
--- src/runs.rt:183:8
 all-plain-requires : tie.Need-all-plain-requires
-all-plain-requires c κs = search needs
+all-plain-requires c κs = c .before .pre .0 .0 .1 .holds .sound
 
--- src/runs.rt:185:47
-slice-aggregate-run-lines : tie.Need-slice-aggregate-run-lines
-slice-aggregate-run-lines c = search needs
+-- no rule has a weight body
+plain : (c : tie.Then1) → (let a = c .before .before .before .args in allPlain (rulesAt (a .rules) (a .table .now)) ≡ true)
+plain c = sym (c .before .all-plain .ensures) ∙ c .if1 .taken
 
--- src/runs.rt:185:60
-slice-aggregate-run-lines-2 : tie.Need-slice-aggregate-run-lines-2
-slice-aggregate-run-lines-2 c = search needs
-
--- src/runs.rt:185:9
+-- so neither relevant literals nor records are asked for
 run-lines-requires : tie.Need-run-lines-requires
-run-lines-requires c κs = ?
-
--- src/runs.rt:185:9
-same-length : tie.Need-same-length
-same-length c = search needs
-
--- src/runs.rt:185:9
-returns : tie.Need-returns
-returns c = search needs
-
--- src/runs.rt:187:5
-run-weighted-requires : tie.Need-run-weighted-requires
-run-weighted-requires c κs = search needs
-
--- src/runs.rt:176:1
-same-length-2 : tie.Need-same-length-2
-same-length-2 c = search needs
-
--- src/runs.rt:176:1
-returns-2 : tie.Need-returns-2
-returns-2 c = search needs
+run-lines-requires c κs =
+    let d = c .before .before .before in
+    let p = d .before .before .before .pre in
+    (p .0, (relevant-plain _ _ (plain d), (λ w. absurd (true≢false (sym (plain d) ∙ w)), (p .1 .0, p .1 .1))))
 
 pub run-proof-spec : {M : Type 1} → statement M
 run-proof-spec =
     tie.close
     (tie.spec
     all-plain-requires
-    slice-aggregate-run-lines
-    slice-aggregate-run-lines-2
+    (λ c. search needs)
+    (λ c. search needs)
     run-lines-requires
-    same-length
-    returns
-    run-weighted-requires
-    same-length-2
-    returns-2)
+    (λ c. search needs)
+    (λ c. c .before .before .run-lines .ensures)
+    (λ c κs. search needs)
+    (λ c. search needs)
+    (λ c. search needs))
