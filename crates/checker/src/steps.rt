@@ -49,7 +49,18 @@ pub fn step(
         Letter::Deletion => additions::deletion(known, store, used, line),
         Letter::Extension => naming::extension(known, store, used, line),
         Letter::Loop => {
-            unfounded::loops(table, rules, relevant, atoms, known, names, bodies, store, used, line)
+            unfounded::loops(
+                table,
+                rules,
+                relevant,
+                atoms,
+                known,
+                names,
+                bodies,
+                store,
+                used,
+                line,
+            )
         }
         Letter::Support => {
             supports::support(table, rules, atoms, known, names, bodies, store, used, line)
