@@ -1,6 +1,6 @@
-//! Texts that were made to be slow; they are run with `--slow` only, and once. Those with weight bodies have as many rules of one head, with
-//! twelve literals each, as the table holds beside a few plain rules that make a loop of it, and steps that go through all of them. Those
-//! without have as many edges as the table holds, and `l` lines over all of them.
+//! Texts that were made to be slow; they are run with `--slow` only, and once. Those with weight bodies have as many rules of one head,
+//! with twelve literals each, as the table holds beside a few plain rules that make a loop of it, and steps that go through all of them.
+//! Those without have as many edges as the table holds, and `l` lines over all of them.
 
 use super::completion::{bodies_of, definition_words, definitions};
 use super::Input;
@@ -20,7 +20,6 @@ pub fn inputs() -> Vec<Input> {
         shared_by_support(),
         nothing_named(),
         in_no_body(),
-        seven_in_no_body(),
         many_edges(),
         one_ring("ring-65", false),
         one_ring("ring-65-back", true),
@@ -143,24 +142,14 @@ fn nothing_named() -> Input {
     Input::of("unnamed-924", &rules(6, |_| 1), &[Line::of(b's', &[HEAD])])
 }
 
-/// The weight 2,000, ten even weights near 200, and 1, with an even bound that only sets with the first reach, by half of the others: the last
-/// stands in none, which takes long to find out. The first, the last and the head are a loop by plain rules, and no body is external.
+/// The weight 2,000, ten even weights near 200, and 1, with an even bound that only sets with the first reach, by half of the others: the
+/// last stands in none, which takes long to find out. The first, the last and the head are a loop by plain rules, and no body is external.
 fn in_no_body() -> Input {
     let (head, first, last) = (1, 2, 3);
     let pairs: Vec<(i32, i32)> = (0..10).map(|place| (4 + place, 200 + 2 * place)).chain([(first, 2_000), (last, 1)]).collect();
     let ring = vec![normal(head, &[last]), normal(first, &[head]), normal(last, &[first])];
     let rules = filled(weighted(&[head], 3_044, &pairs), ring);
     Input::of("in-no-body", &rules, &Writing::looping(&[head, first, last]).lines)
-}
-
-/// Seven times the weight 1 before five multiples of 16, and a bound that is one too: the seven stand in no body, and each takes long to find
-/// out. All atoms are a ring by plain rules.
-fn seven_in_no_body() -> Input {
-    let atoms: Vec<i32> = (1..=MOST + 1).collect();
-    let pairs: Vec<(i32, i32)> = (2..=8).map(|atom| (atom, 1)).chain((9..=13).map(|atom| (atom, 16 * (11 + atom)))).collect();
-    let ring = atoms.iter().map(|atom| normal(atom % (MOST + 1) + 1, &[*atom])).collect();
-    let rules = filled(weighted(&[1], 1_056, &pairs), ring);
-    Input::of("in-no-body-7", &rules, &Writing::looping(&atoms).lines)
 }
 
 /// Choice rules of as many heads as literals, all of them in the set.
@@ -170,8 +159,8 @@ fn many_edges() -> Input {
     Input::of("edges-60", &rules, &Writing::looping(&atoms).lines)
 }
 
-/// Rules of one head in the set and eleven literals, of which one is in it: a ring of as many atoms as a line holds, in the order of the line
-/// or against it.
+/// Rules of one head in the set and eleven literals, of which one is in it: a ring of as many atoms as a line holds, in the order of the
+/// line or against it.
 fn one_ring(name: &str, turned: bool) -> Input {
     let count = 65;
     let outside: Vec<i32> = (count + 1..=count + 10).map(|atom| if atom % 2 == 0 { atom } else { -atom }).collect();
