@@ -179,8 +179,8 @@ pub record WeightBodies : Type 0 where
 
 -- Loops (Change 5), no starred ones
 pub record LoopsOnly : Type 0 where
-  -- "A set that is no loop is refused with 56, asked right after question 31": with example 6's rules 1 alone is none. Question 32
-  -- would be answered no too, since its external body has no name.
+  -- "A set that is no loop is refused with 56, asked right after question 31": with example 6's rules 1 alone is none.
+  -- Question 32 would be answered no too, since its external body has no name.
   pub sixNoLoop : verdict program6 (lines ("l 1 0" ∷ [])) ≡ refusedProof 56 1
   -- "weight rules as expanded": with bound 2 on 1=2, 2=1 the minimal set is {1}; on 1=1, 2=2 it is {2}
   pub weightLoop : verdict (rules ("1 0 1 1 1 2 2 1 2 2 1" ∷ [])) (lines ("l 1 0" ∷ [])) ≡ undecided 2 1 1 1
