@@ -15,7 +15,7 @@ use Rattle.marks.specs.Marks.{marked}
 use Rattle.text.specs.declared.Letter.the-variants.{Loop}
 use Rattle.nogoods.specs.Keeps.{Literals}
 use Rattle.checker.specs.Held.{PassedLine, gathered}
-use Rattle.checker.proofs.Letters.{some-number, cited}
+use Rattle.checker.proofs.Letters.{some-number, first-high, cited}
 use Rattle.checker.proofs.Kept.{kept-added}
 use Rattle.checker.proofs.Gathering.{gathered-literals}
 use Rattle.checker.proofs.LoopSteps.{loop-atoms, loop-named, loop-added}
@@ -64,6 +64,11 @@ shared-slice-copy-out-gather : tie.Need-shared-slice-copy-out-gather
 shared-slice-copy-out-gather c =
     let s = c .before .before .before .before .before .before .before .before .before .before .before .before in
     some-number Loop refl (s .pre .1 .1)
+
+gather-requires : tie.Need-gather-requires
+gather-requires c κs =
+    let e = c .before .before .before .before .before .before .before .before .before in
+    ((search needs, search needs), rw (back (getD (U e) 0 (pos 0)) (c .before .before .gather-arg .given)) (first-high Loop refl (line e)))
 
 abbrev names : tie.After-gather → tie.After-names-of
 names c = c .before .before .before .before .before .before .before
@@ -117,7 +122,7 @@ loops-spec =
     shared-slice-copy-out-gather
     (λ c. search needs)
     (λ c. search needs)
-    (λ c κs. search needs)
+    gather-requires
     (λ c. search needs)
     slice-aggregate-append
     append-requires
