@@ -8,7 +8,7 @@ ghost use Rattle.words.specs.Limits.{largest, mostNumbers};
 ghost use Rattle.words.specs.Literals.{variable, complement, ascending};
 ghost use Rattle.derivation.specs.Steps.{definition};
 ghost use Rattle.nogoods.specs.Keeps.{Literals, Holds, Fits, WrittenFront};
-ghost use Rattle.nogoods.specs.Store.{nogoodWords, liveWords, recordSize};
+ghost use Rattle.nogoods.specs.Store.{Stored, recordOf, addedIn, storedWords, wordsOf, recordSize};
 ghost use Rattle.nogoods.specs.Definitions.{pair, pairSize, defined, definedSize};
 use crate::records::HEADER;
 use crate::store;
@@ -20,7 +20,7 @@ const PAIR: usize = HEADER + 2;
 // The name with a literal's complement, ascending, at the front of the free tail.
 fn write_pair(free: &mut [i32], name: i32, literal: i32)
     requires room { ⌜ (variable literal ≤ largest) × (pairSize ≤ length (now free)) ⌝ }
-    ensures { λ _. ⌜ WrittenFront (nogoodWords (pair name literal)) (now (free .entry)) (now (free .exit)) ⌝ }
+    ensures { λ _. ⌜ WrittenFront (storedWords (recordOf (pair name literal))) (now (free .entry)) (now (free .exit)) ⌝ }
 {
     let mut pair = [name, words::complement_of(literal)];
     words::sort(&mut pair);
@@ -30,7 +30,7 @@ fn write_pair(free: &mut [i32], name: i32, literal: i32)
 // The name with each literal's complement, ascending, one record after another, at the front of the free tail.
 fn write_pairs(free: &mut [i32], name: i32, literals: &[i32])
     requires room { ⌜ Literals (now literals) × (pairSize * length (now literals) ≤ length (now free)) ⌝ }
-    ensures { λ _. ⌜ WrittenFront (liveWords (map (pair name) (now (literals .entry)))) (now (free .entry)) (now (free .exit)) ⌝ }
+    ensures { λ _. ⌜ WrittenFront (wordsOf (addedIn (map (pair name) (now (literals .entry))))) (now (free .entry)) (now (free .exit)) ⌝ }
 {
     let mut at = 0;
     let mut i = 0;
@@ -46,7 +46,7 @@ fn write_first(free: &mut [i32], numbers: &[i32])
     requires numbers { ⌜ (variable (getD (now numbers) 0 (pos 0)) ≤ largest) × (1 ≤ length (now numbers)) ⌝ }
     requires room { ⌜ (length (now numbers) ≤ mostNumbers) × (recordSize (now numbers) ≤ length (now free)) ⌝ }
     ensures { λ _. ⌜ (let l = now (numbers .entry) in
-        WrittenFront (nogoodWords (ascending (complement (getD l 0 (pos 0)) ∷ drop 1 l))) (now (free .entry)) (now (free .exit))) ⌝ }
+        WrittenFront (storedWords (recordOf (ascending (complement (getD l 0 (pos 0)) ∷ drop 1 l)))) (now (free .entry)) (now (free .exit))) ⌝ }
 {
     let end = HEADER + numbers.len();
     store::write(free, numbers);
@@ -58,7 +58,7 @@ fn write_first(free: &mut [i32], numbers: &[i32])
 fn write_definition(free: &mut [i32], numbers: &mut [i32])
     requires numbers { ⌜ Literals (now numbers) × (1 ≤ length (now numbers)) × (length (now numbers) ≤ mostNumbers) ⌝ }
     requires room { ⌜ definedSize (length (now numbers)) ≤ length (now free) ⌝ }
-    ensures { λ _. ⌜ WrittenFront (liveWords (defined (now (numbers .entry)))) (now (free .entry)) (now (free .exit)) ⌝ }
+    ensures { λ _. ⌜ WrittenFront (wordsOf (addedIn (defined (now (numbers .entry))))) (now (free .entry)) (now (free .exit)) ⌝ }
 {
     let end = HEADER + numbers.len();
     let name = numbers[0];
@@ -70,10 +70,10 @@ fn write_definition(free: &mut [i32], numbers: &mut [i32])
 // The definition of a name is live, after the others. The numbers are the name and its literals; they may be left in another
 // order.
 pub fn append(store: &mut [i32], used: usize, numbers: &mut [i32]) -> Added
-    requires held { ⌜ ((live : List (List ℤ)) × Holds (now store) used live) ⌝ }
+    requires held { ⌜ ((stored : List Stored) × Holds (now store) used stored) ⌝ }
     requires numbers { ⌜ Literals (now numbers) × (1 ≤ length (now numbers)) × (length (now numbers) ≤ mostNumbers) ⌝ }
-    ensures { λ r. ⌜ ((live : List (List ℤ)) → Holds (now (store .entry)) used live
-        → Fits (live ++ definition (getD (now (numbers .entry)) 0 (pos 0)) (drop 1 (now (numbers .entry))))
+    ensures { λ r. ⌜ ((stored : List Stored) → Holds (now (store .entry)) used stored
+        → Fits (stored ++ addedIn (definition (getD (now (numbers .entry)) 0 (pos 0)) (drop 1 (now (numbers .entry)))))
         (now (store .exit)) r) ⌝ }
 {
     let size = HEADER + numbers.len() + PAIR * (numbers.len() - 1);

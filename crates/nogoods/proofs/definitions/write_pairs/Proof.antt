@@ -12,7 +12,7 @@ use borrow.Rule.Slice.PartMut.{same-len-mid}
 use Rattle.words.proofs.Parts.{tail-of}
 use Rattle.words.proofs.Places.{in-at}
 use Rattle.words.proofs.Words.{back}
-use Rattle.nogoods.specs.Store.{liveWords}
+use Rattle.nogoods.specs.Store.{addedIn, wordsOf}
 use Rattle.nogoods.specs.Keeps.{WrittenFront}
 use Rattle.nogoods.specs.Definitions.{pair, pairSize}
 use Rattle.nogoods.proofs.Defined.{pair-next}
@@ -23,7 +23,7 @@ use Rattle.nogoods.proofs.definitions.write_pairs.Tie as tie
 abbrev Inv-loop : tie.InvT-loop
 Inv-loop free₀ name literals at₀ i₀ free at i =
     (i ≤ length literals) × (at ≡ pairSize * i) × (length free ≡ length free₀)
-    × WrittenFront (liveWords (map (pair (toZ w32 name)) (take i literals))) free₀ free
+    × WrittenFront (wordsOf (addedIn (map (pair (toZ w32 name)) (take i literals)))) free₀ free
 
 abbrev μ-loop : tie.MeasureT-loop
 μ-loop free₀ name literals at₀ i₀ free at i = length literals - i

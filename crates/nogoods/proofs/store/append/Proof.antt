@@ -3,28 +3,29 @@ use mathlib.Core.List.{List, [], _∷_, append-nil, List·Memᴰ·eq-of-singleto
 use native.Mathlib.Omega.{arith}
 use lib.IntN.{ℤ}
 use lib.ListN.{length}
-use Rattle.nogoods.specs.Store.{nogoodWords, recordSize, liveWords}
-use Rattle.nogoods.proofs.Recorded.{record-size}
+use Rattle.nogoods.specs.Store.{addedIn, recordOf, storedWords, recordSize, wordsOf}
+use Rattle.nogoods.proofs.Live.{stored-size}
+use Rattle.nogoods.proofs.Literals.{added-literals}
 use Rattle.nogoods.proofs.Stored.{full, added}
 use borrow.Author.Needs.{needs}
 use Rattle.nogoods.proofs.store.append.Statement.{statement}
 use Rattle.nogoods.proofs.store.append.Tie as tie
 
-size : (g : List ℤ) → length (liveWords (g ∷ [])) ≡ recordSize g
-size g = ap length (append-nil (nogoodWords g)) ∙ record-size g
+size : (g : List ℤ) → length (wordsOf (addedIn (g ∷ []))) ≡ recordSize g
+size g = ap length (append-nil (storedWords (recordOf g))) ∙ stored-size (recordOf g)
 
 returns : tie.Need-returns
 returns c =
-    λ live H.
+    λ stored H.
     let L = c .before .args .literals .now in
-    full H (L ∷ []) (size L) (omega (arith, c .if1 .taken))
+    full H (addedIn (L ∷ [])) (size L) (omega (arith, c .if1 .taken))
 
 returns-2 : tie.Need-returns-2
 returns-2 c =
-    λ live H.
+    λ stored H.
     let s = c .before .before .before .before in
     let L = s .args .literals .now in
-    added H (L ∷ []) (size L) (λ g m. rw (List·Memᴰ·eq-of-singleton m) (s .pre .1 .0)) (c .before .write .last .0)
+    added H (addedIn (L ∷ [])) (size L) (added-literals (L ∷ []) (λ g m. rw (List·Memᴰ·eq-of-singleton m) (s .pre .1 .0))) (c .before .write .last .0)
     (rw (append-nil L) (c .before .write .ensures))
 
 pub append-spec : {M : Type 1} → statement M

@@ -9,7 +9,7 @@ use mir.Val.{toZ}
 use mir.Facts.{toZ-pos}
 use borrow.Rule.Slice.PartMut.{same-len-mid}
 use Rattle.words.proofs.Parts.{tail-of}
-use Rattle.nogoods.specs.Store.{recordHeader, headerSize}
+use Rattle.nogoods.specs.Store.{recordOf, recordHeader, headerSize}
 use Rattle.nogoods.specs.Keeps.{WrittenFront}
 use Rattle.nogoods.proofs.Recorded.{header-size}
 use Rattle.nogoods.proofs.Stored.{written-next}
@@ -50,9 +50,9 @@ returns c =
     let a = s .args in
     let L = a .literals .now in
     let n : toZ w32 (length L) ≡ pos (length L) = toZ-pos w32 (omega (arith, s .pre)) in
-    let w : WrittenFront (recordHeader L) (a .free .now) (set (a .free .now) 0 (toZ w32 (length L))) =
+    let w : WrittenFront (recordHeader (recordOf L)) (a .free .now) (set (a .free .now) 0 (toZ w32 (length L))) =
     rw n (first-set (a .free .now) (pos (length L)) (omega (arith, s .pre))) in
-    written-next (recordHeader L) L (a .free .now) _ (c .before .copy .last .0) headerSize (header-size L) w (c .before .copy .ensures)
+    written-next (recordHeader (recordOf L)) L (a .free .now) _ (c .before .copy .last .0) headerSize (header-size (recordOf L)) w (c .before .copy .ensures)
 
 pub write-spec : {M : Type 1} → statement M
 write-spec =
