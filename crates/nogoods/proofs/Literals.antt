@@ -25,8 +25,8 @@ literals-ascending l h =
     }
 
 -- what a step adds
-pub added-literals : (gs : List (List ℤ)) → ((g : List ℤ) → g ∈ gs → Literals g) → (e : Stored) → e ∈ addedIn gs → Literals (e .literals)
-added-literals gs h e m = let r = Memᴰ·of-map recordOf gs m in rw (← r .2) (h (r .0) (r .1))
+pub added-literals : (n : ℕ) (gs : List (List ℤ)) → ((g : List ℤ) → g ∈ gs → Literals g) → (e : Stored) → e ∈ addedIn n gs → Literals (e .literals)
+added-literals n gs h e m = let r = Memᴰ·of-map (recordOf n) gs m in rw (← r .2) (h (r .0) (r .1))
 
 -- Literal by literal
 

@@ -24,10 +24,10 @@ pub live-append : (a b : List Stored) → live (a ++ b) ≡ live a ++ live b
 unfolding live
 live-append a b = map-append (λ (e : Stored). e .literals) a b
 
-pub live-added : (gs : List (List ℤ)) → live (addedIn gs) ≡ gs
+pub live-added : (n : ℕ) (gs : List (List ℤ)) → live (addedIn n gs) ≡ gs
 unfolding live
-live-added [] = refl
-live-added (g ∷ gs) = ap (λ l. g ∷ l) (live-added gs)
+live-added n [] = refl
+live-added n (g ∷ gs) = ap (λ l. g ∷ l) (live-added n gs)
 
 pub live-in : {stored : List Stored} {e : Stored} → e ∈ stored → e .literals ∈ live stored
 unfolding live

@@ -1,6 +1,6 @@
 -- Nogoods' records one after another: the record at a place, and what a loop from record to record knows.
 -- Assumes nothing.
-use mathlib.Core.Path.{_≡_, refl, sym, ap, _∙_}
+use mathlib.Core.Path.{_≡_, refl, sym, ap, ap₂, _∙_}
 use mathlib.Core.List.{List, [], _∷_, _++_, append-nil, List·Memᴰ·head, List·Memᴰ·tail}
 use Prim.Native.Nat.{ℕ, _+_, _-_, _≤_, _<_}
 use native.Mathlib.Omega.{arith}
@@ -12,9 +12,9 @@ use Rattle.words.specs.Limits.{largest}
 use Rattle.words.specs.Literals.{variable}
 use Rattle.words.proofs.Places.{in-at}
 use Rattle.words.proofs.Segments.{Segment, at-front, next, none-left}
-use Rattle.nogoods.specs.Store.{Stored, recordHeader, headerSize, storedWords, recordSize, wordsOf}
+use Rattle.nogoods.specs.Store.{Stored, recordOf, recordHeader, headerSize, storedWords, recordSize, wordsOf}
 use Rattle.nogoods.specs.Keeps.{Holds}
-use Rattle.nogoods.specs.Records.{Encodes, countAt, endAt, nogoodAt, storedAt, Readable, Stands}
+use Rattle.nogoods.specs.Records.{Encodes, originAt, countAt, endAt, nogoodAt, storedAt, Readable, Stands}
 use Rattle.nogoods.proofs.Live.{stored-size}
 
 -- The header
@@ -23,8 +23,8 @@ pub header-size : (e : Stored) → length (recordHeader e) ≡ headerSize
 header-size e = refl
 
 -- of the literals a header has the count alone
-pub header-same : (g h : List ℤ) → length g ≡ length h → recordHeader (record { literals = g }) ≡ recordHeader (record { literals = h })
-header-same g h e = rw e
+pub header-same : (n : ℕ) (g h : List ℤ) → length g ≡ length h → recordHeader (recordOf n g) ≡ recordHeader (recordOf n h)
+header-same n g h e = rw e
 
 some-words : (e : Stored) → 0 < length (storedWords e)
 some-words e = omega arith
@@ -46,15 +46,17 @@ at-record {s} {i} {e} S h =
     let x = t .x in
     let g = x .literals in
     let w : drop i s ≡ recordHeader x ++ (g ++ drop (i + length (storedWords x)) s) = t .here in
+    let word : (k : ℕ) → getD s (i + k) (pos 0) ≡ getD (storedWords x ++ drop (i + length (storedWords x)) s) k (pos 0) =
+    λ k. sym (getD-drop i s k (pos 0)) ∙ ap (λ (l : List ℤ). getD l k (pos 0)) w in
     let z : i + 0 ≡ i = omega arith in
-    let first : getD s i (pos 0) ≡ pos (length g) = rw z at (sym (getD-drop i s 0 (pos 0)) ∙ ap (λ (l : List ℤ). getD l 0 (pos 0)) w) in
-    let n : countAt s i ≡ length g = ap natAbs first in
+    let origin : originAt s i ≡ x .origin = ap natAbs (rw z at (word 0)) in
+    let n : countAt s i ≡ length g = ap natAbs (word 1) in
     let m : i + length (storedWords x) ≡ endAt s i = omega (arith, stored-size x, n) in
     let after : drop (i + headerSize) s ≡ g ++ drop (i + length (storedWords x)) s = sym (drop-drop headerSize i s) ∙ ap (drop headerSize) w in
     let literals : nogoodAt s i ≡ g = ap (take (countAt s i)) after ∙ take-at g _ (countAt s i) (sym n) in
     record {
       others = t .xs;
-      is = t .is ∙ ap (λ (l : List ℤ). record { literals = l } ∷ t .xs) (sym literals);
+      is = t .is ∙ ap₂ (λ o (l : List ℤ). recordOf o l ∷ t .xs) (sym origin) (sym literals);
       count = n ∙ ap length (sym literals);
       size = omega (arith, n, ap length literals);
       rest = rw m at (t .rest);

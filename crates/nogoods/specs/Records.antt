@@ -14,9 +14,13 @@ pub record Encodes (s : List ℤ) (stored : List Stored) : Type 0 where
   pub words : s ≡ wordsOf stored
   pub literals : (e : Stored) → e ∈ stored → Literals (e .literals)
 
--- the literal count
+-- the origin, which stands first
+abbrev pub originAt : List ℤ → ℕ → ℕ
+originAt s r = natAbs (getD s r (pos 0))
+
+-- the literal count, which stands next
 abbrev pub countAt : List ℤ → ℕ → ℕ
-countAt s r = natAbs (getD s r (pos 0))
+countAt s r = natAbs (getD s (r + 1) (pos 0))
 
 -- where the record ends
 abbrev pub endAt : List ℤ → ℕ → ℕ
@@ -28,7 +32,7 @@ nogoodAt s r = take (countAt s r) (drop (r + headerSize) s)
 
 -- what the record says
 abbrev pub storedAt : List ℤ → ℕ → Stored
-storedAt s r = record { literals = nogoodAt s r }
+storedAt s r = record { origin = originAt s r; literals = nogoodAt s r }
 
 -- a record can be read, and its literals are those of a nogood
 pub record Readable (s : List ℤ) (r : ℕ) : Type 0 where

@@ -4,7 +4,7 @@ ghost use mathlib.Core.List.{List, [], _∷_, _++_};
 ghost use Prim.Native.Nat.{_≤_};
 ghost use lib.IntN.{ℤ};
 ghost use lib.ListN.{length};
-ghost use Rattle.words.specs.Limits.{largest};
+ghost use Rattle.words.specs.Limits.{largest, longest};
 ghost use Rattle.words.specs.Lists.{any, dropFirst};
 ghost use Rattle.words.specs.Literals.{sameList};
 ghost use Rattle.aspif.specs.Rules.{isEmpty};
@@ -12,6 +12,7 @@ ghost use Rattle.nogoods.specs.Keeps.{Literals, Holds, Fits, WrittenFron
 ghost use Rattle.nogoods.specs.Store.{Stored, recordOf, addedIn, live, storedWords, recordSize};
 ghost use Rattle.nogoods.specs.Finds.{foundAt};
 use crate::records;
+use crate::records::COUNT;
 use crate::records::HEADER;
 
 // Where a nogood stands.
@@ -26,27 +27,30 @@ pub enum Added {
     Full,
 }
 
-// The words of a nogood at the front of the free tail.
-pub fn write(free: &mut [i32], literals: &[i32])
+// The words of a nogood, with the number of its step, at the front of the free tail.
+pub fn write(free: &mut [i32], origin: usize, literals: &[i32])
+    requires origin { ⌜ origin ≤ longest ⌝ }
     requires room { ⌜ (recordSize (now literals) ≤ length (now free)) × (length (now literals) ≤ largest) ⌝ }
-    ensures { λ _. ⌜ WrittenFront (storedWords (recordOf (now (literals .entry)))) (now (free .entry)) (now (free .exit)) ⌝ }
+    ensures { λ _. ⌜ WrittenFront (storedWords (recordOf origin (now (literals .entry)))) (now (free .entry)) (now (free .exit)) ⌝ }
 {
-    free[0] = literals.len() as i32;
+    free[0] = origin as i32;
+    free[COUNT] = literals.len() as i32;
     words::copy(&mut free[HEADER..], literals);
 }
 
-// One more live nogood, after the others.
-pub fn append(store: &mut [i32], used: usize, literals: &[i32]) -> Added
+// One more live nogood, after the others, with the number of the step that adds it.
+pub fn append(store: &mut [i32], used: usize, origin: usize, literals: &[i32]) -> Added
     requires held { ⌜ ((stored : List Stored) × Holds (now store) used stored) ⌝ }
+    requires origin { ⌜ origin ≤ longest ⌝ }
     requires literals { ⌜ Literals (now literals) × (length (now literals) ≤ largest) ⌝ }
     ensures { λ r. ⌜ ((stored : List Stored) → Holds (now (store .entry)) used stored
-        → Fits (stored ++ addedIn (now (literals .entry) ∷ [])) (now (store .exit)) r) ⌝ }
+        → Fits (stored ++ addedIn origin (now (literals .entry) ∷ [])) (now (store .exit)) r) ⌝ }
 {
     let size = HEADER + literals.len();
     if store.len() - used < size {
         return Added::Full;
     }
-    write(&mut store[used..], literals);
+    write(&mut store[used..], origin, literals);
     Added::Uses(used + size)
 }
 

@@ -49,6 +49,9 @@ enter-requires c κs =
 abbrev now-at : tie.After-count-at Inv-loop μ-loop → tie.In-loop Inv-loop μ-loop
 now-at c = c .before .before .before .before .before
 
+count-at-requires : tie.Need-count-at-requires Inv-loop μ-loop
+count-at-requires c κs = room (c .before .before .before .before) .0
+
 cast-counts : tie.Need-cast-counts Inv-loop μ-loop
 cast-counts c = let k = room (now-at c) in let e = c .count-at .ensures in search needs
 
@@ -89,7 +92,7 @@ enter-all-spec =
     μ-loop
     loop-holds
     enter-requires
-    (λ c κs. search needs)
+    count-at-requires
     cast-counts
     mul-counts
     element-write-counts

@@ -37,7 +37,11 @@ loop-again : tie.Need-loop-again Inv-loop μ-loop
 loop-again c =
     let i = c .before in
     let v = i .before .loop .inv in
-    rw (c .end-at .ensures) (omega (arith, v .0), λ stored H. rest-next (v .1 stored H) (i .loop-test .taken) (λ es q. omega (arith, q, ap length (live-cons (storedAt (i .before .before .args .store .now) (i .before .loop .i)) es))))
+    let it = storedAt (i .before .before .args .store .now) (i .before .loop .i) in
+    rw (c .end-at .ensures) (
+      omega (arith, v .0),
+      λ stored H. rest-next (v .1 stored H) (i .loop-test .taken) (λ es q. omega (arith, q, ap length (live-cons it es))),
+    )
 
 returns : tie.Need-returns Inv-loop μ-loop
 returns c = λ stored H. omega (arith, rest-over (c .before .loop .inv .1 stored H) (c .loop-test .left), ap length live-nil)

@@ -48,6 +48,9 @@ it c = storedAt (c .before .before .args .store .now) (c .before .loop .i)
 loop-holds : tie.Need-loop-holds Inv-loop μ-loop
 loop-holds c = ahead (λ stored. refl)
 
+count-at-requires : tie.Need-count-at-requires Inv-loop μ-loop
+count-at-requires c κs = room c
+
 returns : tie.Need-returns Inv-loop μ-loop
 returns c =
     λ stored H.
@@ -76,4 +79,4 @@ returns-2 c = λ stored H. rw live-nil at (rest-over (c .before .loop .inv store
 pub has-empty-spec : {M : Type 1} → statement M
 has-empty-spec =
     tie.close
-    (tie.spec Inv-loop μ-loop loop-holds (λ c κs. search needs) returns end-at-requires loop-less loop-again returns-2)
+    (tie.spec Inv-loop μ-loop loop-holds count-at-requires returns end-at-requires loop-less loop-again returns-2)
