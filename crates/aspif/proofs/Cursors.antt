@@ -1,7 +1,7 @@
 -- What is known of a rule that stands at the front of some words, and of the words that a loop over the table has yet to read.
 -- Assumes nothing.
 use mathlib.Core.Path.{_≡_, refl, sym, _∙_, ap}
-use mathlib.Core.Bool.{true, _&&_, Bool, cond, false, and-false}
+use mathlib.Core.Bool.{true, _&&_, Bool, cond, false, not, and-false}
 use mathlib.Core.List.{List, [], _∷_, map}
 use Prim.Native.Nat.{ℕ, zero, suc, _+_, _*_, _-_, _≤_, _<_}
 use native.Mathlib.Omega.{arith}
@@ -17,7 +17,7 @@ use Rattle.words.specs.Lists.{all}
 use Rattle.words.specs.Literals.{variable, same, top}
 use Rattle.weights.specs.Weights.{literals, paired, mostWeighted}
 use Rattle.aspif.specs.Reading.{allWeights}
-use Rattle.aspif.specs.Rules.{plain, weights, literalsOf, InputRule, isCount, isWeight, ruleTop, atoms}
+use Rattle.aspif.specs.Rules.{plain, weights, isPlainBody, isPlain, literalsOf, InputRule, isCount, isWeight, ruleTop, atoms}
 use Rattle.aspif.proofs.Counts.{count-small}
 use Rattle.words.specs.Limits.{mostLiterals, mostRules, largest}
 use Rattle.words.proofs.Lists.{and-left, and-right, one-less, nothing-left}
@@ -67,6 +67,15 @@ body-small ws = by (isWeighted ws)
     by : (t : Bool) → cond t (2 * bodyCount ws) (bodyCount ws) ≤ 2 * bodyCount ws
     by true = omega arith
     by false = omega arith
+
+-- no weight body, of the rule there
+pub plain-at : (ws : List ℤ) → isPlain (ruleAt ws) ≡ not (isWeighted ws)
+unfolding bodyAt
+plain-at ws = by (isWeighted ws)
+  where
+    by : (t : Bool) → isPlainBody (cond t (weights (boundAt ws) (paired (bodyWordsAt ws))) (plain (bodyWordsAt ws))) ≡ not t
+    by true = refl
+    by false = refl
 
 -- Rules one after another
 

@@ -8,7 +8,7 @@ use lib.Dec.{leb}
 use lib.IntN.{ℤ, pos}
 use lib.Signed.{leZ}
 use lib.ListN.{length, replicate}
-use Rattle.words.specs.Lists.{concat}
+use Rattle.words.specs.Lists.{concat, all}
 use Rattle.words.specs.Limits.{mostLiterals}
 use Rattle.words.specs.Literals.{variable, top}
 use Rattle.weights.specs.Weights.{Weighted, literals, bodies, pairWords, mostWeight}
@@ -37,6 +37,17 @@ pub record InputRule : Type 0 where
 abbrev pub literalsOf : Body → List ℤ
 literalsOf (plain ls) = ls
 literalsOf (weights b l) = literals l
+
+-- no weight body, of one rule and of all
+abbrev pub isPlainBody : Body → Bool
+isPlainBody (plain ls) = true
+isPlainBody (weights b l) = false
+
+abbrev pub isPlain : InputRule → Bool
+isPlain r = isPlainBody (r .body)
+
+abbrev pub allPlain : List InputRule → Bool
+allPlain rs = all isPlain rs
 
 -- The bodies of the plain rules: "such a rule stands for one plain rule of the same head for each subset-minimal set of literals that
 -- reaches the bound"

@@ -9,7 +9,7 @@ ghost use Rattle.words.specs.Limits.{largest};
 ghost use Rattle.words.specs.Lists.{all, ascends};
 ghost use Rattle.words.specs.Literals.{variable, same, top};
 ghost use Rattle.weights.specs.Weights.{literals, paired};
-ghost use Rattle.aspif.specs.Rules.{literalsOf, suits, isCount, isWeight, ruleTop, atoms};
+ghost use Rattle.aspif.specs.Rules.{literalsOf, allPlain, suits, isCount, isWeight, ruleTop, atoms};
 ghost use Rattle.aspif.specs.Reading.{allWeights};
 ghost use Rattle.aspif.specs.Tables.{kindOf, isKind, isWeighted, headStart, bodyLength, isHeaded, sizeAt, headsAt, bodyWordsAt};
 ghost use Rattle.aspif.specs.Tables.{boundAt, bodyAt, ruleAt, shapeSound, weightsSound, bodySound, soundAt, rulesAt, soundRules, soundTable};
@@ -358,4 +358,22 @@ pub fn largest_atom(table: &[i32], rules: usize) -> usize
         left -= 1;
     }
     most
+}
+
+// No rule of the table has a weight body.
+pub fn all_plain(table: &[i32], rules: usize) -> bool
+    requires { ⌜ soundRules rules (now table) ≡ true ⌝ }
+    ensures { λ r. ⌜ r ≡ allPlain (rulesAt rules (now (table .entry))) ⌝ }
+{
+    let mut left = rules;
+    let mut i = 0;
+    while 0 < left {
+        let rest = &table[i..];
+        if is_weighted(rest) {
+            return false;
+        }
+        i = next_rule(table, i);
+        left -= 1;
+    }
+    true
 }

@@ -9,7 +9,6 @@ use lib.ListN.{length, replicate}
 use Rattle.words.proofs.Lists.{zero-one}
 use Rattle.words.specs.Limits.{longest, mostRules}
 use Rattle.aspif.specs.Rules.{Rule, InputRule, expand}
-use Rattle.names.specs.ByName.{bodyWords}
 use Rattle.drupe.specs.Lines.{LineAt, end, line, lineAt}
 use Rattle.drupe.specs.Lines as Lines
 use Rattle.drupe.proofs.Lines.{passed-line}
@@ -47,12 +46,11 @@ module _ (N : ℕ) (ws : List InputRule) (size : ℕ) (text : List ℕ) where
     pub count : steps ≤ at
     pub long : length store ≡ size
     pub places : length names ≡ mostRules
-    pub records : length bodies ≡ bodyWords
 
   pub going-start : {store : List ℤ} {known names : List ℕ} {bodies : List ℤ} → Tracks N ws known names bodies [] [] → store ≡ replicate (length store) (pos 0) → length store ≡ size
       → length names ≡ mostRules → Going store known names bodies 0 0 0
   going-start {store} T e l p =
-      record { z = start; tracks = T; holds = holds-none store e; onward = λ c r. r; within = omega arith; count = omega arith; long = l; places = p; records = T .kept .byName .long }
+      record { z = start; tracks = T; holds = holds-none store e; onward = λ c r. r; within = omega arith; count = omega arith; long = l; places = p }
 
   module _ (short : length text ≤ longest) {store : List ℤ} {known names : List ℕ} {bodies : List ℤ} {used at steps : ℕ} (G : Going store known names bodies used at steps) where
     comes : (c : Course) → Runs N P size text at steps (G .z) c → course N P size text ≡ c
@@ -123,7 +121,6 @@ module _ (N : ℕ) (ws : List InputRule) (size : ℕ) (text : List ℕ) where
                       count = omega (arith, u .0, f, G .count);
                       long = w;
                       places = same′ ∙ G .places;
-                      records = l .1 .kept .byName .long;
                     },
                     omega (arith, u .0, f),
                   )

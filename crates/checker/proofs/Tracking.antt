@@ -20,11 +20,10 @@ use Rattle.marks.specs.Marks.{listed, marked, Marks, upTo}
 use Rattle.derivation.specs.States.{Named, State, isAtom, isKnown}
 use Rattle.derivation.specs.Steps.{allKnown}
 use Rattle.derivation.proofs.Questions.{known-decides}
-use Rattle.names.specs.ByName.{bodyWords}
 use Rattle.names.specs.Queries.{HoldsRules, entry, Kept}
 use Rattle.names.proofs.Called.{none-called}
 use Rattle.marks.proofs.Sets.{marked-set}
-use Rattle.checker.specs.Held.{nameOf, Proper, Tracks}
+use Rattle.checker.specs.Held.{nameOf, Proper, Tracks, NoBodies}
 use Rattle.checker.proofs.Names.{unlisted, name-of, name-found}
 
 -- Question 26
@@ -64,14 +63,14 @@ no-names (r ∷ ws) (suc n) h = ap₂ (λ (x : ℕ) (l : List ℕ). x ∷ l) (sy
     none (plain ls) = refl
     none (weights b l) = refl
 
-pub start-tracks : {N : ℕ} {ws : List InputRule} {known : List ℕ} → Marks known (upTo N) → length ws ≤ mostRules
-    → Tracks N ws known (replicate mostRules 0) (replicate bodyWords (pos 0)) [] []
-start-tracks {N} {ws} {known} marks few =
+pub start-tracks : {N : ℕ} {ws : List InputRule} {known : List ℕ} {bodies : List ℤ} → Marks known (upTo N) → length ws ≤ mostRules → NoBodies ws bodies
+    → Tracks N ws known (replicate mostRules 0) bodies [] []
+start-tracks {N} {ws} {known} marks few none =
     record {
       entries = marks .long;
       knows = λ v h. marks .has v h ∙ same-test (listed-upTo N v) (or-decides (and-decides (leb-decides 1 v) (leb-decides v N)) (itself false))
           (λ p. inl p) (λ s. elim s [ inl p ↦ p | inr t ↦ absurd t ]);
-      kept = record { rules = omega (arith, length-replicate {A = ℕ} mostRules 0); byRule = no-names ws mostRules few; byName = none-called };
+      kept = record { rules = omega (arith, length-replicate {A = ℕ} mostRules 0); byRule = no-names ws mostRules few; byName = λ w. rw (none w) none-called };
       proper = record {
         low = λ x i. elim i [ ];
         high = λ x i. elim i [ ];

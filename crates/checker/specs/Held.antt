@@ -2,16 +2,16 @@
 -- as marks, the names of bodies by rule and by name, live nogoods in the store), and what the steps leave.
 -- Assumes nothing.
 use mathlib.Core.Path.{_≡_}
-use mathlib.Core.Bool.{Bool, true, cond}
+use mathlib.Core.Bool.{Bool, true, false, cond}
 use mathlib.Core.List.{List, [], _∷_, map}
 use Prim.Native.Nat.{ℕ, zero, suc, _≤_, _<_}
 use lib.Dec.{T, eqb}
 use lib.IntN.{ℤ, pos, negℤ}
-use lib.ListN.{length}
+use lib.ListN.{length, replicate}
 use Rattle.words.specs.Limits.{largest, entries, mostNumbers}
 use Rattle.words.specs.Lists.{_∈_}
 use Rattle.words.specs.Literals.{variable, distinct, sameList}
-use Rattle.aspif.specs.Rules.{InputRule, expand, atoms}
+use Rattle.aspif.specs.Rules.{InputRule, allPlain, expand, atoms}
 use Rattle.marks.specs.Marks.{marked}
 use Rattle.text.specs.declared.Letter.{Letter}
 use Rattle.drupe.specs.Lines.{signsOf, signed, LineAt, end, line}
@@ -22,6 +22,7 @@ use Rattle.nogoods.specs.Keeps.{Literals, Holds}
 use Rattle.nogoods.specs.Store.{liveWords}
 use Rattle.nogoods.specs.declared.store.Added.{Added}
 use Rattle.nogoods.specs.declared.store.Added.the-variants as Added
+use Rattle.names.specs.ByName.{bodyWords}
 use Rattle.names.specs.Queries.{HoldsRules, Kept}
 use Rattle.checker.specs.Check.{Course, stopped, through}
 use Rattle.checker.specs.declared.outcomes.Stepped.{Stepped}
@@ -68,6 +69,10 @@ pub record Tracks (N : ℕ) (ws : List InputRule) (known names : List ℕ) (bodi
   pub knows : (v : ℕ) → v ≤ largest → marked known v ≡ isKnown N (record { live = []; introduced = introduced; named = named }) v
   pub kept : Kept names bodies (nameOf named) ws
   pub proper : Proper N introduced named
+
+-- what is lent for the bodies by name at the start: 0 throughout, a record for each variable, where some rule has a weight body
+abbrev pub NoBodies : List InputRule → List ℤ → Type 0
+NoBodies ws bodies = allPlain ws ≡ false → bodies ≡ replicate bodyWords (pos 0)
 
 -- Steps
 

@@ -72,7 +72,7 @@ pub fn check_proof(
             },
         );
     }
-    let run = runs::run_lines(proof, table, rules, atoms, store);
+    let run = runs::run_proof(proof, table, rules, atoms, store);
     match run {
         Run::Stopped(refusal) => refuse(table, store, refusal),
         Run::Through { steps, used } => conclude(store, used, atoms, rules, steps),

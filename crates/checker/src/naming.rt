@@ -12,7 +12,6 @@ ghost use Rattle.text.specs.declared.Letter.the-variants.{Body, Extension};
 ghost use Rattle.derivation.specs.States.{State, isKnown};
 ghost use Rattle.derivation.specs.Steps.{definition, isUnnamedBody};
 ghost use Rattle.nogoods.specs.Keeps.{Literals, Holds};
-ghost use Rattle.names.specs.ByName.{bodyWords};
 ghost use Rattle.names.specs.Queries.{HoldsRules, Kept};
 ghost use Rattle.checker.specs.Held.{PassedLine, nameOf, Tracks, Fitted, Stepping};
 use crate::outcomes;
@@ -62,7 +61,6 @@ fn name_body(
     name: usize,
 ) -> bool
     requires program { ⌜ ((ws : List InputRule) × HoldsRules (now table) rules ws) × (rules ≤ length (now names)) ⌝ }
-    requires bodies { ⌜ length (now bodies) ≡ bodyWords ⌝ }
     requires name { ⌜ (1 ≤ name) × (name ≤ largest) × Literals (now body) ⌝ }
     ensures answer { λ r. ⌜ ((N : ℕ) (ws : List InputRule) → HoldsRules (now (table .entry)) rules ws
         → (known : List ℕ) (z : State) → Tracks N ws known (now (names .entry)) (now (bodies .entry)) (z .introduced) (z .named)
@@ -94,7 +92,6 @@ pub fn body(
     numbers: &mut [i32],
 ) -> Stepped
     requires program { ⌜ ((ws : List InputRule) × HoldsRules (now table) rules ws) × (rules ≤ length (now names)) ⌝ }
-    requires bodies { ⌜ length (now bodies) ≡ bodyWords ⌝ }
     requires live { ⌜ ((live : List (List ℤ)) × Holds (now store) used live) ⌝ }
     requires line { ⌜ PassedLine Body (now numbers) ⌝ }
     ensures { λ r. ⌜ ((N : ℕ) (ws : List InputRule) → HoldsRules (now (table .entry)) rules ws

@@ -6,16 +6,17 @@ ghost use lib.IntN.{ℤ, pos};
 ghost use lib.ListN.{length, replicate};
 ghost use Rattle.words.specs.Limits.{longest, mostRules};
 ghost use Rattle.aspif.specs.Rules.{InputRule, expand};
+ghost use Rattle.aspif.specs.Tables.{rulesAt};
 ghost use Rattle.drupe.specs.Lines.{lineAt};
 ghost use Rattle.derivation.specs.States.{State};
 ghost use Rattle.nogoods.specs.Keeps.{Holds};
-ghost use Rattle.names.specs.ByName.{bodyWords};
 ghost use Rattle.checker.specs.Check.{course};
-ghost use Rattle.checker.specs.Held.{Program, Tracks, proofTurn, LineLeaves, Ran};
+ghost use Rattle.checker.specs.Held.{Program, Tracks, NoBodies, proofTurn, LineLeaves, Ran};
 use crate::ProofRefusal;
 use crate::outcomes::Stepped;
 use crate::states::CheckingState;
 use crate::steps;
+use aspif::tables;
 use drupe::LineAnswer;
 use drupe::reader;
 use names::by_name;
@@ -57,7 +58,6 @@ fn turn_at(
     used: usize,
 ) -> ProofTurn
     requires program { ⌜ ((ws : List InputRule) × Program (now table) rules atoms ws) × (rules ≤ length (now names)) ⌝ }
-    requires bodies { ⌜ length (now bodies) ≡ bodyWords ⌝ }
     requires live { ⌜ ((live : List (List ℤ)) × Holds (now store) used live) ⌝ }
     ensures { λ r. ⌜ ((ws : List InputRule) → Program (now (table .entry)) rules atoms ws
         → (z : State) → Tracks atoms ws (now (known .entry)) (now (names .entry)) (now (bodies .entry)) (z .introduced) (z .named)
@@ -94,9 +94,17 @@ fn turn_at(
     }
 }
 
-// All lines of a proof text, from an empty store. The first refusal ends them.
-pub fn run_lines(proof: &[u8], table: &[i32], rules: usize, atoms: usize, store: &mut [i32]) -> Run
+// All lines of a proof text, from an empty store and no names. The first refusal ends them.
+fn run_lines(
+    proof: &[u8],
+    table: &[i32],
+    rules: usize,
+    atoms: usize,
+    bodies: &mut [i16],
+    store: &mut [i32],
+) -> Run
     requires program { ⌜ ((ws : List InputRule) × Program (now table) rules atoms ws) × (rules ≤ mostRules) ⌝ }
+    requires bodies { ⌜ NoBodies (rulesAt rules (now table)) (now bodies) ⌝ }
     requires short { ⌜ length (now proof) ≤ longest ⌝ }
     requires empty { ⌜ now store ≡ replicate (length (now store)) (pos 0) ⌝ }
     ensures { λ r. ⌜ ((ws : List InputRule) → Program (now (table .entry)) rules atoms ws
@@ -105,7 +113,6 @@ pub fn run_lines(proof: &[u8], table: &[i32], rules: usize, atoms: usize, store:
     let start = CheckingState::start(atoms);
     let mut known = start.known;
     let mut names = start.names;
-    let mut bodies = [0i16; by_name::BODY_WORDS];
     let mut used = start.used;
     let mut at = 0;
     let mut steps = 0;
@@ -118,7 +125,7 @@ pub fn run_lines(proof: &[u8], table: &[i32], rules: usize, atoms: usize, store:
             atoms,
             &mut known,
             &mut names,
-            &mut bodies,
+            bodies,
             store,
             used,
         );
@@ -135,4 +142,31 @@ pub fn run_lines(proof: &[u8], table: &[i32], rules: usize, atoms: usize, store:
             }
         }
     }
+}
+
+// The lines, with the records that weight bodies need. They are large, and stand in a frame of their own.
+fn run_weighted(proof: &[u8], table: &[i32], rules: usize, atoms: usize, store: &mut [i32]) -> Run
+    requires program { ⌜ ((ws : List InputRule) × Program (now table) rules atoms ws) × (rules ≤ mostRules) ⌝ }
+    requires short { ⌜ length (now proof) ≤ longest ⌝ }
+    requires empty { ⌜ now store ≡ replicate (length (now store)) (pos 0) ⌝ }
+    ensures { λ r. ⌜ ((ws : List InputRule) → Program (now (table .entry)) rules atoms ws
+        → Ran (now (store .exit)) (course atoms (expand ws) (length (now (store .entry))) (now (proof .entry))) r) ⌝ }
+{
+    let mut bodies = [0i16; by_name::BODY_WORDS];
+    run_lines(proof, table, rules, atoms, &mut bodies, store)
+}
+
+// All lines of a proof text, from an empty store. Without weight bodies nothing is kept by name, and no records are made.
+pub fn run_proof(proof: &[u8], table: &[i32], rules: usize, atoms: usize, store: &mut [i32]) -> Run
+    requires program { ⌜ ((ws : List InputRule) × Program (now table) rules atoms ws) × (rules ≤ mostRules) ⌝ }
+    requires short { ⌜ length (now proof) ≤ longest ⌝ }
+    requires empty { ⌜ now store ≡ replicate (length (now store)) (pos 0) ⌝ }
+    ensures { λ r. ⌜ ((ws : List InputRule) → Program (now (table .entry)) rules atoms ws
+        → Ran (now (store .exit)) (course atoms (expand ws) (length (now (store .entry))) (now (proof .entry))) r) ⌝ }
+{
+    if tables::all_plain(table, rules) {
+        let mut none = [0i16; 1];
+        return run_lines(proof, table, rules, atoms, &mut none, store);
+    }
+    run_weighted(proof, table, rules, atoms, store)
 }

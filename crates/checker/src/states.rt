@@ -6,7 +6,7 @@ ghost use Rattle.words.specs.Limits.{largest, mostRules};
 ghost use Rattle.marks.specs.Marks.{Marks, upTo};
 
 // The known variables as marks; by rule, the name of its plain body, 0 for none; how many words of the store are used. The bodies by
-// name stand beside it: a field is copied before it is lent, and that array is large.
+// name stand beside it: a field is copied before it is lent, and that array is large where there is one.
 pub struct CheckingState {
     pub known: [u8; words::ENTRIES],
     pub names: [u16; words::MOST_RULES],

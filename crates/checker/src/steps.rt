@@ -7,7 +7,6 @@ ghost use lib.IntN.{ℤ};
 ghost use lib.ListN.{length};
 ghost use Rattle.aspif.specs.Rules.{InputRule};
 ghost use Rattle.nogoods.specs.Keeps.{Holds};
-ghost use Rattle.names.specs.ByName.{bodyWords};
 ghost use Rattle.checker.specs.Held.{PassedLine, Program, Stepping};
 use crate::additions;
 use crate::naming;
@@ -30,7 +29,6 @@ pub fn step(
     used: usize,
 ) -> Stepped
     requires program { ⌜ ((ws : List InputRule) × Program (now table) rules atoms ws) × (rules ≤ length (now names)) ⌝ }
-    requires bodies { ⌜ length (now bodies) ≡ bodyWords ⌝ }
     requires live { ⌜ ((live : List (List ℤ)) × Holds (now store) used live) ⌝ }
     requires line { ⌜ PassedLine letter (now line) ⌝ }
     ensures { λ r. ⌜ ((ws : List InputRule) → Program (now (table .entry)) rules atoms ws

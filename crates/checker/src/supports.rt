@@ -11,7 +11,6 @@ ghost use Rattle.text.specs.declared.Letter.the-variants.{Completion, Support};
 ghost use Rattle.derivation.specs.States.{State};
 ghost use Rattle.derivation.specs.Steps.{isSupport};
 ghost use Rattle.nogoods.specs.Keeps.{Literals, Holds};
-ghost use Rattle.names.specs.ByName.{bodyWords};
 ghost use Rattle.names.specs.Queries.{HoldsRules};
 ghost use Rattle.checker.specs.Held.{PassedLine, Program, Tracks, Fitted, Stepping};
 use crate::outcomes;
@@ -45,7 +44,6 @@ pub fn completion(
     numbers: &mut [i32],
 ) -> Stepped
     requires program { ⌜ ((ws : List InputRule) × HoldsRules (now table) rules ws) × (rules ≤ length (now names)) ⌝ }
-    requires bodies { ⌜ length (now bodies) ≡ bodyWords ⌝ }
     requires live { ⌜ ((live : List (List ℤ)) × Holds (now store) used live) ⌝ }
     requires line { ⌜ PassedLine Completion (now numbers) ⌝ }
     ensures { λ r. ⌜ ((N : ℕ) (ws : List InputRule) → HoldsRules (now (table .entry)) rules ws
@@ -73,7 +71,6 @@ fn is_supported(
     numbers: &[i32],
 ) -> bool
     requires program { ⌜ ((ws : List InputRule) × Program (now table) rules atoms ws) × (rules ≤ length (now names)) ⌝ }
-    requires bodies { ⌜ length (now bodies) ≡ bodyWords ⌝ }
     requires line { ⌜ PassedLine Support (now numbers) ⌝ }
     ensures { λ r. ⌜ ((ws : List InputRule) → Program (now (table .entry)) rules atoms ws
         → (known : List ℕ) (z : State) → Tracks atoms ws known (now (names .entry)) (now (bodies .entry)) (z .introduced) (z .named)
@@ -103,7 +100,6 @@ pub fn support(
     numbers: &mut [i32],
 ) -> Stepped
     requires program { ⌜ ((ws : List InputRule) × Program (now table) rules atoms ws) × (rules ≤ length (now names)) ⌝ }
-    requires bodies { ⌜ length (now bodies) ≡ bodyWords ⌝ }
     requires live { ⌜ ((live : List (List ℤ)) × Holds (now store) used live) ⌝ }
     requires line { ⌜ PassedLine Support (now numbers) ⌝ }
     ensures { λ r. ⌜ ((ws : List InputRule) → Program (now (table .entry)) rules atoms ws

@@ -9,7 +9,6 @@ ghost use Rattle.marks.specs.Marks.{marked};
 ghost use Rattle.aspif.specs.Rules.{InputRule};
 ghost use Rattle.text.specs.declared.Letter.the-variants.{Loop};
 ghost use Rattle.nogoods.specs.Keeps.{Holds};
-ghost use Rattle.names.specs.ByName.{bodyWords};
 ghost use Rattle.checker.specs.Held.{PassedLine, Program, gathered, Stepping};
 use crate::outcomes;
 use crate::outcomes::Stepped;
@@ -65,7 +64,6 @@ pub fn loops(
     numbers: &[i32],
 ) -> Stepped
     requires program { ⌜ ((ws : List InputRule) × Program (now table) rules atoms ws) × (rules ≤ length (now names)) ⌝ }
-    requires bodies { ⌜ length (now bodies) ≡ bodyWords ⌝ }
     requires live { ⌜ ((live : List (List ℤ)) × Holds (now store) used live) ⌝ }
     requires line { ⌜ PassedLine Loop (now numbers) ⌝ }
     ensures { λ r. ⌜ ((ws : List InputRule) → Program (now (table .entry)) rules atoms ws

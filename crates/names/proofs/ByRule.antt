@@ -1,7 +1,7 @@
 -- A loop over the table beside what is kept by rule: the rule at hand with its entry, and what is left.
 -- Assumes nothing.
 use mathlib.Core.Path.{_≡_, refl, sym, ap, _∙_}
-use mathlib.Core.Bool.{Bool, true, false}
+use mathlib.Core.Bool.{Bool, true, false, not, true≢false}
 use mathlib.Core.List.{List, [], _∷_, _++_, map, append-assoc, append-nil, nil≢cons, head-eq-of-cons-eq, tail-eq-of-cons-eq}
 use Prim.Native.Nat.{ℕ, zero, suc, _+_, _-_, _≤_, _<_}
 use native.Mathlib.Nat.{add-zero}
@@ -11,10 +11,11 @@ use lib.IntN.{ℤ}
 use lib.ListN.{length, take, drop, getD, set}
 use lib.Seq.{getD-drop, drop-drop, take-suc-set, drop-set-lt}
 use Rattle.words.specs.Lists.{any}
-use Rattle.aspif.specs.Rules.{Rule, InputRule, expandRule, expand}
-use Rattle.aspif.specs.Tables.{sizeAt, bodyAt, ruleAt, rulesAt, soundRules, soundAt, shapeSound}
+use Rattle.words.proofs.Lists.{and-left, and-right}
+use Rattle.aspif.specs.Rules.{Rule, InputRule, isPlain, allPlain, expandRule, expand}
+use Rattle.aspif.specs.Tables.{isWeighted, sizeAt, bodyAt, ruleAt, rulesAt, soundRules, soundAt, shapeSound}
 use Rattle.aspif.proofs.Readable.{rules-count}
-use Rattle.aspif.proofs.Cursors.{Cursor, at-rule, no-rules}
+use Rattle.aspif.proofs.Cursors.{plain-at, Cursor, at-rule, no-rules}
 use Rattle.names.specs.Queries.{entry}
 use Rattle.names.proofs.Asked.{any-more}
 
@@ -36,10 +37,11 @@ pub record Course (table : List ℤ) (rules : ℕ) (first names : List ℕ) (k i
   pub count : k + left ≡ rules
   pub cursor : Cursor table left i
   pub kept : (called : List ℤ → ℕ) → ByRule called (rulesAt rules table) first → ByRule called (rulesAt left (drop i table)) (drop k names)
+  pub plain : allPlain (rulesAt rules table) ≡ true → allPlain (rulesAt left (drop i table)) ≡ true
 
 abbrev pub course-start : (table : List ℤ) (rules : ℕ) (names : List ℕ) → soundRules rules table ≡ true → Course table rules names names 0 0
 course-start table rules names s =
-    record { left = rules; count = omega arith; cursor = record { within = omega arith; sound = s }; kept = λ called e. e }
+    record { left = rules; count = omega arith; cursor = record { within = omega arith; sound = s }; kept = λ called e. e; plain = λ e. e }
 
 module _ {table : List ℤ} {rules : ℕ} {first names : List ℕ} {k i : ℕ} (c : Course table rules first names k i) where
   -- the rules that are left
@@ -60,6 +62,12 @@ pub record Turn {table : List ℤ} {rules : ℕ} {first names : List ℕ} {k i :
   pub next : Course table rules first names (k + 1) (i + sizeAt (drop i table))
   pub splits : rest c ≡ ruleAt (drop i table) ∷ rest next
   pub kept : (called : List ℤ → ℕ) → ByRule called (rulesAt rules table) first → getD names k 0 ≡ entry called (bodyAt (drop i table))
+  pub weighted : isWeighted (drop i table) ≡ true → allPlain (rulesAt rules table) ≡ false
+
+-- a test that would ask for another, which fails
+not-plain : (a : Bool) {b : Bool} → (a ≡ true → b ≡ true) → b ≡ false → a ≡ false
+not-plain true f e = absurd (true≢false (sym (f refl) ∙ e))
+not-plain false f e = refl
 
 module _ {table : List ℤ} {rules : ℕ} {first names : List ℕ} {k i : ℕ} where
   pub turn : (c : Course table rules first names k i) → k < rules → Turn c
@@ -70,12 +78,14 @@ module _ {table : List ℤ} {rules : ℕ} {first names : List ℕ} {k i : ℕ} w
       let on : (called : List ℤ → ℕ) → ByRule called (rulesAt rules table) first
       → (getD names k 0 ≡ entry called (r .body)) × ByRule called ws (drop (k + 1) names)
       = λ called e. by-rule-on called r ws k names (rw (a .rules) at (c .kept called e)) in
+      let plain : allPlain (rulesAt rules table) ≡ true → allPlain (r ∷ ws) ≡ true = λ e. rw (a .rules) at (c .plain e) in
       record {
         sound = a .sound;
         here = a .here;
-        next = record { left = c .left - 1; count = omega (arith, h, c .count); cursor = a .next; kept = λ called e. on called e .1 };
+        next = record { left = c .left - 1; count = omega (arith, h, c .count); cursor = a .next; kept = λ called e. on called e .1; plain = λ e. and-right (isPlain r) _ (plain e) };
         splits = a .rules;
         kept = λ called e. on called e .0;
+        weighted = λ e. not-plain (allPlain (rulesAt rules table)) (λ p. and-left (isPlain r) _ (plain p)) (plain-at (drop i table) ∙ ap not e);
       }
 
 -- A test of the plain rules, for a loop that stops where one passes
@@ -97,6 +107,7 @@ course-set {names = names} k x c = record {
   count = c .count;
   cursor = c .cursor;
   kept = λ called e. rw (drop-set-lt (k + 1) names k x (omega arith)) (c .kept called e);
+  plain = c .plain;
 }
 
 module _ {table : List ℤ} {rules : ℕ} {first names : List ℕ} {k i : ℕ} {c : Course table rules first names k i} (g : InputRule → ℕ) where

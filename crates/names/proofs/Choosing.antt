@@ -30,8 +30,8 @@ use Rattle.names.proofs.Usable.{pair}
 pub also-none : (m : List ℕ) → AlsoMarks m m []
 also-none m = record { long = refl; has = λ v h. sym (or-false (marked m v)) }
 
-pub also-one : {m m′ : List ℕ} {x y : ℕ} → length m ≡ entries → y ≤ largest → m′ ≡ set m x 1 → x ≡ y → AlsoMarks m m′ (y ∷ [])
-also-one {m} {m′} {x} {y} e k p q = rw (p, q) (record {
+pub also-one : {m m′ : List ℕ} {x y : ℕ} → length m ≡ entries → m′ ≡ set m x 1 → x ≡ y → AlsoMarks m m′ (y ∷ [])
+also-one {m} {m′} {x} {y} e p q = rw (p, q) (record {
   long = length-set m y 1;
   has = λ v h.
       marked-set m y v (λ i. omega (arith, e)) ∙ or-comm (eqb v y) (marked m v)
@@ -59,24 +59,23 @@ pub ends-as : (body : List ℤ) (total least n : ℕ) {ps qs after bodies : List
     → MarksEnds qs bound (total + w) (min least w) (n + 1) (set body n y) after bodies found found′
 ends-as body total least n p q e f j = rw (p, q, e, f) at j
 
-module _ {pairs body bodies : List ℤ} {bound total least left n : ℕ} {found : List ℕ}
-    (z : Choosing pairs bound total least left body n bodies found) where
+module _ {pairs body : List ℤ} {bound total least left n : ℕ} {found : List ℕ} (z : Choosing pairs bound total least left body n found) where
   -- the name of a body that starts with the chosen literals
   abbrev named : (List ℤ → ℕ) → List ℤ → ℕ
   named called t = called (ascending (take n body ++ t))
 
   -- the bound is reached without the lightest that is chosen
-  pub too-much : bound + least ≤ total → MarksEnds pairs bound total least n body body bodies found found
+  pub too-much : {bodies : List ℤ} → bound + least ≤ total → MarksEnds pairs bound total least n body body bodies found found
   too-much h = record {
     keeps = refl;
     also = λ called C. rw (ends-heavy bound total least (paired pairs) (λ t i j. omega arith)) (also-none found);
   }
 
   -- "never include after the bound is reached"
-  pub reached : {found′ : List ℕ} → bound ≤ total → total < bound + least
+  pub reached : {bodies : List ℤ} {found′ : List ℕ} → bound ≤ total → total < bound + least
       → ((called : List ℤ → ℕ) → Called bodies called → AlsoMarks found found′ (called (ascending (take n body)) ∷ []))
       → MarksEnds pairs bound total least n body body bodies found found′
-  reached {found′} h k a = record { keeps = refl; also = λ called C. rw (one, append-nil (take n body)) (a called C) }
+  reached h k a = record { keeps = refl; also = λ called C. rw (one, append-nil (take n body)) (a called C) }
     where
       one : ends bound total least (paired pairs) ≡ [] ∷ []
       one =
@@ -122,7 +121,7 @@ module _ {pairs body bodies : List ℤ} {bound total least left n : ℕ} {found 
 
     -- what the calls ask, of numbers and words that are known by other names
     pub ask-with : {ps : List ℤ} {m w : ℕ} {y : ℤ} → ps ≡ drop 2 pairs → m ≡ min least w → w ≡ x .weight → y ≡ x .literal
-        → Choosing ps bound (total + w) m (left - w) (set body n y) (n + 1) bodies found
+        → Choosing ps bound (total + w) m (left - w) (set body n y) (n + 1) found
     ask-with p q e f = rw (p, q, e, f) (record {
       small = z .small;
       light = omega (arith, z .light);
@@ -131,12 +130,11 @@ module _ {pairs body bodies : List ℤ} {bound total least left n : ℕ} {found 
       reaches = omega (arith, z .reaches, sums-next);
       row = length-set body n (x .literal) ∙ z .row;
       room = omega (arith, room-next, z .row);
-      named = z .named;
       marks = z .marks;
     })
 
     pub ask-without : {ps after : List ℤ} {w : ℕ} {found′ : List ℕ} → ps ≡ drop 2 pairs → w ≡ x .weight → bound + w ≤ total + left
-        → length after ≡ length body → length found′ ≡ length found → Choosing ps bound total least (left - w) after n bodies found′
+        → length after ≡ length body → length found′ ≡ length found → Choosing ps bound total least (left - w) after n found′
     ask-without p q h e f = rw (p, q) (record {
       small = z .small;
       light = z .light;
@@ -145,7 +143,6 @@ module _ {pairs body bodies : List ℤ} {bound total least left n : ℕ} {found 
       reaches = omega (arith, sums-next);
       row = e ∙ z .row;
       room = omega (arith, room-next, z .row);
-      named = z .named;
       marks = f ∙ z .marks;
     })
 
@@ -170,28 +167,28 @@ module _ {pairs body bodies : List ℤ} {bound total least left n : ℕ} {found 
         ∙ ap (λ (f : List ℤ → ℕ). map f taken)
         (fun-ext (λ t. ap (λ (l : List ℤ). called (ascending l)) (sym (further t)))))
 
-    abbrev With : List ℤ → List ℕ → Type 0
-    With first found′ =
+    abbrev With : List ℤ → List ℤ → List ℕ → Type 0
+    With bodies first found′ =
         MarksEnds (drop 2 pairs) bound (total + x .weight) (min least (x .weight)) (n + 1) (set body n (x .literal)) first bodies found found′
 
-    kept : {first : List ℤ} {found′ : List ℕ} → With first found′ → take n first ≡ take n body
-    kept {first} j =
+    kept : {bodies first : List ℤ} {found′ : List ℕ} → With bodies first found′ → take n first ≡ take n body
+    kept {first = first} j =
         sym (take-take n (n + 1) first (omega arith)) ∙ ap (take n) (j .keeps ∙ longer)
         ∙ take-at (take n body) (x .literal ∷ []) n (length-take-le n body (omega (arith, in-body)))
 
     -- "stop where the weights left do not reach the bound"
-    pub stops : {first : List ℤ} {found′ : List ℕ} → total + left < bound + x .weight → With first found′
+    pub stops : {bodies first : List ℤ} {found′ : List ℕ} → total + left < bound + x .weight → With bodies first found′
         → MarksEnds pairs bound total least n body first bodies found found′
-    stops {first} {found′} h j = record {
+    stops h j = record {
       keeps = kept j;
       also = λ called C.
           rw (with-and-without called, ends-short bound total least rest (omega (arith, sums-next)), append-nil) (j .also called C);
     }
 
-    pub goes-on : {first after : List ℤ} {middle found′ : List ℕ} → With first middle
+    pub goes-on : {bodies first after : List ℤ} {middle found′ : List ℕ} → With bodies first middle
         → MarksEnds (drop 2 pairs) bound total least n first after bodies middle found′
         → MarksEnds pairs bound total least n body after bodies found found′
-    goes-on {first} j k = record {
+    goes-on j k = record {
       keeps = k .keeps ∙ kept j;
       also = λ called C.
           rw (with-and-without called) (also-both (j .also called C) (rw (kept j) at (k .also called C)));

@@ -14,7 +14,7 @@ use Rattle.weights.specs.Weights.{Weighted, sum, bodies, paired, mostWeight, mo
 use Rattle.weights.specs.Completing.{ends, noLeast}
 use Rattle.marks.specs.Marks.{marked, listed}
 use Rattle.names.specs.Queries.{isInside}
-use Rattle.names.specs.ByName.{bodyWords, Called}
+use Rattle.names.specs.ByName.{Called}
 
 -- the marks are those that were there and those of the numbers listed, as far as these are variables or 0
 pub record AlsoMarks (before after l : List ℕ) : Type 0 where
@@ -32,7 +32,7 @@ bodiesOutside m b l = filter (λ ls. not (any (isInside m) ls)) (bodies b l)
 -- The recursion over the pairs: the first n words of `body` are the chosen literals, of weight `total` and the least of them of weight
 -- `least`; `left` is what the pairs add up to, and with them the bound is reached
 
-pub record Choosing (pairs : List ℤ) (bound total least left : ℕ) (body : List ℤ) (n : ℕ) (bodies : List ℤ) (found : List ℕ) : Type 0 where
+pub record Choosing (pairs : List ℤ) (bound total least left : ℕ) (body : List ℤ) (n : ℕ) (found : List ℕ) : Type 0 where
   pub small : bound ≤ mostWeight
   pub light : least ≤ noLeast
   pub fits : total + left ≤ mostSum
@@ -40,7 +40,6 @@ pub record Choosing (pairs : List ℤ) (bound total least left : ℕ) (body : Li
   pub reaches : bound ≤ total + left
   pub row : length body ≡ mostWeighted
   pub room : n + length (paired pairs) ≤ mostWeighted
-  pub named : length bodies ≡ bodyWords
   pub marks : length found ≡ entries
 
 -- the names of all bodies that the pairs complete the chosen literals to are marked too; these literals stand as they did

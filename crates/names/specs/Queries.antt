@@ -3,7 +3,7 @@
 -- found here is what they ask for.
 -- Assumes nothing.
 use mathlib.Core.Path.{_≡_}
-use mathlib.Core.Bool.{Bool, true, not, _&&_}
+use mathlib.Core.Bool.{Bool, true, false, not, _&&_}
 use mathlib.Core.List.{List, map}
 use Prim.Native.Nat.{ℕ, _≤_}
 use lib.Dec.{eqb}
@@ -12,7 +12,7 @@ use lib.Signed.{ltZ}
 use lib.ListN.{length, take}
 use Rattle.words.specs.Lists.{any, filter}
 use Rattle.words.specs.Literals.{variable, sameList, has}
-use Rattle.aspif.specs.Rules.{Rule, Body, plain, weights, InputRule, isNormal}
+use Rattle.aspif.specs.Rules.{Rule, Body, plain, weights, InputRule, allPlain, isNormal}
 use Rattle.aspif.specs.Tables.{rulesAt, soundRules}
 use Rattle.marks.specs.Marks.{marked}
 use Rattle.names.specs.ByName.{Called}
@@ -26,7 +26,8 @@ pub record HoldsRules (table : List ℤ) (rules : ℕ) (ws : List InputRule) : T
 
 -- Names. `called` gives a body's name, 0 where it has none.
 
--- what is kept by rule: the name of a plain body; those of a weight body's bodies are kept by name alone
+-- what is kept by rule: the name of a plain body; those of a weight body's bodies are kept by name alone, and where there is no weight
+-- body nothing is kept by name
 abbrev pub entry : (List ℤ → ℕ) → Body → ℕ
 entry called (plain ls) = called ls
 entry called (weights b l) = 0
@@ -34,7 +35,7 @@ entry called (weights b l) = 0
 pub record Kept (names : List ℕ) (bodies : List ℤ) (called : List ℤ → ℕ) (ws : List InputRule) : Type 0 where
   pub rules : length ws ≤ length names
   pub byRule : take (length ws) names ≡ map (λ r. entry called (r .body)) ws
-  pub byName : Called bodies called
+  pub byName : allPlain ws ≡ false → Called bodies called
 
 -- Queries
 

@@ -1,4 +1,5 @@
 // The bodies of at most 12 literals, kept by name: a record for each variable, and an index of the names in the order of their bodies.
+// Where no rule has a weight body no records are lent, and of an array of another length the public functions say and do nothing.
 ghost use mathlib.Core.Path.{_≡_};
 ghost use mathlib.Core.Bool.{true, cond};
 ghost use mathlib.Core.List.{List, _++_};
@@ -163,9 +164,12 @@ fn found(bodies: &[i16], body: &[i32]) -> usize
 
 // The body's name, 0 where it has none.
 pub fn name_of(bodies: &[i16], body: &[i32]) -> u16
-    requires { ⌜ (length (now bodies) ≡ bodyWords) × (length (now body) ≤ mostWeighted) ⌝ }
+    requires { ⌜ length (now body) ≤ mostWeighted ⌝ }
     ensures { λ r. ⌜ ((called : List ℤ → ℕ) → Called (now (bodies .entry)) called → r ≡ called (now (body .entry))) ⌝ }
 {
+    if bodies.len() != BODY_WORDS {
+        return 0;
+    }
     let v = hinted(bodies, body);
     if 0 < v {
         return v as u16;
@@ -205,11 +209,13 @@ fn put_name(bodies: &mut [i16], place: usize, name: usize)
 
 // The body, which has no name, gets one that no body has.
 pub fn enter_body(bodies: &mut [i16], name: usize, body: &[i32])
-    requires { ⌜ (length (now bodies) ≡ bodyWords) × (1 ≤ name) × (name ≤ largest) × (length (now body) ≤ mostWeighted)
-        × (top (now body) ≤ largest) ⌝ }
+    requires { ⌜ (1 ≤ name) × (name ≤ largest) × (length (now body) ≤ mostWeighted) × (top (now body) ≤ largest) ⌝ }
     ensures { λ _. ⌜ ((called : List ℤ → ℕ) → Called (now (bodies .entry)) called → called (now (body .entry)) ≡ 0
         → ((L : List ℤ) → ¬ (called L ≡ name)) → Called (now (bodies .exit)) (λ L. cond (sameList (now (body .entry)) L) name (called L))) ⌝ }
 {
+    if bodies.len() != BODY_WORDS {
+        return;
+    }
     let place = place_of(bodies, body);
     let at = WIDTH * name;
     bodies[at] = (body.len() + 1) as i16;
@@ -246,9 +252,12 @@ fn copy_out(words: &[i16], row: &mut [i32])
 
 // The body with the name, in the row.
 pub fn body_of(bodies: &[i16], name: usize, row: &mut [i32]) -> Recorded
-    requires { ⌜ (length (now bodies) ≡ bodyWords) × (name ≤ largest) × (mostWeighted ≤ length (now row)) ⌝ }
+    requires { ⌜ (name ≤ largest) × (mostWeighted ≤ length (now row)) ⌝ }
     ensures { λ r. ⌜ Told (now (bodies .entry)) name (now (row .exit)) r ⌝ }
 {
+    if bodies.len() != BODY_WORDS {
+        return Recorded::Nothing;
+    }
     let count = count_of(bodies, name);
     if count == 0 {
         return Recorded::Nothing;

@@ -11,10 +11,10 @@ ghost use Rattle.words.specs.Limits.{largest, entries};
 ghost use Rattle.words.specs.Lists.{any};
 ghost use Rattle.words.specs.Literals.{sameList, top};
 ghost use Rattle.aspif.specs.Rules.{InputRule, bodiesOf, expandRule, expand, isNormal};
-ghost use Rattle.aspif.specs.Tables.{headsAt, bodyAt, ruleAt, shapeSound, soundAt};
+ghost use Rattle.aspif.specs.Tables.{isWeighted, headsAt, bodyAt, ruleAt, shapeSound, soundAt};
 ghost use Rattle.weights.specs.Weights.{mostWeighted};
 ghost use Rattle.marks.specs.Marks.{Marks};
-ghost use Rattle.names.specs.ByName.{bodyWords, Called, Told};
+ghost use Rattle.names.specs.ByName.{Called, Told};
 ghost use Rattle.names.specs.Minimal.{AlsoMarks};
 ghost use Rattle.names.specs.Queries.{HoldsRules, entry, Kept, isInside, asksHeads, askedNames, completing};
 use crate::by_name;
@@ -100,8 +100,9 @@ fn mark_asked(
     found: &mut [u8],
 )
     requires rule { ⌜ soundAt (now words) ≡ true ⌝ }
-    requires sizes { ⌜ (length (now bodies) ≡ bodyWords) × (length (now found) ≡ entries) ⌝ }
-    ensures { λ _. ⌜ ((called : List ℤ → ℕ) → Called (now (bodies .entry)) called → name ≡ entry called (bodyAt (now (words .entry)))
+    requires found { ⌜ length (now found) ≡ entries ⌝ }
+    ensures { λ _. ⌜ ((called : List ℤ → ℕ) → (isWeighted (now (words .entry)) ≡ true → Called (now (bodies .entry)) called)
+        → name ≡ entry called (bodyAt (now (words .entry)))
         → AlsoMarks (now (found .entry)) (now (found .exit))
         (askedNames query (now (inside .entry)) called (expandRule (ruleAt (now (words .entry)))))) ⌝ }
 {
@@ -133,7 +134,6 @@ pub fn names_of(
     inside: &[u8],
 ) -> [u8; ENTRIES]
     requires program { ⌜ ((ws : List InputRule) × HoldsRules (now table) rules ws) × (rules ≤ length (now names)) ⌝ }
-    requires bodies { ⌜ length (now bodies) ≡ bodyWords ⌝ }
     ensures { λ m. ⌜ ((ws : List InputRule) → HoldsRules (now (table .entry)) rules ws
         → (called : List ℤ → ℕ) → Kept (now (names .entry)) (now (bodies .entry)) called ws
         → Marks m (askedNames query (now (inside .entry)) called (expand ws))) ⌝ }
@@ -164,8 +164,8 @@ fn has_body(words: &[i32], body: &[i32]) -> bool
 // The body, which is one of the rule at the front, has no name; `name` is what is kept by rule.
 fn is_nameless(words: &[i32], body: &[i32], name: u16, bodies: &[i16]) -> bool
     requires rule { ⌜ (soundAt (now words) ≡ true) × (any (sameList (now body)) (bodiesOf (bodyAt (now words))) ≡ true) ⌝ }
-    requires bodies { ⌜ length (now bodies) ≡ bodyWords ⌝ }
-    ensures { λ r. ⌜ ((called : List ℤ → ℕ) → Called (now (bodies .entry)) called → name ≡ entry called (bodyAt (now (words .entry)))
+    ensures { λ r. ⌜ ((called : List ℤ → ℕ) → (isWeighted (now (words .entry)) ≡ true → Called (now (bodies .entry)) called)
+        → name ≡ entry called (bodyAt (now (words .entry)))
         → r ≡ eqb (called (now (body .entry))) 0) ⌝ }
 {
     if tables::is_weighted(words) {
@@ -177,7 +177,6 @@ fn is_nameless(words: &[i32], body: &[i32], name: u16, bodies: &[i16]) -> bool
 // Question 28: the literals, ascending, are the body of a rule, and it has no name.
 pub fn is_unnamed(table: &[i32], rules: usize, names: &[u16], bodies: &[i16], body: &[i32]) -> bool
     requires program { ⌜ ((ws : List InputRule) × HoldsRules (now table) rules ws) × (rules ≤ length (now names)) ⌝ }
-    requires bodies { ⌜ length (now bodies) ≡ bodyWords ⌝ }
     ensures { λ r. ⌜ ((ws : List InputRule) → HoldsRules (now (table .entry)) rules ws
         → (called : List ℤ → ℕ) → Kept (now (names .entry)) (now (bodies .entry)) called ws
         → r ≡ (any (λ x. sameList (now (body .entry)) (x .body)) (expand ws) && eqb (called (now (body .entry))) 0)) ⌝ }
@@ -199,7 +198,8 @@ pub fn is_unnamed(table: &[i32], rules: usize, names: &[u16], bodies: &[i16], bo
 fn is_named(words: &[i32], name: u16, kept: u16, recorded: Recorded, row: &[i32]) -> bool
     requires rule { ⌜ soundAt (now words) ≡ true ⌝ }
     requires row { ⌜ (length (now row) ≡ mostWeighted) × ((bodies : List ℤ) × Told bodies name (now row) recorded) ⌝ }
-    ensures { λ r. ⌜ ((bodies : List ℤ) (called : List ℤ → ℕ) → Called bodies called → Told bodies name (now (row .entry)) recorded
+    ensures { λ r. ⌜ ((bodies : List ℤ) (called : List ℤ → ℕ) → (isWeighted (now (words .entry)) ≡ true → Called bodies called)
+        → Told bodies name (now (row .entry)) recorded
         → 1 ≤ name → kept ≡ entry called (bodyAt (now (words .entry)))
         → r ≡ any (λ ls. eqb (called ls) name) (bodiesOf (bodyAt (now (words .entry))))) ⌝ }
 {
@@ -225,7 +225,8 @@ fn completes(
 ) -> bool
     requires rule { ⌜ soundAt (now words) ≡ true ⌝ }
     requires row { ⌜ (length (now row) ≡ mostWeighted) × ((bodies : List ℤ) × Told bodies name (now row) recorded) ⌝ }
-    ensures { λ r. ⌜ ((bodies : List ℤ) (called : List ℤ → ℕ) → Called bodies called → Told bodies name (now (row .entry)) recorded
+    ensures { λ r. ⌜ ((bodies : List ℤ) (called : List ℤ → ℕ) → (isWeighted (now (words .entry)) ≡ true → Called bodies called)
+        → Told bodies name (now (row .entry)) recorded
         → 1 ≤ name → kept ≡ entry called (bodyAt (now (words .entry)))
         → r ≡ any (completing called (now (heads .entry)) name) (expandRule (ruleAt (now (words .entry))))) ⌝ }
 {
@@ -245,7 +246,6 @@ pub fn is_completed(
     name: usize,
 ) -> bool
     requires program { ⌜ ((ws : List InputRule) × HoldsRules (now table) rules ws) × (rules ≤ length (now names)) ⌝ }
-    requires bodies { ⌜ length (now bodies) ≡ bodyWords ⌝ }
     requires name { ⌜ (1 ≤ name) × (name ≤ largest) ⌝ }
     ensures { λ r. ⌜ ((ws : List InputRule) → HoldsRules (now (table .entry)) rules ws
         → (called : List ℤ → ℕ) → Kept (now (names .entry)) (now (bodies .entry)) called ws
@@ -308,7 +308,6 @@ pub fn enter(
     bodies: &mut [i16],
 )
     requires program { ⌜ ((ws : List InputRule) × HoldsRules (now table) rules ws) × (rules ≤ length (now names)) ⌝ }
-    requires bodies { ⌜ length (now bodies) ≡ bodyWords ⌝ }
     requires body { ⌜ (1 ≤ name) × (name ≤ largest) × (top (now body) ≤ largest) ⌝ }
     ensures { λ _. ⌜ ((ws : List InputRule) → HoldsRules (now (table .entry)) rules ws
         → (called : List ℤ → ℕ) → Kept (now (names .entry)) (now (bodies .entry)) called ws

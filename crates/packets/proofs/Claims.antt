@@ -13,7 +13,7 @@ use lib.ListN.{length, take, drop, length-append, length-drop, take-append-drop}
 use lib.Seq.{take-at, drop-at, drop-drop, length-take-le}
 use Rattle.words.specs.Limits.{longest, mostRules}
 use Rattle.words.proofs.Lists.{and-left, and-right, zero-one}
-use Rattle.aspif.specs.Rules.{InputRule, programWords, tableWords}
+use Rattle.aspif.specs.Rules.{InputRule, allPlain, programWords, tableWords}
 use Rattle.text.specs.Strings.{startsWith}
 use Rattle.aspif.specs.Tables.{rulesOf}
 use Rattle.aspif.proofs.Cursors.{rules-of}
@@ -23,7 +23,7 @@ use Rattle.drupe.specs.Texts.{Step, StepsRead, steps, stepText, textOf, stepsOf
 use Rattle.drupe.specs.Texts as Texts
 use Rattle.drupe.proofs.Texts.{AllPass, some-byte, steps-exact, read-back}
 use Rattle.packets.specs.Bytes.{little, value, bytesOf, numbersFrom}
-use Rattle.packets.specs.Packets.{mark, allPlain, packetWords, stepsBytes, packetOf, wordCount, stepCount, wordPart, stepPart, fills, lengthsFit, rulesFrom, rulesIn, stepsFrom, ifShort, stepsIn, PacketRead, refused, pair, paired, ifHeld, partsRead, reading, unwritten, written, stepsTaken, held, ifPlain, writing}
+use Rattle.packets.specs.Packets.{mark, packetWords, stepsBytes, packetOf, wordCount, stepCount, wordPart, stepPart, fills, lengthsFit, rulesFrom, rulesIn, stepsFrom, ifShort, stepsIn, PacketRead, refused, pair, paired, ifHeld, partsRead, reading, unwritten, written, stepsTaken, held, ifPlain, writing}
 use Rattle.packets.specs.Claims.{WrittenAgain, Bytes, PairOf, ReadsBack, OneForm, ReadSound}
 use Rattle.packets.proofs.Littles.{bytes-part, value-little, little-value, length-bytes, numbers-back, length-numbers, numbers-whole}
 use Rattle.packets.proofs.StepParts.{fills-back, steps-back, steps-there}

@@ -13,14 +13,14 @@ use lib.ListN.{length, take, drop, length-append, length-drop, take-append-drop}
 use lib.Seq.{take-at, drop-at, take-add}
 use Rattle.words.specs.Lists.{_∈_}
 use Rattle.words.proofs.Lists.{and-left, and-right, each-cons, by-test}
-use Rattle.aspif.specs.Rules.{Body, plain, weights, InputRule, literalsOf, kindWord, ruleWords, programWords}
+use Rattle.aspif.specs.Rules.{Body, plain, weights, InputRule, isPlainBody, isPlain, allPlain, literalsOf, kindWord, ruleWords, programWords}
 use Rattle.aspif.specs.Tables.{isWeighted, headCount, bodyLength, sizeAt, bodyAt, ruleAt, shapeSound, soundAt}
 use Rattle.aspif.specs.declared.Kind.{Kind}
 use Rattle.aspif.specs.declared.Kind.the-variants.{Normal, Choice}
 use Rattle.aspif.proofs.Cursors.{shaped, shape-of}
 use Rattle.aspif.proofs.Formed.{Formed}
 use Rattle.aspif.proofs.Readable.{inside, sound-words, rule-at, rest-at, rule-formed, front-words}
-use Rattle.packets.specs.Packets.{packetRule, isPlainBody, isPlain, allPlain, packetWords, prepend, withKind, rulePasses, ruleSize, ruleIn, rulesFrom}
+use Rattle.packets.specs.Packets.{packetRule, packetWords, prepend, withKind, rulePasses, ruleSize, ruleIn, rulesFrom}
 use Rattle.packets.specs.Parts.{mostWords}
 use Rattle.packets.proofs.Littles.{InRange}
 use Rattle.packets.proofs.StepParts.{small}

@@ -1,7 +1,7 @@
 -- What the loops of the writer cite: bytes put one after another.
 -- Assumes nothing.
 use mathlib.Core.Path.{_≡_, refl, sym, _∙_, ap, ap₂, subst}
-use mathlib.Core.Bool.{Bool, true, false, cond, not, true≢false}
+use mathlib.Core.Bool.{Bool, true, false, cond, true≢false}
 use mathlib.Core.Option.{some}
 use mathlib.Core.Logic.{inl}
 use mathlib.Core.List.{List, [], _∷_, _++_, map, append-nil, append-assoc}
@@ -21,7 +21,7 @@ use Rattle.weights.specs.Weights.{paired}
 use Rattle.text.specs.declared.Letter.{Letter}
 use Rattle.text.specs.Writing.{Put}
 use Rattle.text.proofs.Puts.{put-on, put-one, put-none}
-use Rattle.aspif.specs.Rules.{plain, weights, InputRule, literalsOf, kindWord}
+use Rattle.aspif.specs.Rules.{plain, weights, InputRule, isPlainBody, isPlain, allPlain, literalsOf, kindWord}
 use Rattle.aspif.specs.Tables.{isWeighted, bodyWordsAt, boundAt, bodyAt, ruleAt, rulesAt, soundTable}
 use Rattle.drupe.specs.Lines.{LineAt, line, lineAt, lineAnswer, numbersOf, AnswerBounds, ProofLineRead}
 use Rattle.drupe.specs.Lines as Lines
@@ -34,7 +34,7 @@ use Rattle.drupe.proofs.Lines.{drop-replicate, passed-line}
 use Rattle.drupe.proofs.Texts.{Walked, walked-start, walked-on, walked-end, walked-refused, refused-exact}
 use Rattle.packets.specs.Bytes.{little, flipIf, signedBytes, bytesOf}
 use Rattle.packets.specs.Packets as Packets
-use Rattle.packets.specs.Packets.{mark, packetRule, isPlainBody, isPlain, allPlain, packetWords, stepBytes, stepsBytes, packetOf, PacketWritten, unwritten, written, stepsTaken, held, writing, writingAnswer, packetLeft, WritingLeaves, WrittenPacket}
+use Rattle.packets.specs.Packets.{mark, packetRule, packetWords, stepBytes, stepsBytes, packetOf, PacketWritten, unwritten, written, stepsTaken, held, writing, writingAnswer, packetLeft, WritingLeaves, WrittenPacket}
 use Rattle.packets.specs.Writes.{stepRoom, isRead, stepsRead, StepsPutAs, writingTold}
 use Rattle.packets.specs.declared.PacketWriting.{PacketWriting}
 use Rattle.packets.specs.declared.PacketWriting.the-variants as Writing
@@ -115,16 +115,7 @@ count-bytes k n = plain-bytes (little k n)
 
 -- Rules
 
--- no weight body, of a rule in the table
-pub plain-at : (ws : List ℤ) → isPlain (ruleAt ws) ≡ not (isWeighted ws)
-unfolding bodyAt
-plain-at ws = by (isWeighted ws)
-  where
-    by : (t : Bool) → isPlainBody (cond t (weights (boundAt ws) (paired (bodyWordsAt ws))) (plain (bodyWordsAt ws))) ≡ not t
-    by true = refl
-    by false = refl
-
--- the words of its body are its literals
+-- the words of the body of a rule without a weight body are its literals
 pub plain-literals : (ws : List ℤ) → isPlain (ruleAt ws) ≡ true → bodyWordsAt ws ≡ literalsOf (bodyAt ws)
 unfolding bodyAt
 plain-literals ws = by (isWeighted ws)

@@ -11,13 +11,13 @@ use lib.Dec.{leb}
 use lib.IntN.{ℤ, pos}
 use lib.ListN.{length, take, drop, replicate}
 use Rattle.words.specs.Limits.{longest, mostRules}
-use Rattle.words.specs.Lists.{concat, all}
+use Rattle.words.specs.Lists.{concat}
 use Rattle.words.specs.Literals.{has}
 use Rattle.text.specs.Bytes.{byteOf, classOf}
 use Rattle.text.specs.declared.Letter.{Letter}
 use Rattle.text.specs.declared.Class.{Class}
 use Rattle.text.specs.declared.Class.the-variants as Class
-use Rattle.aspif.specs.Rules.{Body, plain, weights, InputRule, literalsOf, kindWord, programWords, tableWords}
+use Rattle.aspif.specs.Rules.{InputRule, literalsOf, allPlain, kindWord, programWords, tableWords}
 use Rattle.text.specs.Strings.{startsWith}
 use Rattle.aspif.specs.Tables.{ruleAt, sizeAt, soundAt, rulesOf}
 use Rattle.drupe.specs.Lines.{allPassed, lineRefusal}
@@ -40,17 +40,6 @@ mark = 82 ∷ 86 ∷ 80 ∷ 1 ∷ 0 ∷ []
 abbrev pub packetRule : InputRule → List ℤ
 packetRule r =
     kindWord (r .kind) ∷ pos (length (r .heads)) ∷ pos (length (literalsOf (r .body))) ∷ (r .heads ++ literalsOf (r .body))
-
--- no weight body, of one rule and of all
-abbrev pub isPlainBody : Body → Bool
-isPlainBody (plain ls) = true
-isPlainBody (weights b l) = false
-
-abbrev pub isPlain : InputRule → Bool
-isPlain r = isPlainBody (r .body)
-
-abbrev pub allPlain : List InputRule → Bool
-allPlain P = all isPlain P
 
 -- the "table words in use"
 abbrev pub packetWords : List InputRule → List ℤ

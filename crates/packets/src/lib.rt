@@ -35,7 +35,7 @@ pub fn write_packet(table: &[i32], rules: usize, proof: &[u8], packet: &mut [u8]
     if !tables::is_readable(table, rules) {
         return PacketWriting::Refused(53);
     }
-    if !writer::all_plain(table, rules) {
+    if !tables::all_plain(table, rules) {
         return PacketWriting::Refused(53);
     }
     writer::write_pair(table, rules, proof, packet)

@@ -9,11 +9,11 @@ ghost use lib.IntN.{pos};
 ghost use lib.ListN.{length, replicate};
 ghost use Rattle.text.specs.Writing.{Put, farthest};
 ghost use Rattle.words.specs.Limits.{longest, mostRules, mostNumbers};
-ghost use Rattle.aspif.specs.Rules.{kindWord};
+ghost use Rattle.aspif.specs.Rules.{isPlain, allPlain, kindWord};
 ghost use Rattle.aspif.specs.Tables.{ruleAt, soundAt, rulesAt, soundRules, soundTable};
 ghost use Rattle.drupe.specs.Texts.{stepsOf};
 ghost use Rattle.packets.specs.Bytes.{little, flipIf, signedBytes, bytesOf};
-ghost use Rattle.packets.specs.Packets.{mark, packetRule, isPlain, allPlain, packetWords, stepBytes, WrittenPacket};
+ghost use Rattle.packets.specs.Packets.{mark, packetRule, packetWords, stepBytes, WrittenPacket};
 ghost use Rattle.packets.specs.Writes.{ruleRoom, stepRoom, lastRuleEnd, StepsPutAs, writingTold};
 use crate::HEADER;
 use crate::MARK;
@@ -119,24 +119,6 @@ fn put_rule(buffer: &mut [u8], at: usize, rule: &[i32]) -> usize
     let from = put_counts(buffer, at, kind, heads.len(), body.len());
     let middle = put_all(buffer, from, heads, 4);
     put_all(buffer, middle, body, 4)
-}
-
-// No rule of the table has a weight body.
-pub fn all_plain(table: &[i32], rules: usize) -> bool
-    requires { ⌜ soundRules rules (now table) ≡ true ⌝ }
-    ensures { λ r. ⌜ r ≡ allPlain (rulesAt rules (now (table .entry))) ⌝ }
-{
-    let mut left = rules;
-    let mut i = 0;
-    while 0 < left {
-        let rest = &table[i..];
-        if tables::is_weighted(rest) {
-            return false;
-        }
-        i = tables::next_rule(table, i);
-        left -= 1;
-    }
-    true
 }
 
 // The rules of a table, one after another.

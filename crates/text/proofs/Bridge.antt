@@ -18,14 +18,10 @@ use Rattle.words.specs.Literals.{same}
 use Rattle.text.specs.Bytes.{classOf}
 use Rattle.text.specs.Line.{digits, natural, nonNegative, negative, number, also, numbersIn, Words, unended, words, newWord, joined, cut, span, Line, broken, numbers, spanned, ofWords, lineOf, outside, anyOutside, isClosed}
 use Rattle.text.specs.Scanned.{capped, LineTold, LineBounds, LineScanned}
-use Rattle.text.specs.Scan.{moreOf, newlineOf, spaceOf, actionOf, valueOf, unseen, Scanned, turn, scan}
+use Rattle.text.specs.Scan.{State, Start, Word, Sign, Zero, Digits, Action, Go, Put, Last, Fail, moreOf, newlineOf, spaceOf, actionOf, valueOf, unseen, Scanned, turn, scan}
 use Rattle.text.specs.declared.Letter.{Letter}
 use Rattle.text.specs.declared.Class.{Class}
 use Rattle.text.specs.declared.Class.the-variants.{Newline, Space, Minus, Digit, Step, Other}
-use Rattle.text.specs.declared.State.{State}
-use Rattle.text.specs.declared.State.the-variants.{Start, Word, Sign, Zero, Digits}
-use Rattle.text.specs.declared.Action.{Action}
-use Rattle.text.specs.declared.Action.the-variants.{Go, Put, Last, Fail}
 use Rattle.text.specs.declared.Seen.{Seen}
 use Rattle.text.specs.declared.LineRead.{LineRead}
 use Rattle.text.specs.declared.LineRead.the-variants.{Numbers, Broken}

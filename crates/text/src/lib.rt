@@ -3,12 +3,17 @@
 pub mod writing;
 
 ghost use mathlib.Core.Path.{_≡_};
-ghost use lib.ListN.{set};
+ghost use mathlib.Core.Bool.{Bool};
+ghost use mathlib.Core.List.{List};
+ghost use Prim.Native.Nat.{ℕ, _<_, _≤_};
+ghost use lib.IntN.{ℤ};
+ghost use lib.ListN.{length, set};
 ghost use Rattle.text.specs.Bytes.{classOf};
 ghost use Rattle.text.specs.Classes.{byteClasses, classAt};
 ghost use Rattle.text.specs.Strings.{startsWith};
 ghost use Rattle.text.specs.Scanned.{LineScanned};
-ghost use Rattle.text.specs.Scan.{actionOf, digitOf, endOf, firstOf, moreOf, seeing, valueOf};
+ghost use Rattle.text.specs.declared.Seen.{Seen};
+ghost use Rattle.text.specs.Scan.{State, Word, endOf, moreOf, seeing, valueOf, classFrom, scanFrom, afterDigits, afterSign, afterNumber, NumberBounds};
 
 // The proof's seven letters, by the names of source document 000.
 pub enum Letter {
@@ -42,23 +47,18 @@ pub enum LineRead {
     Broken,
 }
 
-// What the bytes of a line so far have led to.
-enum State {
-    Start,
-    Word,
-    Sign,
-    Zero,
-    Digits(bool, u16),
+// The digits from a position on: the size of the number that they end, and the position after them.
+struct Digits {
+    size: u16,
+    next: usize,
 }
 
-// What the next byte does: a state, a number that a space or a newline ends (negative or not, and its size), an empty line,
-// or no line of numbers.
-enum Action {
-    Go(State),
-    Put(bool, u16),
-    Last(bool, u16),
-    Empty,
-    Fail,
+// What stands where a number is due: a number with a space or a newline behind it, negative or not, its size, and the position after that
+// byte; or no such thing.
+enum Number {
+    Spaced(bool, u16, usize),
+    Last(bool, u16, usize),
+    Faulty,
 }
 
 // Of the numbers so far: some size was above the largest variable, some number was 0.
@@ -69,6 +69,15 @@ struct Seen {
 
 // One past the largest variable. It stands for every larger size, so that no size wraps.
 const CAP: u16 = words::ENTRIES as u16;
+
+// Numbers of classes, as in `CLASSES`.
+const NEWLINE: u8 = 10;
+
+const SPACE: u8 = 11;
+
+const MINUS: u8 = 12;
+
+const OTHER: u8 = 20;
 
 // By byte value, the number of its class: 0 to 9 the digits, 10 newline, 11 space, 12 minus, 13 to 19 the letters a, b, c, d, e, l
 // and s, 20 other. 16 rows of 16, laid out by hand. A constant array is built anew wherever it is indexed: take it into a local once,
@@ -114,13 +123,21 @@ fn class_at(number: u8) -> Class
     }
 }
 
+// The number of a byte's class, by the table.
+fn number_of(classes: &[u8; 256], b: u8) -> u8
+    requires { ⌜ now classes ≡ byteClasses ⌝ }
+    ensures { λ r. ⌜ classAt r ≡ classOf b ⌝ }
+{
+    let i = b as usize;
+    classes[i]
+}
+
 // The class of a byte, by the table.
 pub fn class_of(classes: &[u8; 256], b: u8) -> Class
     requires { ⌜ now classes ≡ byteClasses ⌝ }
     ensures { λ r. ⌜ r ≡ classOf b ⌝ }
 {
-    let i = b as usize;
-    class_at(classes[i])
+    class_at(number_of(classes, b))
 }
 
 // One more digit, up to the cap.
@@ -131,60 +148,87 @@ fn more(m: u16, d: u8) -> u16
     if v <= CAP as u32 { v as u16 } else { CAP }
 }
 
-// The first digit of a number; `neg`: after a minus.
-fn first_digit(neg: bool, d: u8) -> Action
-    ensures { λ r. ⌜ r ≡ firstOf neg d ⌝ }
+// The number of the class of the byte at a position; the text's end counts as a byte of no number.
+fn class_number(text: &[u8], at: usize, classes: &[u8; 256]) -> u8
+    requires { ⌜ now classes ≡ byteClasses ⌝ }
+    ensures class { λ r. ⌜ classAt r ≡ classFrom (now (text .entry)) at ⌝ }
+    ensures within { λ r. ⌜ (r < 20 → at < length (now (text .entry))) ⌝ }
 {
-    if d != 0 {
-        return Action::Go(State::Digits(neg, more(0, d)));
+    if at < text.len() {
+        return number_of(classes, text[at]);
     }
-    if neg {
-        return Action::Fail;
-    }
-    Action::Go(State::Zero)
+    OTHER
 }
 
-fn at_digit(state: State, d: u8) -> Action
-    ensures { λ r. ⌜ r ≡ digitOf state d ⌝ }
+// The digits from a position on, after those that make m.
+fn more_digits(text: &[u8], from: usize, m: u16, classes: &[u8; 256]) -> Digits
+    requires { ⌜ now classes ≡ byteClasses ⌝ }
+    ensures scanned { λ r. ⌜ ((neg : Bool) (n : ℕ) (seen : Seen) (row : List ℤ)
+        → scanFrom (now (text .entry)) (State.Digits neg m) n seen row from
+        ≡ afterDigits (now (text .entry)) neg (r .size) n seen row (r .next)) ⌝ }
+    ensures after { λ r. ⌜ from ≤ r .next ⌝ }
 {
-    match state {
-        State::Start => first_digit(false, d),
-        State::Word => first_digit(false, d),
-        State::Sign => first_digit(true, d),
-        State::Zero => Action::Fail,
-        State::Digits(neg, m) => Action::Go(State::Digits(neg, more(m, d))),
+    let mut size = m;
+    let mut i = from;
+    loop {
+        let d = class_number(text, i, classes);
+        if 9 < d {
+            return Digits { size, next: i };
+        }
+        size = more(size, d);
+        i += 1;
     }
 }
 
-fn next_step(state: State, class: Class) -> Action
-    ensures { λ r. ⌜ r ≡ actionOf state class ⌝ }
+// The end of a number, all of whose digits are read.
+fn ended(text: &[u8], at: usize, neg: bool, m: u16, classes: &[u8; 256]) -> Number
+    requires { ⌜ now classes ≡ byteClasses ⌝ }
+    ensures scanned { λ r. ⌜ ((n : ℕ) (seen : Seen) (row : List ℤ)
+        → afterDigits (now (text .entry)) neg m n seen row at ≡ afterNumber (now (text .entry)) r n seen row) ⌝ }
+    ensures within { λ r. ⌜ NumberBounds at (length (now (text .entry))) r ⌝ }
 {
-    match class {
-        Class::Newline => match state {
-            State::Start => Action::Empty,
-            State::Word => Action::Fail,
-            State::Sign => Action::Fail,
-            State::Zero => Action::Last(false, 0),
-            State::Digits(neg, m) => Action::Last(neg, m),
-        },
-        Class::Space => match state {
-            State::Start => Action::Fail,
-            State::Word => Action::Fail,
-            State::Sign => Action::Fail,
-            State::Zero => Action::Put(false, 0),
-            State::Digits(neg, m) => Action::Put(neg, m),
-        },
-        Class::Minus => match state {
-            State::Start => Action::Go(State::Sign),
-            State::Word => Action::Go(State::Sign),
-            State::Sign => Action::Fail,
-            State::Zero => Action::Fail,
-            State::Digits(_, _) => Action::Fail,
-        },
-        Class::Digit(d) => at_digit(state, d),
-        Class::Step(_) => Action::Fail,
-        Class::Other => Action::Fail,
+    let class = class_number(text, at, classes);
+    if class == SPACE {
+        return Number::Spaced(neg, m, at + 1);
     }
+    if class == NEWLINE {
+        return Number::Last(neg, m, at + 1);
+    }
+    Number::Faulty
+}
+
+// A number from its first digit on; `neg`: after a minus.
+fn unsigned_at(text: &[u8], at: usize, neg: bool, classes: &[u8; 256]) -> Number
+    requires { ⌜ now classes ≡ byteClasses ⌝ }
+    ensures scanned { λ r. ⌜ ((n : ℕ) (seen : Seen) (row : List ℤ)
+        → afterSign (now (text .entry)) neg n seen row at ≡ afterNumber (now (text .entry)) r n seen row) ⌝ }
+    ensures within { λ r. ⌜ NumberBounds at (length (now (text .entry))) r ⌝ }
+{
+    let d = class_number(text, at, classes);
+    if 9 < d {
+        return Number::Faulty;
+    }
+    if neg & (d == 0) {
+        return Number::Faulty;
+    }
+    if d == 0 {
+        return ended(text, at + 1, false, 0, classes);
+    }
+    let digits = more_digits(text, at + 1, more(0, d), classes);
+    ended(text, digits.next, neg, digits.size, classes)
+}
+
+// A number with what ends it.
+fn number_at(text: &[u8], at: usize, classes: &[u8; 256]) -> Number
+    requires { ⌜ now classes ≡ byteClasses ⌝ }
+    ensures scanned { λ r. ⌜ ((n : ℕ) (seen : Seen) (row : List ℤ)
+        → scanFrom (now (text .entry)) Word n seen row at ≡ afterNumber (now (text .entry)) r n seen row) ⌝ }
+    ensures within { λ r. ⌜ NumberBounds at (length (now (text .entry))) r ⌝ }
+{
+    if class_number(text, at, classes) == MINUS {
+        return unsigned_at(text, at + 1, true, classes);
+    }
+    unsigned_at(text, at, false, classes)
 }
 
 fn value(neg: bool, m: u16) -> i32
@@ -229,41 +273,36 @@ pub fn read_line(text: &[u8], row: &mut [i32], classes: &[u8; 256]) -> LineRead
     requires { ⌜ now classes ≡ byteClasses ⌝ }
     ensures { λ r. ⌜ LineScanned (now (text .entry)) (now (row .entry)) (now (row .exit)) r ⌝ }
 {
-    let mut state = State::Start;
+    if class_number(text, 0, classes) == NEWLINE {
+        return LineRead::Numbers {
+            count: 0,
+            next: 1,
+            outside: false,
+            closed: false,
+        };
+    }
     let mut count: usize = 0;
     let mut seen = Seen {
         outside: false,
         nought: false,
     };
     let mut i: usize = 0;
-    while i < text.len() {
-        let at = i;
-        i += 1;
-        let action = next_step(state, class_of(classes, text[at]));
-        match action {
-            Action::Go(s) => state = s,
-            Action::Put(neg, m) => {
+    loop {
+        let number = number_at(text, i, classes);
+        match number {
+            Number::Spaced(neg, m, next) => {
                 store(row, count, neg, m);
                 seen = seen.with(m);
                 count += 1;
-                state = State::Word;
+                i = next;
             }
-            Action::Last(neg, m) => {
+            Number::Last(neg, m, next) => {
                 store(row, count, neg, m);
-                return seen.end(m, count + 1, i);
+                return seen.end(m, count + 1, next);
             }
-            Action::Empty => {
-                return LineRead::Numbers {
-                    count: 0,
-                    next: 1,
-                    outside: false,
-                    closed: false,
-                };
-            }
-            Action::Fail => return LineRead::Broken,
+            Number::Faulty => return LineRead::Broken,
         }
     }
-    LineRead::Broken
 }
 
 // The text begins with these bytes.

@@ -13,18 +13,18 @@ use Rattle.checker.proofs.judging.check_proof.Statement.{statement}
 use Rattle.checker.proofs.judging.check_proof.Tie as tie
 
 -- what the lines came to
-module _ (c : tie.After-run-lines) where
+module _ (c : tie.After-run-proof) where
   abbrev start : tie.Start
   start = c .before .before .before .before .before
 
   abbrev store′ : List ℤ
-  store′ = c .run-lines .last .1 .1 .1 .1 .0
+  store′ = c .run-proof .last .1 .1 .1 .1 .0
 
   abbrev came : List InputRule → Course
   came ws = course (atoms ws) (expand ws) (length (start .args .store .now)) (start .args .proof .now)
 
-  ran : (ws : List InputRule) → Program (start .args .table .now) (start .args .rules) (start .args .atoms) ws → Ran store′ (came ws) (c .run-lines .result)
-  ran ws p = subst (λ (n : ℕ). Ran store′ (course n (expand ws) (length (start .args .store .now)) (start .args .proof .now)) (c .run-lines .result)) (p .top) (c .run-lines .ensures ws p)
+  ran : (ws : List InputRule) → Program (start .args .table .now) (start .args .rules) (start .args .atoms) ws → Ran store′ (came ws) (c .run-proof .result)
+  ran ws p = subst (λ (n : ℕ). Ran store′ (course n (expand ws) (length (start .args .store .now)) (start .args .proof .now)) (c .run-proof .result)) (p .top) (c .run-proof .ensures ws p)
 
 returns : tie.Need-returns
 returns c = λ ws p w.

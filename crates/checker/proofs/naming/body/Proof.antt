@@ -21,19 +21,19 @@ use Rattle.checker.proofs.naming.body.Statement.{statement}
 use Rattle.checker.proofs.naming.body.Tie as tie
 
 sub-all-marked : tie.Need-sub-all-marked
-sub-all-marked c = some-number Body refl (c .before .before .pre .1 .1 .1)
+sub-all-marked c = some-number Body refl (c .before .before .pre .1 .1)
 
 part-all-marked-start : tie.Need-part-all-marked-start
-part-all-marked-start c = search (needs, some-number Body refl (c .before .before .before .pre .1 .1 .1))
+part-all-marked-start c = search (needs, some-number Body refl (c .before .before .before .pre .1 .1))
 
 returns : tie.Need-returns
 returns c =
     λ N ws p z T H.
     let s = c .before .before .before .before .before .before .before in
-    rw (introduced z T Body _ (s .pre .1 .1 .1) refl refl (sym (c .before .all-marked .ensures) ∙ not-true _ (c .if1 .taken)) refl) refl
+    rw (introduced z T Body _ (s .pre .1 .1) refl refl (sym (c .before .all-marked .ensures) ∙ not-true _ (c .if1 .taken)) refl) refl
 
 slice-copy-out-variable-of : tie.Need-slice-copy-out-variable-of
-slice-copy-out-variable-of c = search (needs, some-number Body refl (c .before .before .before .before .before .before .before .pre .1 .1 .1))
+slice-copy-out-variable-of c = search (needs, some-number Body refl (c .before .before .before .before .before .before .before .pre .1 .1))
 
 name : (c : tie.After-variable-of) → c .variable-of .result ≡ variable (first (c .before .before .before .before .before .before .before .before .before .args .numbers .now))
 name c = rw (back _ (c .before .variable-of-arg .given)) at (c .variable-of .ensures)
@@ -47,27 +47,24 @@ returns-2 c =
     λ N ws p z T H.
     let k = c .before .before .before .before .before in
     let s = k .before .before .before .before .before .before .before in
-    rw (introduced z T Body _ (s .pre .1 .1 .1) refl refl (sym (k .before .all-marked .ensures) ∙ not-false _ (k .if1 .left)) (sym (named (c .before)) ∙ c .if2 .taken)) refl
+    rw (introduced z T Body _ (s .pre .1 .1) refl refl (sym (k .before .all-marked .ensures) ∙ not-false _ (k .if1 .left)) (sym (named (c .before)) ∙ c .if2 .taken)) refl
 
 sub-name-body : tie.Need-sub-name-body
-sub-name-body c = some-number Body refl (c .before .before .before .before .before .before .before .before .before .before .before .before .before .before .before .before .before .before .pre .1 .1 .1)
+sub-name-body c = some-number Body refl (c .before .before .before .before .before .before .before .before .before .before .before .before .before .before .before .before .before .before .pre .1 .1)
 
 part-row-start : tie.Need-part-row-start
-part-row-start c = search (needs, some-number Body refl (c .before .before .before .before .before .before .before .before .before .before .before .before .before .before .before .before .before .before .pre .1 .1 .1))
+part-row-start c = search (needs, some-number Body refl (c .before .before .before .before .before .before .before .before .before .before .before .before .before .before .before .before .before .before .pre .1 .1))
 
 name-body-requires : tie.Need-name-body-requires
 name-body-requires c κs =
     let v = c .before .before .before .before .before .before .before .before .before .before in
     let s = v .before .before .before .before .before .before .before .before .before in
-    let l = s .pre .1 .1 .1 in (
+    let l = s .pre .1 .1 in (
       s .pre .0,
       (
-        s .pre .1 .0,
-        (
-          rw (name v) (first-low Body refl l),
-          rw (name v) (first-high Body refl l),
-          subst Literals (sym (copied (s .args .numbers .now) _ _ (some-number Body refl l) (c .before .before .before .before .copy .ensures))) (others-literals Body refl l),
-        ),
+        rw (name v) (first-low Body refl l),
+        rw (name v) (first-high Body refl l),
+        subst Literals (sym (copied (s .args .numbers .now) _ _ (some-number Body refl l) (c .before .before .before .before .copy .ensures))) (others-literals Body refl l),
       ),
     )
 
@@ -79,7 +76,7 @@ module _ (c : tie.After-name-body) where
   numbers = start .args .numbers .now
 
   part : take (length numbers - 1) (drop 1 (c .before .before .before .before .before .copy .last .0)) ≡ drop 1 numbers
-  part = copied numbers _ _ (some-number Body refl (start .pre .1 .1 .1)) (c .before .before .before .before .before .copy .ensures)
+  part = copied numbers _ _ (some-number Body refl (start .pre .1 .1)) (c .before .before .before .before .before .copy .ensures)
 
   module _ (N : ℕ) (ws : List InputRule) (p : HoldsRules (start .args .table .now) (start .args .rules) ws) (z : State)
       (T : Tracks N ws (start .args .known .now) (start .args .names .now) (start .args .bodies .now) (z .introduced) (z .named)) where
@@ -102,13 +99,13 @@ returns-3 c =
     let m = b .before .before .before .before .before .before .before .before in
     let k = m .before .before .before .before .before in
     let s = k .before .before .before .before .before .before .before in
-    rw (introduced z T Body _ (s .pre .1 .1 .1) refl refl (sym (k .before .all-marked .ensures) ∙ not-false _ (k .if1 .left)) (sym (named (m .before)) ∙ m .if2 .left), sym (answer b N ws p z T) ∙ not-true _ (c .if3 .taken)) refl
+    rw (introduced z T Body _ (s .pre .1 .1) refl refl (sym (k .before .all-marked .ensures) ∙ not-false _ (k .if1 .left)) (sym (named (m .before)) ∙ m .if2 .left), sym (answer b N ws p z T) ∙ not-true _ (c .if3 .taken)) refl
 
 define-requires : tie.Need-define-requires
 define-requires c κs =
     let s = c .before .before .before .before .before .before .before .before .before .before .before .before .before .before .before .before .before .before .before .before .before .before .before .before .before .before .before .before in
-    let l = s .pre .1 .1 .1 in
-    (s .pre .1 .1 .0, (l .literals, some-number Body refl l, l .few))
+    let l = s .pre .1 .1 in
+    (s .pre .1 .0, (l .literals, some-number Body refl l, l .few))
 
 returns-4 : tie.Need-returns-4
 returns-4 c =
@@ -122,8 +119,8 @@ returns-4 c =
     let f = sym (named (m .before)) ∙ m .if2 .left in
     let u = not-false _ (e .if3 .left) in
     let q = sym (answer b N ws p z T) ∙ u in
-    rw (introduced z T Body _ (s .pre .1 .1 .1) refl refl (sym (k .before .all-marked .ensures) ∙ not-false _ (k .if1 .left)) f, q)
-    (d .define .ensures .1 (z .live) H, rw (d .define .ensures .0) (body-tracks z T Body _ (s .pre .1 .1 .1) refl f q (entered b N ws p z T u (unknown z T Body _ (s .pre .1 .1 .1) refl f))))
+    rw (introduced z T Body _ (s .pre .1 .1) refl refl (sym (k .before .all-marked .ensures) ∙ not-false _ (k .if1 .left)) f, q)
+    (d .define .ensures .1 (z .live) H, rw (d .define .ensures .0) (body-tracks z T Body _ (s .pre .1 .1) refl f q (entered b N ws p z T u (unknown z T Body _ (s .pre .1 .1) refl f))))
 
 pub body-spec : {M : Type 1} → statement M
 body-spec =

@@ -37,7 +37,7 @@ module _ (c : tie.After-is-unnamed) where
         ∙ unnamed-body (expand ws) z (T .proper) (s .args .body .now)
 
 is-unnamed-requires : tie.Need-is-unnamed-requires
-is-unnamed-requires c κs = let s = c .before .before .before .before .before .before .before in (s .pre .0, s .pre .1 .0)
+is-unnamed-requires c κs = c .before .before .before .before .before .before .before .pre .0
 
 returns : tie.Need-returns
 returns c =
@@ -47,14 +47,14 @@ enter-requires : tie.Need-enter-requires
 enter-requires c κs =
     let u = c .before .before .before .before in
     let q = s u .pre in
-    (q .0, (q .1 .0, (q .1 .1 .0, q .1 .1 .1, subst (λ (t : List ℤ). top t ≤ largest) (sym (o u .sort .ensures)) (sorted-low (s u .args .body .now) (q .1 .1 .2)))))
+    (q .0, (q .1 .0, q .1 .1, subst (λ (t : List ℤ). top t ≤ largest) (sym (o u .sort .ensures)) (sorted-low (s u .args .body .now) (q .1 .2))))
 
 returns-2 : tie.Need-returns-2
 returns-2 c =
     let e = c .before .before .before in
     let m = e .before .before .before .before in
     let u = m .before in
-    let q = s u .pre .1 .1 in
+    let q = s u .pre .1 in
     let yes = not-false _ (m .if1 .left) in (
       λ N ws p known z T. sym yes ∙ answer u N ws p known z T,
       λ N ws p f known z T new.

@@ -35,7 +35,7 @@ step-requires : tie.Need-step-requires
 step-requires c κs =
     let d = c .before .before .before .before .before .before in
     let s = d .before .before .before .before .before .before .before in
-    (s .pre .0, (s .pre .1 .0, (s .pre .1 .1, good-line _ _ (good d .0) (good d .1))))
+    (s .pre .0, (s .pre .1, good-line _ _ (good d .0) (good d .1)))
 
 returns : tie.Need-returns
 returns c = λ ws p z T H. rw (read-end (c .before .before .before .step-at .ensures) (c .enum-told .given .1)) (refl, H)

@@ -20,16 +20,16 @@ returns : tie.Need-returns
 returns c =
     λ N ws p z T H.
     let s = c .before .before .before .before .before in
-    rw (cited z T Completion _ (s .pre .1 .1 .1) refl (sym (c .before .all-marked .ensures) ∙ not-true _ (c .if1 .taken))) refl
+    rw (cited z T Completion _ (s .pre .1 .1) refl (sym (c .before .all-marked .ensures) ∙ not-true _ (c .if1 .taken))) refl
 
 slice-copy-out-variable-of : tie.Need-slice-copy-out-variable-of
-slice-copy-out-variable-of c = search (needs, some-number Completion refl (c .before .before .before .before .before .pre .1 .1 .1))
+slice-copy-out-variable-of c = search (needs, some-number Completion refl (c .before .before .before .before .before .pre .1 .1))
 
 sub-is-completed : tie.Need-sub-is-completed
-sub-is-completed c = some-number Completion refl (c .before .before .before .before .before .before .before .pre .1 .1 .1)
+sub-is-completed c = some-number Completion refl (c .before .before .before .before .before .before .before .pre .1 .1)
 
 part-is-completed-start : tie.Need-part-is-completed-start
-part-is-completed-start c = search (needs, some-number Completion refl (c .before .before .before .before .before .before .before .before .pre .1 .1 .1))
+part-is-completed-start c = search (needs, some-number Completion refl (c .before .before .before .before .before .before .before .before .pre .1 .1))
 
 name : (c : tie.After-variable-of) → c .variable-of .result ≡ variable (first (c .before .before .before .before .before .before .before .args .numbers .now))
 name c = rw (back _ (c .before .variable-of-arg .given)) at (c .variable-of .ensures)
@@ -38,8 +38,8 @@ is-completed-requires : tie.Need-is-completed-requires
 is-completed-requires c κs =
     let v = c .before .before in
     let s = v .before .before .before .before .before .before .before in
-    let l = s .pre .1 .1 .1 in
-    (s .pre .0, (s .pre .1 .0, rw (name v) (first-low Completion refl l, first-high Completion refl l)))
+    let l = s .pre .1 .1 in
+    (s .pre .0, rw (name v) (first-low Completion refl l, first-high Completion refl l))
 
 -- question 29
 answer : (c : tie.After-is-completed) (N : ℕ) (ws : List InputRule) (z : State) → let a = c .before .before .before .before .before .before .before .before .before .before .args in
@@ -48,20 +48,20 @@ answer : (c : tie.After-is-completed) (N : ℕ) (ws : List InputRule) (z : State
 answer c N ws z p T =
     let v = c .before .before .before in
     let s = v .before .before .before .before .before .before .before in
-    completed z T _ (s .pre .1 .1 .1) (rw (name v) at (c .is-completed .ensures ws p _ (T .kept)))
+    completed z T _ (s .pre .1 .1) (rw (name v) at (c .is-completed .ensures ws p _ (T .kept)))
 
 returns-2 : tie.Need-returns-2
 returns-2 c =
     λ N ws p z T H.
     let k = c .before .before .before .before .before .before in
     let s = k .before .before .before .before .before in
-    rw (cited z T Completion _ (s .pre .1 .1 .1) refl (sym (k .before .all-marked .ensures) ∙ not-false _ (k .if1 .left)), sym (answer (c .before) N ws z p T) ∙ not-true _ (c .if2 .taken)) refl
+    rw (cited z T Completion _ (s .pre .1 .1) refl (sym (k .before .all-marked .ensures) ∙ not-false _ (k .if1 .left)), sym (answer (c .before) N ws z p T) ∙ not-true _ (c .if2 .taken)) refl
 
 join-requires : tie.Need-join-requires
 join-requires c κs =
     let s = c .before .before .before .before .before .before .before .before .before .before .before .before .before in
-    let l = s .pre .1 .1 .1 in
-    (s .pre .1 .1 .0, (l .literals, some-number Completion refl l, l .few))
+    let l = s .pre .1 .1 in
+    (s .pre .1 .0, (l .literals, some-number Completion refl l, l .few))
 
 returns-3 : tie.Need-returns-3
 returns-3 c =
@@ -69,7 +69,7 @@ returns-3 c =
     let m = c .before .before .before .before .before in
     let k = m .before .before .before .before .before .before in
     let s = k .before .before .before .before .before in
-    rw (cited z T Completion _ (s .pre .1 .1 .1) refl (sym (k .before .all-marked .ensures) ∙ not-false _ (k .if1 .left)), sym (answer (m .before) N ws z p T) ∙ not-false _ (m .if2 .left))
+    rw (cited z T Completion _ (s .pre .1 .1) refl (sym (k .before .all-marked .ensures) ∙ not-false _ (k .if1 .left)), sym (answer (m .before) N ws z p T) ∙ not-false _ (m .if2 .left))
     (c .before .before .join .ensures (z .live) H, T)
 
 pub completion-spec : {M : Type 1} → statement M

@@ -32,7 +32,7 @@ module _ (c : tie.Else2) where
   U = s .args .numbers .now
 
   line : PassedLine Loop U
-  line = s .pre .1 .1 .1
+  line = s .pre .1 .1
 
   known : all (λ x. marked (s .args .known .now) (variable x)) U ≡ true
   known = let d = c .before .before in sym (d .before .all-marked .ensures) ∙ not-false _ (d .if1 .left)
@@ -43,14 +43,14 @@ module _ (c : tie.Else2) where
 returns : tie.Need-returns
 returns c =
     let s = c .before .before .before .before in
-    λ ws p z tracks H. rw (cited z tracks Loop (s .args .numbers .now) (s .pre .1 .1 .1) refl (sym (c .before .all-marked .ensures) ∙ not-true _ (c .if1 .taken))) refl
+    λ ws p z tracks H. rw (cited z tracks Loop (s .args .numbers .now) (s .pre .1 .1) refl (sym (c .before .all-marked .ensures) ∙ not-true _ (c .if1 .taken))) refl
 
 returns-2 : tie.Need-returns-2
 returns-2 c =
     let d = c .before .before in
     let s = d .before .before .before .before in
     λ ws p z tracks H.
-    loop-atoms z tracks _ (s .args .numbers .now) (s .pre .1 .1 .1) (sym (d .before .all-marked .ensures) ∙ not-false _ (d .if1 .left))
+    loop-atoms z tracks _ (s .args .numbers .now) (s .pre .1 .1) (sym (d .before .all-marked .ensures) ∙ not-false _ (d .if1 .left))
     (omega (arith, c .if2 .taken, c .before .largest-variable .ensures))
 
 returns-3 : tie.Need-returns-3
@@ -63,7 +63,7 @@ returns-3 c =
 shared-slice-copy-out-gather : tie.Need-shared-slice-copy-out-gather
 shared-slice-copy-out-gather c =
     let s = c .before .before .before .before .before .before .before .before .before .before .before .before in
-    some-number Loop refl (s .pre .1 .1 .1)
+    some-number Loop refl (s .pre .1 .1)
 
 abbrev names : tie.After-gather → tie.After-names-of
 names c = c .before .before .before .before .before .before .before
@@ -87,7 +87,7 @@ append-requires c κs =
     let d = c .before .before .before in
     let g = d .gather in
     let e = tests d in
-    (s e .pre .1 .1 .0, (subst Literals (sym (gives d)) (gathered-literals (marked (names d .names-of .result)) (getD (U e) 0 (pos 0)) largest 1 (omega arith) (omega arith)), omega (arith, size d, g .ensures .0)))
+    (s e .pre .1 .0, (subst Literals (sym (gives d)) (gathered-literals (marked (names d .names-of .result)) (getD (U e) 0 (pos 0)) largest 1 (omega arith) (omega arith)), omega (arith, size d, g .ensures .0)))
 
 returns-4 : tie.Need-returns-4
 returns-4 c =

@@ -38,30 +38,34 @@ module _ (m : List ℤ) (name : ℕ) (high : name ≤ largest) {called : List �
       (holds-body m L name (omega (arith, C .long)) (take n (drop (width * name + 1) m)) (rw size first) (rw size))
 
 returns : tie.Need-returns
-returns c =
-    let s = c .before .before in
-    λ called C above L short. nothing (s .args .bodies .now) (s .args .name) (s .pre .1) C above L short (c .before .count-of .ensures) (c .if1 .taken)
+returns c = λ called C above L short. absurd (c .if1 .taken (C .long))
 
 returns-2 : tie.Need-returns-2
 returns-2 c =
+    let s = c .before .before .before in
+    λ called C above L short. nothing (s .args .bodies .now) (s .args .name) (s .pre .0) C above L short (c .before .count-of .ensures) (c .if2 .taken)
+
+returns-3 : tie.Need-returns-3
+returns-3 c =
     let d = c .before .before .before .before in
-    let s = d .before .before in
+    let s = d .before .before .before in
     let a = s .args in
     let K = d .before .count-of .ensures in
     let count = d .before .count-of .result in
-    let h : 1 ≤ count = omega (arith, d .if1 .left) in
+    let h : 1 ≤ count = omega (arith, d .if2 .left) in
     let n : width * a .name + count - (width * a .name + 1) ≡ count - 1 = omega arith in
     let p : count ≡ count - 1 + 1 = omega arith in
     let few : count - 1 ≤ mostWeighted = omega (arith, K .most) in
     let row = rw n at (c .before .copy-out .ensures) in
-    (few, λ called C above L short. body (a .bodies .now) (a .name) (s .pre .1) C above L short (count - 1) _ _ few (K .is h ∙ ap pos p) row)
+    (few, λ called C above L short. body (a .bodies .now) (a .name) (s .pre .0) C above L short (count - 1) _ _ few (K .is h ∙ ap pos p) row)
 
 pub body-of-spec : {M : Type 1} → statement M
 body-of-spec =
     tie.close
     (tie.spec
-    (λ c κs. search needs)
     returns
+    (λ c κs. search needs)
+    returns-2
     (λ c. search needs)
     (λ c. search needs)
     (λ c. search needs)
@@ -72,4 +76,4 @@ body-of-spec =
     (λ c κs. search needs)
     (λ c. search needs)
     (λ c. search needs)
-    returns-2)
+    returns-3)

@@ -6,18 +6,22 @@ use Rattle.names.proofs.by_name.name_of.Statement.{statement}
 use Rattle.names.proofs.by_name.name_of.Tie as tie
 
 returns : tie.Need-returns
-returns c =
-    let s = c .before .before in
+returns c = λ called C. absurd (c .if1 .taken (C .long))
+
+returns-2 : tie.Need-returns-2
+returns-2 c =
+    let s = c .before .before .before in
     let h = c .before .hinted in
-    λ called C. called-by C (s .args .body .now) (s .pre .1) (h .result) (c .if1 .taken) (h .ensures .0) (h .ensures .1 (c .if1 .taken))
+    λ called C. called-by C (s .args .body .now) (s .pre) (h .result) (c .if2 .taken) (h .ensures .0) (h .ensures .1 (c .if2 .taken))
 
 pub name-of-spec : {M : Type 1} → statement M
 name-of-spec =
     tie.close
     (tie.spec
+    returns
     (λ c κs. search needs)
     (λ c. search needs)
-    returns
+    returns-2
     (λ c κs. search needs)
     (λ c. search needs)
     (λ c. search needs))

@@ -10,7 +10,7 @@ returns c =
     λ ws H called K u f. record {
       rules = omega (arith, K .rules, r .enter-rules .kept .1 .1 .1 .1 .0);
       byRule = r .enter-rules .ensures ws H called (K .byRule);
-      byName = c .before .enter-body .ensures called (K .byName) u f;
+      byName = λ w. c .before .enter-body .ensures called (K .byName w) u f;
     }
 
 returns-2 : tie.Need-returns-2
@@ -20,7 +20,7 @@ returns-2 c =
     λ ws H called K u f. record {
       rules = omega (arith, K .rules, r .enter-rules .kept .1 .1 .1 .1 .0);
       byRule = r .enter-rules .ensures ws H called (K .byRule);
-      byName = entered-longer (a .args .body .now) (a .args .name) (K .byName) (c .if1 .left) (a .pre .1 .1 .1);
+      byName = λ w. entered-longer (a .args .body .now) (a .args .name) (K .byName w) (c .if1 .left) (a .pre .1 .1);
     }
 
 pub enter-spec : {M : Type 1} → statement M

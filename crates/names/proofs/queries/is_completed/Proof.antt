@@ -46,7 +46,7 @@ tells : (c : tie.After-completes Inv-loop μ-loop) (called : List ℤ → ℕ)
 tells c called K =
     let d = c .before .before .before in
     let b = d .before .before .before .before in
-    sym (rw (tail-of (i d) (t d)) at (c .completes .ensures (s d .args .bodies .now) called (K .byName) (b .body-of .ensures) (s d .pre .1 .1 .0)
+    sym (rw (tail-of (i d) (t d)) at (c .completes .ensures (s d .args .bodies .now) called (rw (tail-of (i d) (t d)) (λ w. K .byName (at d .weighted w))) (b .body-of .ensures) (s d .pre .1 .0)
     (rw (tail-of (i d) (t d)) (at d .kept called (K .byRule)))))
 
 loop-holds : tie.Need-loop-holds Inv-loop μ-loop
@@ -92,7 +92,7 @@ is-completed-spec =
     Inv-loop
     μ-loop
     (λ c. search needs)
-    (λ c κs. let p = c .before .before .pre in (p .1 .0, p .1 .1 .1, omega arith))
+    (λ c κs. (c .before .before .pre .1 .1, omega arith))
     loop-holds
     mul-rest
     (λ c. search needs)

@@ -49,12 +49,12 @@ returns-2 c =
     λ bodies called C t above e.
     rw (weight-bodies _ (weighted d))
     ((rw (b .bound-of .ensures, b .before .body-of .ensures) at (c .is-body .ensures))
-    ∙ sym (named-body (weighs d) C above _ (b .before .before .before .recorded .given .1) t))
+    ∙ sym (named-body (weighs d) (C (weighted d)) above _ (b .before .before .before .recorded .given .1) t))
 
 returns-3 : tie.Need-returns-3
 returns-3 c =
     let d = c .before .before in
-    λ bodies called C t above e. rw (weight-bodies _ (weighted d)) (sym (named-none (weighs d) C above _ (c .enum-told .given .1) t))
+    λ bodies called C t above e. rw (weight-bodies _ (weighted d)) (sym (named-none (weighs d) (C (weighted d)) above _ (c .enum-told .given .1) t))
 
 pub is-named-spec : {M : Type 1} → statement M
 is-named-spec =

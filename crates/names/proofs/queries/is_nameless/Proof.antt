@@ -17,16 +17,16 @@ name-of-requires : tie.Need-name-of-requires
 name-of-requires c κs =
     let s = c .before .before in
     let e = tells (c .before) ∙ c .if1 .taken in
-    (s .pre .1, body-short (s .args .body .now) (weighing _ (s .pre .0 .0) e) (one-of (rw (weight-bodies _ e) at (s .pre .0 .1))))
+    body-short (s .args .body .now) (weighing _ (s .pre .0) e) (one-of (rw (weight-bodies _ e) at (s .pre .1)))
 
 returns : tie.Need-returns
-returns c = λ called C e. ap (λ n. eqb n 0) (c .name-of .ensures called C)
+returns c = λ called C e. ap (λ n. eqb n 0) (c .name-of .ensures called (C (tells (c .before .before) ∙ c .before .if1 .taken)))
 
 returns-2 : tie.Need-returns-2
 returns-2 c =
     let s = c .before .before in
     let p = tells (c .before) ∙ c .if1 .left in
-    let b = if-true (sameList-decides _ _) (sym (or-false _) ∙ (rw (plain-bodies _ p) at (s .pre .0 .1))) in
+    let b = if-true (sameList-decides _ _) (sym (or-false _) ∙ (rw (plain-bodies _ p) at (s .pre .1))) in
     λ called C e. ap (λ n. eqb n 0) (e ∙ plain-entry _ p called ∙ ap called (sym b))
 
 pub is-nameless-spec : {M : Type 1} → statement M

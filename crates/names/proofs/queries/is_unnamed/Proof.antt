@@ -52,7 +52,7 @@ tells c =
     any-bodies (ruleAt (drop (i d) (t d))) (sameList (s d .args .body .now)) ∙ sym (rw (tail-of (i d) (t d)) at (c .has-body .ensures))
 
 loop-holds : tie.Need-loop-holds Inv-loop μ-loop
-loop-holds c = let a = c .before .args in (course-start (a .table .now) (a .rules) (a .names .now) (c .before .pre .0 .0 .1 .sound), refl)
+loop-holds c = let a = c .before .args in (course-start (a .table .now) (a .rules) (a .names .now) (c .before .pre .0 .1 .sound), refl)
 
 mul-rest : tie.Need-mul-rest Inv-loop μ-loop
 mul-rest c = let w = c .before .loop .inv .0 .cursor .within in search needs
@@ -64,7 +64,7 @@ is-nameless-requires : tie.Need-is-nameless-requires Inv-loop μ-loop
 is-nameless-requires c κs =
     let d = c .before .before .before in
     let has = sym (any-bodies (ruleAt (drop (i d) (t d))) _) ∙ tells (c .before .before) ∙ c .before .if1 .taken in
-    rw (tail-of (i d) (t d)) ((at d .sound, has), s d .pre .1)
+    rw (tail-of (i d) (t d)) (at d .sound, has)
 
 returns : tie.Need-returns Inv-loop μ-loop
 returns c =
@@ -73,7 +73,7 @@ returns c =
     let l = d .before .before .loop in
     let here = one-passes (at d) (with (s d .args .body .now)) (tells (b .before) ∙ b .if1 .taken) in
     λ ws H. rw (← H .are) (λ called K.
-    rw (l .inv .1 ∙ here) (c .is-nameless .ensures called (K .byName) (rw (tail-of (i d) (t d)) (at d .kept called (K .byRule)))))
+    rw (l .inv .1 ∙ here) (c .is-nameless .ensures called (rw (tail-of (i d) (t d)) (λ w. K .byName (at d .weighted w))) (rw (tail-of (i d) (t d)) (at d .kept called (K .byRule)))))
 
 next-rule-requires : tie.Need-next-rule-requires Inv-loop μ-loop
 next-rule-requires c κs = at (c .before .before) .here
@@ -103,7 +103,7 @@ is-unnamed-spec =
     (λ c. search needs)
     has-body-requires
     (λ c. search needs)
-    (λ c. omega (arith, c .before .before .before .before .loop-test .taken, s (c .before .before .before) .pre .0 .1))
+    (λ c. omega (arith, c .before .before .before .before .loop-test .taken, s (c .before .before .before) .pre .1))
     is-nameless-requires
     returns
     next-rule-requires

@@ -32,7 +32,7 @@ mark-bodies-requires c κs =
     let d = c .before .before .before in
     let s = d .before .before .before .before .before .before in
     let w = weighing _ (s .pre .0) (weighted (d .before) ∙ d .if2 .taken) in
-    rw (c .before .bound-of .ensures, c .before .before .body-of .ensures) (w .bound, w .few, w .light, w .rises, s .pre .1 .0, s .pre .1 .1)
+    rw (c .before .bound-of .ensures, c .before .before .body-of .ensures) (w .bound, w .few, w .light, w .rises, s .pre .1)
 
 returns-2 : tie.Need-returns-2
 returns-2 c =
@@ -40,7 +40,7 @@ returns-2 c =
     let d = b .before .before .before .before in
     λ called C e.
     rw (asked-bodies (ruleAt _) _ _ called, asked (d .before), weight-bodies _ (weighted (d .before) ∙ d .if2 .taken))
-    (rw (b .before .before .bound-of .ensures, b .before .before .before .body-of .ensures) at (b .mark-bodies .ensures called C))
+    (rw (b .before .before .bound-of .ensures, b .before .before .before .body-of .ensures) at (b .mark-bodies .ensures called (C (weighted (d .before) ∙ d .if2 .taken))))
 
 -- a plain rule
 module _ (c : tie.After-any-inside) where
@@ -60,7 +60,7 @@ returns-3 c =
     let out = inside (d .before) ∙ not-true _ (d .if3 .taken) in
     λ called C e.
     rw (asked-bodies (ruleAt _) _ _ called, asked (d .before .before .before .before), plain-bodies _ p, out)
-    (also-one (s .pre .1 .1) (C .high _) (m .mark .ensures .marks) (e ∙ plain-entry _ p called))
+    (also-one (s .pre .1) (m .mark .ensures .marks) (e ∙ plain-entry _ p called))
 
 returns-4 : tie.Need-returns-4
 returns-4 c =

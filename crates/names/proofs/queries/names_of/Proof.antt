@@ -58,25 +58,25 @@ told : (c : tie.After-mark-asked Inv-loop μ-loop) (called : List ℤ → ℕ)
     (askedNames (a .query) (a .inside .now) called (expandRule (ruleAt (drop (i d) (t d))))))
 told c called K =
     let d = c .before .before .before in
-    rw (tail-of (i d) (t d)) at (c .mark-asked .ensures called (K .byName) (rw (tail-of (i d) (t d)) (at d .kept called (K .byRule))))
+    rw (tail-of (i d) (t d)) at (c .mark-asked .ensures called (rw (tail-of (i d) (t d)) (λ w. K .byName (at d .weighted w))) (rw (tail-of (i d) (t d)) (at d .kept called (K .byRule))))
 
 loop-holds : tie.Need-loop-holds Inv-loop μ-loop
 loop-holds c =
     let s = c .before .before in
-    (course-start (s .args .table .now) (s .args .rules) (s .args .names .now) (s .pre .0 .0 .1 .sound), refl, λ called K. found-none _)
+    (course-start (s .args .table .now) (s .args .rules) (s .args .names .now) (s .pre .0 .1 .sound), refl, λ called K. found-none _)
 
 mul-rest : tie.Need-mul-rest Inv-loop μ-loop
 mul-rest c = let w = c .before .loop .inv .0 .cursor .within in search needs
 
 shared-slice-read-mark-asked : tie.Need-shared-slice-read-mark-asked Inv-loop μ-loop
-shared-slice-read-mark-asked c = omega (arith, s (c .before) .pre .0 .1, c .before .before .loop-test .taken)
+shared-slice-read-mark-asked c = omega (arith, s (c .before) .pre .1, c .before .before .loop-test .taken)
 
 slice-aggregate-mark-asked : tie.Need-slice-aggregate-mark-asked Inv-loop μ-loop
 slice-aggregate-mark-asked c = sym (c .before .before .before .before .loop .inv .1)
 
 mark-asked-requires : tie.Need-mark-asked-requires Inv-loop μ-loop
 mark-asked-requires c κs =
-    let d = c .before .before in rw (tail-of (i d) (t d)) (at d .sound, (s d .pre .1, d .before .before .loop .inv .1))
+    let d = c .before .before in rw (tail-of (i d) (t d)) (at d .sound, d .before .before .loop .inv .1)
 
 next-rule-requires : tie.Need-next-rule-requires Inv-loop μ-loop
 next-rule-requires c κs = at (c .before .before .before .before) .here

@@ -14,7 +14,8 @@ use Rattle.text.specs.Writing.{Put}
 use Rattle.aspif.specs.Tables.{sizeAt, ruleAt, rulesAt}
 use Rattle.aspif.proofs.Cursors.{Cursor, AtRule, at-rule, no-rules}
 use Rattle.packets.specs.Bytes.{bytesOf}
-use Rattle.packets.specs.Packets.{isPlain, allPlain, packetWords}
+use Rattle.aspif.specs.Rules.{isPlain, allPlain}
+use Rattle.packets.specs.Packets.{packetWords}
 use Rattle.packets.specs.Writes.{ruleRoom}
 use Rattle.packets.proofs.Writes.{put-length, Going, going-start, going-end, rule-on}
 use Rattle.packets.proofs.writer.put_rules.Statement.{statement}

@@ -1,4 +1,4 @@
--- `packets::writer::all_plain` meets its contract. What is asked of all rules is asked of those that are left.
+-- `tables::all_plain` meets its contract. What is asked of all rules is asked of those that are left.
 -- Assumes nothing.
 use mathlib.Core.Path.{_≡_, refl, sym, _∙_, ap}
 use mathlib.Core.Bool.{Bool, not, _&&_}
@@ -9,12 +9,11 @@ use lib.IntN.{ℤ}
 use lib.ListN.{drop}
 use borrow.Author.Needs.{needs}
 use Rattle.words.proofs.Parts.{tail-of}
 use Rattle.aspif.specs.Tables.{sizeAt, rulesAt}
-use Rattle.aspif.proofs.Cursors.{Cursor, AtRule, at-rule, no-rules}
-use Rattle.packets.specs.Packets.{allPlain}
-use Rattle.packets.proofs.Writes.{plain-at}
-use Rattle.packets.proofs.writer.all_plain.Statement.{statement}
-use Rattle.packets.proofs.writer.all_plain.Tie as tie
+use Rattle.aspif.proofs.Cursors.{plain-at, Cursor, AtRule, at-rule, no-rules}
+use Rattle.aspif.specs.Rules.{allPlain}
+use Rattle.aspif.proofs.tables.all_plain.Statement.{statement}
+use Rattle.aspif.proofs.tables.all_plain.Tie as tie
 
 abbrev Inv-loop : tie.InvT-loop
 Inv-loop table rules left₀ i₀ left i = Cursor table left i × (allPlain (rulesAt rules table) ≡ allPlain (rulesAt left (drop i table)))
