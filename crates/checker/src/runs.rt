@@ -161,8 +161,8 @@ fn run_lines(
     }
 }
 
-// The lines, with what weight bodies need: the records of their bodies by name, and which of their literals are relevant. These are
-// large, and stand in a frame of their own.
+// The lines, with what weight bodies need: the records of their bodies by name, and which of their literals are relevant.
+// These are large, and stand in a frame of their own.
 fn run_weighted(proof: &[u8], table: &[i32], rules: usize, atoms: usize, store: &mut [i32]) -> Run
     requires program { ⌜ ((ws : List InputRule) × Program (now table) rules atoms ws) × (rules ≤ mostRules) ⌝ }
     requires short { ⌜ length (now proof) ≤ longest ⌝ }

@@ -1,5 +1,5 @@
-// The seven steps, questions 26 to 34 and 56, by letter: document 01, 'The proof's seven letters'. What each comes to is derivation's
-// `byLetter`; how table, arrays and store hold a program and a state is specs/Held.antt.
+// The seven steps, questions 26 to 34 and 56, by letter: document 01, 'The proof's seven letters'. What each comes to is
+// derivation's `byLetter`; how table, arrays and store hold a program and a state is specs/Held.antt.
 ghost use mathlib.Core.Path.{_≡_};
 ghost use mathlib.Core.List.{List};
 ghost use Prim.Native.Nat.{_≤_};

@@ -53,8 +53,8 @@ fn gather(h: i32, found: &[u8], row: &mut [i32]) -> usize
     count
 }
 
-// `l`: a set U of atoms that is a loop. Adds the first of them with minus the name of each external body, that is of a rule with a head in U and no
-// positive atom in U.
+// `l`: a set U of atoms that is a loop; `relevant` says which literals of weight bodies have edges. Adds the first of them with
+// minus the name of each external body, that is of a rule with a head in U and no positive atom in U.
 pub fn loops(
     table: &[i32],
     rules: usize,

@@ -113,7 +113,7 @@ module _ (f : ℤ → ℤ → Bool) (U : List ℤ) where
   reached-decides h b = reworded to from (has-decides b (reached f U h))
     where
       to : b ∈ reached f U h → Way f U h b
-      to m = rounds-within h (length U) (filter (f h) U) (λ x i. let k = keep→ (f h) U i in first (k .0) (k .1)) b m
+      to m = rounds-within h (length U) _ (λ x i. let k = keep→ (f h) U i in first (k .0) (k .1)) b m
 
       from : Way f U h b → b ∈ reached f U h
       from w =

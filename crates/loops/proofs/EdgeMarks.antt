@@ -1,7 +1,7 @@
 -- The edges between places, marked one after another: what is marked and what is left make the whole.
 -- Assumes nothing.
 use mathlib.Core.Path.{_≡_, refl, sym, _∙_, ap}
-use mathlib.Core.Bool.{Bool, true, false, _&&_, _||_, or-assoc, or-comm, or-false}
+use mathlib.Core.Bool.{Bool, false, _&&_, _||_, or-assoc, or-comm, or-false, and-or-distrib-left, and-or-distrib-right}
 use mathlib.Core.List.{List}
 use Prim.Native.Nat.{ℕ, suc, _+_, _*_, _-_, _≤_, _<_}
 use native.Mathlib.Omega.{arith}
@@ -92,26 +92,15 @@ module _ (a b : ℕ) (h₁ : 1 ≤ a) (h₂ : a ≤ mostNumbers) (h₃ : 1 ≤ b
 
 -- One element off what is left
 
-and-or : (p x r : Bool) → (p && (x || r)) ≡ ((p && x) || (p && r))
-and-or true x r = refl
-and-or false x r = refl
-
-or-and : (x r p : Bool) → ((x || r) && p) ≡ ((x && p) || (r && p))
-or-and true true true = refl
-or-and true true false = refl
-or-and true false true = refl
-or-and true false false = refl
-or-and false r p = refl
-
 module _ (f : ℤ → Bool) (l : List ℤ) (k : ℕ) (h : k < length l) where
   split-any : any f (drop k l) ≡ (f (getD l k (pos 0)) || any f (drop (k + 1) l))
   split-any = rw (drop-cons l k (pos 0) h, add-one) refl
 
   pub heads-split : (p : Bool) → (p && any f (drop k l)) ≡ ((p && f (getD l k (pos 0))) || (p && any f (drop (k + 1) l)))
-  heads-split p = ap (λ (b : Bool). p && b) split-any ∙ and-or p (f (getD l k (pos 0))) (any f (drop (k + 1) l))
+  heads-split p = ap (λ (b : Bool). p && b) split-any ∙ and-or-distrib-left p (f (getD l k (pos 0))) (any f (drop (k + 1) l))
 
   pub body-split : (p : Bool) → (any f (drop k l) && p) ≡ ((f (getD l k (pos 0)) && p) || (any f (drop (k + 1) l) && p))
-  body-split p = ap (λ (b : Bool). b && p) split-any ∙ or-and (f (getD l k (pos 0))) (any f (drop (k + 1) l)) p
+  body-split p = ap (λ (b : Bool). b && p) split-any ∙ and-or-distrib-right (f (getD l k (pos 0))) (any f (drop (k + 1) l)) p
 
 -- one pair
 module _ (f : ℤ → Bool) (m : List ℕ) (k : ℕ) (ws : List ℤ) (i : ℕ) (h : i + 1 < length ws) where
@@ -123,4 +112,4 @@ module _ (f : ℤ → Bool) (m : List ℕ) (k : ℕ) (ws : List ℤ) (i : ℕ) (
       ≡ (((marked m k && f (getD ws i (pos 0))) && p) || (anyMarked f m (k + 1) (paired (drop (i + 2) ws)) && p))
   pair-split p =
       ap (λ (b : Bool). b && p) split-pair
-      ∙ or-and (marked m k && f (getD ws i (pos 0))) (anyMarked f m (k + 1) (paired (drop (i + 2) ws))) p
+      ∙ and-or-distrib-right (marked m k && f (getD ws i (pos 0))) (anyMarked f m (k + 1) (paired (drop (i + 2) ws))) p

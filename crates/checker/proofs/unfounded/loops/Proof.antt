@@ -60,7 +60,8 @@ is-loop-requires : tie.Need-is-loop-requires
 is-loop-requires c κs = let p = s c .pre in ((p .0 .0 .1 .holds .sound, p .1 .0), members (U c) (line c))
 
 -- question 56, of the rules that the table holds
-looped : (c : tie.After-is-loop) → (let e = c .before in isLoop (expand (rulesAt (s e .args .rules) (s e .args .table .now))) (U e) ≡ c .is-loop .result)
+looped : (c : tie.After-is-loop)
+    → (let e = c .before in isLoop (expand (rulesAt (s e .args .rules) (s e .args .table .now))) (U e) ≡ c .is-loop .result)
 looped c = sym (c .is-loop .ensures)
 
 returns-3 : tie.Need-returns-3
