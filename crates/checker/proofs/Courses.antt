@@ -19,7 +19,7 @@ use Rattle.nogoods.specs.Keeps.{Holds}
 use Rattle.nogoods.proofs.Live.{live-nil, words-for}
 use Rattle.checker.specs.Check.{storedAfter, Course, stopped, course}
 use Rattle.checker.specs.Claims.{Runs, ends, unread, unaccepted, full, good}
-use Rattle.checker.specs.Held.{Tracks, Keeps, Leaves, proofTurn, LineLeaves, Ran}
+use Rattle.checker.specs.Held.{Tracks, HoldsState, Leaves, proofTurn, LineLeaves, Ran}
 use Rattle.checker.specs.declared.outcomes.Stepped.{Stepped}
 use Rattle.checker.specs.declared.outcomes.Stepped.the-variants.{Uses, Fails}
 use Rattle.checker.specs.declared.runs.ProofTurn.{ProofTurn}
@@ -44,7 +44,7 @@ module _ (N : ℕ) (ws : List InputRule) (size : ℕ) (text : List ℕ) where
     pub z : State
     pub tracks : Tracks N ws known names bodies (z .introduced) (z .named)
     pub stored : List Stored
-    pub keeps : Keeps store used z stored
+    pub keeps : HoldsState store used z stored
     pub onward : (c : Course) → Runs N P size text at steps z stored c → Runs N P size text 0 0 start [] c
     pub within : at ≤ length text
     pub count : steps ≤ at

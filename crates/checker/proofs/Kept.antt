@@ -20,7 +20,7 @@ use Rattle.nogoods.specs.declared.store.Added.the-variants as Added
 use Rattle.nogoods.proofs.Literals.{literals-ascending, literals-complement-others}
 use Rattle.nogoods.proofs.Defined.{name-and-literals}
 use Rattle.checker.specs.Check.{withAdded}
-use Rattle.checker.specs.Held.{fitted, Fitted, Keeps}
+use Rattle.checker.specs.Held.{fitted, Fitted, HoldsState}
 use Rattle.checker.specs.declared.outcomes.Stepped.{Stepped}
 
 -- what is added fits, or the step is refused
@@ -38,8 +38,8 @@ pub new-only : (stored : List Stored) (l gs : List (List ℤ)) → live stored �
 new-only stored l gs e = ap (λ (k : List (List ℤ)). drop (length k) (l ++ gs)) e ∙ drop-append-seam l gs
 
 -- nogoods that are added to those stored are added to the state that these are of
-pub kept-more : {store : List ℤ} {used : ℕ} {z : State} {stored : List Stored} → Keeps store used z stored → (n : ℕ) (gs : List (List ℤ))
-    (after : List ℤ) (r : Stepped) → Fitted (stored ++ addedIn n gs) after r → Fitted (withAdded n stored (add z gs)) after r
+pub kept-more : {store : List ℤ} {used : ℕ} {z : State} {stored : List Stored} → HoldsState store used z stored
+    → (n : ℕ) (gs : List (List ℤ)) (after : List ℤ) (r : Stepped) → Fitted (stored ++ addedIn n gs) after r → Fitted (withAdded n stored (add z gs)) after r
 kept-more {z = z} {stored = stored} K n gs after r f =
     subst (λ (hs : List (List ℤ)). Fitted (stored ++ addedIn n hs) after r) (sym (new-only stored (z .live) gs (K .same))) f
 

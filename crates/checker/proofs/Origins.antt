@@ -20,17 +20,20 @@ use Rattle.drupe.specs.Texts.{Step, StepsRead, steps, refused, stepsOf}
 use Rattle.derivation.specs.States.{State, start, isKnown}
 use Rattle.derivation.specs.Loops.{isLoop}
 use Rattle.derivation.specs.Propagation.{refuted}
-use Rattle.derivation.specs.Steps.{Outcome, next, add, define, definition, allKnown, allAtoms, allNamed, naming, citing, isUnnamedBody, isCompletion, isSupport, externalNames, addition, body, completion, deletion, extension, loop, support, byLetter, step}
+use Rattle.derivation.specs.Steps.{Outcome, next, add, define, definition, externalNames, byLetter, step}
+use Rattle.derivation.specs.Steps.{allKnown, allAtoms, allNamed, naming, citing, isUnnamedBody, isCompletion, isSupport}
+use Rattle.derivation.specs.Steps.{addition, body, completion, deletion, extension, loop, support}
 use Rattle.derivation.specs.Steps as Steps
 use Rattle.nogoods.specs.Store.{Stored, recordOf, addedIn, live, storeWords}
 use Rattle.nogoods.proofs.Live.{live-nil, live-append, live-added, live-dropped}
-use Rattle.checker.specs.Check.{withAdded, storedAfter, Course, stopped, through, thenStopped, fitting, runSteps, runRead, course, saying, judged, check, Checked, CheckedTexts}
+use Rattle.checker.specs.Check.{withAdded, storedAfter, Course, stopped, through, thenStopped, runSteps, runRead, course}
+use Rattle.checker.specs.Check.{saying, judged, check, Checked, CheckedTexts}
 use Rattle.checker.specs.Claims.{LiveStored, Bounded, OriginsBounded, Rising, OriginsRise, OriginsService}
 use Rattle.checker.specs.declared.Counts.{Counts}
 use Rattle.checker.specs.declared.Verdict.{Verdict}
 use Rattle.checker.specs.declared.Verdict.the-variants.{Inconsistent, Open}
 use Rattle.checker.proofs.Kept.{new-only}
-use Rattle.checker.proofs.Whole.{said, ended-course}
+use Rattle.checker.proofs.Whole.{storedNext, run-first, said, ended-course}
 
 -- One step
 
@@ -83,7 +86,8 @@ module _ (N : ℕ) (P : List Rule) (n : ℕ) (z : State) (b : List Stored) (same
   letter-same Completion [] = tt
   letter-same Completion (m ∷ hs) =
       let gs = ascending (m ∷ map complement hs) ∷ [] in
-      cites Completion (m ∷ hs) (completion P z m hs) (asks Completion (m ∷ hs) (isCompletion P z m hs) (next (add z gs)) 29 (more gs))
+      cites Completion (m ∷ hs) (completion P z m hs)
+      (asks Completion (m ∷ hs) (isCompletion P z m hs) (next (add z gs)) 29 (more gs))
   letter-same Deletion L = cites Deletion L (deletion P z L) (less (ascending L))
   letter-same Extension [] = tt
   letter-same Extension (m ∷ L) = introduces Extension m L (extension P z m L) (more (definition m L))
@@ -96,8 +100,8 @@ module _ (N : ℕ) (P : List Rule) (n : ℕ) (z : State) (b : List Stored) (same
 
   step-same : (t : Step) → Same (t .letter) (t .numbers) (step N P z t)
   step-same t =
-      by-test (Same (t .letter) (t .numbers)) (has (pos 0) (t .numbers)) {x = Steps.refused 22} {y = after (lineRefusal (t .letter) (t .numbers))}
-      (λ q. tt) (λ q. by (lineRefusal (t .letter) (t .numbers)))
+      let r = lineRefusal (t .letter) (t .numbers) in
+      by-test (Same (t .letter) (t .numbers)) (has (pos 0) (t .numbers)) {x = Steps.refused 22} {y = after r} (λ q. tt) (λ q. by r)
     where
       after : Option ℕ → Outcome
       after o = elim o as (λ x. Outcome) [ some k ↦ Steps.refused k | none ↦ byLetter N P z (t .letter) (t .numbers) ]
@@ -114,32 +118,23 @@ module _ (N : ℕ) (P : List Rule) (n : ℕ) (z : State) (b : List Stored) (same
 -- what every step keeps holds after all of them
 module _ (N : ℕ) (P : List Rule) (size : ℕ) (I : ℕ → State → List Stored → Type 0)
     (keeps : (n : ℕ) (z : State) (b : List Stored) (t : Step) (z′ : State) → I n z b → step N P z t ≡ next z′
-    → I (n + 1) z′ (storedAfter (n + 1) (t .letter) (t .numbers) b z′)) where
-  run-keeps : (n m : ℕ) (z w : State) (b l : List Stored) (ts : List Step) → I n z b → runSteps N P size n z b ts ≡ through m w l → I m w l
+    → I (n + 1) z′ (storedNext n b t z′)) where
+  run-keeps : (n m : ℕ) (z w : State) (b l : List Stored) (ts : List Step) → I n z b
+      → runSteps N P size n z b ts ≡ through m w l → I m w l
   run-keeps n m z w b l [] i e =
       let p : n ≡ m = cc in
       let q : z ≡ w = cc in
       let r : b ≡ l = cc in
       rw (p, q, r) at i
   run-keeps n m z w b l (t ∷ ts) i e =
-      by (λ z′ k f. run-keeps (n + 1) m z′ w (storedAfter (n + 1) (t .letter) (t .numbers) b z′) l ts k f) (step N P z t) refl e
-    where
-      on : State → Course
-      on z′ = runSteps N P size (n + 1) z′ (storedAfter (n + 1) (t .letter) (t .numbers) b z′) ts
-
-      by : ((z′ : State) → I (n + 1) z′ (storedAfter (n + 1) (t .letter) (t .numbers) b z′) → on z′ ≡ through m w l → I m w l)
-          → (o : Outcome) → step N P z t ≡ o
-          → elim o [ Steps.refused k ↦ stopped k (n + 1) | next z′ ↦ cond (fitting size z′) (on z′) (stopped 34 (n + 1)) ] ≡ through m w l → I m w l
-      by later (Steps.refused k) q e = absurd (zero-one (cc))
-      by later (next z′) q e = fits (fitting size z′) e
-        where
-          fits : (f : Bool) → cond f (on z′) (stopped 34 (n + 1)) ≡ through m w l → I m w l
-          fits true e = later z′ (keeps n z b t z′ i q) e
-          fits false e = absurd (zero-one (cc))
+      let r = run-first N P size n m z w b l t ts e in
+      let b′ = storedNext n b t (r .left) in
+      run-keeps (n + 1) m (r .left) w b′ l ts (keeps n z b t (r .left) i (r .is)) (r .later)
 
 pub live-stored : LiveStored
 live-stored N P size ts n z stored e =
-    run-keeps N P size (λ m w b. live b ≡ w .live) (λ m w b t w′ i s. step-live N P (m + 1) w b i t w′ s) 0 n start z [] stored ts live-nil e
+    run-keeps N P size (λ m w b. live b ≡ w .live) (λ m w b t w′ i s. step-live N P (m + 1) w b i t w′ s)
+    0 n start z [] stored ts live-nil e
 
 -- also after the steps of a text
 pub course-live : (N : ℕ) (P : List Rule) (size : ℕ) (text : List ℕ) {n : ℕ} {z : State} {stored : List Stored}
@@ -162,7 +157,8 @@ rising-on : (m k : ℕ) (gs : List (List ℤ)) → m ≤ k → Rising m (addedIn
 rising-on m k [] h = tt
 rising-on m k (g ∷ gs) h = (h, rising-on k k gs (omega arith))
 
-rising-append : (m k : ℕ) (b : List Stored) (gs : List (List ℤ)) → m ≤ k → Rising m b → ((e : Stored) → e ∈ b → e .origin ≤ k) → Rising m (b ++ addedIn k gs)
+rising-append : (m k : ℕ) (b : List Stored) (gs : List (List ℤ)) → m ≤ k → Rising m b → ((e : Stored) → e ∈ b → e .origin ≤ k)
+    → Rising m (b ++ addedIn k gs)
 rising-append m k [] gs h r u = rising-on m k gs h
 rising-append m k (e ∷ b) gs h r u =
     (r .0, rising-append (e .origin) k b gs (u e (List·Memᴰ·head refl)) (r .1) (λ x i. u x (List·Memᴰ·tail i)))
@@ -174,7 +170,8 @@ rising-weaker m k (e ∷ b) h r = (omega (arith, r .0), r .1)
 rising-dropped : (f : Stored → Bool) (m : ℕ) (b : List Stored) → Rising m b → Rising m (dropFirst f b)
 rising-dropped f m [] r = tt
 rising-dropped f m (e ∷ b) r =
-    by-test (Rising m) (f e) (λ q. rising-weaker m (e .origin) b (r .0) (r .1)) (λ q. (r .0, rising-dropped f (e .origin) b (r .1)))
+    by-test (Rising m) (f e) (λ q. rising-weaker m (e .origin) b (r .0) (r .1))
+    (λ q. (r .0, rising-dropped f (e .origin) b (r .1)))
 
 -- of the origins after n steps
 record Origins (n : ℕ) (b : List Stored) : Type 0 where
@@ -212,8 +209,8 @@ module _ (n : ℕ) (b : List Stored) (o : Origins n b) where
 origins : (N : ℕ) (P : List Rule) (size : ℕ) (ts : List Step) (n : ℕ) (z : State) (stored : List Stored)
     → runSteps N P size 0 start [] ts ≡ through n z stored → Origins n stored
 origins N P size ts n z stored e =
-    run-keeps N P size (λ m w b. Origins m b) (λ m w b t w′ o s. origins-after m b o (t .letter) (t .numbers) w′) 0 n start z [] stored ts
-    (record { bounded = λ x i. elim i [ ]; rising = tt }) e
+    run-keeps N P size (λ m w b. Origins m b) (λ m w b t w′ o s. origins-after m b o (t .letter) (t .numbers) w′)
+    0 n start z [] stored ts (record { bounded = λ x i. elim i [ ]; rising = tt }) e
 
 pub origins-bounded : OriginsBounded
 origins-bounded N P size ts n z stored e = origins N P size ts n z stored e .bounded
@@ -234,8 +231,13 @@ left text proof t s b c e =
     let words : check text proof t s .store ≡ storeWords s (E .2) =
     rw (r .1) (ap (λ (o : Course). judged t s ws o .store) (ended-course proof t s ws b c E)) in
     let same = live-stored (atoms ws) (expand ws) s (E .0) (length (E .0)) (E .1) (E .2) (E .4) in
-    let o = origins (atoms ws) (expand ws) s (E .0) (length (E .0)) (E .1) (E .2) (E .4) in
-    (E .2, words, ap length same ∙ sym (ap (λ (d : Counts). d .nogoods) k), subst (λ m. Bounded m (E .2)) (sym (ap (λ (d : Counts). d .steps) k)) (o .bounded), o .rising)
+    let o = origins (atoms ws) (expand ws) s (E .0) (length (E .0)) (E .1) (E .2) (E .4) in (
+      E .2,
+      words,
+      ap length same ∙ sym (ap (λ (d : Counts). d .nogoods) k),
+      subst (λ m. Bounded m (E .2)) (sym (ap (λ (d : Counts). d .steps) k)) (o .bounded),
+      o .rising,
+    )
 
 pub origins-service : OriginsService
 origins-service text proof table store table′ store′ r e c v =

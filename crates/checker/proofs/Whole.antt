@@ -29,11 +29,16 @@ use Rattle.derivation.specs.Steps.{Outcome, next, byLetter, step, emptyLive}
 use Rattle.derivation.specs.Steps as Steps
 use Rattle.derivation.proofs.AsWritten.{soundness-as-written}
 use Rattle.nogoods.specs.Store.{Stored, wordsFor}
-use Rattle.checker.specs.Check.{storedAfter, Course, stopped, through, thenStopped, fitting, runSteps, runRead, course, countsOf, saying, judged, judgedReading, check, Checked}
+use Rattle.checker.specs.Check.{storedAfter, Course, stopped, through, thenStopped, fitting, runSteps, runRead, course}
+use Rattle.checker.specs.Check.{countsOf, saying, judged, judgedReading, check, Checked}
 use Rattle.checker.specs.Claims.{Runs, ends, unread, unaccepted, full, good, StepByStep, Ended, Written, EndedWritten, VerdictExact, SoundWhole, ServiceExact, ServiceSound}
 use Rattle.checker.specs.declared.Counts.{Counts}
 use Rattle.checker.specs.declared.ProofRefusal.{ProofRefusal}
 use Rattle.checker.specs.declared.Verdict.the-variants.{Inconsistent, RefusedProof}
+
+-- what is stored once step t, the next after n, left the state z
+abbrev pub storedNext : ℕ → List Stored → Step → State → List Stored
+storedNext n b t z = storedAfter (n + 1) (t .letter) (t .numbers) b z
 
 module _ (N : ℕ) (P : List Rule) (size : ℕ) where
   -- what a step comes to; `on` goes on with the state that it left
@@ -41,19 +46,15 @@ module _ (N : ℕ) (P : List Rule) (size : ℕ) where
   stepThen on n (Steps.refused k) = stopped k (n + 1)
   stepThen on n (next z) = cond (fitting size z) (on z) (stopped 34 (n + 1))
 
-  -- what is stored once step t, the next after n, left the state z
-  abbrev then : ℕ → List Stored → Step → State → List Stored
-  then n b t z = storedAfter (n + 1) (t .letter) (t .numbers) b z
-
   -- the course of a step and of those that were read after it
   run-after : (n : ℕ) (z : State) (b : List Stored) (t : Step) (o : StepsRead)
-      → runRead N P size n z b (after t o) ≡ stepThen (λ z′. runRead N P size (n + 1) z′ (then n b t z′) o) n (step N P z t)
+      → runRead N P size n z b (after t o) ≡ stepThen (λ z′. runRead N P size (n + 1) z′ (storedNext n b t z′) o) n (step N P z t)
   run-after n z b t (steps ts) = by (step N P z t)
     where
       by : (o : Outcome) → elim o [
         | Steps.refused k ↦ stopped k (n + 1)
-        | next z′ ↦ cond (fitting size z′) (runSteps N P size (n + 1) z′ (then n b t z′) ts) (stopped 34 (n + 1))
-      ] ≡ stepThen (λ z′. runSteps N P size (n + 1) z′ (then n b t z′) ts) n o
+        | next z′ ↦ cond (fitting size z′) (runSteps N P size (n + 1) z′ (storedNext n b t z′) ts) (stopped 34 (n + 1))
+      ] ≡ stepThen (λ z′. runSteps N P size (n + 1) z′ (storedNext n b t z′) ts) n o
       by (Steps.refused k) = refl
       by (next z′) = refl
   run-after n z b t (refused ts k m) = by (step N P z t)
@@ -64,10 +65,10 @@ module _ (N : ℕ) (P : List Rule) (size : ℕ) where
 
       by : (o : Outcome) → thenStopped k m (elim o [
         | Steps.refused j ↦ stopped j (n + 1)
-        | next z′ ↦ cond (fitting size z′) (runSteps N P size (n + 1) z′ (then n b t z′) ts) (stopped 34 (n + 1))
-      ]) ≡ stepThen (λ z′. thenStopped k m (runSteps N P size (n + 1) z′ (then n b t z′) ts)) n o
+        | next z′ ↦ cond (fitting size z′) (runSteps N P size (n + 1) z′ (storedNext n b t z′) ts) (stopped 34 (n + 1))
+      ]) ≡ stepThen (λ z′. thenStopped k m (runSteps N P size (n + 1) z′ (storedNext n b t z′) ts)) n o
       by (Steps.refused j) = refl
-      by (next z′) = fits (fitting size z′) (runSteps N P size (n + 1) z′ (then n b t z′) ts)
+      by (next z′) = fits (fitting size z′) (runSteps N P size (n + 1) z′ (storedNext n b t z′) ts)
 
 module _ (N : ℕ) (P : List Rule) (size : ℕ) (text : List ℕ) where
   -- one turn more than there are bytes left is enough
@@ -94,13 +95,17 @@ module _ (N : ℕ) (P : List Rule) (size : ℕ) (text : List ℕ) where
           (outcome (step N P z (record { letter = x; numbers = zs })) refl)
         where
           outcome : (o : Outcome) → step N P z (record { letter = x; numbers = zs }) ≡ o
-              → Runs N P size text at n z b (stepThen N P size (λ z′. runRead N P size (n + 1) z′ (storedAfter (n + 1) x zs b z′) (left at′)) n o)
+              → Runs N P size text at n z b
+              (stepThen N P size (λ z′. runRead N P size (n + 1) z′ (storedAfter (n + 1) x zs b z′) (left at′)) n o)
           outcome (Steps.refused k) s = unaccepted e s
           outcome (next z′) s = fits (fitting size z′) refl
             where
               fits : (f : Bool) → fitting size z′ ≡ f
-                  → Runs N P size text at n z b (cond f (runRead N P size (n + 1) z′ (storedAfter (n + 1) x zs b z′) (left at′)) (stopped 34 (n + 1)))
-              fits true q = let u = passed-line text at e in good e s (leb-true _ _ q) (later at′ z′ (storedAfter (n + 1) x zs b z′) (u .0, u .1))
+                  → Runs N P size text at n z b
+                  (cond f (runRead N P size (n + 1) z′ (storedAfter (n + 1) x zs b z′) (left at′)) (stopped 34 (n + 1)))
+              fits true q =
+                  let u = passed-line text at e in
+                  good e s (leb-true _ _ q) (later at′ z′ (storedAfter (n + 1) x zs b z′) (u .0, u .1))
               fits false q = full e s (leb-false _ _ q)
 
   read-as : (turns at n : ℕ) {o : LineAt} → lineAt text at ≡ o → stepsAt text (suc turns) at n ≡ elim o [
@@ -116,12 +121,14 @@ module _ (N : ℕ) (P : List Rule) (size : ℕ) (text : List ℕ) where
         | line x zs at′ ↦ after (record { letter = x; numbers = zs }) (stepsAt text turns at′ (n + 1))
       ]) e
 
-  line-then : (turns at n at′ : ℕ) (z : State) (b : List Stored) (x : Letter) (zs : List ℤ) {o : Outcome} → lineAt text at ≡ line x zs at′
-      → step N P z (record { letter = x; numbers = zs }) ≡ o → runRead N P size n z b (stepsAt text (suc turns) at n)
+  line-then : (turns at n at′ : ℕ) (z : State) (b : List Stored) (x : Letter) (zs : List ℤ) {o : Outcome}
+      → lineAt text at ≡ line x zs at′ → step N P z (record { letter = x; numbers = zs }) ≡ o
+      → runRead N P size n z b (stepsAt text (suc turns) at n)
       ≡ stepThen N P size (λ z′. runRead N P size (n + 1) z′ (storedAfter (n + 1) x zs b z′) (stepsAt text turns at′ (n + 1))) n o
   line-then turns at n at′ z b x zs e s =
-      ap (runRead N P size n z b) (read-as turns at n e) ∙ run-after N P size n z b (record { letter = x; numbers = zs }) (stepsAt text turns at′ (n + 1))
-      ∙ ap (stepThen N P size (λ z′. runRead N P size (n + 1) z′ (storedAfter (n + 1) x zs b z′) (stepsAt text turns at′ (n + 1))) n) s
+      let left = stepsAt text turns at′ (n + 1) in
+      ap (runRead N P size n z b) (read-as turns at n e) ∙ run-after N P size n z b (record { letter = x; numbers = zs }) left
+      ∙ ap (stepThen N P size (λ z′. runRead N P size (n + 1) z′ (storedAfter (n + 1) x zs b z′) left) n) s
 
   -- what `Runs` says that the lines come to is the course
   only : (turns : ℕ) {at n : ℕ} {z : State} {b : List Stored} {c : Course} → at ≤ length text → length text < turns + at
@@ -129,7 +136,8 @@ module _ (N : ℕ) (P : List Rule) (size : ℕ) (text : List ℕ) where
   only zero h l r = absurd (omega arith)
   only (suc turns) h l (ends {at = at} {n = n} {z = z} {b = b} e) = ap (runRead N P size n z b) (read-as turns at n e)
   only (suc turns) h l (unread {at = at} {n = n} {z = z} {b = b} e) = ap (runRead N P size n z b) (read-as turns at n e)
-  only (suc turns) h l (unaccepted {at = at} {n = n} {after = at′} {z = z} {b = b} {x = x} {zs = zs} e s) = line-then turns at n at′ z b x zs e s
+  only (suc turns) h l (unaccepted {at = at} {n = n} {after = at′} {z = z} {b = b} {x = x} {zs = zs} e s) =
+      line-then turns at n at′ z b x zs e s
   only (suc turns) h l (full {at = at} {n = n} {after = at′} {z = z} {z′ = z′} {b = b} {x = x} {zs = zs} e s f) =
       line-then turns at n at′ z b x zs e s ∙ rw (lt-leb (wordsFor (z′ .live)) size f)
   only (suc turns) h l (good {at = at} {n = n} {after = at′} {z = z} {z′ = z′} {b = b} {x = x} {zs = zs} e s f r) =
@@ -138,8 +146,10 @@ module _ (N : ℕ) (P : List Rule) (size : ℕ) (text : List ℕ) where
 
 pub step-by-step : StepByStep
 unfolding course stepsOf
-step-by-step N P size text c h =
-    (λ e. subst (Runs N P size text 0 0 start []) (sym turns ∙ e) from, λ r. turns ∙ only N P size text (suc (length text)) (omega arith) (omega arith) r)
+step-by-step N P size text c h = (
+  λ e. subst (Runs N P size text 0 0 start []) (sym turns ∙ e) from,
+  λ r. turns ∙ only N P size text (suc (length text)) (omega arith) (omega arith) r,
+)
   where
     turns : course N P size text ≡ runRead N P size 0 start [] (stepsAt text (suc (length text)) 0 0)
     turns = rw (le-ltb longest (length text) h)
@@ -147,25 +157,41 @@ step-by-step N P size text c h =
     from : Runs N P size text 0 0 start [] (runRead N P size 0 start [] (stepsAt text (suc (length text)) 0 0))
     from = runs N P size text (suc (length text)) 0 0 start [] (omega arith) (omega arith)
 
+-- the first of some steps that run through: it is accepted and fits, and the others run through
+module _ (N : ℕ) (P : List Rule) (size n : ℕ) (z : State) (b : List Stored) (t : Step) (ts : List Step) where
+  pub record First (c : Course) : Type 0 where
+    pub left : State
+    pub is : step N P z t ≡ next left
+    pub fits : fitting size left ≡ true
+    pub later : runSteps N P size (n + 1) left (storedNext n b t left) ts ≡ c
+
+pub run-first : (N : ℕ) (P : List Rule) (size n m : ℕ) (z w : State) (b l : List Stored) (t : Step) (ts : List Step)
+    → runSteps N P size n z b (t ∷ ts) ≡ through m w l → First N P size n z b t ts (through m w l)
+run-first N P size n m z w b l t ts e = by (step N P z t) refl e
+  where
+    on : State → Course
+    on z′ = runSteps N P size (n + 1) z′ (storedNext n b t z′) ts
+
+    by : (o : Outcome) → step N P z t ≡ o → elim o [
+      | Steps.refused k ↦ stopped k (n + 1)
+      | next z′ ↦ cond (fitting size z′) (on z′) (stopped 34 (n + 1))
+    ] ≡ through m w l → First N P size n z b t ts (through m w l)
+    by (Steps.refused k) q e = absurd (zero-one (cc))
+    by (next z′) q e = fits (fitting size z′) refl e
+      where
+        fits : (f : Bool) → fitting size z′ ≡ f → cond f (on z′) (stopped 34 (n + 1)) ≡ through m w l
+            → First N P size n z b t ts (through m w l)
+        fits true f e = record { left = z′; is = q; fits = f; later = e }
+        fits false f e = absurd (zero-one (cc))
+
 -- steps that run through are accepted in turn, and are as many as are counted
 pub run-through : (N : ℕ) (P : List Rule) (size n m : ℕ) (z w : State) (b l : List Stored) (ts : List Step)
     → runSteps N P size n z b ts ≡ through m w l → (Steps.steps N P z ts ≡ next w) × (m ≡ n + length ts)
 run-through N P size n m z w b l [] e = let p : z ≡ w = cc in let q : n ≡ m = cc in (ap next p, omega arith)
 run-through N P size n m z w b l (t ∷ ts) e =
-    by (λ z′ f. run-through N P size (n + 1) m z′ w (storedAfter (n + 1) (t .letter) (t .numbers) b z′) l ts f) (step N P z t) e
-  where
-    on : State → Course
-    on z′ = runSteps N P size (n + 1) z′ (storedAfter (n + 1) (t .letter) (t .numbers) b z′) ts
-
-    by : ((z′ : State) → on z′ ≡ through m w l → (Steps.steps N P z′ ts ≡ next w) × (m ≡ n + 1 + length ts))
-        → (o : Outcome) → elim o [ Steps.refused k ↦ stopped k (n + 1) | next z′ ↦ cond (fitting size z′) (on z′) (stopped 34 (n + 1)) ] ≡ through m w l
-        → (elim o [ Steps.refused k ↦ Steps.refused k | next z′ ↦ Steps.steps N P z′ ts ] ≡ next w) × (m ≡ n + suc (length ts))
-    by later (Steps.refused k) e = absurd (zero-one (cc))
-    by later (next z′) e = fits (fitting size z′) e
-      where
-        fits : (f : Bool) → cond f (on z′) (stopped 34 (n + 1)) ≡ through m w l → (Steps.steps N P z′ ts ≡ next w) × (m ≡ n + suc (length ts))
-        fits true e = let r = later z′ e in (r .0, omega (arith, r .1))
-        fits false e = absurd (zero-one (cc))
+    let r = run-first N P size n m z w b l t ts e in
+    let q = run-through N P size (n + 1) m (r .left) w (storedNext n b t (r .left)) l ts (r .later) in
+    (rw (r .is, Steps.steps) (q .0), omega (arith, q .1))
 
 -- steps after steps that run through
 pub run-append : (N : ℕ) (P : List Rule) (size n m : ℕ) (z w : State) (b l : List Stored) (ts us : List Step)
@@ -176,22 +202,12 @@ run-append N P size n m z w b l [] us e =
     let r : b ≡ l = cc in
     ap₂ (λ i x. runSteps N P size i x b us) q p ∙ ap (λ (k : List Stored). runSteps N P size m w k us) r
 run-append N P size n m z w b l (t ∷ ts) us e =
-    by (λ z′ f. run-append N P size (n + 1) m z′ w (storedAfter (n + 1) (t .letter) (t .numbers) b z′) l ts us f) (step N P z t) e
-  where
-    on : List Step → State → Course
-    on vs z′ = runSteps N P size (n + 1) z′ (storedAfter (n + 1) (t .letter) (t .numbers) b z′) vs
-
-    by : ((z′ : State) → on ts z′ ≡ through m w l → on (ts ++ us) z′ ≡ runSteps N P size m w l us)
-        → (o : Outcome) → elim o [ Steps.refused k ↦ stopped k (n + 1) | next z′ ↦ cond (fitting size z′) (on ts z′) (stopped 34 (n + 1)) ] ≡ through m w l
-        → elim o [ Steps.refused k ↦ stopped k (n + 1) | next z′ ↦ cond (fitting size z′) (on (ts ++ us) z′) (stopped 34 (n + 1)) ]
-        ≡ runSteps N P size m w l us
-    by later (Steps.refused k) e = absurd (zero-one (cc))
-    by later (next z′) e = fits (fitting size z′) e
-      where
-        fits : (f : Bool) → cond f (on ts z′) (stopped 34 (n + 1)) ≡ through m w l
-            → cond f (on (ts ++ us) z′) (stopped 34 (n + 1)) ≡ runSteps N P size m w l us
-        fits true e = later z′ e
-        fits false e = absurd (zero-one (cc))
+    let r = run-first N P size n m z w b l t ts e in
+    let b′ = storedNext n b t (r .left) in
+    run-after N P size n z b t (steps (ts ++ us))
+    ∙ ap (stepThen N P size (λ z′. runSteps N P size (n + 1) z′ (storedNext n b t z′) (ts ++ us)) n) (r .is)
+    ∙ ap (λ f. cond f (runSteps N P size (n + 1) (r .left) b′ (ts ++ us)) (stopped 34 (n + 1))) (r .fits)
+    ∙ run-append N P size (n + 1) m (r .left) w b′ l ts us (r .later)
 
 -- the course of a text that a writer of good steps leaves
 pub course-written : (N : ℕ) (P : List Rule) (size : ℕ) (ts : List Step) → ((t : Step) → t ∈ ts → LinePasses t) → length (textOf ts) ≤ longest

@@ -23,12 +23,13 @@ use Rattle.checker.specs.declared.Counts.{Counts}
 use Rattle.checker.specs.declared.Verdict.{Verdict}
 use Rattle.checker.specs.declared.Verdict.the-variants.{Inconsistent, Open, RefusedProgram, RefusedProof}
 
--- What the store has after step n, by its letter x and numbers zs: `d` takes away the oldest with these literals, "whatever its
--- origin"; any other step leaves all that was there, and after it, with its number, what the step added.
 module _ (n : ℕ) where
+  -- what was stored before step n, and after it, with its number, the nogoods that it added to those of the state that it left
   abbrev pub withAdded : (before : List Stored) → State → List Stored
   withAdded before z = before ++ addedIn n (drop (length (live before)) (z .live))
 
+  -- what is stored after step n, by its letter and numbers and the state that it left: "Deletion still takes the oldest equal set,
+  -- whatever its origin"
   abbrev pub storedAfter : Letter → List ℤ → (before : List Stored) → State → List Stored
   storedAfter Addition zs before z = withAdded before z
   storedAfter Body zs before z = withAdded before z
@@ -62,7 +63,9 @@ module _ (N : ℕ) (P : List Rule) (size : ℕ) where
       elim (step N P z t) [
         | Steps.refused k ↦ stopped k (n + 1)
         | next z′ ↦
-            cond (fitting size z′) (runSteps (n + 1) z′ (storedAfter (n + 1) (t .letter) (t .numbers) stored z′) ts) (stopped 34 (n + 1))
+            cond (fitting size z′)
+            (runSteps (n + 1) z′ (storedAfter (n + 1) (t .letter) (t .numbers) stored z′) ts)
+            (stopped 34 (n + 1))
       ]
 
   -- a text's steps; or those before the line that is refused, and then that refusal
@@ -94,7 +97,8 @@ abbrev pub judged : (tableSize storeSize : ℕ) → List InputRule → Course �
 judged t s ws (stopped k n) =
     record { verdict = RefusedProof (record { number = k; step = n }); table = replicate t (pos 0); store = replicate s (pos 0) }
 judged t s ws (through n z stored) =
-    record { verdict = saying (emptyLive z) (countsOf (atoms ws) (length ws) n z); table = tableWords t ws; store = storeWords s stored }
+    let said = saying (emptyLive z) (countsOf (atoms ws) (length ws) n z) in
+    record { verdict = said; table = tableWords t ws; store = storeWords s stored }
 
 -- "The verdict is judged on this expansion": the steps are about the plain rules that the program stands for
 abbrev pub judgedReading : (tableSize storeSize : ℕ) → (proof : List ℕ) → Reading → Checked

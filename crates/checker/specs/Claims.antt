@@ -1,5 +1,5 @@
--- What the whole check says, as statements; proofs/Whole.antt and proofs/Origins.antt prove them: the steps line by line, demand 2 of the
--- notice, demand 3, part two, and what is said of origins, also of the function `check_texts` by its contract.
+-- What the whole check says, as statements; proofs/Whole.antt and proofs/Origins.antt prove them: the steps line by line, demand 2
+-- of the notice, demand 3, part two, and what is said of origins, also of the function `check_texts` by its contract.
 -- Assumes nothing.
 use mathlib.Core.Path.{_≡_}
 use mathlib.Core.Logic.{_↔_, _⊎_}
@@ -38,9 +38,10 @@ module _ (N : ℕ) (P : List Rule) (size : ℕ) (text : List ℕ) where
     unaccepted : {at n k after : ℕ} {z : State} {b : List Stored} {x : Letter} {zs : List ℤ} → lineAt text at ≡ line x zs after
         → step N P z (record { letter = x; numbers = zs }) ≡ Steps.refused k → Runs at n z b (stopped k (n + 1))
     full : {at n after : ℕ} {z z′ : State} {b : List Stored} {x : Letter} {zs : List ℤ} → lineAt text at ≡ line x zs after
-        → step N P z (record { letter = x; numbers = zs }) ≡ next z′ → size < wordsFor (z′ .live) → Runs at n z b (stopped 34 (n + 1))
-    good : {at n after : ℕ} {z z′ : State} {b : List Stored} {x : Letter} {zs : List ℤ} {c : Course} → lineAt text at ≡ line x zs after
-        → step N P z (record { letter = x; numbers = zs }) ≡ next z′ → wordsFor (z′ .live) ≤ size
+        → step N P z (record { letter = x; numbers = zs }) ≡ next z′ → size < wordsFor (z′ .live)
+        → Runs at n z b (stopped 34 (n + 1))
+    good : {at n after : ℕ} {z z′ : State} {b : List Stored} {x : Letter} {zs : List ℤ} {c : Course}
+        → lineAt text at ≡ line x zs after → step N P z (record { letter = x; numbers = zs }) ≡ next z′ → wordsFor (z′ .live) ≤ size
         → Runs after (n + 1) z′ (storedAfter (n + 1) x zs b z′) c → Runs at n z b c
 
 -- The course of a proof text that passes 21 is what its lines come to from the start, and nothing else.
@@ -54,7 +55,8 @@ StepByStep =
 abbrev pub Ended : List InputRule → (size : ℕ) → (proof : List ℕ) → (empty : Bool) → Counts → Type 0
 Ended ws size proof empty c =
     (ts : List Step) × (z : State) × (stored : List Stored) × (stepsOf proof ≡ steps ts)
-    × (runSteps (atoms ws) (expand ws) size 0 start [] ts ≡ through (length ts) z stored) × (emptyLive z ≡ empty) × (c ≡ countsOf (atoms ws) (length ws) (length ts) z)
+    × (runSteps (atoms ws) (expand ws) size 0 start [] ts ≡ through (length ts) z stored)
+    × (emptyLive z ≡ empty) × (c ≡ countsOf (atoms ws) (length ws) (length ts) z)
 
 -- What `Ended` says, in the words of a writer: the proof is the text of the steps ts, and no reader is spoken of. That each step passes
 -- 22 to 25 need not be said, since a step that is accepted does.
@@ -105,21 +107,23 @@ ServiceSound =
 
 -- Origins
 
--- After every list of steps the literals of what is stored are the live nogoods, in their order. What is said of K, of the empty nogood
--- and of `a` is said of the store by this.
-abbrev pub LiveStored : Type 0
-LiveStored =
+-- what holds after every list of steps that run through: of how many there were, the state that they left and what is stored then
+abbrev pub AfterSteps : (ℕ → State → List Stored → Type 0) → Type 0
+AfterSteps C =
     (N : ℕ) (P : List Rule) (size : ℕ) (ts : List Step) (n : ℕ) (z : State) (stored : List Stored)
-    → runSteps N P size 0 start [] ts ≡ through n z stored → live stored ≡ z .live
+    → runSteps N P size 0 start [] ts ≡ through n z stored → C n z stored
+
+-- The literals of what is stored are the live nogoods, in their order. What is said of K, of the empty nogood and of `a` is said of
+-- the store by this.
+abbrev pub LiveStored : Type 0
+LiveStored = AfterSteps (λ n z stored. live stored ≡ z .live)
 
 -- "An origin is never 0 or above the steps done."
 abbrev pub Bounded : (done : ℕ) → List Stored → Type 0
 Bounded n stored = (e : Stored) → e ∈ stored → (1 ≤ e .origin) × (e .origin ≤ n)
 
 abbrev pub OriginsBounded : Type 0
-OriginsBounded =
-    (N : ℕ) (P : List Rule) (size : ℕ) (ts : List Step) (n : ℕ) (z : State) (stored : List Stored)
-    → runSteps N P size 0 start [] ts ≡ through n z stored → Bounded n stored
+OriginsBounded = AfterSteps (λ n z stored. Bounded n stored)
 
 -- no origin is below the one before it: "oldest first" can be read off the store
 abbrev pub Rising : (least : ℕ) → List Stored → Type 0
@@ -127,12 +131,10 @@ Rising m [] = Unit
 Rising m (e ∷ stored) = (m ≤ e .origin) × Rising (e .origin) stored
 
 abbrev pub OriginsRise : Type 0
-OriginsRise =
-    (N : ℕ) (P : List Rule) (size : ℕ) (ts : List Step) (n : ℕ) (z : State) (stored : List Stored)
-    → runSteps N P size 0 start [] ts ≡ through n z stored → Rising 1 stored
+OriginsRise = AfterSteps (λ n z stored. Rising 1 stored)
 
--- The store that the function `check_texts` leaves, by its contract, where it answers "inconsistent" or "open": the words of some
--- stored nogoods, as many as it tells, each with an origin from 1 to the steps that it tells.
+-- The store that the function `check_texts` leaves, by its contract, where it answers "inconsistent" or "open": the words of stored
+-- nogoods, as many as it tells, with origins that rise from 1 to no more than the steps that it tells.
 abbrev pub OriginsService : Type 0
 OriginsService =
     (text proof : List ℕ) (table store table′ store′ : List ℤ) (r : Verdict) → CheckedTexts text proof table store table′ store′ r

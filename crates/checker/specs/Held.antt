@@ -86,22 +86,24 @@ abbrev pub Fitted : List Stored → List ℤ → Stepped → Type 0
 Fitted stored store (Uses n) = Holds store n stored
 Fitted stored store (Fails k) = (k ≡ 34) × (length store < wordsFor (live stored))
 
--- The store holds what is stored of the state's live nogoods, in its first `used` words.
-pub record Keeps (store : List ℤ) (used : ℕ) (z : State) (stored : List Stored) : Type 0 where
+-- the store holds what is stored in its first `used` words, and its literals are the state's live nogoods
+pub record HoldsState (store : List ℤ) (used : ℕ) (z : State) (stored : List Stored) : Type 0 where
   pub holds : Holds store used stored
   pub same : live stored ≡ z .live
 
 -- what a step leaves, by what it comes to: the number of the question, or arrays and store that hold the next state, with what is
 -- `after` it in the store
-abbrev pub Leaves : ℕ → List InputRule → (after : State → List Stored) → List ℕ → List ℕ → List ℤ → List ℤ → Outcome → Stepped → Type 0
+abbrev pub Leaves : ℕ → List InputRule → (after : State → List Stored) → List ℕ → List ℕ → List ℤ → List ℤ
+    → Outcome → Stepped → Type 0
 Leaves N ws after known names bodies store (refused k) r = r ≡ Fails k
-Leaves N ws after known names bodies store (next z) r = Fitted (after z) store r × Tracks N ws known names bodies (z .introduced) (z .named)
+Leaves N ws after known names bodies store (next z) r =
+    Fitted (after z) store r × Tracks N ws known names bodies (z .introduced) (z .named)
 
 -- the contract of a letter's function: what step n leaves, of whatever state the arrays and the store held before
 abbrev pub Stepping : ℕ → List InputRule → Letter → List ℤ → (used n : ℕ)
     → List ℕ → List ℕ → List ℤ → List ℤ → List ℕ → List ℕ → List ℤ → List ℤ → Stepped → Type 0
 Stepping N ws x zs used n known names bodies store known′ names′ bodies′ store′ r =
-    (z : State) (stored : List Stored) → Tracks N ws known names bodies (z .introduced) (z .named) → Keeps store used z stored
+    (z : State) (stored : List Stored) → Tracks N ws known names bodies (z .introduced) (z .named) → HoldsState store used z stored
     → Leaves N ws (storedAfter n x zs stored) known′ names′ bodies′ store′ (byLetter N (expand ws) z x zs) r
 
 -- the nogood of an `l` step, ascending: of n numbers from v on, h itself and minus each one that passes

@@ -1,5 +1,5 @@
-// `a` and `d`: nogoods as a line gives them. Document 01, questions 26, 33 and 34. The origin is the number of the step, here and in the
-// functions of the other letters.
+// `a` and `d`: nogoods as a line gives them. Document 01, questions 26, 33 and 34. The origin is the number of the step, here and in
+// the functions of the other letters.
 ghost use mathlib.Core.List.{List};
 ghost use Prim.Native.Nat.{ℕ, _≤_};
 ghost use lib.IntN.{ℤ};

@@ -13,7 +13,7 @@ ghost use Rattle.nogoods.specs.Store.{Stored};
 ghost use Rattle.nogoods.specs.Keeps.{Holds};
 ghost use Rattle.loops.specs.Relevance.{Relevant};
 ghost use Rattle.checker.specs.Check.{course};
-ghost use Rattle.checker.specs.Held.{Program, Tracks, NoBodies, Keeps, proofTurn, LineLeaves, Ran};
+ghost use Rattle.checker.specs.Held.{Program, Tracks, NoBodies, HoldsState, proofTurn, LineLeaves, Ran};
 use crate::ProofRefusal;
 use crate::outcomes::Stepped;
 use crate::states::CheckingState;
@@ -74,7 +74,7 @@ fn turn_at(
     ensures { λ r. ⌜ ((ws : List InputRule) → Program (now (table .entry)) rules atoms ws
         → (z : State) (stored : List Stored)
         → Tracks atoms ws (now (known .entry)) (now (names .entry)) (now (bodies .entry)) (z .introduced) (z .named)
-        → Keeps (now (store .entry)) used z stored
+        → HoldsState (now (store .entry)) used z stored
         → LineLeaves atoms ws (now (known .exit)) (now (names .exit)) (now (bodies .exit)) (now (store .exit)) used origin z stored
         (lineAt (now (proof .entry)) at) r) ⌝ }
 {

@@ -42,7 +42,8 @@ unfolding live
 live-first e stored u = List·Memᴰ·cases-cons u
 
 -- the oldest that is the list goes out of what is stored: the oldest goes out of the live nogoods
-pub live-dropped : (L : List ℤ) (stored : List Stored) → live (dropFirst (λ e. sameList (e .literals) L) stored) ≡ dropFirst (λ g. sameList g L) (live stored)
+pub live-dropped : (L : List ℤ) (stored : List Stored)
+    → live (dropFirst (λ e. sameList (e .literals) L) stored) ≡ dropFirst (λ g. sameList g L) (live stored)
 unfolding live
 live-dropped L [] = refl
 live-dropped L (e ∷ stored) = by (sameList (e .literals) L) (live-dropped L stored)

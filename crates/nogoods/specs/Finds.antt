@@ -12,4 +12,5 @@ use Rattle.nogoods.specs.declared.store.Found.the-variants.{At, Nothing}
 -- the place of the first whose literals are the list, where the words begin at i
 abbrev pub foundAt : ℕ → List ℤ → List Stored → Found
 foundAt i literals [] = Nothing
-foundAt i literals (e ∷ stored) = cond (sameList (e .literals) literals) (At i) (foundAt (i + recordSize (e .literals)) literals stored)
+foundAt i literals (e ∷ stored) =
+    cond (sameList (e .literals) literals) (At i) (foundAt (i + recordSize (e .literals)) literals stored)

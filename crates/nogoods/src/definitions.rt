@@ -17,8 +17,8 @@ use crate::store::Added;
 // As many words the record of two literals has.
 const PAIR: usize = HEADER + 2;
 
-// The name with a literal's complement, ascending, at the front of the free tail. The origin, here and below, is the number of the
-// step that defines the name.
+// The name with a literal's complement, ascending, at the front of the free tail. The origin is the number of the step, here and
+// below.
 fn write_pair(free: &mut [i32], origin: usize, name: i32, literal: i32)
     requires origin { ⌜ origin ≤ longest ⌝ }
     requires room { ⌜ (variable literal ≤ largest) × (pairSize ≤ length (now free)) ⌝ }
@@ -33,7 +33,8 @@ fn write_pair(free: &mut [i32], origin: usize, name: i32, literal: i32)
 fn write_pairs(free: &mut [i32], origin: usize, name: i32, literals: &[i32])
     requires origin { ⌜ origin ≤ longest ⌝ }
     requires room { ⌜ Literals (now literals) × (pairSize * length (now literals) ≤ length (now free)) ⌝ }
-    ensures { λ _. ⌜ WrittenFront (wordsOf (addedIn origin (map (pair name) (now (literals .entry))))) (now (free .entry)) (now (free .exit)) ⌝ }
+    ensures { λ _. ⌜ WrittenFront (wordsOf (addedIn origin (map (pair name) (now (literals .entry)))))
+        (now (free .entry)) (now (free .exit)) ⌝ }
 {
     let mut at = 0;
     let mut i = 0;
@@ -50,7 +51,8 @@ fn write_first(free: &mut [i32], origin: usize, numbers: &[i32])
     requires numbers { ⌜ (variable (getD (now numbers) 0 (pos 0)) ≤ largest) × (1 ≤ length (now numbers)) ⌝ }
     requires room { ⌜ (length (now numbers) ≤ mostNumbers) × (recordSize (now numbers) ≤ length (now free)) ⌝ }
     ensures { λ _. ⌜ (let l = now (numbers .entry) in
-        WrittenFront (storedWords (recordOf origin (ascending (complement (getD l 0 (pos 0)) ∷ drop 1 l)))) (now (free .entry)) (now (free .exit))) ⌝ }
+        WrittenFront (storedWords (recordOf origin (ascending (complement (getD l 0 (pos 0)) ∷ drop 1 l))))
+        (now (free .entry)) (now (free .exit))) ⌝ }
 {
     let end = HEADER + numbers.len();
     store::write(free, origin, numbers);
@@ -63,7 +65,8 @@ fn write_definition(free: &mut [i32], origin: usize, numbers: &mut [i32])
     requires origin { ⌜ origin ≤ longest ⌝ }
     requires numbers { ⌜ Literals (now numbers) × (1 ≤ length (now numbers)) × (length (now numbers) ≤ mostNumbers) ⌝ }
     requires room { ⌜ definedSize (length (now numbers)) ≤ length (now free) ⌝ }
-    ensures { λ _. ⌜ WrittenFront (wordsOf (addedIn origin (defined (now (numbers .entry))))) (now (free .entry)) (now (free .exit)) ⌝ }
+    ensures { λ _. ⌜ WrittenFront (wordsOf (addedIn origin (defined (now (numbers .entry)))))
+        (now (free .entry)) (now (free .exit)) ⌝ }
 {
     let end = HEADER + numbers.len();
     let name = numbers[0];

@@ -31,7 +31,8 @@ pub enum Added {
 pub fn write(free: &mut [i32], origin: usize, literals: &[i32])
     requires origin { ⌜ origin ≤ longest ⌝ }
     requires room { ⌜ (recordSize (now literals) ≤ length (now free)) × (length (now literals) ≤ largest) ⌝ }
-    ensures { λ _. ⌜ WrittenFront (storedWords (recordOf origin (now (literals .entry)))) (now (free .entry)) (now (free .exit)) ⌝ }
+    ensures { λ _. ⌜ WrittenFront (storedWords (recordOf origin (now (literals .entry))))
+        (now (free .entry)) (now (free .exit)) ⌝ }
 {
     free[0] = origin as i32;
     free[COUNT] = literals.len() as i32;

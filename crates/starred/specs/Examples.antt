@@ -81,8 +81,8 @@ neg v = negℤ (pos v)
 abbrev pub table1 : List ℤ
 table1 = pos 0 ∷ pos 1 ∷ pos 0 ∷ pos 1 ∷ pos 1 ∷ neg 1 ∷ []
 
--- "Store: 2 -1 -2, 2 1 2, 2 -1 2, 2 1 -2, 1 1, 0", each with "the number of the step that added it, as a word before its count"; the
--- last, which the closing `a 0` adds, apart
+-- "Store: 2 -1 -2, 2 1 2, 2 -1 2, 2 1 -2, 1 1, 0", each with "the number of the step that added it, as a word before its count";
+-- without the last, which the closing `a 0` adds, and with it
 abbrev pub store2 : List ℤ
 store2 =
     pos 1 ∷ pos 2 ∷ neg 1 ∷ neg 2
@@ -194,7 +194,8 @@ pub record LoopsOnly : Type 0 where
 
 abbrev pub leaves : (text proof : List ℕ) (size : ℕ) → Verdict → List ℤ → Type 0
 leaves text proof size v words =
-    (check text proof lent size .verdict ≡ v) × (check text proof lent size .store ≡ words ++ replicate (size - length words) (pos 0))
+    (check text proof lent size .verdict ≡ v)
+    × (check text proof lent size .store ≡ words ++ replicate (size - length words) (pos 0))
 
 abbrev pub fact : List ℕ
 fact = rules ("1 0 1 1 0 0" ∷ [])
@@ -204,19 +205,27 @@ pub record OriginWords : Type 0 where
   pub deleted : leaves program1 (proof1 ++ lines ("d 0" ∷ [])) 24 (undecided 1 1 6 5) store2
   -- a deletion counts as a step
   pub counted : leaves program1 (lines ("b 2 -1 0" ∷ "c 2 1 0" ∷ "d -1 -2 0" ∷ "s 1 2 0" ∷ [])) 16 (undecided 1 1 4 3)
-      (pos 1 ∷ pos 2 ∷ pos 1 ∷ pos 2 ∷ pos 2 ∷ pos 2 ∷ neg 1 ∷ pos 2 ∷ pos 4 ∷ pos 2 ∷ pos 1 ∷ neg 2 ∷ [])
+      (pos 1 ∷ pos 2 ∷ pos 1 ∷ pos 2
+      ∷ pos 2 ∷ pos 2 ∷ neg 1 ∷ pos 2
+      ∷ pos 4 ∷ pos 2 ∷ pos 1 ∷ neg 2 ∷ [])
   -- "Deletion still takes the oldest equal set, whatever its origin"
   pub oldest : leaves fact (lines ("b 2 0" ∷ "c 2 1 0" ∷ "c 2 1 0" ∷ "d -1 2 0" ∷ [])) 16 (undecided 1 1 4 2)
-      (pos 1 ∷ pos 1 ∷ neg 2 ∷ pos 3 ∷ pos 2 ∷ neg 1 ∷ pos 2 ∷ [])
+      (pos 1 ∷ pos 1 ∷ neg 2
+      ∷ pos 3 ∷ pos 2 ∷ neg 1 ∷ pos 2 ∷ [])
   -- a deletion that takes nothing away counts too
   pub idle : leaves fact (lines ("d 1 0" ∷ "b 2 0" ∷ [])) 16 (undecided 1 1 2 1) (pos 2 ∷ pos 1 ∷ neg 2 ∷ [])
   -- the words are just enough, or one too few
   pub again : leaves fact (lines ("b 2 0" ∷ "c 2 1 0" ∷ "d -2 0" ∷ "c 2 1 0" ∷ "c 2 1 0" ∷ [])) 12 (undecided 1 1 5 3)
-      (pos 2 ∷ pos 2 ∷ neg 1 ∷ pos 2 ∷ pos 4 ∷ pos 2 ∷ neg 1 ∷ pos 2 ∷ pos 5 ∷ pos 2 ∷ neg 1 ∷ pos 2 ∷ [])
+      (pos 2 ∷ pos 2 ∷ neg 1 ∷ pos 2
+      ∷ pos 4 ∷ pos 2 ∷ neg 1 ∷ pos 2
+      ∷ pos 5 ∷ pos 2 ∷ neg 1 ∷ pos 2 ∷ [])
   pub againShort : leaves fact (lines ("b 2 0" ∷ "c 2 1 0" ∷ "d -2 0" ∷ "c 2 1 0" ∷ "c 2 1 0" ∷ [])) 11 (refusedProof 34 5) []
   -- all nogoods of one `e` carry its number
   pub together : leaves fact (lines ("b 2 0" ∷ "e 3 1 2 0" ∷ [])) 16 (undecided 1 1 2 4)
-      (pos 1 ∷ pos 1 ∷ neg 2 ∷ pos 2 ∷ pos 3 ∷ pos 1 ∷ pos 2 ∷ neg 3 ∷ pos 2 ∷ pos 2 ∷ neg 1 ∷ pos 3 ∷ pos 2 ∷ pos 2 ∷ neg 2 ∷ pos 3 ∷ [])
+      (pos 1 ∷ pos 1 ∷ neg 2
+      ∷ pos 2 ∷ pos 3 ∷ pos 1 ∷ pos 2 ∷ neg 3
+      ∷ pos 2 ∷ pos 2 ∷ neg 1 ∷ pos 3
+      ∷ pos 2 ∷ pos 2 ∷ neg 2 ∷ pos 3 ∷ [])
   pub togetherShort : leaves fact (lines ("b 2 0" ∷ "e 3 1 2 0" ∷ [])) 15 (refusedProof 34 2) []
 
 -- lines with numbers of several digits, of which the starred examples have none

@@ -10,7 +10,7 @@ use Rattle.text.specs.declared.Letter.the-variants.{Addition}
 use Rattle.derivation.specs.States.{State}
 use Rattle.derivation.specs.Propagation.{refuted}
 use Rattle.nogoods.specs.Store.{Stored, live}
-use Rattle.checker.specs.Held.{Keeps}
+use Rattle.checker.specs.Held.{HoldsState}
 use Rattle.nogoods.proofs.Literals.{literals-ascending}
 use Rattle.checker.proofs.Kept.{kept-one, kept-more}
 use Rattle.checker.proofs.Letters.{cited}
@@ -19,7 +19,7 @@ use Rattle.checker.proofs.additions.addition.Statement.{statement}
 use Rattle.checker.proofs.additions.addition.Tie as tie
 
 -- question 33 of the live nogoods
-refutes-live : {store : List ℤ} {used : ℕ} {z : State} {b : List Stored} → Keeps store used z b → (L : List ℤ) {r a : Bool} → r ≡ refuted (live b) L → r ≡ a
+refutes-live : {store : List ℤ} {used : ℕ} {z : State} {b : List Stored} → HoldsState store used z b → (L : List ℤ) {r a : Bool} → r ≡ refuted (live b) L → r ≡ a
     → refuted (z .live) L ≡ a
 refutes-live K L e f = sym (e ∙ ap (λ l. refuted l L) (K .same)) ∙ f
 
