@@ -8,6 +8,7 @@ ghost use Rattle.words.specs.Limits.{mostRules};
 ghost use Rattle.words.specs.Lists.{any};
 ghost use Rattle.aspif.specs.Rules.{InputRule, isEmpty, tableWords};
 ghost use Rattle.aspif.specs.Reading.{program};
+ghost use Rattle.nogoods.specs.Store.{Stored, live};
 ghost use Rattle.nogoods.specs.Keeps.{Holds};
 ghost use Rattle.checker.specs.Check.{saying, judgedReading};
 ghost use Rattle.checker.specs.Held.{Program};
@@ -31,9 +32,10 @@ fn refuse(table: &mut [i32], store: &mut [i32], refusal: ProofRefusal) -> Verdic
 
 // The verdict once every step is good.
 fn conclude(store: &[i32], used: usize, atoms: usize, rules: usize, steps: usize) -> Verdict
-    requires { ⌜ ((live : List (List ℤ)) × Holds (now store) used live) ⌝ }
-    ensures { λ r. ⌜ ((live : List (List ℤ)) → Holds (now (store .entry)) used live
-        → r ≡ saying (any isEmpty live) (record { atoms = atoms; rules = rules; steps = steps; nogoods = length live })) ⌝ }
+    requires { ⌜ ((stored : List Stored) × Holds (now store) used stored) ⌝ }
+    ensures { λ r. ⌜ ((stored : List Stored) → Holds (now (store .entry)) used stored
+        → r ≡ saying (any isEmpty (live stored))
+        (record { atoms = atoms; rules = rules; steps = steps; nogoods = length (live stored) })) ⌝ }
 {
     let counts = Counts {
         atoms,
