@@ -5,7 +5,7 @@ use inputs::rules::{program_text, Rule};
 use inputs::{programs, Pair, ROOM};
 
 use crate::cases::refutations::{go_on, refute, Author, Found};
-use crate::cases::{self, bytes, changes, deep, fixed, guided, limits, noise, weights};
+use crate::cases::{self, bytes, changes, deep, fixed, guided, limits, loops, noise, weights};
 use crate::comparison::Comparison;
 use crate::packets;
 use crate::reference::check::{most_live_words, verdict_line};
@@ -36,6 +36,7 @@ pub fn families() -> Vec<Family> {
         family("weights", 60, run_weights),
         family("weight-lines", 300, run_weight_lines),
         family("guided", 200, run_guided),
+        family("loops", 150, run_loops),
         family("deep", 60, run_deep),
         family("noise", 300, run_noise),
         family("tables", 300, run_tables),
@@ -165,7 +166,7 @@ fn run_limit(comparison: &mut Comparison, index: u64) {
 
 fn run_wide_tables(comparison: &mut Comparison, _: u64) {
     for (table, rules) in tables::wide() {
-        for set in [vec![], vec![1], vec![4_095], vec![0], vec![1, 2, 4_095], vec![4_096], vec![65_535]] {
+        for set in [vec![], vec![1], vec![4_095], vec![4_096], vec![8_191], vec![0], vec![1, 2, 8_191], vec![8_192], vec![65_535]] {
             comparison.test_set(&table, rules, &set, MARKS);
         }
     }
@@ -285,6 +286,15 @@ fn run_guided(comparison: &mut Comparison, _: u64) {
     compare_changed(comparison, &pair, 3);
 }
 
+/// A program with many loops, and mostly `l` lines over loops and over sets that nearly are.
+fn run_loops(comparison: &mut Comparison, _: u64) {
+    let rules = loops::rules(&mut comparison.random);
+    let (text, program) = in_any_order(rules, &mut comparison.random);
+    let pair = Pair::of(text, loops::proof(&program, &mut comparison.random));
+    compare_some(comparison, &pair, 10);
+    compare_changed(comparison, &pair, 2);
+}
+
 fn run_deep(comparison: &mut Comparison, _: u64) {
     let (text, program) = readable(&deep::rules(&mut comparison.random));
     let proof = deep::proof(&program, &mut comparison.random);
@@ -306,7 +316,11 @@ fn run_tables(comparison: &mut Comparison, _: u64) {
     for _ in 0..6 {
         let (table, rules) = tables::changed(&words, count, &mut comparison.random);
         let set = tables::any_set(program.atoms, &mut comparison.random);
-        let marks = if comparison.random.percent(85) { MARKS } else { *comparison.random.pick(&[0, 1, 4_095, 4_097, 8_192, 10]) };
+        let marks = if comparison.random.percent(85) {
+            MARKS
+        } else {
+            *comparison.random.pick(&[0, 1, 4_095, 4_096, 4_097, 8_191, 8_193, 16_384, 10])
+        };
         comparison.test_set(&table, rules, &set, marks);
     }
 }
