@@ -23,8 +23,7 @@ loop-holds c = (omega arith, λ e u h. absurd (omega arith))
 loop-again : tie.Need-loop-again Inv-loop μ-loop
 loop-again c =
     let t = c .before in
-    let l = t .before .loop in
-    (
+    let l = t .before .loop in (
       omega (arith, t .loop-test .taken),
       λ e. unmarked-on (t .before .before .before .args .marks .now) (l .v) (l .inv .1 (and-left (l .none) _ e)) (sym (c .is-marked .ensures) ∙ not-true _ (and-right (l .none) _ e)),
     )

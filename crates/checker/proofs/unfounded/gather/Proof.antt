@@ -76,7 +76,7 @@ returns c =
     let h = s e .args .h in (
       omega (arith, l .inv .1, l .inv .2, within e),
       gathered-all (marked (s e .args .found .now)) h (l .v) largest (toZ-ofZ (s e .fits .h)) (l .inv .0) (omega (arith, l .inv .1, within e))
-      (λ u k. past e u (omega (arith, c .loop-test .left))) (l .inv .4),
+          (λ u k. past e u (omega (arith, c .loop-test .left))) (l .inv .4),
     )
 
 pub gather-spec : {M : Type 1} → statement M

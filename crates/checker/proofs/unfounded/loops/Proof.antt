@@ -88,7 +88,7 @@ shared-slice-copy-out-gather c =
 
 gather-requires : tie.Need-gather-requires
 gather-requires c κs =
-    let e = c .before .before .before .before .before .before .before .before .before in
+    let e = c .before .before .before .before .before .before .before .before .before .before .before in
     ((search needs, search needs), rw (back (getD (U e) 0 (pos 0)) (c .before .before .gather-arg .given)) (first-high Loop refl (line e)))
 
 abbrev names : tie.After-gather → tie.After-names-of
