@@ -1,4 +1,4 @@
--- The `l` step by what its tests answered: questions 31 and 32, and the nogood that it adds.
+-- The `l` step by what its tests answered: questions 31, 56 and 32, and the nogood that it adds.
 -- Assumes nothing.
 use mathlib.Core.Path.{_≡_, refl, sym, _∙_, ap, subst}
 use mathlib.Core.Bool.{Bool, true, false, not, true≢false}
@@ -17,9 +17,11 @@ use Rattle.marks.specs.Marks.{marked, Marks}
 use Rattle.text.specs.declared.Letter.the-variants.{Loop}
 use Rattle.drupe.specs.Lines.{isPositive}
 use Rattle.derivation.specs.States.{State, isAtom}
+use Rattle.derivation.specs.Loops.{isLoop}
 use Rattle.derivation.specs.Steps.{isExternal, allAtoms, allNamed, byLetter}
 use Rattle.names.specs.Queries.{askedNames}
 use Rattle.names.specs.declared.queries.Query.the-variants.{External}
+use Rattle.loops.specs.Edges.{Members}
 use Rattle.checker.specs.Held.{PassedLine, nameOf, Tracks, Fitted, Leaves, gathered}
 use Rattle.checker.specs.declared.outcomes.Stepped.{Stepped}
 use Rattle.checker.specs.declared.outcomes.Stepped.the-variants.{Fails}
@@ -31,6 +33,14 @@ use Rattle.checker.proofs.Loops.{all-atoms, external-by, loop-nogood}
 positive : (U : List ℤ) → PassedLine Loop U → (x : ℤ) → x ∈ U → T (isPositive x)
 positive [] line x i = elim i [ ]
 positive (h ∷ hs) line x i = if-true (all-decides (λ x. itself (isPositive x)) (h ∷ hs)) (line .signs) x i
+
+pub members : (U : List ℤ) → PassedLine Loop U → Members U
+members U line = record {
+  positive = λ x i. passed (isPositive x) .to (positive U line x i);
+  high = line .literals .high;
+  once = line .literals .once;
+  few = line .few;
+}
 
 module _ {N : ℕ} {ws : List InputRule} {known names : List ℕ} {bodies : List ℤ} (z : State) (tracks : Tracks N ws known names bodies (z .introduced) (z .named))
     (store : List ℤ) where
@@ -49,6 +59,11 @@ module _ {N : ℕ} {ws : List InputRule} {known names : List ℕ} {bodies : List
   loop-atoms [] line k a = absurd (true≢false (sym (line .signs)))
   loop-atoms (h ∷ hs) line k a = rw (cited z tracks Loop (h ∷ hs) line refl k, atoms-not (h ∷ hs) line a) refl
 
+  pub loop-not : (U : List ℤ) → PassedLine Loop U → all (λ x. marked known (variable x)) U ≡ true → top U ≤ N
+      → isLoop (expand ws) U ≡ false → LoopLeaves U (Fails 56)
+  loop-not [] line k a l = absurd (true≢false (sym (line .signs)))
+  loop-not (h ∷ hs) line k a l = rw (cited z tracks Loop (h ∷ hs) line refl k, atoms-are (h ∷ hs) line a, l) refl
+
   -- the names of the external bodies, as they are found by marks of the set
   module _ {inside m : List ℕ} (found : Marks m (askedNames External inside (nameOf (z .named)) (expand ws))) where
     external : (U : List ℤ) → PassedLine Loop U → Marks inside (map variable U) → Marks m (map (λ r. nameOf (z .named) (r .body)) (filter (isExternal U) (expand ws)))
@@ -58,18 +73,20 @@ module _ {N : ℕ} {ws : List InputRule} {known names : List ℕ} {bodies : List
     named-is : (U : List ℤ) → PassedLine Loop U → Marks inside (map variable U) → not (marked m 0) ≡ allNamed (expand ws) z U
     named-is U line set = all-named (expand ws) z (tracks .proper) U (external U line set)
 
-    pub loop-named : (U : List ℤ) → PassedLine Loop U → all (λ x. marked known (variable x)) U ≡ true → top U ≤ N → Marks inside (map variable U)
+    pub loop-named : (U : List ℤ) → PassedLine Loop U → all (λ x. marked known (variable x)) U ≡ true → top U ≤ N
+        → isLoop (expand ws) U ≡ true → Marks inside (map variable U)
         → marked m 0 ≡ true → LoopLeaves U (Fails 32)
-    loop-named [] line k a set n = absurd (true≢false (sym (line .signs)))
-    loop-named (h ∷ hs) line k a set n =
-        rw (cited z tracks Loop (h ∷ hs) line refl k, atoms-are (h ∷ hs) line a, sym (named-is (h ∷ hs) line set) ∙ ap not n) refl
+    loop-named [] line k a l set n = absurd (true≢false (sym (line .signs)))
+    loop-named (h ∷ hs) line k a l set n =
+        rw (cited z tracks Loop (h ∷ hs) line refl k, atoms-are (h ∷ hs) line a, l, sym (named-is (h ∷ hs) line set) ∙ ap not n) refl
 
-    pub loop-added : (U : List ℤ) → PassedLine Loop U → all (λ x. marked known (variable x)) U ≡ true → top U ≤ N → Marks inside (map variable U)
+    pub loop-added : (U : List ℤ) → PassedLine Loop U → all (λ x. marked known (variable x)) U ≡ true → top U ≤ N
+        → isLoop (expand ws) U ≡ true → Marks inside (map variable U)
         → marked m 0 ≡ false → N ≤ largest → (r : Stepped) → Fitted (z .live ++ (gathered (marked m) (getD U 0 (pos 0)) largest 1 ∷ [])) store r → LoopLeaves U r
-    loop-added [] line k a set n high r q = absurd (true≢false (sym (line .signs)))
-    loop-added (h ∷ hs) line k a set n high r q =
+    loop-added [] line k a l set n high r q = absurd (true≢false (sym (line .signs)))
+    loop-added (h ∷ hs) line k a l set n high r q =
         let U = h ∷ hs in
         let all-atoms = atoms-are U line a in
         let atom : T (isAtom N (variable h)) = passed (isAtom N (variable h)) .from (and-left _ _ all-atoms) in
-        rw (cited z tracks Loop U line refl k, all-atoms, sym (named-is U line set) ∙ ap not n)
+        rw (cited z tracks Loop U line refl k, all-atoms, l, sym (named-is U line set) ∙ ap not n)
         (subst (λ (g : List ℤ). Fitted (z .live ++ (g ∷ [])) store r) (loop-nogood (expand ws) z (tracks .proper) h U atom high (external U line set)) q, tracks)

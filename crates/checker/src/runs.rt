@@ -1,4 +1,4 @@
-// The proof's lines, one after another: questions 22 to 34.
+// The proof's lines, one after another: questions 22 to 34 and 56.
 ghost use mathlib.Core.Path.{_≡_};
 ghost use mathlib.Core.List.{List};
 ghost use Prim.Native.Nat.{_≤_};
@@ -10,6 +10,7 @@ ghost use Rattle.aspif.specs.Tables.{rulesAt};
 ghost use Rattle.drupe.specs.Lines.{lineAt};
 ghost use Rattle.derivation.specs.States.{State};
 ghost use Rattle.nogoods.specs.Keeps.{Holds};
+ghost use Rattle.loops.specs.Relevance.{Relevant};
 ghost use Rattle.checker.specs.Check.{course};
 ghost use Rattle.checker.specs.Held.{Program, Tracks, NoBodies, proofTurn, LineLeaves, Ran};
 use crate::ProofRefusal;
@@ -19,7 +20,13 @@ use crate::steps;
 use aspif::tables;
 use drupe::LineAnswer;
 use drupe::reader;
+use loops::relevance;
 use names::by_name;
+use weights::MOST_WEIGHTED;
+use words::MOST_RULES;
+
+// An entry for each pair of the weight bodies of all rules.
+const RELEVANT: usize = MOST_WEIGHTED * MOST_RULES;
 
 // What stands at a position comes to: the end, the question that is answered no, or the next position and the words used then.
 pub enum ProofTurn {
@@ -50,6 +57,7 @@ fn turn_at(
     at: usize,
     table: &[i32],
     rules: usize,
+    relevant: &[u8],
     atoms: usize,
     known: &mut [u8],
     names: &mut [u16],
@@ -58,6 +66,7 @@ fn turn_at(
     used: usize,
 ) -> ProofTurn
     requires program { ⌜ ((ws : List InputRule) × Program (now table) rules atoms ws) × (rules ≤ length (now names)) ⌝ }
+    requires relevant { ⌜ Relevant (now relevant) (rulesAt rules (now table)) ⌝ }
     requires live { ⌜ ((live : List (List ℤ)) × Holds (now store) used live) ⌝ }
     ensures { λ r. ⌜ ((ws : List InputRule) → Program (now (table .entry)) rules atoms ws
         → (z : State) → Tracks atoms ws (now (known .entry)) (now (names .entry)) (now (bodies .entry)) (z .introduced) (z .named)
@@ -80,6 +89,7 @@ fn turn_at(
             let stepped = steps::step(
                 table,
                 rules,
+                relevant,
                 atoms,
                 letter,
                 line,
@@ -99,11 +109,13 @@ fn run_lines(
     proof: &[u8],
     table: &[i32],
     rules: usize,
+    relevant: &[u8],
     atoms: usize,
     bodies: &mut [i16],
     store: &mut [i32],
 ) -> Run
     requires program { ⌜ ((ws : List InputRule) × Program (now table) rules atoms ws) × (rules ≤ mostRules) ⌝ }
+    requires relevant { ⌜ Relevant (now relevant) (rulesAt rules (now table)) ⌝ }
     requires bodies { ⌜ NoBodies (rulesAt rules (now table)) (now bodies) ⌝ }
     requires short { ⌜ length (now proof) ≤ longest ⌝ }
     requires empty { ⌜ now store ≡ replicate (length (now store)) (pos 0) ⌝ }
@@ -122,6 +134,7 @@ fn run_lines(
             at,
             table,
             rules,
+            relevant,
             atoms,
             &mut known,
             &mut names,
@@ -144,7 +157,8 @@ fn run_lines(
     }
 }
 
-// The lines, with the records that weight bodies need. They are large, and stand in a frame of their own.
+// The lines, with what weight bodies need: the records of their bodies by name, and which of their literals are relevant.
+// These are large, and stand in a frame of their own.
 fn run_weighted(proof: &[u8], table: &[i32], rules: usize, atoms: usize, store: &mut [i32]) -> Run
     requires program { ⌜ ((ws : List InputRule) × Program (now table) rules atoms ws) × (rules ≤ mostRules) ⌝ }
     requires short { ⌜ length (now proof) ≤ longest ⌝ }
@@ -152,11 +166,13 @@ fn run_weighted(proof: &[u8], table: &[i32], rules: usize, atoms: usize, store: 
     ensures { λ r. ⌜ ((ws : List InputRule) → Program (now (table .entry)) rules atoms ws
         → Ran (now (store .exit)) (course atoms (expand ws) (length (now (store .entry))) (now (proof .entry))) r) ⌝ }
 {
+    let mut relevant = [0u8; RELEVANT];
+    relevance::fill(table, rules, &mut relevant);
     let mut bodies = [0i16; by_name::BODY_WORDS];
-    run_lines(proof, table, rules, atoms, &mut bodies, store)
+    run_lines(proof, table, rules, &relevant, atoms, &mut bodies, store)
 }
 
-// All lines of a proof text, from an empty store. Without weight bodies nothing is kept by name, and no records are made.
+// All lines of a proof text, from an empty store. Without weight bodies nothing is kept of them, and no records are made.
 pub fn run_proof(proof: &[u8], table: &[i32], rules: usize, atoms: usize, store: &mut [i32]) -> Run
     requires program { ⌜ ((ws : List InputRule) × Program (now table) rules atoms ws) × (rules ≤ mostRules) ⌝ }
     requires short { ⌜ length (now proof) ≤ longest ⌝ }
@@ -166,7 +182,7 @@ pub fn run_proof(proof: &[u8], table: &[i32], rules: usize, atoms: usize, store:
 {
     if tables::all_plain(table, rules) {
         let mut none = [0i16; 1];
-        return run_lines(proof, table, rules, atoms, &mut none, store);
+        return run_lines(proof, table, rules, &[0], atoms, &mut none, store);
     }
     run_weighted(proof, table, rules, atoms, store)
 }

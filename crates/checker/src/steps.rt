@@ -1,12 +1,14 @@
-// The seven steps, questions 26 to 34, by letter: document 01, 'The proof's seven letters'. What each comes to is derivation's
-// `byLetter`; how table, arrays and store hold a program and a state is specs/Held.antt.
+// The seven steps, questions 26 to 34 and 56, by letter: document 01, 'The proof's seven letters'. What each comes to is
+// derivation's `byLetter`; how table, arrays and store hold a program and a state is specs/Held.antt.
 ghost use mathlib.Core.Path.{_≡_};
 ghost use mathlib.Core.List.{List};
 ghost use Prim.Native.Nat.{_≤_};
 ghost use lib.IntN.{ℤ};
 ghost use lib.ListN.{length};
 ghost use Rattle.aspif.specs.Rules.{InputRule};
+ghost use Rattle.aspif.specs.Tables.{rulesAt};
 ghost use Rattle.nogoods.specs.Keeps.{Holds};
+ghost use Rattle.loops.specs.Relevance.{Relevant};
 ghost use Rattle.checker.specs.Held.{PassedLine, Program, Stepping};
 use crate::additions;
 use crate::naming;
@@ -19,6 +21,7 @@ use text::Letter;
 pub fn step(
     table: &[i32],
     rules: usize,
+    relevant: &[u8],
     atoms: usize,
     letter: Letter,
     line: &mut [i32],
@@ -29,6 +32,7 @@ pub fn step(
     used: usize,
 ) -> Stepped
     requires program { ⌜ ((ws : List InputRule) × Program (now table) rules atoms ws) × (rules ≤ length (now names)) ⌝ }
+    requires relevant { ⌜ Relevant (now relevant) (rulesAt rules (now table)) ⌝ }
     requires live { ⌜ ((live : List (List ℤ)) × Holds (now store) used live) ⌝ }
     requires line { ⌜ PassedLine letter (now line) ⌝ }
     ensures { λ r. ⌜ ((ws : List InputRule) → Program (now (table .entry)) rules atoms ws
@@ -45,7 +49,18 @@ pub fn step(
         Letter::Deletion => additions::deletion(known, store, used, line),
         Letter::Extension => naming::extension(known, store, used, line),
         Letter::Loop => {
-            unfounded::loops(table, rules, atoms, known, names, bodies, store, used, line)
+            unfounded::loops(
+                table,
+                rules,
+                relevant,
+                atoms,
+                known,
+                names,
+                bodies,
+                store,
+                used,
+                line,
+            )
         }
         Letter::Support => {
             supports::support(table, rules, atoms, known, names, bodies, store, used, line)

@@ -1,4 +1,4 @@
-// `l`: the nogood of an unfounded set. Document 01, questions 26, 31, 32 and 34.
+// `l`: the nogood of an unfounded set. Document 01, questions 26, 31, 56, 32 and 34.
 ghost use mathlib.Core.Path.{_≡_};
 ghost use mathlib.Core.List.{List, _++_};
 ghost use Prim.Native.Nat.{_≤_, _<_};
@@ -7,8 +7,10 @@ ghost use lib.ListN.{length, take};
 ghost use Rattle.words.specs.Limits.{largest, entries};
 ghost use Rattle.marks.specs.Marks.{marked};
 ghost use Rattle.aspif.specs.Rules.{InputRule};
+ghost use Rattle.aspif.specs.Tables.{rulesAt};
 ghost use Rattle.text.specs.declared.Letter.the-variants.{Loop};
 ghost use Rattle.nogoods.specs.Keeps.{Holds};
+ghost use Rattle.loops.specs.Relevance.{Relevant};
 ghost use Rattle.checker.specs.Held.{PassedLine, Program, gathered, Stepping};
 use crate::outcomes;
 use crate::outcomes::Stepped;
@@ -50,11 +52,12 @@ fn gather(h: i32, found: &[u8], row: &mut [i32]) -> usize
     count
 }
 
-// `l`: a set U of atoms. Adds the first of them with minus the name of each external body, that is of a rule with a head in U and no
-// positive atom in U.
+// `l`: a set U of atoms that is a loop; `relevant` says which literals of weight bodies have edges. Adds the first of them with
+// minus the name of each external body, that is of a rule with a head in U and no positive atom in U.
 pub fn loops(
     table: &[i32],
     rules: usize,
+    relevant: &[u8],
     atoms: usize,
     known: &[u8],
     names: &[u16],
@@ -64,6 +67,7 @@ pub fn loops(
     numbers: &[i32],
 ) -> Stepped
     requires program { ⌜ ((ws : List InputRule) × Program (now table) rules atoms ws) × (rules ≤ length (now names)) ⌝ }
+    requires relevant { ⌜ Relevant (now relevant) (rulesAt rules (now table)) ⌝ }
     requires live { ⌜ ((live : List (List ℤ)) × Holds (now store) used live) ⌝ }
     requires line { ⌜ PassedLine Loop (now numbers) ⌝ }
     ensures { λ r. ⌜ ((ws : List InputRule) → Program (now (table .entry)) rules atoms ws
@@ -76,6 +80,9 @@ pub fn loops(
     }
     if atoms < words::largest_variable(numbers) {
         return Stepped::Fails(31);
+    }
+    if !loops::is_loop(table, rules, relevant, numbers) {
+        return Stepped::Fails(56);
     }
     let inside = marks::marks_of(numbers);
     let found = queries::names_of(table, rules, names, bodies, Query::External, &inside);

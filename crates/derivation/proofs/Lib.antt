@@ -1,5 +1,6 @@
 -- What holds of the steps: propagation as computed, and that an accepted proof leaves no answer set.
 pub mod Closure
+pub mod Loops
 pub mod Valuations
 pub mod Questions
 pub mod Invariant

@@ -20,6 +20,7 @@ use Rattle.aspif.specs.Rules.{Rule, plainAtoms}
 use Rattle.aspif.specs.AnswerSets.{Constraint, LeastModel, derive, AnswerSet}
 use Rattle.drupe.specs.Lines.{signsOf, isPositive, signed, lineRefusal}
 use Rattle.words.specs.Limits.{mostNumbers}
+use Rattle.derivation.specs.Loops.{isLoop}
 use Rattle.derivation.specs.States.{Named, State, start, isAtom, isKnown, isName, hasName}
 use Rattle.drupe.specs.Texts.{Step}
 use Rattle.derivation.specs.Steps.{Outcome, refused, next, allKnown, body, extension, completion, support, isExternal, externalNames, loop, addition, deletion, naming, citing, byLetter, step, steps, emptyLive}
@@ -140,10 +141,11 @@ module _ (N : ℕ) (P : List Rule) (fits : plainAtoms P ≤ N) (M : ℕ → Type
         let question = all-decides (λ r. if-decides (itself (isExternal (h ∷ hs) r)) (itself (hasName z (r .body)))) P in
         citing-fine (h ∷ hs) (loop N P z h hs)
         (λ known. if-yes (all-decides (λ x. itself (isAtom N (variable x))) (h ∷ hs)) _ 31
-        (λ a. if-yes question _ 32
+        (λ a. if-yes (itself (isLoop P (h ∷ hs))) _ 56
+        (λ _. if-yes question _ 32
         (λ e. add-kept N M z k (h ∷ map (λ n. negℤ (pos n)) (externalNames P z (h ∷ hs)))
         (each-cons (known h (List·Memᴰ·head refl)) (externals-known (h ∷ hs)))
-        (loop-fails N P fits M S z k (h ∷ hs) q e h (List·Memᴰ·head refl) (a h (List·Memᴰ·head refl))))))
+        (loop-fails N P fits M S z k (h ∷ hs) q e h (List·Memᴰ·head refl) (a h (List·Memᴰ·head refl)))))))
 
     addition-fine : (L : List ℤ) → ¬ (pos 0 ∈ L) → Fine (citing N z L (addition P z L))
     addition-fine L nz =

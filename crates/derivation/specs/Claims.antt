@@ -1,4 +1,4 @@
--- Demand 3 of the notice, part one, as statements; proofs/Sound.antt and proofs/Closure.antt prove them.
+-- Demand 3 of the notice, part one, as statements; proofs/Sound.antt, proofs/Closure.antt and proofs/Loops.antt prove them.
 -- Assumes nothing.
 use mathlib.Core.Path.{_≡_}
 use mathlib.Core.Logic.{_↔_}
@@ -11,6 +11,7 @@ use Rattle.aspif.specs.Rules.{Rule, InputRule, expand, atoms, plainAtoms}
 use Rattle.aspif.specs.declared.Kind.the-variants.{Normal}
 use Rattle.aspif.specs.AnswerSets.{Constraint, AnswerSet}
 use Rattle.derivation.specs.Propagation.{Conflict, refuted}
+use Rattle.derivation.specs.Loops.{Loop, isLoop}
 use Rattle.derivation.specs.States.{State, start}
 use Rattle.drupe.specs.Texts.{Step}
 use Rattle.derivation.specs.Steps.{next, steps, emptyLive}
@@ -51,3 +52,7 @@ SoundAsWritten =
 -- the computation of an `a` step says what the least set says
 abbrev pub ClosureComputed : Type 0
 ClosureComputed = (live : List (List ℤ)) (L : List ℤ) → (refuted live L ≡ true) ↔ Conflict live L
+
+-- question 56 of an `l` step says what a loop is
+abbrev pub LoopComputed : Type 0
+LoopComputed = (P : List Rule) (U : List ℤ) → (isLoop P U ≡ true) ↔ Loop P U

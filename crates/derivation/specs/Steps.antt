@@ -1,4 +1,4 @@
--- The seven steps, with questions 22 to 33: document 01, 'The proof's seven letters' and 'Questions put to the input'.
+-- The seven steps, with questions 22 to 33 and 56: document 01, 'The proof's seven letters' and 'Questions put to the input'.
 -- Assumes nothing.
 use mathlib.Core.Bool.{Bool, cond, not, _&&_, _||_}
 use mathlib.Core.Option.{none, some}
@@ -13,6 +13,7 @@ use Rattle.aspif.specs.Rules.{Rule, isNormal, isEmpty}
 use Rattle.drupe.specs.Lines.{lineRefusal}
 use Rattle.drupe.specs.Texts.{Step}
 use Rattle.derivation.specs.Propagation.{refuted}
+use Rattle.derivation.specs.Loops.{isLoop}
 use Rattle.derivation.specs.States.{Named, State, isAtom, isKnown, isName, hasName}
 
 -- "A refused step ends the check", with the number of the question; otherwise the three things as the step leaves them
@@ -112,12 +113,15 @@ module _ (N : ℕ) (P : List Rule) (z : State) where
   abbrev pub support : ℤ → List ℤ → Outcome
   support h ns = cond (isSupport h ns) (next (add z (ascending (h ∷ map complement ns) ∷ []))) (refused 30)
 
-  -- `l`: "a set U of atoms .. Adds the first h with minus the name of each."
+  -- `l`: "a set U of atoms .. Adds the first h with minus the name of each." Change 5: "A set that is no loop is refused with 56,
+  -- asked right after question 31."
   abbrev pub loop : ℤ → List ℤ → Outcome
   loop h hs =
       cond (allAtoms N z (h ∷ hs))
+      (cond (isLoop P (h ∷ hs))
       (cond (allNamed P z (h ∷ hs))
       (next (add z (ascending (h ∷ map (λ n. negℤ (pos n)) (externalNames P z (h ∷ hs))) ∷ []))) (refused 32))
+      (refused 56))
       (refused 31)
 
   -- questions 26 to 33, by letter; the cases without a first number are those of question 24

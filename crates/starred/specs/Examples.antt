@@ -177,6 +177,15 @@ pub record WeightBodies : Type 0 where
   pub weightRange : verdict (rules ("1 0 1 1 1 3 1 2 -1" ∷ [])) [] ≡ refusedProgram 54 2
   pub tooMany : verdict (rules ("1 0 0 1 1 13 1 1 2 1 3 1 4 1 5 1 6 1 7 1 8 1 9 1 10 1 11 1 12 1 13 1" ∷ [])) [] ≡ refusedProgram 55 2
 
+-- Loops (Change 5), no starred ones
+pub record LoopsOnly : Type 0 where
+  -- "A set that is no loop is refused with 56, asked right after question 31": with example 6's rules 1 alone is none.
+  -- Question 32 would be answered no too, since its external body has no name.
+  pub sixNoLoop : verdict program6 (lines ("l 1 0" ∷ [])) ≡ refusedProof 56 1
+  -- "weight rules as expanded": with bound 2 on 1=2, 2=1 the minimal set is {1}; on 1=1, 2=2 it is {2}
+  pub weightLoop : verdict (rules ("1 0 1 1 1 2 2 1 2 2 1" ∷ [])) (lines ("l 1 0" ∷ [])) ≡ undecided 2 1 1 1
+  pub weightNoLoop : verdict (rules ("1 0 1 1 1 2 2 1 1 2 2" ∷ [])) (lines ("l 1 0" ∷ [])) ≡ refusedProof 56 1
+
 -- lines with numbers of several digits, of which the starred examples have none
 pub record LongLines : Type 0 where
   pub openLine : verdictLine (undecided 4095 1 0 0) ≡ lines ("open 4095 1 0 0" ∷ [])

@@ -15,11 +15,11 @@ use Rattle.checker.proofs.runs.run_lines.Statement.{statement}
 use Rattle.checker.proofs.runs.run_lines.Tie as tie
 
 abbrev Inv-loop : tie.InvT-loop
-Inv-loop proof table rules atoms bodies₀ store₀ known₀ names₀ used₀ at₀ steps₀ bodies store known names used at steps =
+Inv-loop proof table rules relevant atoms bodies₀ store₀ known₀ names₀ used₀ at₀ steps₀ bodies store known names used at steps =
     (ws : List InputRule) × Program table rules atoms ws × Going atoms ws (length store₀) proof store known names bodies used at steps × (length bodies ≡ length bodies₀)
 
 abbrev μ-loop : tie.MeasureT-loop
-μ-loop proof table rules atoms bodies₀ store₀ known₀ names₀ used₀ at₀ steps₀ bodies store known names used at steps = length proof - at
+μ-loop proof table rules relevant atoms bodies₀ store₀ known₀ names₀ used₀ at₀ steps₀ bodies store known names used at steps = length proof - at
 
 -- where the loop stands, and what the turn there left
 module _ (c : tie.After-turn-at Inv-loop μ-loop) where
@@ -27,22 +27,22 @@ module _ (c : tie.After-turn-at Inv-loop μ-loop) where
   l = c .before .before .before .before .before
 
   abbrev start : tie.Start Inv-loop μ-loop
-  start = l .before .before .before .before .before
+  start = l .before .before .before .before .before .before
 
   abbrev ws : List InputRule
   ws = l .loop .inv .0
 
   abbrev store′ : List ℤ
-  store′ = c .turn-at .last .1 .1 .1 .1 .1 .1 .1 .1 .0
+  store′ = c .turn-at .last .1 .1 .1 .1 .1 .1 .1 .1 .1 .0
 
   abbrev known′ : List ℕ
-  known′ = c .turn-at .last .1 .1 .1 .1 .1 .0
+  known′ = c .turn-at .last .1 .1 .1 .1 .1 .1 .0
 
   abbrev names′ : List ℕ
-  names′ = c .turn-at .last .1 .1 .1 .1 .1 .1 .0
+  names′ = c .turn-at .last .1 .1 .1 .1 .1 .1 .1 .0
 
   abbrev bodies′ : List ℤ
-  bodies′ = c .turn-at .last .1 .1 .1 .1 .1 .1 .1 .0
+  bodies′ = c .turn-at .last .1 .1 .1 .1 .1 .1 .1 .1 .0
 
   G : Going (start .args .atoms) ws (length (start .args .store .now)) (start .args .proof .now) (l .loop .store) (l .loop .known) (l .loop .names) (l .loop .bodies) (l .loop .used) (l .loop .at) (l .loop .steps)
   G = l .loop .inv .2
@@ -52,21 +52,21 @@ module _ (c : tie.After-turn-at Inv-loop μ-loop) where
 
   -- as many words as were lent
   same-bodies : length bodies′ ≡ length (start .args .bodies .now)
-  same-bodies = c .turn-at .kept .1 .1 .1 .1 .1 .1 .1 .0 ∙ l .loop .inv .3
+  same-bodies = c .turn-at .kept .1 .1 .1 .1 .1 .1 .1 .1 .0 ∙ l .loop .inv .3
 
   -- every program that the table holds is the same
   same : {us : List InputRule} → Program (start .args .table .now) (start .args .rules) (start .args .atoms) us → us ≡ ws
   same q = same-rules (q .holds) (l .loop .inv .1 .holds)
 
 start-requires : tie.Need-start-requires Inv-loop μ-loop
-start-requires c κs = c .before .pre .0 .0 .1 .high
+start-requires c κs = c .before .before .pre .0 .0 .1 .high
 
 loop-holds : tie.Need-loop-holds Inv-loop μ-loop
 loop-holds c =
     let s = c .before .before .start .ensures in
-    let q = c .before .before .before .before .pre in
+    let q = c .before .before .before .before .before .pre in
     let p = q .0 .0 .1 in
-    rw (s .1, s .2) (q .0 .0 .0, p, going-start _ _ _ _ (start-tracks (s .0) (omega (arith, q .0 .1, rules-held (p .holds))) (rw (← p .holds .are) (q .1 .0))) (q .1 .1 .1) refl (length-replicate {A = ℕ} mostRules 0), refl)
+    rw (s .1, s .2) (q .0 .0 .0, p, going-start _ _ _ _ (start-tracks (s .0) (omega (arith, q .0 .1, rules-held (p .holds))) (rw (← p .holds .are) (q .1 .1 .0))) (q .1 .1 .1 .1) refl (length-replicate {A = ℕ} mostRules 0), refl)
 
 slice-aggregate-turn-at-2 : tie.Need-slice-aggregate-turn-at-2 Inv-loop μ-loop
 slice-aggregate-turn-at-2 c = let p = c .before .before .loop .inv .2 .places in search needs
@@ -74,8 +74,8 @@ slice-aggregate-turn-at-2 c = let p = c .before .before .loop .inv .2 .places in
 turn-at-requires : tie.Need-turn-at-requires Inv-loop μ-loop
 turn-at-requires c κs =
     let i = c .before .before .before .before .loop .inv in
-    let p = c .before .before .before .before .before .before .before .before .before .pre .0 in
-    ((p .0, omega (arith, p .1, i .2 .places)), (i .2 .z .live, i .2 .holds))
+    let p = c .before .before .before .before .before .before .before .before .before .before .pre in
+    ((p .0 .0, omega (arith, p .0 .1, i .2 .places)), (p .1 .0, (i .2 .z .live, i .2 .holds)))
 
 enum-told : tie.Need-enum-told Inv-loop μ-loop
 enum-told c = search needs
@@ -83,19 +83,19 @@ enum-told c = search needs
 returns : tie.Need-returns Inv-loop μ-loop
 returns c =
     let t = c .before .before .before .before .before .before in
-    λ Q q. rw (same t q) (going-ends _ _ _ _ (start t .pre .1 .1 .0) (G t) (store′ t) (known′ t) (names′ t) (bodies′ t) (search needs) (search needs) (c .enum-told .given .1) (turned t))
+    λ Q q. rw (same t q) (going-ends _ _ _ _ (start t .pre .1 .1 .1 .0) (G t) (store′ t) (known′ t) (names′ t) (bodies′ t) (search needs) (search needs) (c .enum-told .given .1) (turned t))
 
 returns-2 : tie.Need-returns-2 Inv-loop μ-loop
 returns-2 c =
     let t = c .before .before .before .before .before .before .before in
-    λ Q q. rw (same t q) (going-fails _ _ _ _ (start t .pre .1 .1 .0) (G t) (store′ t) (known′ t) (names′ t) (bodies′ t) (search needs) (search needs) _ (c .before .turned .given .1) (turned t))
+    λ Q q. rw (same t q) (going-fails _ _ _ _ (start t .pre .1 .1 .1 .0) (G t) (store′ t) (known′ t) (names′ t) (bodies′ t) (search needs) (search needs) _ (c .before .turned .given .1) (turned t))
 
 onward : (c : tie.After-known-told2 Inv-loop μ-loop)
     → (let t = c .before .before .before .before .before .before .before in let g = c .before .turned2 .given .0 in
     Going (start t .args .atoms) (ws t) (length (start t .args .store .now)) (start t .args .proof .now) (store′ t) (known′ t) (names′ t) (bodies′ t) (g .1 .0) (g .0) (l t .loop .steps + 1) × (l t .loop .at < g .0))
 onward c =
     let t = c .before .before .before .before .before .before .before in
-    going-on _ _ _ _ (start t .pre .1 .1 .0) (G t) (store′ t) (known′ t) (names′ t) (bodies′ t) (search needs) (search needs) _ _ (c .before .turned2 .given .1) (turned t)
+    going-on _ _ _ _ (start t .pre .1 .1 .1 .0) (G t) (store′ t) (known′ t) (names′ t) (bodies′ t) (search needs) (search needs) _ _ (c .before .turned2 .given .1) (turned t)
 
 loop-less : tie.Need-loop-less Inv-loop μ-loop
 loop-less c = let o = onward c in omega (arith, o .0 .within, o .1)

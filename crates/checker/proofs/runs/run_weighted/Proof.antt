@@ -4,8 +4,19 @@ use Rattle.checker.proofs.runs.run_weighted.Statement.{statement}
 use Rattle.checker.proofs.runs.run_weighted.Tie as tie
 
 run-lines-requires : tie.Need-run-lines-requires
-run-lines-requires c κs = let p = c .before .before .before .pre in (p .0, (λ w. refl, (p .1 .0, p .1 .1)))
+run-lines-requires c κs =
+    let f = c .before .before .before .before in
+    let p = f .before .before .before .pre in
+    (p .0, (f .fill .ensures, (λ w. refl, (p .1 .0, p .1 .1))))
 
 pub run-weighted-spec : {M : Type 1} → statement M
 run-weighted-spec =
-    tie.close (tie.spec (λ c. search needs) run-lines-requires (λ c. search needs) (λ c. c .before .before .run-lines .ensures))
+    tie.close
+    (tie.spec
+    (λ c. search needs)
+    (λ c κs. search needs)
+    (λ c. search needs)
+    (λ c. search needs)
+    run-lines-requires
+    (λ c. search needs)
+    (λ c. c .before .before .run-lines .ensures))

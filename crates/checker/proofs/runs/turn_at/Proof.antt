@@ -18,12 +18,12 @@ module _ (c : tie.After-answer2) where
   abbrev b : tie.After-step-at
   b = c .before .before .before
 
-  there : (let g = c .answer2 .given .0 in let a = b .before .before .before .before .args in
+  there : (let g = c .answer2 .given .0 in let a = b .before .before .before .before .before .args in
       lineAt (a .proof .now) (a .at) ≡ line (g .0) (take (g .1 .0) (b .step-at .result .numbers)) (g .1 .1 .0))
   there = read-line (b .step-at .ensures) _ _ _ (c .answer2 .given .1)
 
   good : (let g = c .answer2 .given .0 in let zs = take (g .1 .0) (b .step-at .result .numbers) in (lineRefusal (g .0) zs ≡ none) × (has (pos 0) zs ≡ false))
-  good = let a = b .before .before .before .before .args in let u = passed-line (a .proof .now) (a .at) there in (u .2, u .3)
+  good = let a = b .before .before .before .before .before .args in let u = passed-line (a .proof .now) (a .at) there in (u .2, u .3)
 
 array-borrow-prefix-numbers : tie.Need-array-borrow-prefix-numbers
 array-borrow-prefix-numbers c = let d = c .before in read-count (b d .step-at .ensures) _ _ _ (d .answer2 .given .1)
@@ -34,8 +34,8 @@ slice-aggregate-line c = let d = c .before .before in sym (length-take-le _ _ (r
 step-requires : tie.Need-step-requires
 step-requires c κs =
     let d = c .before .before .before .before .before .before in
-    let s = d .before .before .before .before .before .before .before in
-    (s .pre .0, (s .pre .1, good-line _ _ (good d .0) (good d .1)))
+    let s = d .before .before .before .before .before .before .before .before in
+    (s .pre .0, (s .pre .1 .0, (s .pre .1 .1, good-line _ _ (good d .0) (good d .1))))
 
 returns : tie.Need-returns
 returns c = λ ws p z T H. rw (read-end (c .before .before .before .step-at .ensures) (c .enum-told .given .1)) (refl, H)
@@ -47,7 +47,7 @@ returns-3 : tie.Need-returns-3
 returns-3 c = λ ws p z T H.
     let t = c .before .before .before .before .before .before .before .before .step in
     let d = c .before .before .before .before .before .before .before .before .before .before .before .before .before .before .before in
-    let a = b d .before .before .before .before .args in
+    let a = b d .before .before .before .before .before .args in
     let g = d .answer2 .given .0 in
     let zs = take (g .1 .0) (b d .step-at .result .numbers) in
     rw (there d, step-is (g .0) zs (good d .0) (good d .1) (a .atoms) (expand ws) z) (t .result, c .turn-of .ensures, t .ensures ws p z T H)

@@ -1,0 +1,8 @@
+-- The laws that the proofs share.
+pub mod Sums
+pub mod Filling
+pub mod WeightExamples
+pub mod Placing
+pub mod EdgeMarks
+pub mod Expanded
+pub mod Reaching

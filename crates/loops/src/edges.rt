@@ -1,0 +1,205 @@
+// The numbers of an `l` line by their places in it, and the edges between the places: one pass over the table.
+ghost use mathlib.Core.Path.{_≡_};
+ghost use mathlib.Core.Bool.{true, false, _&&_};
+ghost use Prim.Native.Nat.{ℕ, suc, _≤_, _<_};
+ghost use lib.Dec.{eqb};
+ghost use lib.ListN.{length, getD, drop};
+ghost use Rattle.words.specs.Limits.{mostNumbers};
+ghost use Rattle.words.specs.Lists.{any};
+ghost use Rattle.weights.specs.Weights.{paired, mostWeighted};
+ghost use Rattle.aspif.specs.Tables.{ruleAt, shapeSound, rulesAt, soundRules};
+ghost use Rattle.loops.specs.Relevance.{RelevantRule, Relevant};
+ghost use Rattle.loops.specs.Edges.{Members, placeBy, Placed, Low, isAt, cells, More, anyMarked, ruleEdge, Edges};
+use aspif::tables;
+use weights::MOST_WEIGHTED;
+use words::ENTRIES;
+use words::MOST_NUMBERS;
+
+// A mark for each two places.
+pub const CELLS: usize = MOST_NUMBERS * MOST_NUMBERS;
+
+// A byte as a number.
+fn wide(byte: u8) -> usize
+    ensures { λ r. ⌜ r ≡ byte ⌝ }
+{
+    byte as usize
+}
+
+// The byte at v; 0 past the end.
+fn byte_at(bytes: &[u8], v: usize) -> usize
+    ensures { λ r. ⌜ r ≡ getD (now (bytes .entry)) v 0 ⌝ }
+{
+    if v < bytes.len() { wide(bytes[v]) } else { 0 }
+}
+
+// For each variable its place in the line, counted from 1; 0 for none.
+pub fn places_of(numbers: &[i32]) -> [u8; ENTRIES]
+    requires { ⌜ Members (now numbers) ⌝ }
+    ensures { λ m. ⌜ Placed m (now (numbers .entry)) ⌝ }
+{
+    let mut places = [0u8; ENTRIES];
+    let mut i = 0;
+    while i < numbers.len() {
+        let v = words::variable_of(numbers[i]);
+        i += 1;
+        places[v] = i as u8;
+    }
+    places
+}
+
+// The place of a positive literal, counted from 1; 0 for none.
+fn place_of(word: i32, places: &[u8]) -> usize
+    ensures { λ r. ⌜ r ≡ placeBy (now (places .entry)) word ⌝ }
+{
+    let place = byte_at(places, words::variable_of(word));
+    if !words::is_positive(word) {
+        return 0;
+    }
+    place
+}
+
+// An edge from place a to place b, both counted from 1; none where b is 0.
+fn mark_edge(edges: &mut [u8], a: usize, b: usize)
+    requires { ⌜ (length (now edges) ≡ cells) × (1 ≤ a) × (a ≤ mostNumbers) × (b ≤ mostNumbers) ⌝ }
+    ensures { λ _. ⌜ More (λ i j. eqb a (suc i) && eqb b (suc j)) (now (edges .entry)) (now (edges .exit)) ⌝ }
+{
+    if 0 < b {
+        let cell = (a - 1) * MOST_NUMBERS + (b - 1);
+        marks::mark(edges, cell);
+    }
+}
+
+// Edges from place a, counted from 1, to each head that has a place.
+fn mark_heads(a: usize, heads: &[i32], places: &[u8], edges: &mut [u8])
+    requires { ⌜ (length (now edges) ≡ cells) × (1 ≤ a) × (a ≤ mostNumbers) × Low (now places) ⌝ }
+    ensures { λ _. ⌜ More (λ i j. eqb a (suc i) && any (isAt (now (places .entry)) j) (now (heads .entry)))
+        (now (edges .entry)) (now (edges .exit)) ⌝ }
+{
+    let mut k = 0;
+    while k < heads.len() {
+        mark_edge(edges, a, place_of(heads[k], places));
+        k += 1;
+    }
+}
+
+// Edges from a body literal that has a place to each head that has one.
+fn mark_literal(word: i32, heads: &[i32], places: &[u8], edges: &mut [u8])
+    requires { ⌜ (length (now edges) ≡ cells) × Low (now places) ⌝ }
+    ensures { λ _. ⌜ More (λ i j. isAt (now (places .entry)) i word && any (isAt (now (places .entry)) j) (now (heads .entry)))
+        (now (edges .entry)) (now (edges .exit)) ⌝ }
+{
+    let a = place_of(word, places);
+    if 0 < a {
+        mark_heads(a, heads, places, edges);
+    }
+}
+
+// Edges from each literal that has a place to each head that has one.
+fn mark_body(body: &[i32], heads: &[i32], places: &[u8], edges: &mut [u8])
+    requires { ⌜ (length (now edges) ≡ cells) × Low (now places) ⌝ }
+    ensures { λ _. ⌜ More (λ i j. any (isAt (now (places .entry)) i) (now (body .entry))
+        && any (isAt (now (places .entry)) j) (now (heads .entry))) (now (edges .entry)) (now (edges .exit)) ⌝ }
+{
+    let mut k = 0;
+    while k < body.len() {
+        mark_literal(body[k], heads, places, edges);
+        k += 1;
+    }
+}
+
+// The edges of a body literal, where it is asked for.
+fn mark_if(chosen: bool, word: i32, heads: &[i32], places: &[u8], edges: &mut [u8])
+    requires { ⌜ (length (now edges) ≡ cells) × Low (now places) ⌝ }
+    ensures { λ _. ⌜ More (λ i j. (chosen && isAt (now (places .entry)) i word)
+        && any (isAt (now (places .entry)) j) (now (heads .entry))) (now (edges .entry)) (now (edges .exit)) ⌝ }
+{
+    if chosen {
+        mark_literal(word, heads, places, edges);
+    }
+}
+
+// Edges from the literal of each pair that is marked as relevant.
+fn mark_pairs(pairs: &[i32], relevant: &[u8], heads: &[i32], places: &[u8], edges: &mut [u8])
+    requires { ⌜ (length (now edges) ≡ cells) × Low (now places) ⌝ }
+    ensures { λ _. ⌜ More (λ i j. anyMarked (isAt (now (places .entry)) i) (now (relevant .entry)) 0 (paired (now (pairs .entry)))
+        && any (isAt (now (places .entry)) j) (now (heads .entry))) (now (edges .entry)) (now (edges .exit)) ⌝ }
+{
+    let mut k = 0;
+    let mut i = 0;
+    while i + 1 < pairs.len() {
+        mark_if(
+            marks::is_marked(relevant, k),
+            pairs[i],
+            heads,
+            places,
+            edges,
+        );
+        i += 2;
+        k += 1;
+    }
+}
+
+// Some literal has a place.
+fn any_placed(literals: &[i32], places: &[u8]) -> bool
+    ensures { λ r. ⌜ (r ≡ true → 0 < length (now (literals .entry)))
+        × (r ≡ false → (j : ℕ) → any (isAt (now (places .entry)) j) (now (literals .entry)) ≡ false) ⌝ }
+{
+    let mut k = 0;
+    while k < literals.len() {
+        let place = place_of(literals[k], places);
+        if 0 < place {
+            return true;
+        }
+        k += 1;
+    }
+    false
+}
+
+// The edges of the rule at the front; `relevant` has the entries of its pairs.
+fn mark_rule(words: &[i32], relevant: &[u8], places: &[u8], edges: &mut [u8])
+    requires rule { ⌜ (shapeSound (now words) ≡ true) × RelevantRule (now relevant) (ruleAt (now words)) ⌝ }
+    requires sizes { ⌜ (length (now edges) ≡ cells) × Low (now places) ⌝ }
+    ensures { λ _. ⌜ More (λ i j. ruleEdge (now (places .entry)) i j (ruleAt (now (words .entry))))
+        (now (edges .entry)) (now (edges .exit)) ⌝ }
+{
+    let heads = tables::heads_of(words);
+    if !any_placed(heads, places) {
+        return;
+    }
+    if tables::is_weighted(words) {
+        mark_pairs(tables::body_of(words), relevant, heads, places, edges);
+        return;
+    }
+    mark_body(tables::body_of(words), heads, places, edges);
+}
+
+// Where the entries of the next rule's pairs begin; the end where there are none.
+fn next_entries(relevant: &[u8], at: usize) -> usize
+    requires { ⌜ at ≤ length (now relevant) ⌝ }
+    ensures { λ r. ⌜ (r ≤ length (now (relevant .entry)))
+        × (drop r (now (relevant .entry)) ≡ drop mostWeighted (drop at (now (relevant .entry)))) ⌝ }
+{
+    if relevant.len() - at < MOST_WEIGHTED {
+        return relevant.len();
+    }
+    at + MOST_WEIGHTED
+}
+
+// The edges between the places.
+pub fn edges_of(table: &[i32], rules: usize, relevant: &[u8], places: &[u8]) -> [u8; CELLS]
+    requires program { ⌜ (soundRules rules (now table) ≡ true) × Relevant (now relevant) (rulesAt rules (now table)) ⌝ }
+    requires places { ⌜ Low (now places) ⌝ }
+    ensures { λ e. ⌜ Edges (now (places .entry)) (rulesAt rules (now (table .entry))) e ⌝ }
+{
+    let mut edges = [0u8; CELLS];
+    let mut left = rules;
+    let mut i = 0;
+    let mut at = 0;
+    while 0 < left {
+        mark_rule(&table[i..], &relevant[at..], places, &mut edges);
+        i = tables::next_rule(table, i);
+        at = next_entries(relevant, at);
+        left -= 1;
+    }
+    edges
+}
