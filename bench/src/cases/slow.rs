@@ -20,7 +20,8 @@ pub fn inputs() -> Vec<Input> {
         shared_by_support(),
         nothing_named(),
         in_no_body(),
-        many_edges(),
+        many_edges(60),
+        many_edges(6),
         one_ring("ring-65", false),
         one_ring("ring-65-back", true),
     ]
@@ -153,10 +154,10 @@ fn in_no_body() -> Input {
 }
 
 /// Choice rules of as many heads as literals, all of them in the set.
-fn many_edges() -> Input {
-    let atoms: Vec<i32> = (1..=60).collect();
+fn many_edges(count: i32) -> Input {
+    let atoms: Vec<i32> = (1..=count).collect();
     let rules = filled(choice(&atoms, &atoms), Vec::new());
-    Input::of("edges-60", &rules, &Writing::looping(&atoms).lines)
+    Input::of(format!("edges-{count}"), &rules, &Writing::looping(&atoms).lines)
 }
 
 /// Rules of one head in the set and eleven literals, of which one is in it: a ring of as many atoms as a line holds, in the order of the
