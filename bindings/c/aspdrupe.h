@@ -84,7 +84,7 @@ uint32_t aspdrupe_read_line(const uint8_t *text, size_t text_len, uint64_t posit
  * the live nogoods' words, each with 0 after them. ASPDRUPE_INCONSISTENT means that the program has no answer set.
  * Returns ASPDRUPE_REFUSED_PROGRAM: answer[0] is the number of the question that the program fails, 1 to 11, 54 or 55, and answer[1] the
  * line.
- * Returns ASPDRUPE_REFUSED_PROOF: answer[0] is the number of the question that the proof fails, 21 to 34, and answer[1] the step.
+ * Returns ASPDRUPE_REFUSED_PROOF: answer[0] is the number of the question that the proof fails, 21 to 34 or 56, and answer[1] the step.
  * Line and step are counted from 1, and are 0 where the whole text is at fault. After a refusal table and store are 0 throughout. */
 uint32_t aspdrupe_check_texts(const uint8_t *program, size_t program_len, const uint8_t *proof, size_t proof_len, int32_t *table,
                               size_t table_len, int32_t *store, size_t store_len, uint64_t *answer, size_t answer_len);

@@ -77,12 +77,14 @@ static void make_chain(void) {
     put(&chain, "a 1 0\na 0\n");
 }
 
-/* Rules with as many heads and literals as there may be, and steps with as many numbers. */
+/* Rules with as many heads and literals as there may be, of which 65 atoms are a loop, and steps with as many numbers. */
 static void make_wide(void) {
     put(&wide_rules, "asp 1 0 0\n1 1 64");
     put_range(&wide_rules, 1, PART);
     put(&wide_rules, " 0 64");
     put_range(&wide_rules, PART + 1, 2 * PART);
+    put(&wide_rules, "\n1 0 1 65 0 64");
+    put_range(&wide_rules, 1, PART);
     put(&wide_rules, "\n1 0 1 1 0 0\n0\n");
     put(&wide_steps, "b 130");
     put_range(&wide_steps, PART + 1, 2 * PART);
@@ -112,25 +114,27 @@ static void make_big(void) {
 /* As many rules as there may be, in a table that they fill, and the steps that go through all of them until the text is nearly full. */
 static void make_full(void) {
     put(&full_rules, "asp 1 0 0\n");
-    for (int i = 0; i < RULES; i++) put(&full_rules, "1 1 7 2 3 4 5 6 7 8 0 5 2 3 4 5 6\n");
+    for (int i = 0; i < RULES; i++) put(&full_rules, "1 1 7 2 3 4 5 6 7 8 0 5 %s\n", i % 2 == 0 ? "2 3 4 5 6" : "4 5 6 7 8");
     put(&full_rules, "0\n");
-    put(&full_steps, "b 9 2 3 4 5 6 0\n");
-    while (full_steps.size < TEXT - 60) put(&full_steps, "s 2 9 0\nd 2 -9 0\nl 8 0\nd 8 -9 0\nl 2 3 0\nd 2 0\n");
+    put(&full_steps, "b 9 2 3 4 5 6 0\nb 10 4 5 6 7 8 0\n");
+    while (full_steps.size < TEXT - 80) {
+        put(&full_steps, "s 2 9 10 0\nd 2 -9 -10 0\nl 8 0\nd 8 -9 0\nl 2 3 0\nd 2 -10 0\nl 3 4 8 0\nd 3 0\n");
+    }
 }
 
 /* How many rules with twelve weights and one head fill the table. */
 #define WEIGHT_RULES (WORDS / (6 + 2 * WEIGHTED))
 
-/* Rules with as many weights as there may be, whose bodies are all of their literals but one, and steps that go through all of them; and a
- * line with more weights, as many as are read before it is refused. */
+/* Rules with as many weights as there may be, whose bodies are all of their literals but one, the last of them put aside for one by which
+ * their head is a loop, and steps that go through all of them; and a line with more weights, as many as are read before it is refused. */
 static void make_weights(void) {
     put(&weight_rules, "asp 1 0 0\n");
-    for (int i = 0; i < WEIGHT_RULES; i++) {
+    for (int i = 1; i < WEIGHT_RULES; i++) {
         put(&weight_rules, "1 0 1 13 1 %d %d", WEIGHTED - 1, WEIGHTED);
         for (int atom = 1; atom <= WEIGHTED; atom++) put(&weight_rules, " %d 1", -atom);
         put(&weight_rules, "\n");
     }
-    put(&weight_rules, "0\n");
+    put(&weight_rules, "1 0 1 13 0 1 13\n0\n");
     for (int left = 1; left <= WEIGHTED; left++) {
         put(&weight_steps, "b %d", 13 + left);
         for (int atom = 1; atom <= WEIGHTED; atom++) {
@@ -138,8 +142,8 @@ static void make_weights(void) {
         }
         put(&weight_steps, " 0\n");
     }
-    put(&weight_steps, "c 14 13 0\ns 13");
-    put_range(&weight_steps, 14, 13 + WEIGHTED);
+    put(&weight_steps, "b %d 13 0\nc 14 13 0\ns 13", 14 + WEIGHTED);
+    put_range(&weight_steps, 14, 14 + WEIGHTED);
     put(&weight_steps, " 0\nl 13 0\n");
     put(&many_weights, "asp 1 0 0\n1 1 64");
     put_range(&many_weights, 1, PART);
@@ -281,7 +285,7 @@ struct call {
 static const struct call calls[] = {
     {"read_program: 1,024 rules", read_full, 0, {8, RULES, 0, 0}},
     {"read_program: rules of 64 heads", read_big, 0, {1063, 190, 0, 0}},
-    {"read_program: 64 heads, 64 literals", read_wide, 0, {128, 2, 0, 0}},
+    {"read_program: 64 heads, 64 literals", read_wide, 0, {128, 3, 0, 0}},
     {"read_program: rules with 12 weights", read_weights, 0, {13, WEIGHT_RULES, 0, 0}},
     {"read_program: 64 heads, 64 weights", read_many, 55, {2, 0, 0, 0}},
     {"read_program: newlines", read_newlines, 2, {1, 0, 0, 0}},
@@ -290,18 +294,18 @@ static const struct call calls[] = {
     {"read_line: 65 numbers", line_wide, 'b', {65, 229, 0, 0}},
     {"read_line: a line of 65,530 bytes", line_long, 23, {0, 0, 0, 0}},
     {"check_texts: a chain of definitions", check_chain, ASPDRUPE_INCONSISTENT, {1, 1, 2605, 4806}},
-    {"check_texts: lines of 65 numbers", check_wide, ASPDRUPE_OPEN, {128, 2, 8, 134}},
-    {"check_texts: full texts and table", check_full, ASPDRUPE_OPEN, {8, RULES, 8545, 6}},
-    {"check_texts: rules with 12 weights", check_weights, ASPDRUPE_OPEN, {13, WEIGHT_RULES, 15, 147}},
+    {"check_texts: lines of 65 numbers", check_wide, ASPDRUPE_OPEN, {128, 3, 8, 134}},
+    {"check_texts: full texts and table", check_full, ASPDRUPE_OPEN, {8, RULES, 7178, 12}},
+    {"check_texts: rules with 12 weights", check_weights, ASPDRUPE_OPEN, {13, WEIGHT_RULES, 16, 149}},
     {"check_texts: a line of 65,530 bytes", check_long, ASPDRUPE_REFUSED_PROOF, {23, 1, 0, 0}},
     {"check_texts: newlines", check_newlines, ASPDRUPE_REFUSED_PROGRAM, {2, 1, 0, 0}},
-    {"write_packet: full table and text", write_full, 0, {107035, 0, 0, 0}},
-    {"write_packet: steps of 65 numbers", write_wide, 0, {1231, 0, 0, 0}},
+    {"write_packet: full table and text", write_full, 0, {106331, 0, 0, 0}},
+    {"write_packet: steps of 65 numbers", write_wide, 0, {1503, 0, 0, 0}},
     {"write_packet: rules with weights", write_weights, 53, {0, 0, 0, 0}},
     {"write_packet: a line of 65,530 bytes", write_long, 53, {0, 0, 0, 0}},
     {"write_packet: an output too short", write_short, 52, {0, 0, 0, 0}},
-    {"read_packet: full table and text", unpack_full, 0, {RULES, 65520, 0, 0}},
-    {"read_packet: steps of 65 numbers", unpack_wide, 0, {2, 1026, 0, 0}},
+    {"read_packet: full table and text", unpack_full, 0, {RULES, 65514, 0, 0}},
+    {"read_packet: steps of 65 numbers", unpack_wide, 0, {3, 1026, 0, 0}},
     {"read_packet: refused at the last number", unpack_bad, 53, {0, 0, 0, 0}},
     {"read_packet: a text too short", unpack_short, 52, {0, 0, 0, 0}},
 };

@@ -5,7 +5,7 @@ use inputs::rules::{program_text, Rule};
 use inputs::{programs, Pair, ROOM};
 
 use crate::cases::refutations::{go_on, refute, Author, Found};
-use crate::cases::{self, bytes, changes, deep, fixed, guided, limits, noise, weights};
+use crate::cases::{self, bytes, changes, deep, fixed, guided, limits, loops, noise, weights};
 use crate::comparison::Comparison;
 use crate::packets;
 use crate::reference::check::{most_live_words, verdict_line};
@@ -36,6 +36,7 @@ pub fn families() -> Vec<Family> {
         family("weights", 60, run_weights),
         family("weight-lines", 300, run_weight_lines),
         family("guided", 200, run_guided),
+        family("loops", 150, run_loops),
         family("deep", 60, run_deep),
         family("noise", 300, run_noise),
         family("tables", 300, run_tables),
@@ -283,6 +284,15 @@ fn run_guided(comparison: &mut Comparison, _: u64) {
     let pair = Pair::of(text, proof);
     compare_some(comparison, &pair, 20);
     compare_changed(comparison, &pair, 3);
+}
+
+/// A program with many loops, and mostly `l` lines over loops and over sets that nearly are.
+fn run_loops(comparison: &mut Comparison, _: u64) {
+    let rules = loops::rules(&mut comparison.random);
+    let (text, program) = in_any_order(rules, &mut comparison.random);
+    let pair = Pair::of(text, loops::proof(&program, &mut comparison.random));
+    compare_some(comparison, &pair, 10);
+    compare_changed(comparison, &pair, 2);
 }
 
 fn run_deep(comparison: &mut Comparison, _: u64) {

@@ -59,7 +59,7 @@ fn wanted(with_binary: bool) -> Vec<String> {
     for service in services {
         wanted.extend(["inconsistent", "open"].map(|word| format!("{service}: {word}")));
         wanted.extend(PROGRAM_QUESTIONS.map(|number| format!("{service}: refused program {number:02}")));
-        wanted.extend((21..=34).map(|number| format!("{service}: refused proof {number}")));
+        wanted.extend((21..=34).chain([56]).map(|number| format!("{service}: refused proof {number}")));
     }
     wanted.push(String::from("read_program: read"));
     wanted.extend(PROGRAM_QUESTIONS.map(|number| format!("read_program: refused {number:02}")));
@@ -90,7 +90,7 @@ mod tests {
         assert_eq!(left.len() + 1, all.len());
         assert!(!left.contains(&String::from("check_texts: refused program 03")));
         assert!(left.contains(&String::from("check_texts: refused program 11")));
-        assert_eq!(tally.missing(true).len(), left.len() + 29 - 1);
+        assert_eq!(tally.missing(true).len(), left.len() + 30 - 1);
     }
 
     #[test]

@@ -1,4 +1,7 @@
-//! The proof lines that bring in a program's completion: names of its bodies, its rules, and the support of its atoms.
+//! The proof lines that bring in a program's completion: names of its bodies, its rules, and the support of its atoms. And what `l` lines
+//! are about: edges, and external bodies.
+
+use std::collections::BTreeSet;
 
 use inputs::lines::Line;
 use inputs::rules::{largest_atom, Rule};
@@ -55,6 +58,17 @@ pub fn supports(rules: &[Rule], atoms: i32, bodies: &[Vec<i32>], atom: i32) -> V
         }
     }
     names
+}
+
+/// The edges from a positive literal of a body to a head of its rule.
+pub fn edges(rules: &[Rule]) -> BTreeSet<(i32, i32)> {
+    let mut edges = BTreeSet::new();
+    for rule in rules {
+        for literal in rule.bodies().concat().into_iter().filter(|literal| *literal > 0) {
+            edges.extend(rule.heads.iter().map(|&head| (literal, head)));
+        }
+    }
+    edges
 }
 
 /// The names of the external bodies of a set of atoms.

@@ -2,6 +2,7 @@
 //! of a rule with weights are made when a question goes through all of them, once for all rules with the same weights.
 
 use super::hashing::{QuickMap, QuickSet};
+use super::loops::Edges;
 use super::weights::Weights;
 use super::LARGEST;
 use std::rc::Rc;
@@ -17,6 +18,8 @@ pub struct Rules {
     weights: Vec<Weights>,
     by_weights: QuickMap<Weights, u32>,
     made: Vec<Option<Rc<[u32]>>>,
+    /// By weights: the positive literals of their bodies, where they were asked for.
+    relevant: Vec<Option<Rc<[i32]>>>,
     /// By atom: the plain bodies, and the weights, of the rules that have it in the head.
     supports: Vec<Vec<u32>>,
     weighted: Vec<Vec<u32>>,
@@ -33,6 +36,8 @@ pub struct Rules {
     /// By body, and by atom: the last question about a set that met it.
     met: Vec<u32>,
     inside: Vec<u32>,
+    /// By atom: its place in the last set that was asked about.
+    places: Vec<u8>,
     questions: u32,
 }
 
@@ -51,6 +56,7 @@ impl Rules {
             weights: Vec::new(),
             by_weights: QuickMap::default(),
             made: Vec::new(),
+            relevant: Vec::new(),
             supports: Vec::new(),
             weighted: vec![Vec::new(); LARGEST + 1],
             derived_weighted: vec![Vec::new(); LARGEST + 1],
@@ -60,6 +66,7 @@ impl Rules {
             named: vec![None; LARGEST + 1],
             met: Vec::new(),
             inside: vec![0; LARGEST + 1],
+            places: vec![0; LARGEST + 1],
             questions: 0,
         }
     }
@@ -105,6 +112,7 @@ impl Rules {
         self.weights.push(weights.clone());
         self.by_weights.insert(weights, number);
         self.made.push(None);
+        self.relevant.push(None);
         number
     }
 
@@ -183,6 +191,41 @@ impl Rules {
         }
         let of_one = |&name: &i32| self.named[name as usize].is_some_and(|body| self.met[body as usize] == self.questions);
         different == names.len() && names.iter().all(of_one)
+    }
+
+    /// The positive literals of the bodies of weights.
+    fn relevant_of(&mut self, weights: u32) -> Rc<[i32]> {
+        let weights = weights as usize;
+        self.relevant[weights].get_or_insert_with(|| self.weights[weights].relevant().into()).clone()
+    }
+
+    /// Every atom reaches every atom inside the set.
+    pub fn is_loop(&mut self, atoms: &[i32]) -> bool {
+        self.questions += 1;
+        for (place, &atom) in atoms.iter().enumerate() {
+            self.inside[atom as usize] = self.questions;
+            self.places[atom as usize] = place as u8;
+        }
+        let mut edges = Edges::none(atoms.len());
+        for (place, &atom) in atoms.iter().enumerate() {
+            for &body in &self.supports[atom as usize] {
+                self.add_edges(&self.bodies[body as usize], place, &mut edges);
+            }
+            for which in 0..self.weighted[atom as usize].len() {
+                let literals = self.relevant_of(self.weighted[atom as usize][which]);
+                self.add_edges(&literals, place, &mut edges);
+            }
+        }
+        edges.is_loop()
+    }
+
+    /// The edges from the positive literals that are in the set.
+    fn add_edges(&self, literals: &[i32], to: usize, edges: &mut Edges) {
+        for &literal in literals {
+            if literal > 0 && self.inside[literal as usize] == self.questions {
+                edges.add(usize::from(self.places[literal as usize]), to);
+            }
+        }
     }
 
     /// Calls `found` with the name of each external body of a set of atoms; whether all of them have one.

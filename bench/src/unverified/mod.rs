@@ -4,6 +4,7 @@
 mod bodies;
 mod hashing;
 mod lines;
+mod loops;
 pub mod nogoods;
 mod program;
 mod steps;
@@ -131,6 +132,34 @@ mod tests {
         let rules = "1 1 3 1 2 3 0 0\n1 0 0 1 4 3 1 3 2 2 3 2\n1 0 0 0 1 -1\n1 0 0 0 1 -2\n";
         let proof = "b 4 1 2 0\nb 5 -1 0\nb 6 -2 0\nc 4 0\nc 5 0\nc 6 0\na 0\n";
         assert_eq!(line(rules, proof, 99, 99), "inconsistent 3 4 7 11");
+    }
+
+    #[test]
+    fn loop_steps() {
+        let pair = "1 0 1 1 0 1 2\n1 0 1 2 0 1 1\n";
+        let ring = "1 0 1 2 0 1 1\n1 0 1 3 0 1 2\n1 0 1 1 0 1 3\n";
+        for (rules, proof, expected) in [
+            (pair, "l 2 1 0\n", "open 2 2 1 1"),
+            (pair, "l 1 0\n", "refused proof 56 1"),
+            (pair, "b 3 1 0\nl 1 3 0\n", "refused proof 31 2"),
+            ("1 0 1 1 0 1 2\n1 0 1 2 0 1 1\n1 0 1 1 0 0\n", "l 1 2 0\n", "refused proof 32 1"),
+            ("1 0 1 1 0 1 1\n", "l 1 0\n", "open 1 1 1 1"),
+            ("1 0 1 1 0 1 1\n1 0 1 2 0 1 2\n", "l 1 2 0\n", "refused proof 56 1"),
+            ("1 0 1 1 0 1 2\n1 0 1 2 0 1 2\n", "l 1 2 0\n", "refused proof 56 1"),
+            (ring, "l 2 3 1 0\n", "open 3 3 1 1"),
+            (ring, "l 1 2 0\n", "refused proof 56 1"),
+            ("1 0 1 1 0 1 -2\n1 0 1 2 0 1 1\n", "l 1 2 0\n", "refused proof 56 1"),
+            ("1 1 2 1 2 0 2 1 2\n", "l 1 2 0\n", "open 2 1 1 1"),
+            ("1 0 0 0 2 1 2\n1 0 1 1 0 1 2\n", "l 1 2 0\n", "refused proof 56 1"),
+            ("1 0 1 1 1 2 2 1 2 2 1\n", "l 1 0\n", "open 2 1 1 1"),
+            ("1 0 1 1 1 3 2 1 1 2 2\n", "l 1 0\n", "open 2 1 1 1"),
+            ("1 0 1 1 1 1 2 1 0 2 1\n", "l 1 0\n", "refused proof 56 1"),
+            ("1 0 1 1 1 2 2 1 1 2 2\n", "l 1 0\n", "refused proof 56 1"),
+            ("1 0 1 1 1 9 2 1 1 2 2\n", "l 1 0\n", "refused proof 56 1"),
+            ("1 0 1 1 1 0 1 1 5\n", "l 1 0\n", "refused proof 56 1"),
+        ] {
+            assert_eq!(line(rules, proof, 99, 99), expected, "{rules}{proof}");
+        }
     }
 
     #[test]

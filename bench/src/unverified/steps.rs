@@ -1,4 +1,4 @@
-//! The seven kinds of step, questions 26 to 34.
+//! The seven kinds of step, questions 26 to 34 and 56.
 
 use super::bodies::Rules;
 use super::nogoods::{code_of, Nogoods};
@@ -123,6 +123,9 @@ impl Checking {
     fn unfounded(&mut self, numbers: &[i32]) -> Result<(), u8> {
         if numbers.iter().any(|&n| n as usize > self.rules.atoms) {
             return Err(31);
+        }
+        if !self.rules.is_loop(numbers) {
+            return Err(56);
         }
         self.take(&numbers[..1]);
         let row = &mut self.row;

@@ -20,6 +20,15 @@ impl Weights {
         sum >= self.bound && (literals.is_empty() || sum - least < self.bound)
     }
 
+    /// The positive literals that stand in some minimal set.
+    pub fn relevant(&self) -> Vec<i32> {
+        let mut found = Vec::new();
+        self.each_body(|body| found.extend(body.iter().copied().filter(|literal| *literal > 0)));
+        found.sort_unstable();
+        found.dedup();
+        found
+    }
+
     /// Calls `found` with each minimal set, ascending by atom.
     pub fn each_body(&self, mut found: impl FnMut(&[i32])) {
         let mut falling: Vec<(i32, i32)> = self.pairs.iter().copied().filter(|pair| pair.1 > 0).collect();
@@ -67,6 +76,16 @@ mod tests {
         assert_eq!(bodies(0, &[(2, 2)]), [[0; 0]]);
         let twelve: Vec<(i32, i32)> = (1..=12).map(|atom| (atom, 1)).collect();
         assert_eq!(bodies(6, &twelve).len(), 924);
+    }
+
+    #[test]
+    fn relevant_literals() {
+        let relevant = |bound, pairs: &[(i32, i32)]| Weights { bound, pairs: pairs.into() }.relevant();
+        assert_eq!(relevant(3, &[(2, 2), (-3, 2), (4, 1)]), [2, 4]);
+        assert_eq!(relevant(2, &[(1, 1), (2, 2)]), [2]);
+        assert_eq!(relevant(3, &[(1, 1), (2, 2)]), [1, 2]);
+        assert_eq!(relevant(1, &[(1, 0), (2, 1)]), [2]);
+        assert_eq!([relevant(9, &[(1, 1), (2, 2)]), relevant(0, &[(1, 5)])], [[0; 0]; 2]);
     }
 
     #[test]

@@ -79,7 +79,7 @@ numbered! {
 }
 
 numbered! {
-    /// A question put to a proof text. A refusal names the first that is answered no.
+    /// A question put to a proof text. A refusal names the first that is answered no; 56 is asked right after 31.
     ProofQuestion, "question put to a proof text" {
         Length = 21, "Has the text at most 65,535 bytes?";
         Shape = 22, "Is the line a letter, a space, numbers, a closing `0` and a newline?";
@@ -95,6 +95,7 @@ numbered! {
         Externals = 32, "`l`: is each external body named?";
         Addition = 33, "`a`: does propagation come to a conflict?";
         Store = 34, "Do the live nogoods fit the store?";
+        Loop = 56, "`l`: does every atom reach every atom inside the set?";
     }
 }
 
@@ -142,7 +143,7 @@ mod tests {
     #[test]
     fn numbers_of_the_documents() {
         assert_eq!(known(ProgramQuestion::number), (1..=11).chain([54, 55]).collect::<Vec<_>>());
-        assert_eq!(known(ProofQuestion::number), (21..=34).collect::<Vec<_>>());
+        assert_eq!(known(ProofQuestion::number), (21..=34).chain([56]).collect::<Vec<_>>());
         assert_eq!(known(SetQuestion::number), (41..=43).collect::<Vec<_>>());
         assert_eq!(known(PacketQuestion::number), (51..=53).collect::<Vec<_>>());
         assert_eq!(known(Letter::number), b"abcdels".map(u64::from));

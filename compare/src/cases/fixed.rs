@@ -1,5 +1,5 @@
 //! The starred examples of document 01, its 'Others', what it calls tempting, the worked example of source 000, the worked cases of weight
-//! bodies, and the set test's worked cases, each with the line or the answer that the document asks for.
+//! bodies and of loops, and the set test's worked cases, each with the line or the answer that the document asks for.
 
 use inputs::{Pair, ROOM};
 
@@ -57,6 +57,8 @@ pub fn cases() -> Vec<Case> {
     cases.extend(tempting());
     cases.extend(weight_lines());
     cases.extend(weight_steps());
+    cases.extend(loop_steps());
+    cases.extend(weight_loops());
     cases.push(source());
     cases
 }
@@ -112,7 +114,6 @@ fn tempting() -> Vec<Case> {
     let unnamed = &["1 0 1 1 0 1 2", "1 0 1 2 0 1 1", "1 0 1 1 0 1 -3"];
     vec![
         case("a body that leans on the set needs no name", RULES_6, &["l 1 2 0"], "open 2 2 1 1"),
-        case("a body that leans on no atom of the set needs one", RULES_6, &["l 1 0"], "refused proof 32 1"),
         case("an external body without a name", unnamed, &["l 1 2 0"], "refused proof 32 1"),
         case("a fresh name that was an atom", RULE_1, &["e 1 0"], "refused proof 27 1"),
         case("a body's name that was an atom", RULE_1, &["b 1 0"], "refused proof 27 1"),
@@ -196,7 +197,69 @@ fn weight_steps() -> Vec<Case> {
         case("weight 0 stands in no body", &["1 0 1 1 1 2 2 2 2 3 0"], &["b 4 2 0", "s 1 4 0"], "open 3 1 2 3"),
         case("weight 0 added to a body", &["1 0 1 1 1 2 2 2 2 3 0"], &["b 4 2 3 0"], "refused proof 28 1"),
         case("one body of two rules", &[SUM, "1 0 1 4 0 2 2 3"], &["b 5 3 2 0", "c 5 1 0", "c 5 4 0", "s 4 5 0"], "open 4 2 4 6"),
-        case("an atom of weight 0 is known", &["1 0 0 1 9 1 7 0"], &["e 8 -7 0", "l 7 0", "s 6 0"], "open 7 1 3 4"),
+        case("an atom of weight 0 is known", &["1 0 0 1 9 1 7 0"], &["e 8 -7 0", "s 7 0", "s 6 0"], "open 7 1 3 4"),
+    ]
+}
+
+/// Questions 31, 56 and 32 of `l` steps: the worked cases of Change 5 without weights, and a few more.
+fn loop_steps() -> Vec<Case> {
+    let founded = [RULES_6, &["1 0 1 1 0 0"]].concat();
+    let ring = &["1 0 1 2 0 1 1", "1 0 1 3 0 1 2", "1 0 1 1 0 1 3"];
+    let one_way = &["1 0 1 1 0 1 2", "1 0 1 2 0 1 2"];
+    let apart = &["1 0 1 1 0 1 1", "1 0 1 2 0 1 2"];
+    let joined = &["1 0 1 1 0 1 2", "1 0 1 2 0 1 1", "1 0 1 3 0 1 4", "1 0 1 4 0 1 3", "1 0 1 3 0 1 2"];
+    vec![
+        case("a loop", RULES_6, &["l 1 2 0"], "open 2 2 1 1"),
+        case("the order of the numbers", RULES_6, &["l 2 1 0"], "open 2 2 1 1"),
+        case("half of a loop", RULES_6, &["l 1 0"], "refused proof 56 1"),
+        case("a name in the set, 31 before 56", RULES_6, &["b 3 1 0", "l 1 3 0"], "refused proof 31 2"),
+        case("a name alone", RULES_6, &["b 3 1 0", "l 3 0"], "refused proof 31 2"),
+        case("an unknown variable, 26 before 31", RULES_6, &["l 1 9 0"], "refused proof 26 1"),
+        case("a loop with an external body", &founded, &["l 1 2 0"], "refused proof 32 1"),
+        case("a loop with a named external body", &founded, &["b 3 0", "l 1 2 0"], "open 2 3 2 2"),
+        case("no loop with an external body, 56 before 32", &founded, &["l 1 0"], "refused proof 56 1"),
+        case("an atom with an edge to itself", &["1 0 1 1 0 1 1"], &["l 1 0"], "open 1 1 1 1"),
+        case("an atom that no rule names", &["1 0 1 2 0 1 2"], &["l 1 0"], "refused proof 56 1"),
+        case("a fact", &["1 0 1 1 0 0"], &["b 2 0", "l 1 0"], "refused proof 56 2"),
+        case("two loops apart", apart, &["l 1 2 0"], "refused proof 56 1"),
+        case("two loops apart, the other first", apart, &["l 2 1 0"], "refused proof 56 1"),
+        case("one way only", one_way, &["l 1 2 0"], "refused proof 56 1"),
+        case("one way only, the other first", one_way, &["l 2 1 0"], "refused proof 56 1"),
+        case("two loops with an edge between", joined, &["l 1 2 3 4 0"], "refused proof 56 1"),
+        case("two loops with an edge between, the other first", joined, &["l 3 4 1 2 0"], "refused proof 56 1"),
+        case("a loop with an edge out of it", joined, &["l 1 2 0"], "open 4 5 1 1"),
+        case("a loop with an edge into it", joined, &["l 3 4 0"], "refused proof 32 1"),
+        case("a ring of three", ring, &["l 2 3 1 0"], "open 3 3 1 1"),
+        case("the way back leaves the set", ring, &["l 1 2 0"], "refused proof 56 1"),
+        case("a negated atom gives no edge", &["1 0 1 1 0 1 -2", "1 0 1 2 0 1 1"], &["l 1 2 0"], "refused proof 56 1"),
+        case("a negated atom gives no edge to itself", RULE_1, &["b 2 -1 0", "l 1 0"], "refused proof 56 2"),
+        case("a choice rule gives edges", &["1 1 2 1 2 0 2 1 2"], &["l 1 2 0"], "open 2 1 1 1"),
+        case("a choice rule gives edges to itself", &["1 1 2 1 2 0 2 1 2"], &["l 2 0"], "open 2 1 1 1"),
+        case("a constraint gives none", &["1 0 0 0 2 1 2", "1 0 1 1 0 1 2"], &["l 1 2 0"], "refused proof 56 1"),
+    ]
+}
+
+/// `l 1 0` over a rule with weights and the head 1: whether 1 stands in a minimal set.
+fn weight_loops() -> Vec<Case> {
+    let one = |name, rule, line| case(name, &[rule], &["l 1 0"], line);
+    let both = "1 1 2 1 2 1 2 3 1 1 2 1 3 2";
+    vec![
+        one("a literal that reaches the bound", "1 0 1 1 1 2 2 1 2 2 1", "open 2 1 1 1"),
+        one("a literal of the one minimal set", "1 0 1 1 1 3 2 1 1 2 2", "open 2 1 1 1"),
+        one("a literal of weight 0", "1 0 1 1 1 1 2 1 0 2 1", "refused proof 56 1"),
+        one("a literal in no minimal set", "1 0 1 1 1 2 2 1 1 2 2", "refused proof 56 1"),
+        one("a bound that is not reached", "1 0 1 1 1 9 2 1 1 2 2", "refused proof 56 1"),
+        one("bound 0", "1 0 1 1 1 0 1 1 5", "refused proof 56 1"),
+        one("a light literal where the heavy ones are enough", "1 0 1 1 1 6 3 1 1 2 4 3 4", "refused proof 56 1"),
+        one("a light literal where one of them is", "1 0 1 1 1 5 3 1 1 2 5 3 5", "refused proof 56 1"),
+        one("a light literal that fills a sum", "1 0 1 1 1 5 3 1 1 2 4 3 5", "refused proof 32 1"),
+        one("a negated literal with a weight", "1 0 1 1 1 1 1 -1 1", "refused proof 56 1"),
+        one("a constraint with weights", "1 0 0 1 1 1 1 1", "refused proof 56 1"),
+        case("a choice with weights", &[both], &["l 1 2 0"], "refused proof 32 1"),
+        case("a choice with weights, named", &[both], &["b 4 3 0", "l 2 1 0"], "open 3 1 2 3"),
+        case("a literal that fills a sum, named", &["1 0 1 1 1 5 3 1 1 2 4 3 5"], &["b 4 3 0", "l 1 0"], "open 3 1 2 3"),
+        case("a ring over weights", &["1 0 1 1 1 2 2 2 2 3 1", "1 0 1 2 1 2 2 1 1 3 1"], &["l 1 2 0"], "open 3 2 1 1"),
+        case("a ring with a literal of weight 0", &["1 0 1 1 1 2 2 2 2 3 1", "1 0 1 2 1 1 2 1 0 3 1"], &["l 1 2 0"], "refused proof 56 1"),
     ]
 }
 

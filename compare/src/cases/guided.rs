@@ -3,6 +3,7 @@
 use inputs::lines::line_of;
 use inputs::random::Random;
 
+use super::loops;
 use super::refutations::{known_literals, Author};
 use crate::reference::closure::closure;
 use crate::reference::lines::read_line;
@@ -15,15 +16,21 @@ pub fn proof(program: &Program, random: &mut Random, most: usize) -> Vec<u8> {
     let mut author = Author::of(program);
     for _ in 0..random.below(most + 1) {
         let (letter, numbers) = any_step(&author, random);
-        if !well_formed(letter, &numbers) {
-            continue;
-        }
-        if author.write(letter, &numbers).is_err() && random.percent(4) {
-            author.lines.push(line_of(letter, &numbers));
+        if !write_or_end(&mut author, letter, &numbers, random, 4) {
             break;
         }
     }
     author.text()
+}
+
+/// Takes a step that is well formed and writes its line. So many times out of a hundred a refused one is written too, and the proof is
+/// over; whether it goes on.
+pub fn write_or_end(author: &mut Author, letter: u8, numbers: &[i32], random: &mut Random, kept: usize) -> bool {
+    let ends = well_formed(letter, numbers) && author.write(letter, numbers).is_err() && random.percent(kept);
+    if ends {
+        author.lines.push(line_of(letter, numbers));
+    }
+    !ends
 }
 
 fn well_formed(letter: u8, numbers: &[i32]) -> bool {
@@ -37,7 +44,7 @@ pub fn any_step(author: &Author, random: &mut Random) -> (u8, Vec<i32>) {
         b'b' => body_step(author, random),
         b'c' => completion_step(author, random),
         b's' => support_step(author, random),
-        b'l' => loop_step(author, random),
+        b'l' => loops::any_set(author.program, random),
         b'a' => derivation(author, random),
         b'd' => deletion(author, random),
         _ => extension(author, random),
@@ -80,11 +87,6 @@ fn support_step(author: &Author, random: &mut Random) -> Vec<i32> {
     }
     random.shuffle(&mut numbers[1..]);
     numbers
-}
-
-fn loop_step(author: &Author, random: &mut Random) -> Vec<i32> {
-    let count = random.between(1, 4) as usize;
-    random.different(count, author.program.atoms.max(1))
 }
 
 /// Literals that contradict, often cut down to the fewest.

@@ -1,5 +1,5 @@
 //! Inputs at the limits of document 01: counts of heads, literals, numbers and rules, sizes of atoms and variables, lengths of
-//! texts, a store that is just full, long loop nogoods and long chains of propagation.
+//! texts, a store that is just full, loops of as many atoms as a line names, long loop nogoods and long chains of propagation.
 
 use std::sync::OnceLock;
 
@@ -10,6 +10,7 @@ use inputs::{joined, Pair};
 use super::fixed::{program, proof, PROOF_1, RULE_1};
 
 /// A name, two texts, and the line that `verdict` must print where it is plain from the document.
+#[derive(Clone)]
 pub struct Case {
     pub name: String,
     pub pair: Pair,
@@ -42,6 +43,8 @@ fn all_cases() -> Vec<Case> {
     cases.extend(variable_sizes());
     cases.extend(proof_shapes());
     cases.extend(full_stores());
+    cases.extend(wide_loops());
+    cases.extend(weight_rings());
     cases.extend(long_loops());
     cases.extend(long_chains());
     cases.extend(chains_behind_many_words());
@@ -145,8 +148,8 @@ fn weight_limits() -> Vec<Case> {
 
 /// All 924 minimal sets of one rule, with loop nogoods over them; they need a longer store than `verdict` has.
 fn many_minimal_sets() -> Case {
-    let rules = [weighted(&[13], 6, &evenly(12, 1)), weighted(&[13, 12], 1, &evenly(1, 1))];
-    let rules = [rules[0].clone(), Rule { choice: true, ..rules[1].clone() }];
+    let chosen = Rule { choice: true, ..weighted(&[13, 12], 1, &evenly(1, 1)) };
+    let rules = [weighted(&[13], 6, &evenly(12, 1)), chosen, choice(&count_to(7), &[13]), normal(13, &[13])];
     let bodies = rules[0].bodies();
     assert_eq!(bodies.len(), 924);
     let mut text = String::new();
@@ -271,11 +274,16 @@ fn number_counts() -> Vec<Case> {
     let named = line_of(b'b', &largest) + &line_of(b'b', &smallest);
     cases.push(case("bodies of 64 literals", program_text(&rules), &named, "open 200 2 2 130"));
     cases.push(case("completed", program_text(&rules), named.clone() + "c 4095 200 0\nc 300 1 0\n", "refused proof 29 4"));
-    cases.push(case("a loop of 65", program_text(&rules), line_of(b'l', &count_to(65)), "open 200 2 1 1"));
-    let mut outside = count_to(64);
-    outside.push(129);
-    cases.push(case("a loop of 65 with a body outside", program_text(&rules), line_of(b'l', &outside), "refused proof 32 1"));
-    cases.push(case("a loop of 65 with a named body outside", program_text(&rules), named + &line_of(b'l', &outside), "open 200 2 3 131"));
+    let all = line_of(b'l', &count_to(65));
+    cases.push(case("65 atoms, one of them without a rule", program_text(&rules), &all, "refused proof 56 1"));
+    let back = normal(65, &count_to(64));
+    let ring = [&rules[..], &[back]].concat();
+    cases.push(case("a loop of 65", program_text(&ring), &all, "open 200 3 1 1"));
+    let entered = program_text(&[&ring[..], &[normal(7, &(66..=129).collect::<Vec<_>>())]].concat());
+    let mut outside = vec![300];
+    outside.extend(66..=129);
+    cases.push(case("a loop of 65 with a body outside", &entered, &all, "refused proof 32 1"));
+    cases.push(case("a loop of 65 with a named body outside", &entered, line_of(b'b', &outside) + &all, "open 200 4 2 66"));
     cases.extend(supports());
     cases
 }
@@ -342,7 +350,7 @@ fn proof_shapes() -> Vec<Case> {
         ("c 1 0", "refused proof 29 1"),
         ("c 2 0", "refused proof 26 1"),
         ("s 1 0", "refused proof 30 1"),
-        ("l 1 0", "refused proof 32 1"),
+        ("l 1 0", "refused proof 56 1"),
         ("a 1 0", "refused proof 33 1"),
         ("a 1 -1 0", "refused proof 25 1"),
         ("d 1 0", "open 1 1 1 0"),
@@ -352,6 +360,7 @@ fn proof_shapes() -> Vec<Case> {
     }
     for (step, line) in [
         ("s 2 0", "refused proof 30 2"),
+        ("l 1 0", "open 1 2 2 3"),
         ("l 2 0", "refused proof 31 2"),
         ("l 1 2 0", "refused proof 31 2"),
         ("c 2 1 3 0", "refused proof 26 2"),
@@ -394,14 +403,124 @@ fn extension_over(name: i32, count: i32) -> String {
     line_of(b'e', &numbers)
 }
 
+/// A rule to each atom from the one before it, and to the first from the last.
+fn ring(atoms: &[i32]) -> Vec<Rule> {
+    let before = atoms.iter().cycle().skip(atoms.len() - 1);
+    atoms.iter().zip(before).map(|(atom, before)| normal(*atom, &[*before])).collect()
+}
+
+fn loop_case(name: &str, rules: &[Rule], atoms: &[i32], line: &str) -> Case {
+    case(format!("{name}, {} atoms", atoms.len()), program_text(rules), line_of(b'l', atoms), line)
+}
+
+/// Loops of up to as many atoms as a line names, of the last atoms, and by the last of as many rules as there may be.
+fn wide_loops() -> Vec<Case> {
+    let mut cases: Vec<Case> =
+        [2, 63, 64, 65].into_iter().flat_map(|count| [rings(count), cut_rings(count), two_rings(count)].concat()).collect();
+    let most = count_to(64);
+    cases.push(loop_case("every atom from every atom", &[choice(&most, &most)], &most, "open 64 1 1 1"));
+    let last: Vec<i32> = (4_031..=4_095).collect();
+    cases.push(loop_case("a ring of the last", &ring(&last), &last, "open 4095 65 1 1"));
+    cases.push(loop_case("a ring of the last", &ring(&last[63..]), &last[63..], "open 4095 2 1 1"));
+    let late = [vec![constraint(&[1, 2]); 1_022], ring(&[1, 2])].concat();
+    cases.push(loop_case("a ring by the last of 1,024 rules", &late, &[1, 2], "open 2 1024 1 1"));
+    cases.push(loop_case("a ring without the last of 1,024 rules", &late[..1_023], &[1, 2], NO_LOOP));
+    cases
+}
+
+const NO_LOOP: &str = "refused proof 56 1";
+
+/// A ring in the order of the line, against it and in none; all but one of a ring; one atom that all others come from or lead to.
+fn rings(count: i32) -> Vec<Case> {
+    let atoms = count_to(count);
+    let (rules, open) = (ring(&atoms), format!("open {count} {count} 1 1"));
+    let turned: Vec<i32> = atoms.iter().rev().copied().collect();
+    let mixed = [atoms.iter().copied().step_by(2).collect::<Vec<_>>(), atoms.iter().copied().skip(1).step_by(2).collect()].concat();
+    vec![
+        loop_case("a ring", &rules, &atoms, &open),
+        loop_case("a ring against the order", &rules, &turned, &open),
+        loop_case("a ring in no order", &rules, &mixed, &open),
+        loop_case("all but one of a ring", &ring(&count_to(count + 1)), &atoms, NO_LOOP),
+        loop_case("every atom from the first", &every(&atoms[..1], &atoms), &atoms, NO_LOOP),
+        loop_case("every atom to the first", &every(&atoms, &atoms[..1]), &atoms, NO_LOOP),
+        loop_case("every atom to the last", &every(&atoms, &atoms[count as usize - 1..]), &atoms, NO_LOOP),
+    ]
+}
+
+/// A ring without one of its edges, or with a negated atom in its place.
+fn cut_rings(count: i32) -> Vec<Case> {
+    let atoms = count_to(count);
+    let turned: Vec<i32> = atoms.iter().rev().copied().collect();
+    let mut cases = Vec::new();
+    for cut in [0, 1, count / 2, count - 1] {
+        let mut rules = ring(&atoms);
+        let before = (cut + count - 1) % count + 1;
+        rules[cut as usize] = normal(cut + 1, &[-before]);
+        cases.push(loop_case(&format!("a ring with edge {cut} negated"), &rules, &atoms, NO_LOOP));
+        rules.remove(cut as usize);
+        cases.push(loop_case(&format!("a ring without edge {cut}"), &rules, &atoms, NO_LOOP));
+        cases.push(loop_case(&format!("a ring without edge {cut}, against the order"), &rules, &turned, NO_LOOP));
+    }
+    cases
+}
+
+/// Two rings, apart, with an edge between them one way, the other way, and both.
+fn two_rings(count: i32) -> Vec<Case> {
+    let atoms = count_to(count);
+    let half = atoms.len() / 2;
+    let apart = [ring(&atoms[..half]), ring(&atoms[half..])].concat();
+    let with = |more: &[Rule]| [&apart[..], more].concat();
+    let between = [normal(count, &[1]), normal(1, &[count])];
+    vec![
+        loop_case("two rings", &apart, &atoms, NO_LOOP),
+        loop_case("two rings, an edge to the other", &with(&between[..1]), &atoms, NO_LOOP),
+        loop_case("two rings, an edge from the other", &with(&between[1..]), &atoms, NO_LOOP),
+        loop_case("two rings, edges both ways", &with(&between), &atoms, &format!("open {count} {} 1 1", count + 2)),
+    ]
+}
+
+/// A rule for each head with each of the atoms alone as its body.
+fn every(from: &[i32], heads: &[i32]) -> Vec<Rule> {
+    heads.iter().flat_map(|head| from.iter().map(|atom| normal(*head, &[*atom]))).collect()
+}
+
+/// Rings whose edges go by literals of twelve weights: all of them relevant, or one of them not.
+fn weight_rings() -> Vec<Case> {
+    let mut cases = Vec::new();
+    let count = 24;
+    // By one of its twelve literals each atom depends on the atom after it; the others are outside the set.
+    let rules = |bound: i32, light: i32| -> Vec<Rule> {
+        let pairs = |atom: i32| (0..12).map(|place| if place == 5 { (atom % count + 1, light) } else { (100 + place, 2) }).collect();
+        (1..=count).map(|atom| weighted(&[atom], bound, &pairs(atom) as &Vec<(i32, i32)>)).collect()
+    };
+    for (name, bound, light, line) in [
+        ("each literal is needed", 24, 2, "open 111 24 1 1"),
+        ("only all literals reach the bound", 23, 1, "open 111 24 1 1"),
+        ("the ring's literal is too light", 22, 1, "refused proof 56 1"),
+        ("the ring's literal has weight 0", 22, 0, "refused proof 56 1"),
+        ("bound 0", 0, 4_095, "refused proof 56 1"),
+        ("no bound is reached", 4_095, 2, "refused proof 56 1"),
+        ("some sets are without it", 21, 1, "refused proof 32 1"),
+        ("sets with and without it", 3, 1, "refused proof 32 1"),
+    ] {
+        let step = line_of(b'l', &count_to(count));
+        cases.push(case(name, program_text(&rules(bound, light)), &step, line));
+        let mut mixed = rules(bound, light);
+        mixed.splice(3.., rules(24, 2).into_iter().skip(3));
+        cases.push(case(format!("{name}, in three of {count} rules"), program_text(&mixed), &step, line));
+    }
+    cases
+}
+
 /// Loop nogoods that are longer than any line.
 fn long_loops() -> Vec<Case> {
     let mut cases = Vec::new();
     for (count, line) in
-        [(64, "open 65 64 65 129"), (65, "open 66 65 66 131"), (66, "open 67 66 67 133"), (1_024, "open 1025 1024 1025 2049")]
+        [(64, "open 65 65 65 129"), (65, "open 66 66 66 131"), (66, "open 67 67 67 133"), (1_023, "open 1024 1024 1024 2047")]
     {
         let top = count + 1;
-        let rules: Vec<Rule> = (1..=count).map(|atom| normal(top, &[atom])).collect();
+        let mut rules: Vec<Rule> = (1..=count).map(|atom| normal(top, &[atom])).collect();
+        rules.push(normal(top, &[top]));
         let mut text: String = (1..=count).map(|atom| line_of(b'b', &[top + atom, atom])).collect();
         text.push_str(&line_of(b'l', &[top]));
         cases.push(case(format!("a loop nogood of {top}"), program_text(&rules), text.clone(), line));

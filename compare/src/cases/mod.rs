@@ -6,6 +6,7 @@ pub mod deep;
 pub mod fixed;
 pub mod guided;
 pub mod limits;
+pub mod loops;
 pub mod noise;
 pub mod packets;
 pub mod refutations;

@@ -9,6 +9,7 @@ use inputs::random::Random;
 
 use crate::reference::closure::closure;
 use crate::reference::lines::Line;
+use crate::reference::loops::{edges, is_loop, reached, Edges};
 use crate::reference::models::{least_model, Set};
 use crate::reference::program::{Program, Rule};
 use crate::reference::steps::{external_bodies, step, State};
@@ -125,8 +126,8 @@ pub fn refute(author: &mut Author, random: &mut Random, at_first: usize) -> Foun
             sprinkle(author, random);
         } else if let Some(literal) = next_decision(author, random, &decisions) {
             decisions.push(literal);
-        } else if let Some(set) = exclude(author, random, &decisions) {
-            return Found::AnswerSet(set);
+        } else if let Err(found) = exclude(author, random, &decisions) {
+            return found;
         }
     }
     Found::Nothing
@@ -264,8 +265,9 @@ fn next_decision(author: &Author, random: &mut Random, decisions: &[i32]) -> Opt
     Some(random.signed(variable))
 }
 
-/// At an assignment of all variables: the answer set; or a rule that it breaks or a loop step for atoms that nothing founds is written.
-fn exclude(author: &mut Author, random: &mut Random, decisions: &[i32]) -> Option<Set> {
+/// At an assignment of all variables: the answer set; or a rule that it breaks, or a loop or a support that excludes atoms which nothing
+/// founds, is written.
+fn exclude(author: &mut Author, random: &mut Random, decisions: &[i32]) -> Result<(), Found> {
     let reached = closure(&author.state.live, decisions);
     let set: Set = (1..=author.program.atoms).filter(|atom| reached.holds(*atom)).collect();
     let holds = |literal: &i32| set.contains(&literal.abs()) == (*literal > 0);
@@ -273,21 +275,46 @@ fn exclude(author: &mut Author, random: &mut Random, decisions: &[i32]) -> Optio
     if let Some(rule) = author.program.plain.iter().find(broken) {
         let written = author.write_rule(random, rule);
         assert!(written.is_some(), "a rule of the search was refused");
-        return None;
+        return Ok(());
     }
     let least = least_model(&author.program.plain, &set);
-    let mut unfounded: Vec<i32> = set.difference(&least).copied().collect();
+    let unfounded: Set = set.difference(&least).copied().collect();
     if unfounded.is_empty() {
-        return Some(set);
+        return Err(Found::AnswerSet(set));
     }
-    random.shuffle(&mut unfounded);
-    unfounded.truncate(LINE_LIMIT);
-    for body in external_bodies(author.program, &unfounded) {
-        author.named(random, &body);
+    exclude_unfounded(author, random, &unfounded).ok_or(Found::Nothing)
+}
+
+/// A loop among the atoms that no edge comes into from the others, or the support of a single atom that is none; either is broken. Nothing
+/// where a line cannot hold it.
+fn exclude_unfounded(author: &mut Author, random: &mut Random, unfounded: &Set) -> Option<()> {
+    let edges = edges(&author.program.plain, unfounded);
+    let mut atoms: Vec<i32> = unfounded.iter().copied().collect();
+    random.shuffle(&mut atoms);
+    let mut first = first_of(&edges, &atoms);
+    random.shuffle(&mut first);
+    for body in external_bodies(author.program, &first) {
+        author.named(random, &body)?;
     }
-    let written = author.write(b'l', &unfounded);
-    assert!(written.is_ok(), "a loop step of the search was refused");
-    None
+    if is_loop(&author.program.plain, &first) {
+        let written = author.write(b'l', &first);
+        assert!(written.is_ok() || first.len() > LINE_LIMIT, "a loop step of the search was refused");
+        return written.ok();
+    }
+    let lines = author.lines.len();
+    author.write_support(random, first[0])?;
+    (author.lines.len() > lines).then_some(())
+}
+
+/// From an atom back to those that it cannot reach in turn, as long as there are any: the atoms that reach each other where this ends, or
+/// the single atom.
+fn first_of(edges: &Edges, atoms: &[i32]) -> Vec<i32> {
+    let reaches = |from: i32, to: i32| reached(edges, from).contains(&to);
+    let mut at = atoms[0];
+    while let Some(before) = atoms.iter().find(|atom| reaches(**atom, at) && !reaches(at, **atom)) {
+        at = *before;
+    }
+    atoms.iter().copied().filter(|atom| *atom == at || reaches(*atom, at)).collect()
 }
 
 #[cfg(test)]

@@ -20,11 +20,14 @@
 //! - A weight body of 13 to 64 literals with all its numbers is 55; another count, or numbers too few or too many, 6.
 //! - Only question 54 is put to what 4 lets pass: a number above 4,095 is 4 wherever it stands.
 //! - The bodies of one weight rule are counted with those of all other rules: "different bodies" are those of the whole expansion.
+//! - A set of one atom is a loop where a rule has an edge from the atom to itself: an atom reaches itself "by one or more" edges.
+//! - Edges are of the expansion: a literal that stands in no minimal set gives none.
 //! - A packet holds the words of the base, without the body kind; its reader's table is too short where it does not hold the new words.
 
 pub mod check;
 pub mod closure;
 pub mod lines;
+pub mod loops;
 pub mod models;
 pub mod numbers;
 pub mod packets;

@@ -1,11 +1,12 @@
-//! The seven steps with their questions 26 to 33, over the three things that document 01 names. The rules are the plain ones: "`b`, `c`, `s`
-//! and `l` use those bodies".
+//! The seven steps with their questions 26 to 33 and 56, over the three things that document 01 names. The rules are the plain ones: "`b`,
+//! `c`, `s` and `l` use those bodies".
 
 use std::collections::BTreeSet;
 
 use super::by_variable;
 use super::closure::closure;
 use super::lines::Line;
+use super::loops::is_loop;
 use super::program::{Program, Rule};
 
 /// "the live nogoods oldest first, the known variables, and which rule body has which name"
@@ -49,7 +50,7 @@ impl State {
     }
 }
 
-/// Puts questions 26 to 33 to the step and, where all are passed, takes it. The error is the refusal's number.
+/// Puts questions 26 to 33 and 56 to the step and, where all are passed, takes it. The error is the refusal's number.
 pub fn step(program: &Program, state: &mut State, line: &Line) -> Result<(), u8> {
     let introduces = line.letter == b'b' || line.letter == b'e';
     let cited = if introduces { &line.numbers[1..] } else { &line.numbers[..] };
@@ -137,10 +138,13 @@ pub fn external_bodies(program: &Program, atoms: &[i32]) -> BTreeSet<Vec<i32>> {
     program.plain.iter().filter(is_external).map(|rule| rule.body.clone()).collect()
 }
 
-/// "Adds the first h with minus the name of each."
+/// "Adds the first h with minus the name of each." "A set that is no loop is refused with 56, asked right after question 31."
 fn exclude_loop(program: &Program, state: &mut State, atoms: &[i32]) -> Result<(), u8> {
     if atoms.iter().any(|atom| *atom > program.atoms) {
         return Err(31);
+    }
+    if !is_loop(&program.plain, atoms) {
+        return Err(56);
     }
     let mut nogood = vec![atoms[0]];
     for body in external_bodies(program, atoms) {

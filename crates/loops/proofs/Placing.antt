@@ -3,7 +3,7 @@
 use mathlib.Core.Path.{_≡_, refl, sym, _∙_, ap}
 use mathlib.Core.Logic.{_⊎_, inl, inr}
 use mathlib.Core.Bool.{Bool, true, false, cond}
-use mathlib.Core.List.{List}
+use mathlib.Core.List.{List, []}
 use Prim.Native.Nat.{ℕ, zero, suc, _+_, _≤_, _<_}
 use native.Mathlib.Omega.{arith}
 use native.Mathlib.Numerals.{add-one}
@@ -13,6 +13,7 @@ use lib.ListN.{length, getD, set, replicate, length-set, length-replicate}
 use lib.Seq.{getD-set-same, getD-set-other}
 use Rattle.words.specs.Limits.{entries, mostNumbers}
 use Rattle.words.specs.Literals.{variable}
+use Rattle.words.proofs.Laws.{padded}
 use Rattle.words.proofs.Lists.{passed}
 use Rattle.words.proofs.Places.{equal?, in-at, variables-differ}
 use Rattle.derivation.proofs.Questions.{positive-is}
@@ -24,16 +25,10 @@ pub record Placing (m : List ℕ) (U : List ℤ) (k : ℕ) : Type 0 where
   pub to : (x : ℤ) (i : ℕ) → placeBy m x ≡ suc i → (i < k) × (getD U i (pos 0) ≡ x)
   pub from : (i : ℕ) → i < k → placeBy m (getD U i (pos 0)) ≡ suc i
 
--- nothing stands in an array of zeros
-zeros : (n v : ℕ) → _≡_ {A = ℕ} (getD (replicate n 0) v 0) 0
-zeros zero v = refl
-zeros (suc n) zero = refl
-zeros (suc n) (suc v) = zeros n v
-
 pub placing-none : (U : List ℤ) → Placing (replicate entries 0) U 0
 placing-none U = record {
   long = length-replicate {A = ℕ} entries 0;
-  to = λ x i e. none (ltZ (pos 0) x) (zeros entries (variable x)) e;
+  to = λ x i e. none (ltZ (pos 0) x) (padded 0 [] entries (variable x)) e;
   from = λ i h. absurd (omega arith);
 }
   where

@@ -1,12 +1,11 @@
 -- The numbers of an `l` line by their places in it, and the edges between the places: what `is_loop` asks, and what the
--- functions of
--- src/edges.rt promise.
+-- functions of src/edges.rt promise.
 -- Assumes nothing.
 use mathlib.Core.Path.{_≡_}
 use mathlib.Core.Bool.{Bool, true, false, cond, _&&_, _||_}
 use mathlib.Core.List.{List, [], _∷_}
 use Prim.Native.Nat.{ℕ, suc, _+_, _*_, _≤_, _<_}
-use lib.Dec.{eqb}
+use lib.Dec.{eqb, ltb}
 use lib.IntN.{ℤ, pos}
 use lib.Signed.{ltZ}
 use lib.ListN.{length, getD}
@@ -42,6 +41,10 @@ Low m = (x : ℤ) → placeBy m x ≤ mostNumbers
 -- the literal has the place i, counted from 0
 abbrev pub isAt : List ℕ → ℕ → ℤ → Bool
 isAt m i x = eqb (placeBy m x) (suc i)
+
+-- the literal has some place
+abbrev pub hasPlace : List ℕ → ℤ → Bool
+hasPlace m x = ltb 0 (placeBy m x)
 
 -- Edges: a mark for each two places
 

@@ -9,7 +9,7 @@ ghost use Rattle.words.specs.Lists.{any};
 ghost use Rattle.weights.specs.Weights.{paired, mostWeighted};
 ghost use Rattle.aspif.specs.Tables.{ruleAt, shapeSound, rulesAt, soundRules};
 ghost use Rattle.loops.specs.Relevance.{RelevantRule, Relevant};
-ghost use Rattle.loops.specs.Edges.{Members, placeBy, Placed, Low, isAt, cells, More, anyMarked, ruleEdge, Edges};
+ghost use Rattle.loops.specs.Edges.{Members, placeBy, Placed, Low, isAt, hasPlace, cells, More, anyMarked, ruleEdge, Edges};
 use aspif::tables;
 use weights::MOST_WEIGHTED;
 use words::ENTRIES;
@@ -18,18 +18,11 @@ use words::MOST_NUMBERS;
 // A mark for each two places.
 pub const CELLS: usize = MOST_NUMBERS * MOST_NUMBERS;
 
-// A byte as a number.
-fn wide(byte: u8) -> usize
-    ensures { λ r. ⌜ r ≡ byte ⌝ }
-{
-    byte as usize
-}
-
 // The byte at v; 0 past the end.
 fn byte_at(bytes: &[u8], v: usize) -> usize
     ensures { λ r. ⌜ r ≡ getD (now (bytes .entry)) v 0 ⌝ }
 {
-    if v < bytes.len() { wide(bytes[v]) } else { 0 }
+    if v < bytes.len() { words::wide(bytes[v]) } else { 0 }
 }
 
 // For each variable its place in the line, counted from 1; 0 for none.
@@ -141,8 +134,7 @@ fn mark_pairs(pairs: &[i32], relevant: &[u8], heads: &[i32], places: &[u8], edge
 
 // Some literal has a place.
 fn any_placed(literals: &[i32], places: &[u8]) -> bool
-    ensures { λ r. ⌜ (r ≡ true → 0 < length (now (literals .entry)))
-        × (r ≡ false → (j : ℕ) → any (isAt (now (places .entry)) j) (now (literals .entry)) ≡ false) ⌝ }
+    ensures { λ r. ⌜ r ≡ any (hasPlace (now (places .entry))) (now (literals .entry)) ⌝ }
 {
     let mut k = 0;
     while k < literals.len() {

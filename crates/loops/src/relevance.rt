@@ -88,7 +88,7 @@ fn fill_rule(words: &[i32], entries: &mut [u8])
     }
 }
 
-// The entries of all rules, twelve to a rule. To be found once for a program: a rule may cost 12 times 4,096 calls of `has_sum`.
+// The entries of all rules, twelve to a rule. To be found once for a program: a rule may cost some 12 times 4,096 calls of `has_sum`.
 pub fn fill(table: &[i32], rules: usize, relevant: &mut [u8])
     requires { ⌜ (soundRules rules (now table) ≡ true) × (mostWeighted * rules ≤ length (now relevant)) ⌝ }
     ensures { λ _. ⌜ Relevant (now (relevant .exit)) (rulesAt rules (now (table .entry))) ⌝ }

@@ -51,7 +51,7 @@ fn is_open(found: &[u8], done: &[u8], v: usize) -> bool
     false
 }
 
-// The first place that is found and not done; n where there is none.
+// A place below n that is found and not done; where there is none, n or more.
 fn next_open(found: &[u8], done: &[u8], n: usize) -> usize
     ensures { λ r. ⌜ Open (now (found .entry)) (now (done .entry)) n r ⌝ }
 {

@@ -5,13 +5,6 @@ ghost use Prim.Native.Nat.{_<_, _≤_, _*_};
 ghost use lib.ListN.{length, replicate};
 ghost use Rattle.packets.specs.Bytes.{value, flipIf, signedValue, numbersFrom};
 
-// A byte as a size.
-pub fn wide(byte: u8) -> usize
-    ensures { λ r. ⌜ r ≡ byte ⌝ }
-{
-    byte as usize
-}
-
 // A byte, taken from 255 where the number is negative.
 pub fn flip_if(negative: bool, byte: u8) -> u8
     ensures { λ r. ⌜ r ≡ flipIf negative byte ⌝ }
@@ -31,7 +24,7 @@ pub fn value_of(bytes: &[u8], negative: bool) -> usize
     let mut n = 0;
     while 0 < i {
         i -= 1;
-        n = n * 256 + wide(flip_if(negative, bytes[i]));
+        n = n * 256 + words::wide(flip_if(negative, bytes[i]));
     }
     n
 }

@@ -3,10 +3,10 @@ use mathlib.Core.Bool.{and-false}
 use borrow.Author.Tests.{not-true, not-false}
 use Rattle.words.specs.Lists.{any}
 use Rattle.aspif.specs.Rules.{bodiesOf}
-use Rattle.aspif.specs.Tables.{isWeighted, bodyAt}
+use Rattle.aspif.specs.Tables.{isWeighted, headsAt, bodyAt}
 use Rattle.loops.specs.Relevance.{RelevantPairs}
-use Rattle.loops.specs.Edges.{isAt}
-use Rattle.loops.proofs.EdgeMarks.{more-none}
+use Rattle.loops.specs.Edges.{isAt, hasPlace}
+use Rattle.loops.proofs.EdgeMarks.{more-none, none-placed, some-there}
 use Rattle.loops.proofs.Expanded.{plain-more, weight-more}
 use borrow.Author.Needs.{needs}
 use Rattle.loops.proofs.edges.mark_rule.Statement.{statement}
@@ -17,9 +17,9 @@ returns c =
     let p = c .before in
     let h = p .before in
     let s = h .before .before .before .before in
-    let none = rw (h .heads-of .ensures) at (p .any-placed .ensures .1 (not-true _ (c .if1 .taken))) in
+    let e = rw (h .heads-of .ensures) at (sym (p .any-placed .ensures) ∙ not-true _ (c .if1 .taken)) in
     more-none _ _ (s .pre .1 .0)
-    (λ i j. rw (none j) (and-false (any (any (isAt (s .args .places .now) i)) (bodiesOf (bodyAt (s .args .words .now))))))
+    (λ i j. rw (none-placed (s .args .places .now) j (headsAt (s .args .words .now)) e) (and-false (any (any (isAt (s .args .places .now) i)) (bodiesOf (bodyAt (s .args .words .now))))))
 
 -- a rule with a head that has a place
 module _ (c : tie.After-is-weighted) where
@@ -34,7 +34,9 @@ module _ (c : tie.After-is-weighted) where
 
   relevant : RelevantPairs (s .args .relevant .now) (bodyAt (s .args .words .now))
   relevant =
-      s .pre .0 .1 (rw (h .heads-of .ensures) at (c .before .before .any-placed .ensures .0 (not-false _ (c .before .if1 .left))))
+      s .pre .0 .1
+      (some-there (hasPlace (s .args .places .now)) (headsAt (s .args .words .now))
+      (rw (h .heads-of .ensures) at (sym (c .before .before .any-placed .ensures) ∙ not-false _ (c .before .if1 .left))))
 
 returns-2 : tie.Need-returns-2
 returns-2 c =
