@@ -27,10 +27,9 @@ use Rattle.derivation.specs.Steps as Steps
 use Rattle.nogoods.specs.Store.{Stored, recordOf, addedIn, live, storeWords}
 use Rattle.nogoods.proofs.Live.{live-nil, live-append, live-added, live-dropped}
 use Rattle.checker.specs.Check.{withAdded, storedAfter, Course, stopped, through, thenStopped, runSteps, runRead, course}
-use Rattle.checker.specs.Check.{saying, judged, check, Checked, CheckedTexts}
+use Rattle.checker.specs.Check.{saying, judged, check, Checked}
 use Rattle.checker.specs.Claims.{LiveStored, Bounded, OriginsBounded, Rising, OriginsRise, OriginsService}
 use Rattle.checker.specs.declared.Counts.{Counts}
-use Rattle.checker.specs.declared.Verdict.{Verdict}
 use Rattle.checker.specs.declared.Verdict.the-variants.{Inconsistent, Open}
 use Rattle.checker.proofs.Kept.{new-only}
 use Rattle.checker.proofs.Whole.{storedNext, run-first, said, ended-course}

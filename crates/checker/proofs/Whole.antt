@@ -7,7 +7,6 @@ use mathlib.Core.Option.{Option, none, some}
 use mathlib.Core.List.{List, [], _∷_, _++_, List·Memᴰ·head, List·Memᴰ·tail}
 use Prim.Native.Nat.{ℕ, zero, suc, _+_, _<_, _≤_}
 use native.Mathlib.Omega.{arith}
-use lib.Dec.{leb}
 use lib.IntN.{ℤ, pos}
 use lib.ListN.{length}
 use borrow.Author.Tests.{le-leb, lt-leb, leb-true, leb-false, le-ltb}
@@ -34,7 +33,7 @@ use Rattle.checker.specs.Check.{countsOf, saying, judged, judgedReading,
 use Rattle.checker.specs.Claims.{Runs, ends, unread, unaccepted, full, good, StepByStep, Ended, Written, EndedWritten, VerdictExact, SoundWhole, ServiceExact, ServiceSound}
 use Rattle.checker.specs.declared.Counts.{Counts}
 use Rattle.checker.specs.declared.ProofRefusal.{ProofRefusal}
-use Rattle.checker.specs.declared.Verdict.the-variants.{Inconsistent, RefusedProof}
+use Rattle.checker.specs.declared.Verdict.the-variants.{RefusedProof}
 
 -- what is stored once step t, the next after n, left the state z
 abbrev pub storedNext : ℕ → List Stored → Step → State → List Stored

@@ -2,7 +2,7 @@
 // variable, n with its complement."
 ghost use mathlib.Core.List.{List, _∷_, _++_, map};
 ghost use Prim.Native.Nat.{_*_, _≤_};
-ghost use lib.IntN.{ℤ, pos};
+ghost use lib.IntN.{pos};
 ghost use lib.ListN.{length, drop, getD};
 ghost use Rattle.words.specs.Limits.{largest, longest, mostNumbers};
 ghost use Rattle.words.specs.Literals.{variable, complement, ascending};
