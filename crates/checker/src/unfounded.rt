@@ -45,7 +45,7 @@ fn gather(h: i32, found: &[u8], row: &mut [i32]) -> usize
     ensures within { λ n. ⌜ n ≤ largest ⌝ }
     ensures words { λ n. ⌜ take n (now (row .exit)) ≡ gathered (marked (now (found .entry))) h largest 1 ⌝ }
 {
-    let end = words::larger(marks::reach(found), words::variable_of(h) + 1);
+    let end = words::larger(words::extent(found), words::variable_of(h) + 1);
     let mut count = 0;
     let mut v = 1;
     while v < end {

@@ -6,10 +6,10 @@ use mathlib.Core.List.{List, [], _∷_}
 use mathlib.Core.Logic.{inl, inr}
 use Prim.Native.Nat.{ℕ, zero, suc, _-_, _≤_, _<_, _+_}
 use native.Mathlib.Omega.{arith}
-use borrow.Author.Tests.{eqb-true, eqb-false, leb-true, ltb-true, ltb-false}
+use borrow.Author.Tests.{eqb-true, eqb-false, leb-true}
 use lib.Dec.{eqb, ltb, leb}
-use lib.ListN.{length, set, replicate, length-set, length-replicate, getD-replicate, take, drop, drop-of-length-le, getD, List·getD-eq-default}
-use lib.Seq.{getD-set-same, getD-set-other, drop-cons, getD-take, getD-drop}
+use lib.ListN.{length, set, replicate, length-set, length-replicate, getD-replicate, drop, drop-of-length-le, getD}
+use lib.Seq.{getD-set-same, getD-set-other, drop-cons}
 use native.Mathlib.Numerals.{add-one}
 use Rattle.words.specs.Limits.{largest, entries}
 use Rattle.words.proofs.Lists.{Decides, passed, reworded, and-decides, and-right, and-left, or-swap, one-less, nothing-left}
@@ -114,34 +114,3 @@ module _ (a b : List ℕ) where
   pub same-end : (n : ℕ) → n ≤ 0 → sameMarks n a b ≡ true
   unfolding sameMarks
   same-end n h = ap (λ k. sameMarks k a b) (nothing-left n h)
-
--- The loops of `is_unmarked` and `reach`
-
--- nothing is marked past the end
-pub unmarked-past : (m : List ℕ) (v : ℕ) → length m ≤ v → marked m v ≡ false
-unmarked-past m v h = rw (List·getD-eq-default m 0 {n = v} h) refl
-
--- one number more
-pub unmarked-on : (m : List ℕ) (i : ℕ) → ((v : ℕ) → v < i → marked m v ≡ false) → marked m i ≡ false → (v : ℕ) → v < i + 1 → marked m v ≡ false
-unmarked-on m i f e v h = elim (equal? v i) [ inl p ↦ rw p e | inr k ↦ f v (omega (arith, k)) ]
-
--- every number
-pub unmarked-from : (m : List ℕ) (i : ℕ) → length m ≤ i → ((v : ℕ) → v < i → marked m v ≡ false) → (v : ℕ) → marked m v ≡ false
-unmarked-from m i h f v = by (ltb v i) refl
-  where
-    by : (t : Bool) → ltb v i ≡ t → marked m v ≡ false
-    by true e = f v (ltb-true v i e)
-    by false e = unmarked-past m v (omega (arith, ltb-false v i e))
-
--- a part of which nothing is marked
-pub unmarked-part : (m : List ℕ) (from end : ℕ) → ((v : ℕ) → marked (take (end - from) (drop from m)) v ≡ false)
-    → ((v : ℕ) → end ≤ v → marked m v ≡ false) → (v : ℕ) → from ≤ v → marked m v ≡ false
-unmarked-part m from end f g v h = by (ltb v end) refl
-  where
-    by : (t : Bool) → ltb v end ≡ t → marked m v ≡ false
-    by true e =
-        let k = ltb-true v end e in
-        let p : from + (v - from) ≡ v = omega arith in
-        ap (λ (n : ℕ). eqb n 1) (sym (getD-take (end - from) (drop from m) (v - from) 0 (omega arith) ∙ getD-drop from m (v - from) 0 ∙ ap (λ (n : ℕ). getD m n 0) p))
-        ∙ f (v - from)
-    by false e = g v (ltb-false v end e)

@@ -1,9 +1,8 @@
 // Sets of variables as marks: number v is in the set where byte v is 1. And sets as they are lent, as ascending numbers.
 // What the functions promise is specs/Marks.antt.
 ghost use mathlib.Core.Path.{_≡_};
-ghost use mathlib.Core.Bool.{true, false};
 ghost use mathlib.Core.List.{map};
-ghost use Prim.Native.Nat.{ℕ, _≤_};
+ghost use Prim.Native.Nat.{_≤_};
 ghost use lib.ListN.{length, replicate, set};
 ghost use Rattle.words.specs.Limits.{largest, entries};
 ghost use Rattle.words.specs.Lists.{all, ascends};
@@ -144,36 +143,4 @@ pub fn is_same_set(a: &[u8; ENTRIES], b: &[u8; ENTRIES]) -> bool
         same = same & agrees_at(a, b, left);
     }
     same
-}
-
-// The marks that `reach` looks at together.
-const BLOCK: usize = 64;
-
-// No mark is 1, where this says so; as above, without a branch.
-fn is_unmarked(marks: &[u8]) -> bool
-    ensures { λ r. ⌜ (r ≡ true → (v : ℕ) → marked (now (marks .entry)) v ≡ false) ⌝ }
-{
-    let mut none = true;
-    let mut v = 0;
-    while v < marks.len() {
-        none = none & !is_marked(marks, v);
-        v += 1;
-    }
-    none
-}
-
-// Where a loop over the numbers of the set may end: none is marked from there on. How near it is to the last is not promised.
-pub fn reach(marks: &[u8]) -> usize
-    ensures within { λ r. ⌜ r ≤ length (now (marks .entry)) ⌝ }
-    ensures none { λ r. ⌜ ((v : ℕ) → r ≤ v → marked (now (marks .entry)) v ≡ false) ⌝ }
-{
-    let mut end = marks.len();
-    while BLOCK <= end {
-        let from = end - BLOCK;
-        if !is_unmarked(&marks[from..end]) {
-            return end;
-        }
-        end = from;
-    }
-    end
 }

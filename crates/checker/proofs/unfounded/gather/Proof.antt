@@ -1,7 +1,8 @@
-use mathlib.Core.Path.{_≡_, refl, _∙_}
+use mathlib.Core.Path.{_≡_, refl, _∙_, ap}
 use mathlib.Core.Bool.{false}
 use Prim.Native.Nat.{ℕ, _+_, _-_, _≤_, _<_, max}
 use native.Mathlib.Omega.{arith}
+use lib.Dec.{eqb}
 use lib.ListN.{length, take}
 use mir.Syntax.{w32}
 use mir.Val.{toZ, ofZ}
@@ -30,15 +31,15 @@ module _ (c : tie.After-larger Inv-loop μ-loop) where
   first : c .before .variable-of .result ≡ variable (s .args .h)
   first = rw (toZ-ofZ (s .fits .h)) at (c .before .variable-of .ensures)
 
-  end-is : c .larger .result ≡ max (c .before .before .reach .result) (variable (s .args .h) + 1)
+  end-is : c .larger .result ≡ max (c .before .before .extent .result) (variable (s .args .h) + 1)
   end-is = rw first at (c .larger .ensures)
 
   within : c .larger .result ≤ entries
-  within = omega (arith, end-is, s .pre .1, c .before .before .reach .ensures .0, s .pre .0 .1)
+  within = omega (arith, end-is, s .pre .1, c .before .before .extent .ensures .0, s .pre .0 .1)
 
   -- no name is marked from there on, and h stands before
   past : (u : ℕ) → c .larger .result ≤ u → (marked (s .args .found .now) u ≡ false) × (¬ (u ≡ variable (s .args .h)))
-  past u k = (c .before .before .reach .ensures .1 u (omega (arith, end-is)), λ p. omega (arith, end-is))
+  past u k = (ap (λ (n : ℕ). eqb n 1) (c .before .before .extent .ensures .1 u (omega (arith, end-is))), λ p. omega (arith, end-is))
 
 add-larger : tie.Need-add-larger Inv-loop μ-loop
 add-larger c =
