@@ -25,14 +25,14 @@ extern "C" {
 
 /* A thread with a stack of so many bytes has enough for any call, with what the C library takes of a thread's stack for itself. What your
  * own code and its thread-local variables take comes on top. The need does not grow with the texts: the whole check was measured at
- * 268 KB, the other services at 12 KB or less (bindings/c/stack.c). Some C libraries give a thread less by default: musl 128 KB. */
-#define ASPDRUPE_STACK 327680
+ * 426 KB, the other services at 13 KB or less (bindings/c/stack.c). Some C libraries give a thread less by default: musl 128 KB. */
+#define ASPDRUPE_STACK 524288
 
 /* The most numbers that an answer has. */
 #define ASPDRUPE_ANSWER 4
 
 /* The marks that the set test asks for. */
-#define ASPDRUPE_MARKS 4096
+#define ASPDRUPE_MARKS 8192
 
 /* The numbers that the proof-line reader puts. */
 #define ASPDRUPE_NUMBERS 65
@@ -90,12 +90,12 @@ uint32_t aspdrupe_check_texts(const uint8_t *program, size_t program_len, const 
                               size_t table_len, int32_t *store, size_t store_len, uint64_t *answer, size_t answer_len);
 
 /* Writes a packet: a table, as aspdrupe_read_program leaves it with that number of rules, and a proof text, in one sequence of bytes with
- * one form for each such pair. The proof is not checked against the program. A packet holds the rules' words without their body kinds, and
- * no weights. An output of 13 + 4 * table_len + proof_len bytes holds every packet.
+ * one form for each such pair. The proof is not checked against the program. A packet holds the rules' words without their body kinds, no
+ * weights, and variables up to 4,095. An output of 13 + 4 * table_len + proof_len bytes holds every packet.
  * Returns 0 where it is written: answer[0] is how many bytes it has; the output holds them and 0 after them.
- * Otherwise returns 53 (a table that aspdrupe_test_set refuses with 41 or with a rule of body kind 1, or a proof text with a line that
- * aspdrupe_read_line refuses) or 52 (the output is too short), asked in this order: the output is 0 throughout, and `answer` stays as it
- * was. */
+ * Otherwise returns 53 (a table that aspdrupe_test_set refuses with 41 or with a rule of body kind 1, a proof text with a line that
+ * aspdrupe_read_line refuses, or a variable above 4,095 in either) or 52 (the output is too short), asked in this order: the output is 0
+ * throughout, and `answer` stays as it was. */
 uint32_t aspdrupe_write_packet(const int32_t *table, size_t table_len, uint64_t rules, const uint8_t *proof, size_t proof_len,
                                uint8_t *packet, size_t packet_len, uint64_t *answer, size_t answer_len);
 

@@ -194,7 +194,7 @@ static void make_inputs(void) {
     make_packets();
     for (int i = 0; i < TEXT; i++) put(&newlines, "\n");
     put(&long_line, "a");
-    while (long_line.size < TEXT - 10) put(&long_line, " -4095");
+    while (long_line.size < TEXT - 10) put(&long_line, " -8191");
     put(&long_line, " 0\n");
 }
 

@@ -371,7 +371,7 @@ mod tests {
     fn set_answers_that_differ() {
         let said = |answer| set_answer_in_reference_form(&answer);
         let expected = models::Answer::Differs(1);
-        assert_eq!([0, 1, 2, 4_095].map(|atom| said(SetAnswer::Differs(atom)) == expected), [false, true, false, false]);
+        assert_eq!([0, 1, 2, 8_191].map(|atom| said(SetAnswer::Differs(atom)) == expected), [false, true, false, false]);
         assert!(said(SetAnswer::Yes) != expected && said(SetAnswer::Broken(1)) != expected);
         assert_eq!(said(SetAnswer::Yes), models::Answer::Yes);
         assert_eq!(said(SetAnswer::Broken(3)), models::Answer::Broken(3));

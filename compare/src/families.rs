@@ -166,7 +166,7 @@ fn run_limit(comparison: &mut Comparison, index: u64) {
 
 fn run_wide_tables(comparison: &mut Comparison, _: u64) {
     for (table, rules) in tables::wide() {
-        for set in [vec![], vec![1], vec![4_095], vec![0], vec![1, 2, 4_095], vec![4_096], vec![65_535]] {
+        for set in [vec![], vec![1], vec![4_095], vec![4_096], vec![8_191], vec![0], vec![1, 2, 8_191], vec![8_192], vec![65_535]] {
             comparison.test_set(&table, rules, &set, MARKS);
         }
     }
@@ -316,7 +316,11 @@ fn run_tables(comparison: &mut Comparison, _: u64) {
     for _ in 0..6 {
         let (table, rules) = tables::changed(&words, count, &mut comparison.random);
         let set = tables::any_set(program.atoms, &mut comparison.random);
-        let marks = if comparison.random.percent(85) { MARKS } else { *comparison.random.pick(&[0, 1, 4_095, 4_097, 8_192, 10]) };
+        let marks = if comparison.random.percent(85) {
+            MARKS
+        } else {
+            *comparison.random.pick(&[0, 1, 4_095, 4_096, 4_097, 8_191, 8_193, 16_384, 10])
+        };
         comparison.test_set(&table, rules, &set, marks);
     }
 }

@@ -165,7 +165,10 @@ fn any_pair(random: &mut Random) -> Pair {
         0 => tables::changed(&words, program.rules.len(), random),
         _ => (filled(words.clone(), words.len() + random.below(4)), program.rules.len()),
     };
-    let proof = guided::proof(&program, random, 25);
+    let proof = match random.below(4) {
+        0 => guided::proof(&program, random, 25),
+        _ => guided::proof_for_packet(&program, random, 25),
+    };
     let proof = match random.below(10) {
         0 => noise::pair(random).proof,
         1 | 2 => changes::changed(&proof, random),

@@ -5,7 +5,7 @@ use inputs::random::Random;
 use crate::reference::filled;
 
 /// Words that matter in a table.
-const NOTABLE: [i32; 22] = [
+const NOTABLE: [i32; 27] = [
     0,
     1,
     -1,
@@ -23,6 +23,11 @@ const NOTABLE: [i32; 22] = [
     4_096,
     -4_095,
     -4_096,
+    8_190,
+    8_191,
+    8_192,
+    -8_191,
+    -8_192,
     i32::MAX,
     i32::MIN,
     i32::MIN + 1,
@@ -61,7 +66,7 @@ fn change_once(table: &mut Vec<i32>, rules: &mut usize, random: &mut Random) {
 pub fn any_set(atoms: i32, random: &mut Random) -> Vec<u16> {
     let mut set: Vec<u16> = (1..=atoms as u16).filter(|_| random.percent(50)).collect();
     if random.percent(25) {
-        let atom = *random.pick(&[0, 1, atoms as u16, atoms as u16 + 1, 4_095, 4_096, 65_535]);
+        let atom = *random.pick(&[0, 1, atoms as u16, atoms as u16 + 1, 4_095, 4_096, 8_191, 8_192, 65_535]);
         let place = random.below(set.len() + 1);
         set.insert(place, atom);
     }
@@ -87,12 +92,15 @@ pub fn wide() -> Vec<(Vec<i32>, usize)> {
         }
     }
     for count in [0, 1, 12, 13, 63, 64, 65, 66] {
-        let mut table = vec![0, 1, 0, count, 4_095];
+        let mut table = vec![0, 1, 0, count, 8_191];
         table.extend((1..=count).map(|atom| if atom % 2 == 0 { -atom } else { atom }));
         tables.push((table, 1));
     }
-    tables.extend([4_094, 4_095, 4_096, 4_097, 65_537, -1, -4_095, i32::MIN, i32::MAX].map(|head| (vec![0, 1, 0, 0, head], 1)));
-    tables.extend([4_094, 4_095, 4_096, -4_095, -4_096, 0, 65_537, i32::MIN, i32::MAX].map(|literal| (vec![0, 0, 0, 1, literal], 1)));
+    for atom in [4_094, 4_095, 4_096, 4_097, 8_190, 8_191, 8_192, 8_193, 65_537, i32::MAX, 0] {
+        tables.extend([atom, -atom].map(|head| (vec![0, 1, 0, 0, head], 1)));
+        tables.extend([atom, -atom].map(|literal| (vec![0, 0, 0, 1, literal], 1)));
+    }
+    tables.extend([(vec![0, 1, 0, 0, i32::MIN], 1), (vec![0, 0, 0, 1, i32::MIN], 1)]);
     tables.extend([-1, 65, 4_096, i32::MIN, i32::MAX].map(|count| (vec![1, count, 0, 0, 1, 0, 0, 0, 0], 1)));
     tables.extend([-1, 65, 4_096, i32::MIN, i32::MAX].map(|count| (vec![0, 1, 0, count, 1, 0, 0, 0, 0], 1)));
     tables.extend([usize::MAX, usize::MAX / 3, 1 << 32, 1 << 63, (1 << 32) + 1].map(|rules| (vec![0; 12], rules)));
@@ -105,12 +113,12 @@ pub fn wide() -> Vec<(Vec<i32>, usize)> {
 /// nothing and that everything reaches.
 fn with_weights() -> Vec<(Vec<i32>, usize)> {
     let even = |count: i32, bound: i32| {
-        let mut table = vec![0, 1, 1, count, bound, 4_095];
+        let mut table = vec![0, 1, 1, count, bound, 8_191];
         table.extend((1..=count).flat_map(|atom| [if atom % 2 == 0 { -atom } else { atom }, 1]));
         (table, 1)
     };
     let mut tables: Vec<(Vec<i32>, usize)> = [-1, 0, 1, 11, 12, 13, 64, 65].map(|count| even(count, 6)).into();
-    tables.extend([0, 1, 12, 13, 4_095].map(|bound| even(12, bound)));
+    tables.extend([0, 1, 12, 13, 4_095, 4_096].map(|bound| even(12, bound)));
     let good = [1, 2, 1, 2, 5, 3, 4, -1, 2, 4_095, 3];
     for word in NOTABLE {
         for place in 0..good.len() {
@@ -129,7 +137,7 @@ fn filled_with_rules() -> Vec<(Vec<i32>, usize)> {
     let mut chain = vec![0, 1, 0, 0, 1_024];
     chain.extend((1..1_024).flat_map(|atom| [0, 1, 0, 1, atom, atom + 1]));
     let mut widest = vec![1, 64, 0, 64];
-    widest.extend(4_032..=4_095);
+    widest.extend(8_128..=8_191);
     widest.extend((3_000..3_064).map(|atom| -atom));
     vec![(chain, 1_024), (widest.repeat(1_024), 1_024), (widest.repeat(1_025), 1_025)]
 }

@@ -58,8 +58,8 @@ impl Rules {
             made: Vec::new(),
             relevant: Vec::new(),
             supports: Vec::new(),
-            weighted: vec![Vec::new(); LARGEST + 1],
-            derived_weighted: vec![Vec::new(); LARGEST + 1],
+            weighted: Vec::new(),
+            derived_weighted: Vec::new(),
             supported: QuickSet::default(),
             derived: QuickSet::default(),
             names: Vec::new(),
@@ -100,7 +100,9 @@ impl Rules {
     fn count_rule(&mut self, heads: &[i32], body: impl Iterator<Item = i32>) {
         let largest = heads.iter().copied().chain(body).map(|literal| literal.unsigned_abs()).max();
         self.atoms = self.atoms.max(largest.unwrap_or(0) as usize);
-        self.supports.resize(self.atoms + 1, Vec::new());
+        for lists in [&mut self.supports, &mut self.weighted, &mut self.derived_weighted] {
+            lists.resize(self.atoms + 1, Vec::new());
+        }
         self.count += 1;
     }
 
@@ -159,7 +161,8 @@ impl Rules {
     pub fn derives(&self, name: usize, head: i32) -> bool {
         let Some(body) = self.named[name] else { return false };
         let has_body = |weights: &u32| self.weights[*weights as usize].is_body(&self.bodies[body as usize]);
-        body < 1_024 && self.derived.contains(&pair(head, body)) || self.derived_weighted[head as usize].iter().any(has_body)
+        let weighted = self.derived_weighted.get(head as usize);
+        body < 1_024 && self.derived.contains(&pair(head, body)) || weighted.is_some_and(|weights| weights.iter().any(has_body))
     }
 
     /// The names, all different, are those of exactly the bodies that support the atom.

@@ -17,7 +17,7 @@ use steps::Checking;
 const LONGEST: usize = 65_535;
 
 /// The largest variable.
-const LARGEST: usize = 4_095;
+const LARGEST: usize = 8_191;
 
 /// The verdict on a proof text against a program text, for a table and a store of so many words.
 pub fn check(program: &[u8], proof: &[u8], table_words: usize, store_words: usize) -> Result<Verdict, UnknownAnswer> {
@@ -109,6 +109,11 @@ mod tests {
             ("1 0 2 1 2 1 1 0", "refused program 7 2"),
             ("1 0 1 1 1 1 2 2 1 -2 1", "refused program 8 2"),
             ("1 0 1 1 2 1 0", "refused program 5 2"),
+            ("1 0 1 1 1 4095 1 8191 4095", "open 8191 1 0 0"),
+            ("1 0 1 1 1 4096 1 2 1", "refused program 54 2"),
+            ("1 0 1 1 1 1 1 2 8191", "refused program 54 2"),
+            ("1 0 1 1 1 1 1 2 8192", "refused program 4 2"),
+            ("1 0 1 8192 0 0", "refused program 4 2"),
         ] {
             assert_eq!(line(&format!("{rule}\n"), "", 10, 0), expected, "{rule}");
         }
@@ -160,6 +165,15 @@ mod tests {
         ] {
             assert_eq!(line(rules, proof, 99, 99), expected, "{rules}{proof}");
         }
+    }
+
+    #[test]
+    fn largest_variables() {
+        assert_eq!(line("1 0 1 1 0 0\n", "b 8191 0\n", 99, 99), "open 1 1 1 1");
+        assert_eq!(line("1 0 1 1 0 0\n", "b 8192 0\n", 99, 99), "refused proof 23 1");
+        assert_eq!(line("1 0 1 8191 0 0\n", "e 8191 0\n", 99, 99), "refused proof 27 1");
+        let proof = "b 8191 -8190 0\nc 8191 8190 0\ns 8190 8191 0\na 8190 0\na 0\n";
+        assert_eq!(line("1 0 1 8190 0 1 -8190\n", proof, 99, 99), "inconsistent 8190 1 5 6");
     }
 
     #[test]

@@ -9,6 +9,9 @@ const MOST_RULES: usize = 1_024;
 const MOST_PARTS: i32 = 64;
 const MOST_WEIGHTED: usize = 12;
 
+/// The largest bound and weight.
+const MOST_WEIGHT: i32 = 4_095;
+
 /// The rules of a program, or the refusal's number and the line.
 pub fn read(text: &[u8], table_words: usize) -> Result<Rules, (u8, usize)> {
     if text.len() > LONGEST {
@@ -139,9 +142,10 @@ fn split(numbers: &mut [i32]) -> Result<(i32, &mut [i32], Body<'_>), u8> {
     Ok((kind, heads, body))
 }
 
-/// Bound and weights are not negative, and the literals not too many; or the refusal's number.
+/// Bound and weights are in their range, and the literals not too many; or the refusal's number.
 fn weights_good(bound: i32, pairs: &[i32]) -> Result<(), u8> {
-    if bound < 0 || pairs.chunks_exact(2).any(|pair| pair[1] < 0) {
+    let in_range = |weight: i32| (0..=MOST_WEIGHT).contains(&weight);
+    if !in_range(bound) || !pairs.chunks_exact(2).all(|pair| in_range(pair[1])) {
         return Err(54);
     }
     if pairs.len() > 2 * MOST_WEIGHTED {

@@ -32,11 +32,11 @@ pub use questions::{Letter, PacketQuestion, ProgramQuestion, ProofQuestion, SetQ
 pub const MOST_NUMBERS: usize = 65;
 
 /// The marks that the set test asks for.
-pub const MARKS: usize = 4096;
+pub const MARKS: usize = 8192;
 
 /// The bytes of stack with which a thread has enough for any call, as `std::thread::Builder::stack_size` takes them. What your own
 /// code takes comes on top.
-pub const STACK: usize = 327_680;
+pub const STACK: usize = 524_288;
 
 // Each call below hands over what its slices point to, with their lengths. A slice is valid for its length, an empty one has a
 // pointer that is aligned and not null, and Rust lets no other argument overlap one that is written: nothing more is asked.
@@ -126,7 +126,7 @@ pub fn check_texts(program: &[u8], proof: &[u8], table: &mut [i32], store: &mut 
 /// Writes a packet: a table that holds so many rules and a proof text, in one sequence of bytes with one form for each such pair. The
 /// proof is not checked against the program. The output then begins with the packet and has 0 after it; it is 0 throughout where the
 /// packet is refused. `13 + 4 * table.len() + proof.len()` bytes hold every packet. A packet has no place for body kinds: a table with a
-/// rule of body kind 1 is refused.
+/// rule of body kind 1 is refused, and so is a variable above 4,095 in the table or in the text.
 ///
 /// ```
 /// use aspdrupe::{read_packet, write_packet, PacketReading, PacketWriting};

@@ -65,7 +65,7 @@ numbered! {
         Length = 1, "Has the text at most 65,535 bytes?";
         Header = 2, "Is line 1 `asp 1 0 0`?";
         Numbers = 3, "Is there a line, ended, of well-formed numbers?";
-        Range = 4, "Are all numbers from -4,095 to 4,095?";
+        Range = 4, "Are all numbers from -8,191 to 8,191?";
         Kinds = 5, "Is the statement kind 1, the head kind 0 or 1, and the body kind 0 or 1?";
         Counts = 6, "Are both counts and a bound there, the counts 0 to 64, and matched by what follows?";
         HeadCount = 7, "Does the head count suit the head kind?";
@@ -83,7 +83,7 @@ numbered! {
     ProofQuestion, "question put to a proof text" {
         Length = 21, "Has the text at most 65,535 bytes?";
         Shape = 22, "Is the line a letter, a space, numbers, a closing `0` and a newline?";
-        Sizes = 23, "Are all numbers from -4,095 to 4,095, and at most 65 of them?";
+        Sizes = 23, "Are all numbers from -8,191 to 8,191, and at most 65 of them?";
         Signs = 24, "Is a first number there for `b c e l s`, and every sign as told?";
         Distinct = 25, "Is no variable named twice in the line?";
         Known = 26, "Are all variables known, save the name introduced?";
@@ -104,7 +104,7 @@ numbered! {
     SetQuestion, "question put by the set test" {
         Table = 41, "Is the table one that the program reader leaves, with that rule count?";
         Set = 42, "Is the set strictly ascending within 1 to the largest atom?";
-        Marks = 43, "Are there 4,096 marks?";
+        Marks = 43, "Are there 8,192 marks?";
     }
 }
 
@@ -113,7 +113,7 @@ numbered! {
     PacketQuestion, "question put to a packet" {
         Mark = 51, "Does the packet begin with `RVP` and version 1?";
         Lengths = 52, "Do the lengths make up the bytes given, and do the outputs hold what is written?";
-        Pair = 53, "Does the table pass question 41 and have no weights, and the proof text questions 21 to 25?";
+        Pair = 53, "Does the table pass question 41 and have no weights, the proof text questions 21 to 25, and neither a variable above 4,095?";
     }
 }
 

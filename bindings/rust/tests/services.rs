@@ -121,6 +121,25 @@ fn sets() {
 }
 
 #[test]
+fn largest_variables() {
+    let mut marks = [7; MARKS];
+    assert_eq!(read_program(b"asp 1 0 0\n1 0 1 8191 0 0\n0\n", &mut [0; 5]), Ok(ProgramReading::Read { atoms: 8_191, rules: 1 }));
+    assert_eq!(read_program(b"asp 1 0 0\n1 0 1 8192 0 0\n0\n", &mut [0; 5]), refused(ProgramQuestion::Range, 2));
+    assert_eq!(read_program(b"asp 1 0 0\n1 0 1 1 1 4096 0\n0\n", &mut [0; 9]), refused(ProgramQuestion::Weights, 2));
+    assert_eq!(test_set(&[0, 1, 0, 0, 8_191], 1, &[8_191], &mut marks), Ok(SetAnswer::Yes));
+    assert_eq!((marks[8_190], marks[8_191]), (0, 1));
+    assert_eq!(test_set(&[0, 1, 0, 0, 8_191], 1, &[], &mut marks), Ok(SetAnswer::Differs(8_191)));
+    assert_eq!(test_set(&[0, 1, 0, 0, 8_192], 1, &[], &mut marks), Ok(SetAnswer::Refused(SetQuestion::Table)));
+    for count in [4_096, 8_193] {
+        assert_eq!(test_set(&[0, 1, 0, 0, 8_191], 1, &[], &mut vec![7; count]), Ok(SetAnswer::Refused(SetQuestion::Marks)));
+    }
+    let line = |text| read_line(text, 0).map(|(line, numbers)| (line, numbers[0]));
+    assert_eq!(line(b"a -8191 0\n"), Ok((LineAnswer::Line { letter: Letter::Addition, count: 1, next: 10 }, -8_191)));
+    assert_eq!(line(b"a 8192 0\n"), Ok((LineAnswer::Refused(ProofQuestion::Sizes), 0)));
+    assert_eq!(checked(b"asp 1 0 0\n1 0 1 1 0 0\n0\n", b"b 8191 0\n", 5, 2).0, "open 1 1 1 1");
+}
+
+#[test]
 fn lowest_atoms() {
     let mut marks = [7; MARKS];
     // a loop, which gives neither of its atoms
@@ -216,6 +235,19 @@ fn packets_that_are_not_written() {
     for size in [0, 99] {
         assert_eq!(packed(&[0, 0, 1, 0, 0], 1, &[], size), refused(PacketQuestion::Pair, size));
     }
+}
+
+/// "packets of version 1 keep the old" largest variable.
+#[test]
+fn variables_of_packets() {
+    let refused = (PacketWriting::Refused(PacketQuestion::Pair), vec![0; 99]);
+    assert_eq!(packed(&[0, 1, 0, 0, 4_095], 1, b"a -4095 0\n", 99).0, PacketWriting::Written(33));
+    assert_eq!(packed(&[0, 1, 0, 0, 4_096], 1, &[], 99), refused);
+    assert_eq!(packed(&[0, 0, 0, 1, -8_191], 1, &[], 99), refused);
+    assert_eq!(packed(&[0, 1, 0, 0, 1], 1, b"a 0\na 4096 0\n", 99), refused);
+    let words = [0, 1, 0, 4_096i32].map(i32::to_le_bytes).concat();
+    let packet = [&PACKET[..5], &[4, 0, 0, 0, 0, 0, 0, 0], &words].concat();
+    assert_eq!(unpacked(&packet, 5, 0), (PacketReading::Refused(PacketQuestion::Pair), vec![0; 5], vec![]));
 }
 
 #[test]

@@ -3,7 +3,7 @@
 use inputs::random::Random;
 
 /// Numbers at the limits of documents 01 and 02, as they may be written in a text.
-const NOTABLE: [&str; 20] = [
+const NOTABLE: [&str; 25] = [
     "0",
     "1",
     "-1",
@@ -21,6 +21,11 @@ const NOTABLE: [&str; 20] = [
     "-4095",
     "4096",
     "-4096",
+    "8190",
+    "8191",
+    "-8191",
+    "8192",
+    "-8192",
     "-0",
     "01",
     "99999999999999999999",

@@ -9,11 +9,19 @@ use crate::reference::closure::closure;
 use crate::reference::lines::read_line;
 use crate::reference::lines::Answer;
 use crate::reference::program::Program;
-use crate::reference::LARGEST;
+use crate::reference::{LARGEST, PACKET_LARGEST};
 
 /// A proof of up to so many steps. A refused step is most often left out; where it stays, the proof ends soon after it.
 pub fn proof(program: &Program, random: &mut Random, most: usize) -> Vec<u8> {
-    let mut author = Author::of(program);
+    proof_by(Author::of(program), random, most)
+}
+
+/// The same, with names up to the largest that a packet holds.
+pub fn proof_for_packet(program: &Program, random: &mut Random, most: usize) -> Vec<u8> {
+    proof_by(Author { largest: PACKET_LARGEST, ..Author::of(program) }, random, most)
+}
+
+fn proof_by(mut author: Author, random: &mut Random, most: usize) -> Vec<u8> {
     for _ in 0..random.below(most + 1) {
         let (letter, numbers) = any_step(&author, random);
         if !write_or_end(&mut author, letter, &numbers, random, 4) {

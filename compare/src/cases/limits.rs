@@ -86,11 +86,17 @@ fn body_counts() -> Vec<Case> {
     cases
 }
 
+/// Numbers at the limits of a program's lines.
+const PROGRAM_NUMBERS: [i32; 27] = [
+    -8_193, -8_192, -8_191, -4_097, -4_096, -4_095, -65, -64, -1, 0, 1, 2, 3, 12, 13, 63, 64, 65, 4_094, 4_095, 4_096, 4_097, 8_190, 8_191,
+    8_192, 8_193, 65_536,
+];
+
 /// Rows that are good, with a number at a limit in each of their places in turn.
 fn program_numbers() -> Vec<Case> {
     let mut cases = Vec::new();
     for row in [&[1, 1, 2, 3, 4, 0, 2, 5, -6][..], &[1, 1, 2, 3, 4, 1, 7, 2, 5, 3, -6, 8]] {
-        for number in [-4_097, -4_096, -4_095, -65, -64, -1, 0, 1, 2, 3, 12, 13, 63, 64, 65, 4_094, 4_095, 4_096, 4_097, 65_536] {
+        for number in PROGRAM_NUMBERS {
             for place in 0..row.len() {
                 let mut changed = row.to_vec();
                 changed[place] = number;
@@ -215,7 +221,7 @@ fn program_shapes() -> Vec<Case> {
         ("asp 1 0 0\n1 0 1 1 0 0\n10 1\n0\n", "refused program 5 3"),
         ("asp 1 0 0\n1 0 1 01 0 0\n0\n", "refused program 3 2"),
         ("asp 1 0 0\n1 0 1 1  0 0\n0\n", "refused program 3 2"),
-        ("asp 1 0 0\n4096 00\n0\n", "refused program 3 2"),
+        ("asp 1 0 0\n8192 00\n0\n", "refused program 3 2"),
     ] {
         cases.push(case(format!("text {text:?}"), text, "a 0\n", line));
     }
@@ -224,7 +230,7 @@ fn program_shapes() -> Vec<Case> {
     cases.push(case("20,000 numbers", program(&[&format!("1 0 1 1 0 0{}", " 1".repeat(20_000))]), "", "refused program 6 2"));
     cases.push(case("20,000 ones", program(&[&format!("1{}", " 1".repeat(20_000))]), "", "refused program 6 2"));
     cases.push(case("20,000 twos", program(&[&format!("1{}", " 2".repeat(20_000))]), "", "refused program 5 2"));
-    cases.push(case("a bad one after 20,000", program(&[&format!("1{} -", " 4096".repeat(10_000))]), "", "refused program 3 2"));
+    cases.push(case("a bad one after 20,000", program(&[&format!("1{} -", " 8192".repeat(10_000))]), "", "refused program 3 2"));
     cases
 }
 
@@ -269,11 +275,11 @@ fn number_counts() -> Vec<Case> {
     }
     let mut largest = vec![300];
     largest.extend((65..=128).rev());
-    let mut smallest = vec![4_095];
+    let mut smallest = vec![8_191];
     smallest.extend((1..=64).map(|atom| -atom));
     let named = line_of(b'b', &largest) + &line_of(b'b', &smallest);
     cases.push(case("bodies of 64 literals", program_text(&rules), &named, "open 200 2 2 130"));
-    cases.push(case("completed", program_text(&rules), named.clone() + "c 4095 200 0\nc 300 1 0\n", "refused proof 29 4"));
+    cases.push(case("completed", program_text(&rules), named.clone() + "c 8191 200 0\nc 300 1 0\n", "refused proof 29 4"));
     let all = line_of(b'l', &count_to(65));
     cases.push(case("65 atoms, one of them without a rule", program_text(&rules), &all, "refused proof 56 1"));
     let back = normal(65, &count_to(64));
@@ -304,17 +310,23 @@ fn supports() -> Vec<Case> {
 
 fn variable_sizes() -> Vec<Case> {
     let mut cases = Vec::new();
-    for number in [4_094, 4_095, 4_096, 4_097, 65_536, 2_147_483_647] {
+    for number in [4_094, 4_095, 4_096, 4_097, 8_190, 8_191, 8_192, 8_193, 65_536, 2_147_483_647] {
         for letter in ["a", "d", "c", "l", "s", "b", "e", "a -", "d -", "e 2 -", "b 2 -", "c 2 ", "c -", "b -", "l 1 ", "s 1 "] {
             let spaced = if letter.len() == 1 { " " } else { "" };
-            for largest in ["1 0 1 1 0 0", "1 0 1 4095 0 0"] {
+            for largest in ["1 0 1 1 0 0", "1 0 1 4095 0 0", "1 0 1 8191 0 0"] {
                 let step = format!("{letter}{spaced}{number} 0");
                 cases.push(case(format!("step {step}"), program(&[largest]), proof(&[&step]), ""));
             }
         }
     }
-    cases.push(case("name 4,095", program(RULE_1), "e 4095 -1 0\na 4095 1 0\n", "open 1 1 2 3"));
-    cases.push(case("no name is left", program(&["1 0 1 4095 0 0"]), "e 4095 0\n", "refused proof 27 1"));
+    for name in [4_095, 4_096, 8_191] {
+        cases.push(case(format!("name {name}"), program(RULE_1), format!("e {name} -1 0\na {name} 1 0\n"), "open 1 1 2 3"));
+    }
+    let names: String = (1_000..=8_191).rev().map(|name| line_of(b'e', &[name])).collect();
+    cases.push(case("7,192 names", program(RULE_1), names.clone() + "a -8191 0\n", "open 1 1 7193 7193"));
+    cases.push(case("a name of 7,192 again", program(RULE_1), names + "e 4096 0\n", "refused proof 27 7193"));
+    cases.push(case("names after 4,095", program(&["1 0 1 4095 0 0"]), "e 4096 0\n", "open 4095 1 1 1"));
+    cases.push(case("no name is left", program(&["1 0 1 8191 0 0"]), "e 8191 0\n", "refused proof 27 1"));
     cases
 }
 
@@ -419,9 +431,10 @@ fn wide_loops() -> Vec<Case> {
         [2, 63, 64, 65].into_iter().flat_map(|count| [rings(count), cut_rings(count), two_rings(count)].concat()).collect();
     let most = count_to(64);
     cases.push(loop_case("every atom from every atom", &[choice(&most, &most)], &most, "open 64 1 1 1"));
-    let last: Vec<i32> = (4_031..=4_095).collect();
-    cases.push(loop_case("a ring of the last", &ring(&last), &last, "open 4095 65 1 1"));
-    cases.push(loop_case("a ring of the last", &ring(&last[63..]), &last[63..], "open 4095 2 1 1"));
+    let last: Vec<i32> = (8_127..=8_191).collect();
+    cases.push(loop_case("a ring of the last", &ring(&last), &last, "open 8191 65 1 1"));
+    cases.push(loop_case("a ring of the last", &ring(&last[63..]), &last[63..], "open 8191 2 1 1"));
+    cases.push(loop_case("a ring at 4,096", &ring(&[4_095, 4_096, 4_097]), &[4_096, 4_097, 4_095], "open 4097 3 1 1"));
     let late = [vec![constraint(&[1, 2]); 1_022], ring(&[1, 2])].concat();
     cases.push(loop_case("a ring by the last of 1,024 rules", &late, &[1, 2], "open 2 1024 1 1"));
     cases.push(loop_case("a ring without the last of 1,024 rules", &late[..1_023], &[1, 2], NO_LOOP));
@@ -544,16 +557,16 @@ fn chain(atom: i32, first: i32, last: i32) -> String {
 /// Chains of extensions that propagation has to go along, with the order of the store and against it.
 fn long_chains() -> Vec<Case> {
     let mut cases = Vec::new();
-    for links in [1, 3, 100, 2_600] {
-        let last = 4 + links;
-        let steps = String::from(DEAD_END_STEPS) + &chain(1, 5, last);
+    for (first, links) in [(5, 1), (5, 3), (5, 100), (5, 2_600), (5_592, 2_600)] {
+        let last = first + links - 1;
+        let steps = String::from(DEAD_END_STEPS) + &chain(1, first, last);
         let with = |more: String| steps.clone() + &more + "\n";
         let open = format!("open 2 3 {} {}", links + 5, 2 * links + 9);
         let refused = format!("refused proof 33 {}", links + 5);
         cases.push(case(format!("against the order, {links} links"), program(DEAD_END), with(format!("a {last} 0")), &open));
         cases.push(case(format!("no contradiction over {links} links"), program(DEAD_END), with(format!("a -{last} 0")), &refused));
         cases.push(case(format!("with the order, {links} links"), program(DEAD_END), with(format!("a 1 -{last} 0")), &open));
-        let elsewhere = chain(2, 5, last);
+        let elsewhere = chain(2, first, last);
         cases.push(case(
             format!("a chain of {links} links elsewhere"),
             program(DEAD_END),

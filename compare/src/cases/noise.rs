@@ -42,7 +42,7 @@ fn rule_rows(random: &mut Random) -> Vec<u8> {
         }
         if random.percent(30) {
             let place = random.below(row.len());
-            row[place] = *random.pick(&[-1, 0, 1, 2, 3, 64, 65, 4_095, 4_096]);
+            row[place] = *random.pick(&[-1, 0, 1, 2, 3, 64, 65, 4_095, 4_096, 8_191, 8_192]);
         }
         if random.percent(15) {
             row.truncate(random.below(row.len()));

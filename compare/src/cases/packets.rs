@@ -131,7 +131,13 @@ fn tables() -> Vec<ReaderCase> {
         ReaderCase { table: 4_095, ..refused(52, "3,072 zero words, 4,095 lent", of_words(&[0; 3_072])) },
         refused(53, "2 zero words", of_words(&[0; 2])),
         ReaderCase { table: 3_075, ..refused(53, "3,075 zero words", of_words(&[0; 3_075])) },
+        taken(1, "", "head 4,095", of_words(&[0, 1, 0, 4_095])),
         refused(53, "head 4,096", of_words(&[0, 1, 0, 4_096])),
+        refused(53, "head 8,191", of_words(&[0, 1, 0, 8_191])),
+        refused(53, "head 8,192", of_words(&[0, 1, 0, 8_192])),
+        taken(1, "", "literal -4,095", of_words(&[0, 0, 1, -4_095])),
+        refused(53, "literal -4,096", of_words(&[0, 0, 1, -4_096])),
+        ReaderCase { table: 0, ..refused(53, "head 4,096, no table lent", of_words(&[0, 1, 0, 4_096])) },
         refused(53, "literals that do not ascend", of_words(&[0, 0, 2, 2, -1])),
         refused(53, "a last word of 80000000", last),
         refused(53, "words with a body kind", of_words(&TABLE_1)),
@@ -153,6 +159,10 @@ fn steps() -> Vec<ReaderCase> {
         refused(53, "b without a number", of_step(0x62, &[])),
         refused(53, "a number 0", of_step(b'a', &[0])),
         refused(53, "4,096", of_step(b'a', &[4_096])),
+        refused(53, "-8,191", of_step(b'a', &[-8_191])),
+        refused(53, "8,192", of_step(b'a', &[8_192])),
+        refused(53, "a name 4,096", of_step(b'e', &[4_096])),
+        refused(53, "4,096 after others", of_step(b'd', &[1, 2, -4_096])),
         refused(53, "-32,768", of_step(b'a', &[-32_768])),
         refused(53, "c with -1", of_step(0x63, &[-1])),
         refused(53, "a variable twice", of_step(b'a', &[1, -1])),
@@ -194,6 +204,15 @@ pub fn writer_cases() -> Vec<WriterCase> {
         case("a rule with weights, no output", &weights, 1, b"", 0, Err(53)),
         case("a rule with weights after another", &[&TABLE_1[..], &weights].concat(), 2, text, 99, Err(53)),
         case("a table without body kinds", &[0, 1, 1, 1, -1], 1, text, 99, Err(53)),
+        case("atom 4,095", &[0, 1, 0, 0, 4_095], 1, b"", 29, Ok(29)),
+        case("atom 4,096", &[0, 1, 0, 0, 4_096], 1, b"", 99, Err(53)),
+        case("atom 4,096, no output", &[0, 1, 0, 0, 4_096], 1, b"", 0, Err(53)),
+        case("atom 8,191 after a rule", &[&TABLE_1[..], &[0, 1, 0, 0, 8_191]].concat(), 2, b"", 99, Err(53)),
+        case("literal -4,096", &[0, 0, 0, 1, -4_096], 1, b"", 99, Err(53)),
+        case("step -4,095", &TABLE_1, 1, b"a -4095 0\n", 99, Ok(37)),
+        case("step 4,096", &TABLE_1, 1, b"a 4096 0\n", 99, Err(53)),
+        case("step 4,096, no output", &TABLE_1, 1, b"a 0\na 4096 0\n", 0, Err(53)),
+        case("step 8,191 after others", &TABLE_1, 1, b"a 0\nd 1 2 -8191 0\n", 99, Err(53)),
         case("no newline at the end", &TABLE_1, 1, b"a 0", 57, Err(53)),
         case("no newline at the end, no output", &TABLE_1, 1, b"a 0", 0, Err(53)),
         case("nothing", &[], 0, b"", 13, Ok(13)),
@@ -245,7 +264,8 @@ fn word_limits() -> Vec<Vec<u8>> {
     let widest = [&[1, 64, 64][..], &heads, &body].concat();
     packets.extend([1_024, 1_025].map(|rules| of_words(&widest.repeat(rules))));
     let good = [1, 2, 2, 3, 4, 5, -6];
-    for word in [0, 1, -1, 2, 3, 4, 5, 6, 7, 63, 64, 65, 4_095, 4_096, -4_095, -4_096, 65_536, 65_537, i32::MAX, i32::MIN] {
+    let sizes = [4_095, 4_096, 8_191, 8_192, -4_095, -4_096, -8_191, -8_192, 65_536, 65_537, i32::MAX, i32::MIN];
+    for word in [0, 1, -1, 2, 3, 4, 5, 6, 7, 63, 64, 65].into_iter().chain(sizes) {
         for place in 0..good.len() {
             let mut changed = good;
             changed[place] = word;
@@ -267,7 +287,7 @@ fn step_limits() -> Vec<Vec<u8>> {
         packets.extend([of_step(letter, &[]), of_step(letter, &[9]), of_step(letter, &[9, 8])]);
     }
     for letter in *b"abcdelsx" {
-        for number in [0, 1, 2, 3, 9, 10, 99, 100, 999, 1_000, 4_094, 4_095, 4_096, 4_097, 8_191, 32_767, 32_768] {
+        for number in [0, 1, 2, 3, 9, 10, 99, 100, 999, 1_000, 4_094, 4_095, 4_096, 4_097, 8_190, 8_191, 8_192, 32_767, 32_768] {
             for signed in [number, -number] {
                 packets.extend([of_step(letter, &[signed]), of_step(letter, &[3, signed]), of_step(letter, &[signed, 3])]);
             }

@@ -38,11 +38,13 @@ pub struct Author<'a> {
     pub program: &'a Program,
     pub state: State,
     pub lines: Vec<String>,
+    /// The largest number that it takes as a name.
+    pub largest: i32,
 }
 
 impl<'a> Author<'a> {
     pub fn of(program: &'a Program) -> Author<'a> {
-        Author { program, state: State::start(program), lines: Vec::new() }
+        Author { program, state: State::start(program), lines: Vec::new(), largest: LARGEST }
     }
 
     /// Takes the step and writes its line, or answers the refusal's number.
@@ -59,8 +61,8 @@ impl<'a> Author<'a> {
 
     /// A number that is no known variable: most often the next one, else any.
     pub fn fresh(&self, random: &mut Random) -> i32 {
-        let next = (1..=LARGEST).find(|number| !self.state.known.contains(number)).unwrap_or(LARGEST);
-        let any = random.between(1, LARGEST);
+        let next = (1..=self.largest).find(|number| !self.state.known.contains(number)).unwrap_or(self.largest);
+        let any = random.between(1, self.largest);
         if random.percent(70) || self.state.known.contains(&any) {
             next
         } else {

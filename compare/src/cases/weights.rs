@@ -6,7 +6,7 @@ use inputs::rules::{rule_row, weighted, Rule};
 use inputs::{joined, Pair};
 
 /// Numbers that matter to a count, a bound, a weight, a literal or a kind.
-const NOTABLE: [i32; 16] = [-4_096, -4_095, -12, -1, 0, 1, 2, 3, 11, 12, 13, 64, 65, 4_094, 4_095, 4_096];
+const NOTABLE: [i32; 20] = [-8_192, -8_191, -4_096, -4_095, -12, -1, 0, 1, 2, 3, 11, 12, 13, 64, 65, 4_094, 4_095, 4_096, 8_191, 8_192];
 
 /// A program of a few such lines and a short proof.
 pub fn pair(random: &mut Random) -> Pair {

@@ -2,7 +2,7 @@
 
 use super::LARGEST;
 
-/// A set of literals over the variables 1 to 4,095.
+/// A set of literals over the variables.
 #[derive(Clone)]
 pub struct Literals {
     inside: Vec<bool>,

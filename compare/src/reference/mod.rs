@@ -18,10 +18,11 @@
 //! - The writer has no mark to test, so its order is 53, 52.
 //! - In the text of a weight body the count stands between bound and literals, as ASPIF has it; Change 3 leaves it out of its list.
 //! - A weight body of 13 to 64 literals with all its numbers is 55; another count, or numbers too few or too many, 6.
-//! - Only question 54 is put to what 4 lets pass: a number above 4,095 is 4 wherever it stands.
+//! - Only question 54 is put to what 4 lets pass: a bound or weight from 4,096 to 8,191 is 54, and a number above 8,191 is 4 wherever it stands.
 //! - The bodies of one weight rule are counted with those of all other rules: "different bodies" are those of the whole expansion.
 //! - A set of one atom is a loop where a rule has an edge from the atom to itself: an atom reaches itself "by one or more" edges.
 //! - Edges are of the expansion: a literal that stands in no minimal set gives none.
+//! - Change 6 moves no other limit than those that it names: bounds, weights and version 1 packets stay at 4,095, counts at 64.
 //! - A packet holds the words of the base, without the body kind; its reader's table is too short where it does not hold the new words.
 
 pub mod check;
@@ -35,8 +36,12 @@ pub mod program;
 pub mod steps;
 pub mod weights;
 
-/// The largest variable and the largest atom.
-pub const LARGEST: i32 = 4_095;
+/// The largest variable and the largest atom: "The largest variable becomes 8,191".
+pub const LARGEST: i32 = 8_191;
+/// The largest variable in a packet: "packets of version 1 keep the old ones".
+pub const PACKET_LARGEST: i32 = 4_095;
+/// The largest bound and weight: "Bound and weights are 0 to 4,095".
+pub const WEIGHT_LARGEST: i32 = 4_095;
 /// The most bytes that a text may have.
 pub const TEXT_LIMIT: usize = 65_535;
 /// The most heads of a choice rule and the most literals of a body.
@@ -47,8 +52,8 @@ pub const LINE_LIMIT: usize = 65;
 pub const RULE_LIMIT: usize = 1_024;
 /// The most literals of a body with weights.
 pub const WEIGHTED_LIMIT: usize = 12;
-/// The bytes of marks that the set test is lent.
-pub const MARKS: usize = 4_096;
+/// The bytes of marks that the set test is lent: "the marks 8,192 bytes".
+pub const MARKS: usize = 8_192;
 
 /// The words or bytes, and zeros up to the length that was lent.
 pub fn filled<T: Clone + Default>(mut words: Vec<T>, room: usize) -> Vec<T> {

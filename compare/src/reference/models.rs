@@ -164,7 +164,7 @@ fn weights_good(rule: &InputRule) -> bool {
     }
 }
 
-/// Whether the words are literals of atoms 1 to 4,095, strictly ascending by atom.
+/// Whether the words are literals of atoms, strictly ascending by atom.
 fn ascending(literals: &[i32]) -> bool {
     let sizes: Vec<u32> = literals.iter().map(|literal| literal.unsigned_abs()).collect();
     sizes.iter().all(|size| (1..=LARGEST as u32).contains(size)) && sizes.windows(2).all(|pair| pair[0] < pair[1])
@@ -201,7 +201,7 @@ mod tests {
         assert_eq!(lowest_apart(&set(&[1, 3]), &set(&[1, 3])), None);
         assert_eq!(lowest_apart(&set(&[1, 3]), &set(&[1, 2])), Some(2));
         assert_eq!(lowest_apart(&set(&[1, 2]), &set(&[1, 3])), Some(2));
-        assert_eq!(lowest_apart(&set(&[4_095]), &set(&[])), Some(4_095));
+        assert_eq!(lowest_apart(&set(&[8_191]), &set(&[])), Some(8_191));
     }
 
     fn plain(heads: &[i32], body: &[i32]) -> InputRule {

@@ -1,11 +1,11 @@
 //! Case packets, Change 1 of document 02: the writer and the reader with their questions 51 to 53. "Packets keep the old table and refuse a
-//! weight rule with 53": inside stand the words of the base, outside those of Change 3.
+//! weight rule with 53": inside stand the words of the base, outside those of Change 3. "packets of version 1 keep the old" largest variable.
 
 use super::filled;
 use super::lines::{read_line, Answer, Line};
 use super::models::{rule_at_front, rules_of};
 use super::program::{table_words, InputRule};
-use super::{PART_LIMIT, RULE_LIMIT};
+use super::{PACKET_LARGEST, PART_LIMIT, RULE_LIMIT};
 
 /// "the three bytes `RVP`, 16-bit version 1"
 const FRONT: [u8; 5] = *b"RVP\x01\x00";
@@ -37,11 +37,21 @@ fn packet_within(table: &[i32], rule_count: usize, proof: &[u8], room: usize) ->
     let rules = rules_of(table, rule_count).ok_or(53)?;
     let words: Option<Vec<Vec<i32>>> = rules.iter().map(old_words).collect();
     let steps = lines_of(proof).ok_or(53)?;
+    if !variables_are_old(&rules, &steps) {
+        return Err(53);
+    }
     let packet = bytes_of(&words.ok_or(53)?.concat(), &steps);
     if packet.len() > room {
         return Err(52);
     }
     Ok(packet)
+}
+
+/// No variable of a rule or of a step is above the old largest.
+fn variables_are_old(rules: &[InputRule], steps: &[Line]) -> bool {
+    let is_old = |number: &i32| number.abs() <= PACKET_LARGEST;
+    let rule_is_old = |rule: &InputRule| rule.heads.iter().all(is_old) && rule.literals().iter().all(is_old);
+    rules.iter().all(rule_is_old) && steps.iter().all(|step| step.numbers.iter().all(is_old))
 }
 
 /// The words of a rule in the old table, "head kind, head count, body count, heads ascending, body literals ascending by atom"; none with
@@ -96,7 +106,10 @@ fn pair_within(packet: &[u8], table_room: usize, proof_room: usize) -> Result<(V
     let (words, steps) = parts(rest).ok_or(52)?;
     let rules = rules_in(&words).ok_or(53)?;
     let text: Vec<u8> = steps.iter().flat_map(|(letter, numbers)| line_text(*letter, numbers)).collect();
-    lines_of(&text).ok_or(53)?;
+    let lines = lines_of(&text).ok_or(53)?;
+    if !variables_are_old(&rules, &lines) {
+        return Err(53);
+    }
     if table_words(&rules).len() > table_room || text.len() > proof_room {
         return Err(52);
     }

@@ -2,7 +2,7 @@
 
 use super::numbers::{line_at, numbers};
 use super::weights::minimal_sets;
-use super::{by_variable, variables_differ, LARGEST, PART_LIMIT, RULE_LIMIT, TEXT_LIMIT, WEIGHTED_LIMIT};
+use super::{by_variable, variables_differ, LARGEST, PART_LIMIT, RULE_LIMIT, TEXT_LIMIT, WEIGHTED_LIMIT, WEIGHT_LARGEST};
 
 /// A plain rule, its heads ascending and its body ascending by atom.
 #[derive(Clone, Debug, PartialEq, Eq, Hash)]
@@ -220,7 +220,7 @@ fn weights_good(bound: i32, pairs: &[(i32, i32)]) -> Result<(), u8> {
 
 /// "Bound and weights are 0 to 4,095"
 pub fn in_range(weight: i32) -> bool {
-    (0..=4_095).contains(&weight)
+    (0..=WEIGHT_LARGEST).contains(&weight)
 }
 
 /// The body with its literals in ascending order of their variables.
@@ -297,8 +297,9 @@ mod tests {
             ("1 0 0 0 1 0", Some(8)),
             ("0 0", Some(5)),
             ("-0", Some(3)),
-            ("5 4096 -0", Some(3)),
-            ("5 4096", Some(4)),
+            ("5 8192 -0", Some(3)),
+            ("5 8192", Some(4)),
+            ("5 8191", Some(5)),
             ("0", Some(11)),
         ] {
             assert_eq!(refusal(rule), number, "{rule}");
@@ -321,7 +322,9 @@ mod tests {
             ("1 0 1 1 1 3 1 2 2 3", Some(6)),
             ("1 0 1 1 1 3 -1", Some(6)),
             ("1 0 1 1 1 4095 1 2 4095", None),
-            ("1 0 1 1 1 4096 1 2 4095", Some(4)),
+            ("1 0 1 1 1 4096 1 2 4095", Some(54)),
+            ("1 0 1 1 1 4095 1 2 8191", Some(54)),
+            ("1 0 1 1 1 4095 1 2 8192", Some(4)),
             ("1 0 1 1 1 -1 1 2 4095", Some(54)),
             ("1 0 1 1 1 1 1 2 -1", Some(54)),
             ("1 0 2 1 2 1 -1 0", Some(54)),

@@ -120,7 +120,7 @@ pub data Asked : Type 0 where
   refused : ℕ → Asked
   passed : List InputRule → Asked
 
--- "Is M strictly ascending within 1 to N? 42. Are there exactly 4,096 marks? 43."
+-- "Is M strictly ascending within 1 to N? 42. Are there exactly 4,096 marks? 43.", which are 8,192 since Change 6
 abbrev pub askedOf : Option (List InputRule) → List ℕ → ℕ → Asked
 askedOf none l marks = refused 41
 askedOf (some rs) l marks = cond (ascends 0 (atoms rs) l) (cond (eqb marks entries) (passed rs) (refused 43)) (refused 42)

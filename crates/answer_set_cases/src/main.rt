@@ -47,7 +47,7 @@ fn case_with(name: &[u8], table: &[i32], rules: usize, set: &[u16], marks: &mut 
 }
 
 fn case(name: &[u8], table: &[i32], rules: usize, set: &[u16]) {
-    let mut marks = [1u8; 4096];
+    let mut marks = [1u8; words::ENTRIES];
     case_with(name, table, rules, set, &mut marks);
 }
 
@@ -74,9 +74,9 @@ fn lowest() {
     case(b"lowest in the model, between others", &negated, 3, &[1, 3]);
     case(
         b"lowest is the highest atom",
-        &[0, 1, 0, 1, 4095, 4095],
+        &[0, 1, 0, 1, 8191, 8191],
         1,
-        &[4095],
+        &[8191],
     );
     let facts_and_constraint = [0i32, 1, 0, 0, 2, 0, 1, 0, 0, 1, 0, 0, 0, 1, 2];
     case(
@@ -123,7 +123,10 @@ fn shapes() {
 fn heads() {
     case(b"41 head 0", &[0, 1, 0, 0, 0], 1, &[]);
     case(b"41 head 4095", &[0, 1, 0, 0, 4095], 1, &[4095]);
-    case(b"41 head 4096", &[0, 1, 0, 0, 4096], 1, &[]);
+    case(b"41 head 4096", &[0, 1, 0, 0, 4096], 1, &[4096]);
+    case(b"41 head 8191", &[0, 1, 0, 0, 8191], 1, &[8191]);
+    case(b"41 head 8191 {}", &[0, 1, 0, 0, 8191], 1, &[]);
+    case(b"41 head 8192", &[0, 1, 0, 0, 8192], 1, &[]);
     case(b"41 heads 2 1", &[1, 2, 0, 0, 2, 1], 1, &[]);
 }
 
@@ -207,6 +210,8 @@ fn weights() {
     case(b"41 weight -1", &[0, 0, 1, 1, 1, 1, -1], 1, &[]);
     case(b"41 weight 4095", &[0, 0, 1, 1, 4095, 1, 4095], 1, &[]);
     case(b"41 weight 4096", &[0, 0, 1, 1, 1, 1, 4096], 1, &[]);
+    case(b"41 weight of 8191", &[0, 0, 1, 1, 1, 8191, 1], 1, &[]);
+    case(b"41 weight of 8192", &[0, 0, 1, 1, 1, 8192, 1], 1, &[]);
     case(b"41 a weight that is missing", &[0, 0, 1, 1, 1, 1], 1, &[]);
     case(b"41 bound -1", &[0, 0, 1, 1, -1, 1, 1], 1, &[]);
     case(b"41 bound 4096", &[0, 0, 1, 1, 4096, 1, 1], 1, &[]);
@@ -274,10 +279,13 @@ fn sets() {
 fn mark_counts() {
     let mut none: [u8; 0] = [];
     case_with(b"43 no marks", &[], 0, &[], &mut none);
-    let mut short = [1u8; 4095];
-    case_with(b"43 4095 marks", &[], 0, &[], &mut short);
-    let mut long = [1u8; 4097];
-    case_with(b"43 4097 marks", &[], 0, &[], &mut long);
+    let fact = [0i32, 1, 0, 0, 8191];
+    let mut old = [1u8; 4096];
+    case_with(b"43 4096 marks", &fact, 1, &[8191], &mut old);
+    let mut short = [1u8; 8191];
+    case_with(b"43 8191 marks", &fact, 1, &[8191], &mut short);
+    let mut long = [1u8; 8193];
+    case_with(b"43 8193 marks", &fact, 1, &[8191], &mut long);
     let mut few = [1u8; 3];
     case_with(b"42 before 43", &[], 0, &[1], &mut few);
 }

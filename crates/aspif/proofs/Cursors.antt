@@ -136,7 +136,7 @@ at-rule {t} {left} {i} h c =
       rules = rules-on left ws h ∙ rw (drop-drop (sizeAt ws) i t);
     }
 
--- N is at most 4,095
+-- N is at most the largest variable
 
 -- the literals of a body that is sound ascend
 pub literals-sound : (ws : List ℤ) → bodySound ws ≡ true → literalsSound (literalsOf (bodyAt ws)) ≡ true

@@ -1,8 +1,8 @@
 -- Laws on the tests of a rule's kind and heads, and on its atoms.
 -- Assumes nothing.
 use mathlib.Core.Path.{_≡_, refl, sym}
-use mathlib.Core.List.{List, [], _∷_, nil≢cons, List·Memᴰ·head, List·Memᴰ·tail}
-use Prim.Native.Nat.{ℕ, _≤_}
+use mathlib.Core.List.{List, [], _∷_, _++_, nil≢cons, List·Memᴰ·head, List·Memᴰ·tail}
+use Prim.Native.Nat.{ℕ, _≤_, max}
 use native.Mathlib.Omega.{arith}
 use lib.Dec.{eqb, eqb·suc-zero}
 use lib.IntN.{ℤ}
@@ -30,3 +30,8 @@ empty-length (x ∷ l) = eqb·suc-zero (length l)
 pub in-greatest : {A : Type 0} (f : A → ℕ) {x : A} {l : List A} → x ∈ l → f x ≤ greatest f l
 in-greatest f (List·Memᴰ·head {xs = l} p) = rw p (omega arith)
 in-greatest f (List·Memᴰ·tail {xs = l} i) = let h = in-greatest f i in omega arith
+
+-- one element more
+pub greatest-more : {A : Type 0} (f : A → ℕ) (l : List A) (x : A) → greatest f (l ++ (x ∷ [])) ≡ max (greatest f l) (f x)
+greatest-more f [] x = omega arith
+greatest-more f (y ∷ l) x = let h = greatest-more f l x in omega arith

@@ -147,7 +147,7 @@ room rules free (reads r) n =
     cond (ltb rules mostRules) (cond (leb (length (ruleWords r)) free) (adds r n) (refuses 10)) (refuses 9)
 
 -- Questions 3 to 11, 54 and 55 among them, of the line that a text begins with, of which so many bytes are left. "is there one, ended, of well-formed
--- numbers? 3. Are all from -4,095 to 4,095? 4. For the line `0` alone: does the text end there? 11."
+-- numbers? 3. Are all from -4,095 to 4,095?" (8,191 since Change 6) "4. For the line `0` alone: does the text end there? 11."
 abbrev pub turnOf : (rules free left : ℕ) → Line → Turn
 turnOf rules free left broken = refuses 3
 turnOf rules free left (numbers zs n) =

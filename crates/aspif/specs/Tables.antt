@@ -38,11 +38,11 @@ kindOf w = cond (same w (pos 1)) Choice Normal
 abbrev pub isKind : ℤ → Bool
 isKind w = same w (pos 0) || same w (pos 1)
 
--- heads, from 1 to 4,095, ascending
+-- heads, from 1 to the largest variable, ascending
 abbrev pub headsSound : List ℤ → Bool
 headsSound hs = all (λ h. ltZ (pos 0) h) hs && ascends 0 largest (map variable hs)
 
--- "body literals ascending by atom", with atoms from 1 to 4,095
+-- "body literals ascending by atom", with atoms from 1 to the largest variable
 abbrev pub literalsSound : List ℤ → Bool
 literalsSound ls = ascends 0 largest (map variable ls)
 

@@ -191,7 +191,7 @@ pub fn all_weights(pairs: &[i32]) -> bool
     i == pairs.len()
 }
 
-// The words ascend by variable, from 1 to 4,095.
+// The words ascend by variable, from 1 to the largest.
 fn ascends_by_variable(words: &[i32]) -> bool
     ensures { λ r. ⌜ r ≡ ascends 0 largest (map variable (now (words .entry))) ⌝ }
 {
@@ -211,7 +211,7 @@ fn ascends_by_variable(words: &[i32]) -> bool
     true
 }
 
-// The literals of the pairs ascend by variable, from 1 to 4,095.
+// The literals of the pairs ascend by variable, from 1 to the largest.
 fn pairs_ascend(pairs: &[i32]) -> bool
     ensures { λ r. ⌜ r ≡ ascends 0 largest (map variable (literals (paired (now (pairs .entry))))) ⌝ }
 {
@@ -335,7 +335,7 @@ fn body_top(words: &[i32]) -> usize
 }
 
 // The largest atom that the rule at the front names.
-fn rule_top(words: &[i32]) -> usize
+pub fn rule_top(words: &[i32]) -> usize
     requires { ⌜ shapeSound (now words) ≡ true ⌝ }
     ensures { λ r. ⌜ r ≡ ruleTop (ruleAt (now (words .entry))) ⌝ }
 {

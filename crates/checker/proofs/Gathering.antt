@@ -43,9 +43,26 @@ module _ (f : ℕ → Bool) (h : ℤ) where
       let e : 1 + n ≡ suc n = omega arith in
       rw a (q ∙ ap (λ t. t ++ gathered f h 1 (suc n)) (rw b at p) ∙ sym (rw e at (gathered-more n 1)))
 
+  -- n numbers from v on are enough where no further one is that of h or passes
+  gathered-rest : (k n v : ℕ) → n ≤ k → ((u : ℕ) → v + n ≤ u → (f u ≡ false) × (¬ (u ≡ variable h))) → gathered f h k v ≡ gathered f h n v
+  gathered-rest zero zero v i g = refl
+  gathered-rest zero (suc n) v i g = absurd (omega arith)
+  gathered-rest (suc k) zero v i g =
+      let p = g v (omega arith) in
+      rw (ne-eqb v (variable h) (p .1), p .0) (gathered-rest k zero (suc v) (omega arith) (λ u j. g u (omega arith)))
+  gathered-rest (suc k) (suc n) v i g = by (eqb v (variable h)) (f v) (gathered-rest k n (suc v) (omega arith) (λ u j. g u (omega arith)))
+    where
+      by : (a b : Bool) → gathered f h k (suc v) ≡ gathered f h n (suc v)
+          → cond a (h ∷ gathered f h k (suc v)) (cond b (negℤ (pos v) ∷ gathered f h k (suc v)) (gathered f h k (suc v)))
+          ≡ cond a (h ∷ gathered f h n (suc v)) (cond b (negℤ (pos v) ∷ gathered f h n (suc v)) (gathered f h n (suc v)))
+      by true b e = ap (λ l. h ∷ l) e
+      by false true e = ap (λ l. negℤ (pos v) ∷ l) e
+      by false false e = e
+
   -- all numbers, where x is h and there is none after v
-  pub gathered-all : {x : ℤ} {l : List ℤ} (v n : ℕ) → x ≡ h → v - 1 ≡ n → l ≡ gathered f x (v - 1) 1 → l ≡ gathered f h n 1
-  gathered-all v n p q e = rw (p, q) at e
+  pub gathered-all : {x : ℤ} {l : List ℤ} (v n : ℕ) → x ≡ h → 1 ≤ v → v - 1 ≤ n → ((u : ℕ) → v ≤ u → (f u ≡ false) × (¬ (u ≡ variable h)))
+      → l ≡ gathered f x (v - 1) 1 → l ≡ gathered f h n 1
+  gathered-all v n p a q g e = (rw p at e) ∙ sym (gathered-rest n (v - 1) 1 q (λ u k. g u (omega arith)))
 
   pub gathered-literals : (n v : ℕ) → 1 ≤ v → v + n ≤ suc largest → Literals (gathered f h n v)
   gathered-literals zero v low high = literals-nil

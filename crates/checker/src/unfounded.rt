@@ -5,6 +5,7 @@ ghost use Prim.Native.Nat.{_≤_, _<_};
 ghost use lib.IntN.{ℤ};
 ghost use lib.ListN.{length, take};
 ghost use Rattle.words.specs.Limits.{largest, entries};
+ghost use Rattle.words.specs.Literals.{variable};
 ghost use Rattle.marks.specs.Marks.{marked};
 ghost use Rattle.aspif.specs.Rules.{InputRule};
 ghost use Rattle.aspif.specs.Tables.{rulesAt};
@@ -37,15 +38,17 @@ fn gather_one(h: i32, found: &[u8], v: usize, row: &mut [i32], count: usize) -> 
     count
 }
 
-// The nogood of an `l` step, ascending by variable. How many literals it has.
+// The nogood of an `l` step, ascending by variable. How many literals it has. The loop ends where no name is marked any more.
 fn gather(h: i32, found: &[u8], row: &mut [i32]) -> usize
-    requires { ⌜ length (now row) ≡ entries ⌝ }
+    requires rows { ⌜ (length (now row) ≡ entries) × (length (now found) ≡ entries) ⌝ }
+    requires first { ⌜ variable h ≤ largest ⌝ }
     ensures within { λ n. ⌜ n ≤ largest ⌝ }
     ensures words { λ n. ⌜ take n (now (row .exit)) ≡ gathered (marked (now (found .entry))) h largest 1 ⌝ }
 {
+    let end = words::larger(words::extent(found), words::variable_of(h) + 1);
     let mut count = 0;
     let mut v = 1;
-    while v < words::ENTRIES {
+    while v < end {
         count = gather_one(h, found, v, row, count);
         v += 1;
     }

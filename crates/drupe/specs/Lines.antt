@@ -55,7 +55,7 @@ signed k [] = not (k .needed)
 signed k (z ∷ zs) = (not (k .first) || isPositive z) && (not (k .later) || all isPositive zs)
 
 -- Questions 23 to 25 of a line's numbers, in order: none where all are passed.
--- "Sizes at most 4,095, at most 65 numbers? 23. Is a first number there for `b c e l s`, and every sign as told? 24. Is no
+-- "Sizes at most 4,095" (8,191 since Change 6), "at most 65 numbers? 23. Is a first number there for `b c e l s`, and every sign as told? 24. Is no
 -- variable named twice in the line? 25."
 abbrev pub lineRefusal : Letter → List ℤ → Option ℕ
 lineRefusal x zs =

@@ -22,7 +22,11 @@ pub const CELLS: usize = MOST_NUMBERS * MOST_NUMBERS;
 fn byte_at(bytes: &[u8], v: usize) -> usize
     ensures { λ r. ⌜ r ≡ getD (now (bytes .entry)) v 0 ⌝ }
 {
-    if v < bytes.len() { words::wide(bytes[v]) } else { 0 }
+    if v < bytes.len() {
+        words::wide(bytes[v])
+    } else {
+        0
+    }
 }
 
 // For each variable its place in the line, counted from 1; 0 for none.

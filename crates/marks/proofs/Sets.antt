@@ -1,7 +1,7 @@
 -- Sets of numbers as marks: one more mark, marks made number by number, and two sets compared.
 -- Assumes nothing.
 use mathlib.Core.Path.{_≡_, refl, sym, _∙_, fun-ext, ap}
-use mathlib.Core.Bool.{Bool, true, false, true≢false, Bool·beq, _||_, or-assoc, or-comm, or-false}
+use mathlib.Core.Bool.{Bool, true, false, true≢false, Bool·beq, _&&_, _||_, and-assoc, or-assoc, or-comm, or-false}
 use mathlib.Core.List.{List, [], _∷_}
 use mathlib.Core.Logic.{inl, inr}
 use Prim.Native.Nat.{ℕ, zero, suc, _-_, _≤_, _<_, _+_}
@@ -104,13 +104,12 @@ same-marks (suc n) a b = reworded every (λ g. (g n (omega arith), λ v h. g v (
 -- The loop of `is_same_set`
 
 module _ (a b : List ℕ) where
-  pub same-on : (n : ℕ) → 0 < n → agree (marked a (n - 1)) (marked b (n - 1)) ≡ true → sameMarks n a b ≡ sameMarks (n - 1) a b
+  pub same-on : {whole here : Bool} (same : Bool) (n : ℕ) → 0 < n → here ≡ agree (marked a (n - 1)) (marked b (n - 1))
+      → whole ≡ (same && sameMarks n a b) → whole ≡ ((same && here) && sameMarks (n - 1) a b)
   unfolding sameMarks
-  same-on n h e = ap (λ k. sameMarks k a b) (one-less n h) ∙ rw e
-
-  pub same-here : (n : ℕ) → 0 < n → agree (marked a (n - 1)) (marked b (n - 1)) ≡ false → sameMarks n a b ≡ false
-  unfolding sameMarks
-  same-here n h e = ap (λ k. sameMarks k a b) (one-less n h) ∙ rw e
+  same-on same n h e p =
+      p ∙ ap (λ (k : ℕ). same && sameMarks k a b) (one-less n h) ∙ ap (λ (t : Bool). same && (t && sameMarks (n - 1) a b)) (sym e)
+      ∙ sym (and-assoc same _ (sameMarks (n - 1) a b))
 
   pub same-end : (n : ℕ) → n ≤ 0 → sameMarks n a b ≡ true
   unfolding sameMarks

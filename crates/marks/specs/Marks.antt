@@ -17,7 +17,7 @@ listed l v = any (eqb v) l
 abbrev pub marked : List ℕ → ℕ → Bool
 marked m v = eqb (getD m v 0) 1
 
--- "arrays of 4,096 entries": the marks are those of the numbers listed, as far as these are variables or 0
+-- "arrays of 4,096 entries", which are 8,192 since Change 6: the marks are those of the numbers listed, as far as these are variables or 0
 pub record Marks (m l : List ℕ) : Type 0 where
   pub long : length m ≡ entries
   pub has : (v : ℕ) → v ≤ largest → marked m v ≡ listed l v

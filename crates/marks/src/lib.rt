@@ -132,16 +132,15 @@ fn agrees_at(a: &[u8], b: &[u8], v: usize) -> bool
     is_marked(a, v) == is_marked(b, v)
 }
 
-// Two lists of marks have the same numbers.
+// Two lists of marks have the same numbers. All of them are looked at, many at a time: without an early end the loop has no branch.
 pub fn is_same_set(a: &[u8; ENTRIES], b: &[u8; ENTRIES]) -> bool
     ensures { λ r. ⌜ r ≡ sameMarks entries (now (a .entry)) (now (b .entry)) ⌝ }
 {
+    let mut same = true;
     let mut left = ENTRIES;
     while 0 < left {
         left -= 1;
-        if !agrees_at(a, b, left) {
-            return false;
-        }
+        same = same & agrees_at(a, b, left);
     }
-    true
+    same
 }

@@ -1,19 +1,19 @@
 -- The chains of occurrences and the queue: how they start, and what one more store keeps.
 -- Assumes nothing.
-use mathlib.Core.Path.{_≡_, ap}
+use mathlib.Core.Path.{_≡_}
 use mathlib.Core.List.{List, _∷_}
 use Prim.Native.Nat.{ℕ, suc, _+_, _≤_, _<_}
 use native.Mathlib.Numerals.{add-one}
 use native.Mathlib.Omega.{arith}
 use lib.IntN.{ℤ}
-use lib.ListN.{length, drop, getD, set, replicate, drop-of-length-le}
+use lib.ListN.{length, drop, getD, set, replicate, length-drop}
 use lib.Seq.{drop-cons}
 use Rattle.words.proofs.Places.{set-each}
 use Rattle.words.specs.Limits.{entries}
 use Rattle.nogoods.specs.Records.{Stands}
 use Rattle.nogoods.specs.Propagate.{free}
 use Rattle.nogoods.specs.PropagateChains.{places, Links, Below, Queue}
-use Rattle.nogoods.proofs.Assignments.{zeros, free-assigned, free-cons}
+use Rattle.nogoods.proofs.Assignments.{zeros, free-assigned, free-cons, free-most}
 use Rattle.nogoods.proofs.Recorded.{encoded, live-at}
 
 -- Entries below a bound
@@ -74,5 +74,6 @@ module _ (m : List ℕ) where
       room = omega (arith, l .room, free-from, free-assigned (getD m v 0) (drop (v + 1) m) a b);
     }
 
-  pub loaded : (queue : List ℕ) (v t : ℕ) → Loading queue v t → length m ≤ v → v ≤ entries → Queue m queue t
-  loaded queue v t l h k = record { inside = l .inside; room = omega (arith, l .room, ap free (drop-of-length-le m {i = v} h)) }
+  -- what comes after may be left out
+  pub loaded : (queue : List ℕ) (v t : ℕ) → Loading queue v t → v ≤ length m → length m ≡ entries → Queue m queue t
+  loaded queue v t l h e = record { inside = l .inside; room = omega (arith, l .room, free-most (drop v m), length-drop v m, e) }

@@ -110,15 +110,16 @@ fn is_assigned(entry: u8) -> bool
     entry <= 2
 }
 
-// The literals that are true are queued. The queue's end.
+// The literals that are true are queued. The queue's end. The loop ends where all variables are free.
 fn load(assignment: &[u8; ENTRIES], queue: &mut [u16; ENTRIES]) -> usize
     requires size { ⌜ length (now assignment) ≡ entries ⌝ }
     requires queue { ⌜ Below places (now queue) ⌝ }
     ensures { λ t. ⌜ Queue (now (assignment .entry)) (now (queue .exit)) t ⌝ }
 {
+    let end = words::extent(assignment);
     let mut t = 0;
     let mut v = 0;
-    while v < ENTRIES {
+    while v < end {
         let z = true_place(assignment, v);
         let assigned = is_assigned(assignment[v]);
         v += 1;

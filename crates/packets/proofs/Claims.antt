@@ -23,7 +23,7 @@ use Rattle.drupe.specs.Texts.{Step, StepsRead, steps, stepText, textOf, stepsOf
 use Rattle.drupe.specs.Texts as Texts
 use Rattle.drupe.proofs.Texts.{AllPass, some-byte, steps-exact, read-back}
 use Rattle.packets.specs.Bytes.{little, value, bytesOf, numbersFrom}
-use Rattle.packets.specs.Packets.{mark, packetWords, stepsBytes, packetOf, wordCount, stepCount, wordPart, stepPart, fills, lengthsFit, rulesFrom, rulesIn, stepsFrom, ifShort, stepsIn, PacketRead, refused, pair, paired, ifHeld, partsRead, reading, unwritten, written, stepsTaken, held, ifPlain, writing}
+use Rattle.packets.specs.Packets.{mark, packetWords, stepsBytes, packetOf, fitsOld, wordCount, stepCount, wordPart, stepPart, fills, lengthsFit, rulesFrom, rulesIn, stepsFrom, ifShort, stepsIn, PacketRead, refused, pair, paired, ifOld, ifHeld, partsRead, reading, unwritten, written, stepsTaken, held, writing}
 use Rattle.packets.specs.Claims.{WrittenAgain, Bytes, PairOf, ReadsBack, OneForm, ReadSound}
 use Rattle.packets.proofs.Littles.{bytes-part, value-little, little-value, length-bytes, numbers-back, length-numbers, numbers-whole}
 use Rattle.packets.proofs.StepParts.{fills-back, steps-back, steps-there}
@@ -35,7 +35,7 @@ use Rattle.packets.proofs.RuleParts.{AllFormed, rules-back, rules-there
 pub record Sound (P : List InputRule) (ts : List Step) : Type 0 where
   pub few : length P ≤ mostRules
   pub formed : AllFormed P
-  pub all-plain : allPlain P ≡ true
+  pub old : fitsOld P ts ≡ true
   pub passes : AllPass ts
   pub short : length (textOf ts) ≤ longest
 
@@ -93,7 +93,7 @@ module _ (P : List InputRule) (ts : List Step) (s : Sound P ts) where
   unfolding rulesIn
   rules-read =
       let e : numbersFrom 4 (length ws) (bytesOf 4 ws) ≡ ws = ap (numbersFrom 4 (length ws)) (sym (append-nil (bytesOf 4 ws))) ∙ numbers-back 3 ws [] (words-range P (s .formed)) in
-      rw (word-part, words-stated, e) (rules-back mostRules P (s .formed) (s .all-plain) (s .few))
+      rw (word-part, words-stated, e) (rules-back mostRules P (s .formed) (and-left (allPlain P) _ (s .old)) (s .few))
 
   steps-read : stepsIn (stepCount packet) (stepPart packet) ≡ some ts
   unfolding stepsIn
@@ -102,7 +102,7 @@ module _ (P : List InputRule) (ts : List Step) (s : Sound P ts) where
   pub packet-read : (tableSize textSize : ℕ) → length (programWords P) ≤ tableSize → length (textOf ts) ≤ textSize → reading packet tableSize textSize ≡ pair P ts
   unfolding reading partsRead
   packet-read tableSize textSize h k =
-      rw (marked, lengths, rules-read, steps-read, le-leb (length (programWords P)) tableSize h, le-leb (length (textOf ts)) textSize k)
+      rw (marked, lengths, rules-read, steps-read, s .old, le-leb (length (programWords P)) tableSize h, le-leb (length (textOf ts)) textSize k)
 
 -- What the reader takes
 
@@ -112,21 +112,36 @@ pub record Taken (packet : List ℕ) (tableSize textSize : ℕ) (P : List InputR
   pub rules : rulesFrom mostRules (numbersFrom 4 (wordCount packet) (wordPart packet)) ≡ some P
   pub steps : stepsFrom (stepCount packet) (stepPart packet) ≡ some ts
   pub short : length (textOf ts) ≤ longest
+  pub old : fitsOld P ts ≡ true
   pub room : length (programWords P) ≤ tableSize
 
 -- a pair that is given is the one that was read, and fits
 held-pair : (tableSize textSize : ℕ) (o : Option (List InputRule)) (q : Option (List Step)) (P : List InputRule) (ts : List Step)
-    → ifHeld tableSize textSize (paired o q) ≡ pair P ts → (o ≡ some P) × ((q ≡ some ts) × (length (programWords P) ≤ tableSize))
+    → ifHeld tableSize textSize (ifOld (paired o q)) ≡ pair P ts
+    → (o ≡ some P) × ((q ≡ some ts) × ((length (programWords P) ≤ tableSize) × (fitsOld P ts ≡ true)))
 held-pair tableSize textSize none q P ts e = absurd (zero-one (cc))
 held-pair tableSize textSize (some Q) none P ts e = absurd (zero-one (cc))
-held-pair tableSize textSize (some Q) (some us) P ts e = by (leb (length (programWords Q)) tableSize && leb (length (textOf us)) textSize) refl e
+held-pair tableSize textSize (some Q) (some us) P ts e =
+    by (fitsOld Q us) (leb (length (programWords Q)) tableSize && leb (length (textOf us)) textSize) refl refl e
   where
-    by : (b : Bool) → (leb (length (programWords Q)) tableSize && leb (length (textOf us)) textSize) ≡ b → cond b (pair Q us) (refused 52) ≡ pair P ts
-        → (some Q ≡ some P) × ((some us ≡ some ts) × (length (programWords P) ≤ tableSize))
-    by false k e = absurd (zero-one (cc))
-    by true k e =
+    by : (a b : Bool) → fitsOld Q us ≡ a → (leb (length (programWords Q)) tableSize && leb (length (textOf us)) textSize) ≡ b
+        → ifHeld tableSize textSize (cond a (pair Q us) (refused 53)) ≡ pair P ts
+        → (some Q ≡ some P) × ((some us ≡ some ts) × ((length (programWords P) ≤ tableSize) × (fitsOld P ts ≡ true)))
+    by false b f k e = absurd (zero-one (cc))
+    by true false f k e = let d : refused 52 ≡ pair P ts = rw k at e in absurd (zero-one (cc))
+    by true true f k e =
+        let d : pair Q us ≡ pair P ts = rw k at e in
         let p : Q ≡ P = cc in
-        (ap some p, (cc, subst (λ (R : List InputRule). length (programWords R) ≤ tableSize) p (leb-true (length (programWords Q)) tableSize (and-left _ _ k))))
+        let q : us ≡ ts = cc in (
+          ap some p,
+          (
+            ap some q,
+            (
+              subst (λ (R : List InputRule). length (programWords R) ≤ tableSize) p (leb-true (length (programWords Q)) tableSize (and-left _ _ k)),
+              sym (ap₂ fitsOld p q) ∙ f,
+            ),
+          ),
+        )
 
 short-steps : (q : Option (List Step)) (ts : List Step) → ifShort q ≡ some ts → (q ≡ some ts) × (length (textOf ts) ≤ longest)
 short-steps none ts e = absurd (Option·none-ne-some ts e)
@@ -150,7 +165,7 @@ taken packet tableSize textSize P ts e = by (startsWith mark packet) (lengthsFit
     by true true p q e =
         let h = held-pair tableSize textSize (rulesIn (numbersFrom 4 (wordCount packet) (wordPart packet))) (stepsIn (stepCount packet) (stepPart packet)) P ts e in
         let s = short-steps (stepsFrom (stepCount packet) (stepPart packet)) ts (h .1 .0) in
-        record { marked = p; lengths = q; rules = h .0; steps = s .0; short = s .1; room = h .1 .1 }
+        record { marked = p; lengths = q; rules = h .0; steps = s .0; short = s .1; old = h .1 .1 .1; room = h .1 .1 .0 }
 
 -- what a text starts with
 front-is : (front text : List ℕ) → startsWith front text ≡ true → text ≡ front ++ drop (length front) text
@@ -167,7 +182,7 @@ module _ (packet : List ℕ) (tableSize textSize : ℕ) (P : List InputRule) (ts
   sound =
       let r = rules-there mostRules _ P (t .rules) in
       let s = steps-there (stepCount packet) (stepPart packet) ts (long .1 .1) (t .steps) in
-      record { few = r .few; formed = r .formed; all-plain = r .all-plain; passes = s .passes; short = t .short }
+      record { few = r .few; formed = r .formed; old = t .old; passes = s .passes; short = t .short }
 
   module _ (f : Bytes packet) where
     abbrev w : ℕ
@@ -213,42 +228,35 @@ pub read-sound : ReadSound
 read-sound packet tableSize textSize P ts e =
     let t = taken packet tableSize textSize P ts e in
     let s = sound packet tableSize textSize P ts t in
-    (table-back tableSize P (record { formed = s .formed; few = s .few; room = t .room }), read-back ts (s .passes) (s .short))
+    (table-back tableSize P (record { formed = s .formed; few = s .few; room = t .room }), read-back ts (s .passes) (s .short), s .old)
 
 -- What the writer takes
 
 -- the bytes written are those of the pair that was read from the table and the text
-held-bytes : (size : ℕ) (o : Option (List InputRule)) (q : Option (List Step)) (packet : List ℕ) → held size (paired o q) ≡ written packet
-    → (P : List InputRule) × ((ts : List Step) × ((o ≡ some P) × ((q ≡ some ts) × (packet ≡ packetOf P ts))))
+held-bytes : (size : ℕ) (o : Option (List InputRule)) (q : Option (List Step)) (packet : List ℕ) → held size (ifOld (paired o q)) ≡ written packet
+    → (P : List InputRule) × ((ts : List Step) × ((o ≡ some P) × ((q ≡ some ts) × ((packet ≡ packetOf P ts) × (fitsOld P ts ≡ true)))))
 held-bytes size none q packet e = absurd (zero-one (cc))
 held-bytes size (some P) none packet e = absurd (zero-one (cc))
-held-bytes size (some P) (some ts) packet e = by (leb (length (packetOf P ts)) size) e
+held-bytes size (some P) (some ts) packet e = by (fitsOld P ts) (leb (length (packetOf P ts)) size) refl refl e
   where
-    by : (b : Bool) → cond b (written (packetOf P ts)) (unwritten 52) ≡ written packet
-        → (Q : List InputRule) × ((us : List Step) × ((some P ≡ some Q) × ((some ts ≡ some us) × (packet ≡ packetOf Q us))))
-    by false e = absurd (zero-one (cc))
-    by true e = (P, (ts, (refl, (refl, cc))))
-
-plain-rules : (o : Option (List InputRule)) (P : List InputRule) → ifPlain o ≡ some P → (o ≡ some P) × (allPlain P ≡ true)
-plain-rules none P e = absurd (Option·none-ne-some P e)
-plain-rules (some Q) P e = by (allPlain Q) refl e
-  where
-    by : (b : Bool) → allPlain Q ≡ b → cond b (some Q) none ≡ some P → (some Q ≡ some P) × (allPlain P ≡ true)
-    by true k e = (e, ap allPlain (sym (Option·some-injective _ _ e)) ∙ k)
-    by false k e = absurd (Option·none-ne-some P e)
+    by : (a b : Bool) → fitsOld P ts ≡ a → leb (length (packetOf P ts)) size ≡ b → held size (cond a (pair P ts) (refused 53)) ≡ written packet
+        → (Q : List InputRule) × ((us : List Step) × ((some P ≡ some Q) × ((some ts ≡ some us) × ((packet ≡ packetOf Q us) × (fitsOld Q us ≡ true)))))
+    by false b f k e = absurd (zero-one (cc))
+    by true false f k e = let d : unwritten 52 ≡ written packet = rw k at e in absurd (zero-one (cc))
+    by true true f k e = let d : written (packetOf P ts) ≡ written packet = rw k at e in (P, (ts, (refl, (refl, (cc, f)))))
 
 steps-taken : (o : StepsRead) (ts : List Step) → stepsTaken o ≡ some ts → o ≡ steps ts
 steps-taken (steps us) ts e = ap steps (Option·some-injective _ _ e)
 steps-taken (Texts.refused before k n) ts e = absurd (Option·none-ne-some ts e)
 
-pair-back : (table : List ℤ) (rules : ℕ) (proof bs : List ℕ) (P : List InputRule) (ts : List Step) → rulesOf table rules ≡ some P → allPlain P ≡ true → stepsOf proof ≡ steps ts
+pair-back : (table : List ℤ) (rules : ℕ) (proof bs : List ℕ) (P : List InputRule) (ts : List Step) → rulesOf table rules ≡ some P → fitsOld P ts ≡ true → stepsOf proof ≡ steps ts
     → bs ≡ packetOf P ts
     → PairOf table rules proof bs
 pair-back table rules proof bs P ts p a q e =
     let r = rules-of table rules P p in
     let s = steps-exact proof ts .0 q in
     let f = subst (FitsTable (length table)) (r .1) (table-fits table rules (r .0)) in
-    let sound : Sound P ts = record { few = f .few; formed = f .formed; all-plain = a; passes = s .2; short = rw (sym (s .0)) (s .1) } in
+    let sound : Sound P ts = record { few = f .few; formed = f .formed; old = a; passes = s .2; short = rw (sym (s .0)) (s .1) } in
     record {
       P = P;
       ts = ts;
@@ -261,14 +269,13 @@ pair-back table rules proof bs P ts p a q e =
 pub reads-back : ReadsBack
 unfolding writing
 reads-back table rules proof room bs e =
-    let h = held-bytes room (ifPlain (rulesOf table rules)) (stepsTaken (stepsOf proof)) bs e in
-    let p = plain-rules (rulesOf table rules) (h .0) (h .1 .1 .0) in
-    pair-back table rules proof bs (h .0) (h .1 .0) (p .0) (p .1) (steps-taken (stepsOf proof) (h .1 .0) (h .1 .1 .1 .0)) (h .1 .1 .1 .1)
+    let h = held-bytes room (rulesOf table rules) (stepsTaken (stepsOf proof)) bs e in
+    let q = h .1 .1 .1 in
+    pair-back table rules proof bs (h .0) (h .1 .0) (h .1 .1 .0) (q .1 .1) (steps-taken (stepsOf proof) (h .1 .0) (q .0)) (q .1 .0)
 
 pub written-again : WrittenAgain
 unfolding writing
 written-again packet tableSize textSize size P ts f e h =
     let s = read-sound packet tableSize textSize P ts e in
     let o = one-form packet tableSize textSize P ts f e in
-    let p = sound packet tableSize textSize P ts (taken packet tableSize textSize P ts e) .all-plain in
-    rw (s .0, p, s .1, le-leb (length (packetOf P ts)) size (rw o at h)) (ap written (sym o))
+    rw (s .0, s .1, s .2, le-leb (length (packetOf P ts)) size (rw o at h)) (ap written (sym o))

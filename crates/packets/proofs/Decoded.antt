@@ -1,11 +1,11 @@
 -- What the reader's loops over steps cite: the lengths, and one step off the front.
 -- Assumes nothing.
-use mathlib.Core.Path.{_≡_, refl, sym, _∙_, ap}
+use mathlib.Core.Path.{_≡_, refl, sym, _∙_, ap, ap₂}
 use mathlib.Core.Bool.{Bool, true, false, cond, not, _&&_, _||_, true≢false}
 use mathlib.Core.Option.{Option, none, some}
 use mathlib.Core.Logic.{inr}
 use mathlib.Core.List.{List, [], _∷_, _++_, append-nil}
-use Prim.Native.Nat.{ℕ, zero, suc, _+_, _-_, _*_, _<_, _≤_}
+use Prim.Native.Nat.{ℕ, zero, suc, _+_, _-_, _*_, _<_, _≤_, max}
 use native.Mathlib.Omega.{arith}
 use borrow.Author.Tests.{le-leb, lt-leb, leb-true, lt-ltb, eq-eqb, ne-eqb}
 use lib.Dec.{leb, ltb, eqb}
@@ -13,7 +13,7 @@ use lib.IntN.{ℤ, pos}
 use lib.ListN.{length, drop, getD, length-append, length-drop}
 use lib.Seq.{drop-drop, length-sets}
 use Rattle.words.specs.Limits.{longest, mostNumbers}
-use Rattle.words.specs.Literals.{has}
+use Rattle.words.specs.Literals.{has, top}
 use Rattle.words.proofs.Lists.{passed, is-true, or-decides, and-left, and-right, zero-one}
 use Rattle.text.specs.Bytes.{classOf}
 use Rattle.text.specs.Line.{anyOutside}
@@ -22,11 +22,12 @@ use Rattle.text.specs.declared.Letter.{Letter}
 use Rattle.text.specs.declared.Class.{Class}
 use Rattle.text.specs.declared.Class.the-variants as Class
 use Rattle.text.proofs.Puts.{put-on, put-none}
+use Rattle.aspif.proofs.RuleTests.{greatest-more}
 use Rattle.drupe.specs.Lines.{allPassed, lineRefusal}
 use Rattle.drupe.specs.Texts.{Step, stepText, textOf}
 use Rattle.drupe.proofs.Texts.{text-append}
 use Rattle.packets.specs.Bytes.{numbersFrom}
-use Rattle.packets.specs.Packets.{wordCount, stepCount, stepPart, fills, lengthsFit, prepend, letterIn, stepPasses, stepWith, stepsFrom, ifShort, stepsIn}
+use Rattle.packets.specs.Packets.{stepsTop, wordCount, stepCount, stepPart, fills, lengthsFit, prepend, letterIn, stepPasses, stepWith, stepsFrom, ifShort, stepsIn}
 use Rattle.packets.specs.Parts.{stepSize, ifPasses, stepAt, StepTold, TextTold}
 use Rattle.packets.specs.declared.reader.Part.{Part}
 use Rattle.packets.proofs.RulesRead.{onto, onto-one, onto-none, onto-some}
@@ -154,8 +155,8 @@ module _ (x : Letter) (zs : List ℤ) where
       by false o e = absurd (true≢false (sym e))
 
 -- a step that is put is told
-pub step-told : (t : Step) {before after : List ℕ} {at end : ℕ} → Put (stepText t) before after at end → StepTold (some t) before after at (Part.Taken end)
-step-told t p = (ap Part.Taken (p .ends), record { stands = p .stands; ends = refl })
+pub step-told : (t : Step) {before after : List ℕ} {at end : ℕ} → Put (stepText t) before after at end → StepTold (some t) before after at (Part.Taken end (top (t .numbers)))
+step-told t p = (ap (λ (n : ℕ). Part.Taken n (top (t .numbers))) (p .ends), record { stands = p .stands; ends = refl })
 
 module _ (bs : List ℕ) (h : 2 ≤ length bs) where
   step-at : stepAt bs ≡ ifPasses (letterIn (classOf (getD bs 0 0))) (numbersFrom 2 (getD bs 1 0) (drop 2 bs))
@@ -212,32 +213,34 @@ steps-on (suc n) (x ∷ c ∷ bs) h s = by (leb (2 * c) (length bs)) s
         rw (p, q) (ahead (letterIn (classOf x)) (numbersFrom 2 c bs) (stepsFrom n (drop (2 * c) bs)))
 
 -- After some steps the loop stands at byte i, with so many steps left; their text stands in the output.
-pub record Going (bytes : List ℕ) (count : ℕ) (proof₀ proof : List ℕ) (left i end : ℕ) : Type 0 where
+pub record Going (bytes : List ℕ) (count : ℕ) (proof₀ proof : List ℕ) (left i end largest : ℕ) : Type 0 where
   pub before : List Step
   pub within : i ≤ length bytes
   pub fits : fills left (drop i bytes) ≡ true
   pub whole : stepsFrom count bytes ≡ onto before (stepsFrom left (drop i bytes))
   pub text : Put (textOf before) proof₀ proof 0 end
   pub short : end ≤ longest
+  pub tops : largest ≡ stepsTop before
 
-pub going-start : (bytes : List ℕ) (count : ℕ) (proof : List ℕ) → fills count bytes ≡ true → Going bytes count proof proof count 0 0
+pub going-start : (bytes : List ℕ) (count : ℕ) (proof : List ℕ) → fills count bytes ≡ true → Going bytes count proof proof count 0 0 0
 unfolding textOf
-going-start bytes count proof f = record { before = []; within = omega arith; fits = f; whole = refl; text = put-none proof 0; short = omega arith }
+going-start bytes count proof f = record { before = []; within = omega arith; fits = f; whole = refl; text = put-none proof 0; short = omega arith; tops = refl }
 
 -- what is told of a step
 told-none : (o : Option Step) (before after : List ℕ) (at : ℕ) {r : Part} → r ≡ Part.Refused → StepTold o before after at r → o ≡ none
 told-none none before after at e t = refl
 told-none (some s) before after at e t = absurd (zero-one (let q = sym e ∙ t .0 in cc))
 
-told-some : (o : Option Step) (before after : List ℕ) (at : ℕ) {next : ℕ} {r : Part} → r ≡ Part.Taken next → StepTold o before after at r
-    → (s : Step) × ((o ≡ some s) × Put (stepText s) before after at next)
+told-some : (o : Option Step) (before after : List ℕ) (at : ℕ) {next largest : ℕ} {r : Part} → r ≡ Part.Taken next largest → StepTold o before after at r
+    → (s : Step) × ((o ≡ some s) × (Put (stepText s) before after at next × (largest ≡ top (s .numbers))))
 told-some none before after at e t = absurd (zero-one (let q = sym e ∙ t in cc))
-told-some (some s) before after at {next = next} e t =
+told-some (some s) before after at {next = next} {largest} e t =
     let q = sym e ∙ t .0 in
     let n : next ≡ at + length (stepText s) = cc in
-    (s, (refl, record { stands = t .1 .stands; ends = n }))
+    let m : largest ≡ top (s .numbers) = cc in
+    (s, (refl, (record { stands = t .1 .stands; ends = n }, m)))
 
-module _ {bytes : List ℕ} {count : ℕ} {proof₀ proof : List ℕ} {left i end : ℕ} (g : Going bytes count proof₀ proof left i end) where
+module _ {bytes : List ℕ} {count : ℕ} {proof₀ proof : List ℕ} {left i end largest : ℕ} (g : Going bytes count proof₀ proof left i end largest) where
   module _ (h : 0 < left) where
     abbrev rest : List ℕ
     rest = drop i bytes
@@ -254,7 +257,7 @@ module _ {bytes : List ℕ} {count : ℕ} {proof₀ proof : List ℕ} {left i en
         ap ifShort (ahead ∙ ap (λ o. onto (g .before) (followed o (stepsFrom (left - 1) (drop (stepSize rest) rest)))) (told-none (stepAt rest) proof after end e t) ∙ onto-none (g .before))
 
     -- a step is taken
-    module _ (after : List ℕ) {next : ℕ} {r : Part} (e : r ≡ Part.Taken next) (t : StepTold (stepAt rest) proof after end r) where
+    module _ (after : List ℕ) {next seen : ℕ} {r : Part} (e : r ≡ Part.Taken next seen) (t : StepTold (stepAt rest) proof after end r) where
       abbrev s : Step
       s = told-some (stepAt rest) proof after end e t .0
 
@@ -266,7 +269,7 @@ module _ {bytes : List ℕ} {count : ℕ} {proof₀ proof : List ℕ} {left i en
       more-text = text-append (g .before) (s ∷ []) ∙ ap (λ (l : List ℕ). textOf (g .before) ++ l) (append-nil (stepText s))
 
       put-more : Put (textOf more) proof₀ after 0 next
-      put-more = rw more-text (put-on (g .text) (told-some (stepAt rest) proof after end e t .1 .1))
+      put-more = rw more-text (put-on (g .text) (told-some (stepAt rest) proof after end e t .1 .1 .0))
 
       on : stepsFrom count bytes ≡ onto more (stepsFrom (left - 1) (drop (stepSize rest) rest))
       on =
@@ -283,22 +286,23 @@ module _ {bytes : List ℕ} {count : ℕ} {proof₀ proof : List ℕ} {left i en
               let l : longest < length (textOf (more ++ us)) = omega (arith, put-more .ends, ap length (text-append more us), length-append (textOf more) (textOf us)) in
               ap ifShort (onto-some more us) ∙ rw (lt-leb (length (textOf (more ++ us))) longest l)
 
-      pub going-on : next ≤ longest → Going bytes count proof₀ after (left - 1) (i + stepSize rest) next
-      going-on k = record {
+      pub going-on : {most : ℕ} → most ≡ max largest seen → next ≤ longest → Going bytes count proof₀ after (left - 1) (i + stepSize rest) next most
+      going-on m k = record {
         before = more;
         within = omega (arith, g .within, size-within rest, length-drop i bytes);
         fits = rw (← drop-drop (stepSize rest) i bytes) (sym (fills-on left rest h (λ z. omega (arith, going-size, z))) ∙ g .fits);
         whole = on ∙ rw (drop-drop (stepSize rest) i bytes);
         text = put-more;
         short = k;
+        tops = omega (arith, m, g .tops, told-some (stepAt rest) proof after end e t .1 .1 .1, greatest-more (λ (t : Step). top (t .numbers)) (g .before) s);
       }
 
   pub going-kept : length proof ≡ length proof₀
   going-kept = rw (g .text .stands) (length-sets proof₀ 0 (textOf (g .before)))
 
-  pub going-end : left ≤ 0 → TextTold (stepsIn count bytes) proof₀ proof (Part.Taken end)
+  pub going-end : left ≤ 0 → TextTold (stepsIn count bytes) proof₀ proof (Part.Taken end largest)
   unfolding stepsIn stepsFrom
-  going-end z = rw (all, le-leb (length (textOf (g .before))) longest (omega (arith, g .short, g .text .ends))) (ap Part.Taken (omega (arith, g .text .ends)), g .text .stands)
+  going-end z = rw (all, le-leb (length (textOf (g .before))) longest (omega (arith, g .short, g .text .ends))) (ap₂ Part.Taken (omega (arith, g .text .ends)) (g .tops), g .text .stands)
     where
       last : (n : ℕ) (bs : List ℕ) → n ≤ 0 → stepsFrom n bs ≡ some []
       last zero bs h = refl

@@ -4,7 +4,7 @@ use mathlib.Core.Path.{_≡_, refl, sym, _∙_, ap, ap₂, subst}
 use mathlib.Core.Bool.{Bool, true, false, cond, _&&_}
 use mathlib.Core.Option.{Option, none, some}
 use mathlib.Core.List.{List, _++_}
-use Prim.Native.Nat.{ℕ, _+_, _-_, _<_, _≤_}
+use Prim.Native.Nat.{ℕ, _+_, _-_, _<_, _≤_, max}
 use native.Mathlib.Omega.{arith}
 use borrow.Author.Tests.{le-leb, lt-leb}
 use lib.Dec.{leb}
@@ -13,12 +13,12 @@ use lib.ListN.{length, replicate, length-replicate}
 use lib.Seq.{sets, sets-eq}
 use Rattle.words.specs.Limits.{mostRules}
 use Rattle.words.proofs.Lists.{zero-one}
-use Rattle.aspif.specs.Rules.{InputRule, programWords}
+use Rattle.aspif.specs.Rules.{InputRule, allPlain, atoms, programWords}
 use Rattle.text.specs.Strings.{startsWith}
 use Rattle.drupe.specs.Texts.{Step, textOf}
 use Rattle.drupe.proofs.Lines.{drop-replicate}
 use Rattle.packets.specs.Bytes.{numbersFrom}
-use Rattle.packets.specs.Packets.{mark, wordCount, stepCount, wordPart, stepPart, lengthsFit, rulesIn, stepsIn, PacketRead, refused, pair, paired, ifHeld, partsRead, reading, filled, ReadLeaves}
+use Rattle.packets.specs.Packets.{mark, oldLargest, stepsTop, pairTop, fitsOld, wordCount, stepCount, wordPart, stepPart, lengthsFit, rulesIn, stepsIn, PacketRead, refused, pair, paired, ifOld, ifHeld, partsRead, reading, filled, ReadLeaves}
 use Rattle.packets.specs.Parts.{TableTold, TextTold, Parts, Given, Zeros}
 use Rattle.packets.specs.declared.PacketReading.{PacketReading}
 use Rattle.packets.specs.declared.reader.Part.{Part}
@@ -35,30 +35,39 @@ onto-zeros : {A : Type 0} (z : A) (l : List A) {before after : List A} → lengt
     → after ≡ sets (replicate (length after) z) 0 l
 onto-zeros z l e y p = p ∙ ap (λ k. sets k 0 l) (y ∙ ap (λ n. replicate n z) (sym e))
 
--- The outputs' lengths
+-- The largest variable, and the outputs' lengths
 
-module _ (P : List InputRule) (ts : List Step) (tableSize textSize : ℕ) where
-  pub table-short : tableSize < length (programWords P) → ifHeld tableSize textSize (pair P ts) ≡ refused 52
-  table-short h = rw (lt-leb (length (programWords P)) tableSize h)
+module _ (P : List InputRule) (ts : List Step) (plain : allPlain P ≡ true) where
+  fits-old : pairTop P ts ≤ oldLargest → fitsOld P ts ≡ true
+  fits-old k = rw (plain, le-leb (pairTop P ts) oldLargest k)
 
-  pub text-short : textSize < length (textOf ts) → ifHeld tableSize textSize (pair P ts) ≡ refused 52
-  text-short h = rw (lt-leb (length (textOf ts)) textSize h) (by (leb (length (programWords P)) tableSize))
-    where
-      by : (t : Bool) → cond (t && false) (pair P ts) (refused 52) ≡ refused 52
-      by true = refl
-      by false = refl
+  module _ (tableSize textSize : ℕ) where
+    pub too-large : oldLargest < pairTop P ts → ifHeld tableSize textSize (ifOld (pair P ts)) ≡ refused 53
+    too-large k = rw (plain, lt-leb (pairTop P ts) oldLargest k)
 
-  both-held : length (programWords P) ≤ tableSize → length (textOf ts) ≤ textSize → ifHeld tableSize textSize (pair P ts) ≡ pair P ts
-  both-held h k = rw (le-leb (length (programWords P)) tableSize h, le-leb (length (textOf ts)) textSize k)
+    module _ (k : pairTop P ts ≤ oldLargest) where
+      pub table-short : tableSize < length (programWords P) → ifHeld tableSize textSize (ifOld (pair P ts)) ≡ refused 52
+      table-short h = rw (fits-old k, lt-leb (length (programWords P)) tableSize h)
+
+      pub text-short : textSize < length (textOf ts) → ifHeld tableSize textSize (ifOld (pair P ts)) ≡ refused 52
+      text-short h = rw (fits-old k, lt-leb (length (textOf ts)) textSize h) (by (leb (length (programWords P)) tableSize))
+        where
+          by : (t : Bool) → cond (t && false) (pair P ts) (refused 52) ≡ refused 52
+          by true = refl
+          by false = refl
+
+      both-held : length (programWords P) ≤ tableSize → length (textOf ts) ≤ textSize
+          → ifHeld tableSize textSize (ifOld (pair P ts)) ≡ pair P ts
+      both-held h l = rw (fits-old k, le-leb (length (programWords P)) tableSize h, le-leb (length (textOf ts)) textSize l)
 
 -- the words and the text stand
-pub given : (size rules bytes : ℕ) (table : List ℤ) (proof : List ℕ) (P : List InputRule) (ts : List Step)
-    → Parts size rules bytes table proof P ts → size ≤ length table → bytes ≤ length proof
-    → ReadLeaves (ifHeld (length table) (length proof) (pair P ts)) table table proof proof (PacketReading.Read rules bytes)
-given size rules bytes table proof P ts k h l =
+pub given : (size rules bytes largest : ℕ) (table : List ℤ) (proof : List ℕ) (P : List InputRule) (ts : List Step)
+    → Parts size rules bytes largest table proof P ts → largest ≤ oldLargest → size ≤ length table → bytes ≤ length proof
+    → ReadLeaves (ifHeld (length table) (length proof) (ifOld (pair P ts))) table table proof proof (PacketReading.Read rules bytes)
+given size rules bytes largest table proof P ts k f h l =
     let n : length (programWords P) ≤ length table = omega (arith, k .size-of) in
     let m : length (textOf ts) ≤ length proof = omega (arith, k .bytes-of) in
-    rw (both-held P ts (length table) (length proof) n m) (record {
+    rw (both-held P ts (k .plain-of) (length table) (length proof) (rw (k .top-of) at f) n m) (record {
       answer = ap₂ PacketReading.Read (k .rules-of) (k .bytes-of);
       words = k .table-of ∙ zeros-front (pos 0) (length table) (programWords P) n;
       text = k .text-of ∙ zeros-front 0 (length proof) (textOf ts) m;
@@ -70,19 +79,27 @@ table-none : (o : Option (List InputRule)) (before after : List ℤ) {r : Part} 
 table-none none before after e t = refl
 table-none (some P) before after e t = absurd (zero-one (let q = sym e ∙ t .0 in cc))
 
-table-some : (o : Option (List InputRule)) (before after : List ℤ) {r : Part} {n : ℕ} → r ≡ Part.Taken n → TableTold o before after r
-    → (P : List InputRule) × ((o ≡ some P) × ((n ≡ length P) × (after ≡ sets before 0 (programWords P))))
+table-some : (o : Option (List InputRule)) (before after : List ℤ) {r : Part} {n a : ℕ} → r ≡ Part.Taken n a → TableTold o before after r
+    → (P : List InputRule) × ((o ≡ some P) × ((n ≡ length P) × ((after ≡ sets before 0 (programWords P)) × (a ≡ atoms P))))
 table-some none before after e t = absurd (zero-one (let q = sym e ∙ t in cc))
-table-some (some P) before after {n = n} e t = let q = sym e ∙ t .0 in let m : n ≡ length P = cc in (P, (refl, (m, t .1)))
+table-some (some P) before after {n = n} {a} e t =
+    let q = sym e ∙ t .0 in
+    let m : n ≡ length P = cc in
+    let k : a ≡ atoms P = cc in
+    (P, (refl, (m, (t .1, k))))
 
 text-none : (o : Option (List Step)) (before after : List ℕ) {r : Part} → r ≡ Part.Refused → TextTold o before after r → o ≡ none
 text-none none before after e t = refl
 text-none (some ts) before after e t = absurd (zero-one (let q = sym e ∙ t .0 in cc))
 
-text-some : (o : Option (List Step)) (before after : List ℕ) {r : Part} {n : ℕ} → r ≡ Part.Taken n → TextTold o before after r
-    → (ts : List Step) × ((o ≡ some ts) × ((n ≡ length (textOf ts)) × (after ≡ sets before 0 (textOf ts))))
+text-some : (o : Option (List Step)) (before after : List ℕ) {r : Part} {n a : ℕ} → r ≡ Part.Taken n a → TextTold o before after r
+    → (ts : List Step) × ((o ≡ some ts) × ((n ≡ length (textOf ts)) × ((after ≡ sets before 0 (textOf ts)) × (a ≡ stepsTop ts))))
 text-some none before after e t = absurd (zero-one (let q = sym e ∙ t in cc))
-text-some (some ts) before after {n = n} e t = let q = sym e ∙ t .0 in let m : n ≡ length (textOf ts) = cc in (ts, (refl, (m, t .1)))
+text-some (some ts) before after {n = n} {a} e t =
+    let q = sym e ∙ t .0 in
+    let m : n ≡ length (textOf ts) = cc in
+    let k : a ≡ stepsTop ts = cc in
+    (ts, (refl, (m, (t .1, k))))
 
 -- only the outputs' lengths count
 pub read-kept : {read : PacketRead} {table table₁ table′ : List ℤ} {proof proof₁ proof′ : List ℕ} {r : PacketReading} → length table₁ ≡ length table → length proof₁ ≡ length proof
@@ -101,39 +118,41 @@ module _ (count : ℕ) (part : List ℕ) (steps : ℕ) (bytes : List ℕ) where
   unfolding partsRead
   no-steps t p before after e c = rw (text-none (stepsIn steps bytes) before after e c) (by (rulesIn ws))
     where
-      by : (o : Option (List InputRule)) → ifHeld t p (paired o none) ≡ refused 53
+      by : (o : Option (List InputRule)) → ifHeld t p (ifOld (paired o none)) ≡ refused 53
       by none = refl
       by (some P) = refl
 
   -- the rules are few
-  pub rules-few : (before after : List ℤ) {r : Part} {n : ℕ} → r ≡ Part.Taken n → TableTold (rulesIn ws) before after r → n ≤ mostRules
+  pub rules-few : (before after : List ℤ) {r : Part} {n a : ℕ} → r ≡ Part.Taken n a → TableTold (rulesIn ws) before after r → n ≤ mostRules
   unfolding rulesIn
   rules-few before after e t =
       let a = table-some (rulesIn ws) before after e t in
       omega (arith, a .1 .1 .0, rules-there mostRules ws (a .0) (a .1 .0) .few)
 
-  pub both : (table filled table′ : List ℤ) (proof after proof′ : List ℕ) (rules n : ℕ) {r s : Part} (answer : PacketReading)
+  pub both : (table filled table′ : List ℤ) (proof after proof′ : List ℕ) (rules n x y top : ℕ) {r s : Part} (answer : PacketReading)
       → Zeros (pos 0) table → Zeros 0 proof → length filled ≡ length table → length after ≡ length proof
-      → r ≡ Part.Taken rules → TableTold (rulesIn ws) table filled r → s ≡ Part.Taken n → TextTold (stepsIn steps bytes) proof after s
-      → Given (count + rules) rules n filled table′ after proof′ answer
+      → r ≡ Part.Taken rules x → TableTold (rulesIn ws) table filled r → s ≡ Part.Taken n y → TextTold (stepsIn steps bytes) proof after s
+      → top ≡ max x y → Given (count + rules) rules n top filled table′ after proof′ answer
       → ReadLeaves (partsRead count part steps bytes (length table) (length proof)) table table′ proof proof′ answer
   unfolding partsRead rulesIn
-  both table filled table′ proof after proof′ rules n answer z y j l p c q t g =
+  both table filled table′ proof after proof′ rules n x y top answer z w j l p c q t o g =
       let a = table-some (rulesIn ws) table filled p c in
       let b = text-some (stepsIn steps bytes) proof after q t in
       let P = a .0 in
       let ts = b .0 in
       let there = rules-there mostRules ws P (a .1 .0) in
-      let k : Parts (count + rules) rules n filled after P ts = record {
+      let k : Parts (count + rules) rules n top filled after P ts = record {
         size-of = omega (arith, words-more P (there .all-plain), ap length (there .words), length-numbers 4 count part, a .1 .1 .0);
         rules-of = a .1 .1 .0;
         bytes-of = b .1 .1 .0;
-        table-of = onto-zeros (pos 0) (programWords P) j z (a .1 .1 .1);
-        text-of = onto-zeros 0 (textOf ts) l y (b .1 .1 .1);
+        plain-of = there .all-plain;
+        top-of = omega (arith, o, a .1 .1 .1 .1, b .1 .1 .1 .1);
+        table-of = onto-zeros (pos 0) (programWords P) j z (a .1 .1 .1 .0);
+        text-of = onto-zeros 0 (textOf ts) l w (b .1 .1 .1 .0);
       } in
-      let x = subst (λ (m : ℕ). ReadLeaves (ifHeld (length filled) m (pair P ts)) filled table′ after proof′ answer) l (g P ts k) in
-      let w = subst (λ (m : ℕ). ReadLeaves (ifHeld m (length proof) (pair P ts)) filled table′ after proof′ answer) j x in
-      rw (a .1 .0, b .1 .0) (read-kept {table = table} {proof = proof} j l w)
+      let u = subst (λ (m : ℕ). ReadLeaves (ifHeld (length filled) m (ifOld (pair P ts))) filled table′ after proof′ answer) l (g P ts k) in
+      let v = subst (λ (m : ℕ). ReadLeaves (ifHeld m (length proof) (ifOld (pair P ts))) filled table′ after proof′ answer) j u in
+      rw (a .1 .0, b .1 .0) (read-kept {table = table} {proof = proof} j l v)
 
 -- The whole packet
 

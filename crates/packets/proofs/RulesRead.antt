@@ -4,7 +4,7 @@ use mathlib.Core.Path.{_≡_, refl, sym, _∙_, ap, ap₂}
 use mathlib.Core.Bool.{Bool, true, false, cond}
 use mathlib.Core.Option.{Option, none, some}
 use mathlib.Core.List.{List, [], _∷_, _++_, append-nil}
-use Prim.Native.Nat.{ℕ, zero, suc, _+_, _-_, _<_, _≤_}
+use Prim.Native.Nat.{ℕ, zero, suc, _+_, _-_, _<_, _≤_, max}
 use native.Mathlib.Omega.{arith}
 use lib.IntN.{ℤ, pos}
 use lib.ListN.{length, set, take, drop, getD, length-append, length-drop, length-take}
@@ -13,13 +13,15 @@ use borrow.Rule.Slice.PartMut.{putMid}
 use Rattle.words.specs.Limits.{mostRules}
 use Rattle.words.proofs.Parts.{tail-of, put-tail}
 use Rattle.words.proofs.Laws.{sets-append}
-use Rattle.aspif.specs.Rules.{InputRule, ruleWords, programWords}
-use Rattle.aspif.specs.Tables.{sizeAt, soundAt}
+use Rattle.aspif.specs.Rules.{InputRule, ruleTop, atoms, ruleWords, programWords}
+use Rattle.aspif.specs.Tables.{sizeAt, ruleAt, soundAt}
 use Rattle.aspif.proofs.Formed.{words-append}
+use Rattle.aspif.proofs.RuleTests.{greatest-more}
 use Rattle.packets.specs.Bytes.{numbersFrom}
 use Rattle.packets.specs.Packets.{packetRule, prepend, withKind, rulePasses, ruleSize, ruleIn, rulesFrom, rulesIn}
 use Rattle.packets.specs.Parts.{mostWords, sizeIfSound, RuleTold, TableTold}
 use Rattle.packets.specs.declared.reader.Part.{Part}
+use Rattle.packets.specs.declared.reader.RuleRead.{RuleRead}
 use Rattle.packets.proofs.RuleParts.{kind-more, rule-part, front-rule, rule-size, first-passes, first-rule}
 
 -- The row
@@ -65,12 +67,17 @@ module _ {A : Type 0} where
 
 -- One rule
 
+-- no rule stands there
+abbrev nothing : RuleRead
+nothing = record { size = 0; top = 0 }
+
 -- what is told of a rule
 module _ (ws : List ℤ) {before : List ℤ} {at : ℕ} where
-  pub told-sound : {row after : List ℤ} {size : ℕ} → row ≡ withKind ws → soundAt row ≡ true → size ≡ sizeAt row
-      → after ≡ sets before at (take size row) → RuleTold ws before after at (size - 1)
+  pub told-sound : {row after : List ℤ} {size largest : ℕ} → row ≡ withKind ws → soundAt row ≡ true → size ≡ sizeAt row
+      → largest ≡ ruleTop (ruleAt row) → after ≡ sets before at (take size row)
+      → RuleTold ws before after at (record { size = size - 1; top = largest })
   unfolding sizeIfSound
-  told-sound {after = after} {size} e s n p =
+  told-sound {after = after} {size} e s n t p =
       let q : rulePasses ws ≡ true = rw e at s in
       let m : size ≡ sizeAt (withKind ws) = rw e at n in
       let f = front-rule ws q in
@@ -78,13 +85,14 @@ module _ (ws : List ℤ) {before : List ℤ} {at : ℕ} where
         size = rw (q, m);
         within = omega (arith, m, rule-size ws q, ap length (f .words), length-append (packetRule (ruleIn ws)) (drop (ruleSize ws) ws));
         words = λ _. p ∙ ap (sets before at) (ap₂ take m e ∙ rule-part (withKind ws) q);
+        largest = λ _. t ∙ ap (λ (l : List ℤ). ruleTop (ruleAt l)) e;
       }
 
-  pub told-unsound : {row after : List ℤ} → row ≡ withKind ws → soundAt row ≡ false → RuleTold ws before after at 0
+  pub told-unsound : {row after : List ℤ} → row ≡ withKind ws → soundAt row ≡ false → RuleTold ws before after at nothing
   unfolding sizeIfSound
   told-unsound e s =
       let q : rulePasses ws ≡ false = rw e at s in
-      record { size = rw q; within = omega arith; words = λ h. absurd (omega arith) }
+      record { size = rw q; within = omega arith; words = λ h. absurd (omega arith); largest = λ h. absurd (omega arith) }
 
 -- where there is a size, a rule stands there
 pub sized : (ws : List ℤ) → 0 < sizeIfSound ws → (rulePasses ws ≡ true) × (sizeIfSound ws ≡ ruleSize ws)
@@ -96,16 +104,17 @@ sized ws h = by (rulePasses ws) refl h
     by false e h = absurd (omega arith)
 
 -- fewer than three words are no rule
-pub told-few : (ws table : List ℤ) (at : ℕ) → length ws < 3 → RuleTold ws table table at 0
+pub told-few : (ws table : List ℤ) (at : ℕ) → length ws < 3 → RuleTold ws table table at nothing
 unfolding sizeIfSound
-told-few ws table at h = record { size = by (rulePasses ws) refl; within = omega arith; words = λ h. absurd (omega arith) }
+told-few ws table at h =
+    record { size = by (rulePasses ws) refl; within = omega arith; words = λ h. absurd (omega arith); largest = λ h. absurd (omega arith) }
   where
     by : (t : Bool) → rulePasses ws ≡ t → 0 ≡ cond t (ruleSize ws) 0
     by true e = absurd (omega (arith, ap length (front-rule ws e .words), length-append (packetRule (ruleIn ws)) (drop (ruleSize ws) ws)))
     by false e = refl
 
 -- the first words tell all that is told of a rule
-pub told-first : (ws : List ℤ) {before after : List ℤ} {at r : ℕ} → RuleTold (take mostWords ws) before after at r
+pub told-first : (ws : List ℤ) {before after : List ℤ} {at : ℕ} {r : RuleRead} → RuleTold (take mostWords ws) before after at r
     → RuleTold ws before after at r
 unfolding sizeIfSound
 told-first ws {before} {at = at} t =
@@ -114,6 +123,7 @@ told-first ws {before} {at = at} t =
       size = s;
       within = omega (arith, t .within, length-take mostWords ws);
       words = λ h. t .words h ∙ ap (λ (x : InputRule). sets before at (ruleWords x)) (first-rule ws (sized ws (rw s at h) .0) .0);
+      largest = λ h. t .largest h ∙ ap ruleTop (first-rule ws (sized ws (rw s at h) .0) .0);
     }
   where
     same : (b : Bool) → rulePasses ws ≡ b → sizeIfSound (take mostWords ws) ≡ cond b (ruleSize ws) 0
@@ -178,29 +188,30 @@ module _ {A : Type 0} where
   onto-some (y ∷ l) k = ap (prepend y) (onto-some l k)
 
 -- After some rules the loop stands at word i; their words stand in the table, as many as fit.
-pub record Filling (ws table₀ table : List ℤ) (rules i : ℕ) : Type 0 where
+pub record Filling (ws table₀ table : List ℤ) (rules largest i : ℕ) : Type 0 where
   pub before : List InputRule
   pub within : i ≤ length ws
   pub few : rules ≤ mostRules
   pub count : rules ≡ length before
+  pub atom : largest ≡ atoms before
   pub place : i + rules ≡ length (programWords before)
   pub whole : rulesIn ws ≡ onto before (rulesFrom (mostRules - rules) (drop i ws))
   pub stands : table ≡ sets table₀ 0 (programWords before)
 
-pub filling-start : (ws table : List ℤ) → Filling ws table table 0 0
+pub filling-start : (ws table : List ℤ) → Filling ws table table 0 0 0
 unfolding rulesIn
 filling-start ws table =
-    record { before = []; within = omega arith; few = omega arith; count = refl; place = refl; whole = refl; stands = refl }
+    record { before = []; within = omega arith; few = omega arith; count = refl; atom = refl; place = refl; whole = refl; stands = refl }
 
-module _ {ws table₀ table : List ℤ} {rules i : ℕ} (g : Filling ws table₀ table rules i) where
+module _ {ws table₀ table : List ℤ} {rules largest i : ℕ} (g : Filling ws table₀ table rules largest i) where
   pub filling-kept : length table ≡ length table₀
   filling-kept = rw (g .stands) (length-sets table₀ 0 (programWords (g .before)))
 
-  pub filling-end : length ws ≤ i → TableTold (rulesIn ws) table₀ table (Part.Taken rules)
+  pub filling-end : length ws ≤ i → TableTold (rulesIn ws) table₀ table (Part.Taken rules largest)
   filling-end h =
       let n = rules-none (mostRules - rules) (drop i ws) (omega (arith, length-drop i ws)) in
       let e = g .whole ∙ ap (onto (g .before)) n ∙ onto-some (g .before) [] ∙ ap some (append-nil (g .before)) in
-      rw e (ap Part.Taken (g .count), g .stands)
+      rw e (ap₂ Part.Taken (g .count) (g .atom), g .stands)
 
   module _ (h : i < length ws) where
     abbrev words-left : List ℤ
@@ -212,20 +223,21 @@ module _ {ws table₀ table : List ℤ} {rules i : ℕ} (g : Filling ws table₀
     pub filling-full : mostRules ≤ rules → rulesIn ws ≡ none
     filling-full f = g .whole ∙ ap (onto (g .before)) (rules-full (mostRules - rules) words-left some-left (omega arith)) ∙ onto-none (g .before)
 
-    module _ {after : List ℤ} {r : ℕ} (t : RuleTold words-left table after (i + rules) r) where
-      pub filling-stop : r ≡ 0 → rulesIn ws ≡ none
+    module _ {after : List ℤ} {r : RuleRead} (t : RuleTold words-left table after (i + rules) r) where
+      pub filling-stop : r .size ≡ 0 → rulesIn ws ≡ none
       filling-stop z =
           let e = rules-stop (mostRules - rules) words-left some-left (sym (t .size) ∙ z) in
           g .whole ∙ ap (onto (g .before)) e ∙ onto-none (g .before)
 
-      pub filling-on : rules < mostRules → (r ≡ 0 → ⊥) → Filling ws table₀ after (rules + 1) (i + r)
-      filling-on k z =
+      pub filling-on : {more-largest : ℕ} → more-largest ≡ max largest (r .top) → rules < mostRules → (r .size ≡ 0 → ⊥)
+          → Filling ws table₀ after (rules + 1) more-largest (i + r .size)
+      filling-on m′ k z =
           let x = ruleIn words-left in
           let more = g .before ++ (x ∷ []) in
-          let p : 0 < r = omega (arith, some-left) in
+          let p : 0 < r .size = omega (arith, some-left) in
           let s = sized words-left (rw (t .size) at p) in
           let f = front-rule words-left (s .0) in
-          let n : r ≡ length (packetRule x) = t .size ∙ s .1 ∙ rule-size words-left (s .0) in
+          let n : r .size ≡ length (packetRule x) = t .size ∙ s .1 ∙ rule-size words-left (s .0) in
           let w : programWords more ≡ programWords (g .before) ++ ruleWords x =
           words-append (g .before) (x ∷ []) ∙ ap (λ (l : List ℤ). programWords (g .before) ++ l) (append-nil (ruleWords x)) in
           let m : mostRules - rules - 1 ≡ mostRules - (rules + 1) = omega arith in
@@ -236,11 +248,12 @@ module _ {ws table₀ table : List ℤ} {rules i : ℕ} (g : Filling ws table₀
             within = omega (arith, t .within, length-drop i ws, g .within);
             few = omega arith;
             count = omega (arith, g .count, length-append (g .before) (x ∷ []));
+            atom = omega (arith, m′, t .largest p, g .atom, greatest-more ruleTop (g .before) x);
             place = omega (arith, n, kind-more x (f .is-plain), ap length w, length-append (programWords (g .before)) (ruleWords x), g .place);
             whole = g .whole
                 ∙ ap (onto (g .before)) on
                 ∙ onto-one (g .before) x (rulesFrom (mostRules - rules - 1) (drop (sizeIfSound words-left) words-left))
-                ∙ rw (m, ← t .size, drop-drop r i ws);
+                ∙ rw (m, ← t .size, drop-drop (r .size) i ws);
             stands = t .words p
                 ∙ ap₂ (λ (l : List ℤ) (k : ℕ). sets l k (ruleWords x)) (g .stands) o
                 ∙ sym (sets-append (programWords (g .before)) (ruleWords x) table₀ 0)

@@ -1,11 +1,11 @@
 -- What the loops of the writer cite: bytes put one after another.
 -- Assumes nothing.
 use mathlib.Core.Path.{_≡_, refl, sym, _∙_, ap, ap₂, subst}
-use mathlib.Core.Bool.{Bool, true, false, cond, true≢false}
+use mathlib.Core.Bool.{Bool, true, false, cond, _&&_, true≢false}
 use mathlib.Core.Option.{some}
 use mathlib.Core.Logic.{inl}
 use mathlib.Core.List.{List, [], _∷_, _++_, map, append-nil, append-assoc}
-use Prim.Native.Nat.{ℕ, zero, suc, _+_, _-_, _*_, _/_, _%_, _<_, _≤_}
+use Prim.Native.Nat.{ℕ, zero, suc, _+_, _-_, _*_, _/_, _%_, _<_, _≤_, max}
 use native.Mathlib.Omega.{arith}
 use borrow.Author.Tests.{ltb-true, leb-true}
 use lib.Dec.{leb}
@@ -15,13 +15,14 @@ use lib.ListN.{length, set, take, drop, getD, replicate, drop-of-length-le, leng
 use lib.Seq.{drop-cons, take-append-seam, set-comm, sets, sets-eq, length-sets}
 use Rattle.words.specs.Limits.{longest, mostNumbers}
 use Rattle.words.specs.Lists.{concat}
-use Rattle.words.specs.Literals.{variable}
+use Rattle.words.specs.Literals.{variable, top}
 use Rattle.words.proofs.Lists.{zero-one, concat-append}
 use Rattle.weights.specs.Weights.{paired}
 use Rattle.text.specs.declared.Letter.{Letter}
 use Rattle.text.specs.Writing.{Put}
 use Rattle.text.proofs.Puts.{put-on, put-one, put-none}
 use Rattle.aspif.specs.Rules.{plain, weights, InputRule, isPlainBody, isPlain, allPlain, literalsOf, kindWord}
+use Rattle.aspif.proofs.RuleTests.{greatest-more}
 use Rattle.aspif.specs.Tables.{isWeighted, bodyWordsAt, boundAt, bodyAt, ruleAt, rulesAt, soundTable}
 use Rattle.drupe.specs.Lines.{LineAt, line, lineAt, lineAnswer, numbersOf, AnswerBounds, ProofLineRead}
 use Rattle.drupe.specs.Lines as Lines
@@ -34,7 +35,7 @@ use Rattle.drupe.proofs.Lines.{drop-replicate, passed-line}
 use Rattle.drupe.proofs.Texts.{Walked, walked-start, walked-on, walked-end, walked-refused, refused-exact}
 use Rattle.packets.specs.Bytes.{little, flipIf, signedBytes, bytesOf}
 use Rattle.packets.specs.Packets as Packets
-use Rattle.packets.specs.Packets.{mark, packetRule, packetWords, stepBytes, stepsBytes, packetOf, PacketWritten, unwritten, written, stepsTaken, held, writing, writingAnswer, packetLeft, WritingLeaves, WrittenPacket}
+use Rattle.packets.specs.Packets.{mark, packetRule, packetWords, stepBytes, stepsBytes, packetOf, oldLargest, stepsTop, pairTop, ifOld, PacketWritten, unwritten, written, stepsTaken, held, writing, writingAnswer, packetLeft, WritingLeaves, WrittenPacket}
 use Rattle.packets.specs.Writes.{stepRoom, isRead, stepsRead, StepsPutAs, writingTold}
 use Rattle.packets.specs.declared.PacketWriting.{PacketWriting}
 use Rattle.packets.specs.declared.PacketWriting.the-variants as Writing
@@ -170,23 +171,25 @@ module _ {s : List ℕ} {at : ℕ} {r : LineReading} (R : ProofLineRead s at r) 
       (few, omega (arith, few, n, length-append zs (replicate (mostNumbers - length zs) (pos 0)), length-replicate (mostNumbers - length zs) (pos 0)))
 
 -- The loop over the proof text stands at a position after n steps, which are put.
-pub record Stepping (text before now : List ℕ) (at position n end : ℕ) : Type 0 where
+pub record Stepping (text before now : List ℕ) (at position n largest end : ℕ) : Type 0 where
   pub done : List Step
   pub walked : Walked text position n done
   pub put : Put (stepsBytes done) before now at end
+  pub tops : largest ≡ stepsTop done
   pub near : end ≤ at + stepRoom * position
   pub within : position ≤ length text
   pub few : n ≤ position
 
-pub stepping-start : {text : List ℕ} (before : List ℕ) (at : ℕ) → length text ≤ longest → Stepping text before before at 0 0 at
+pub stepping-start : {text : List ℕ} (before : List ℕ) (at : ℕ) → length text ≤ longest → Stepping text before before at 0 0 0 at
 stepping-start before at h =
-    record { done = []; walked = walked-start h; put = put-none before at; near = omega arith; within = omega arith; few = omega arith }
+    record { done = []; walked = walked-start h; put = put-none before at; tops = refl; near = omega arith; within = omega arith; few = omega arith }
 
-module _ {text before now : List ℕ} {at position n end : ℕ} (S : Stepping text before now at position n end) where
+module _ {text before now : List ℕ} {at position n largest end : ℕ} (S : Stepping text before now at position n largest end) where
   -- one step more
-  pub stepping-on : {x : Letter} {zs : List ℤ} {place next : ℕ} {after : List ℕ} → lineAt text position ≡ line x zs place
-      → Put (stepBytes (record { letter = x; numbers = zs })) now after end next → next ≤ end + stepRoom → Stepping text before after at place (n + 1) next
-  stepping-on {x} {zs} e p h =
+  pub stepping-on : {x : Letter} {zs : List ℤ} {place next most : ℕ} {after : List ℕ} → lineAt text position ≡ line x zs place
+      → Put (stepBytes (record { letter = x; numbers = zs })) now after end next → next ≤ end + stepRoom → most ≡ max largest (top zs)
+      → Stepping text before after at place (n + 1) most next
+  stepping-on {x} {zs} e p h m =
       let t : Step = record { letter = x; numbers = zs } in
       let u = passed-line text position e in
       let a : stepsBytes (S .done ++ (t ∷ [])) ≡ stepsBytes (S .done) ++ stepBytes t =
@@ -195,21 +198,22 @@ module _ {text before now : List ℕ} {at position n end : ℕ} (S : Stepping te
         done = S .done ++ (t ∷ []);
         walked = walked-on (S .walked) e;
         put = rw a (put-on (S .put) p);
+        tops = omega (arith, m, S .tops, greatest-more (λ (t : Step). top (t .numbers)) (S .done) t);
         near = omega (arith, S .near, u .0);
         within = u .1;
         few = omega (arith, S .few, u .0);
       }
 
-  pub stepping-end : lineAt text position ≡ Lines.end → StepsPutAs (stepsOf text) before now at (record { good = true; steps = n; end = end })
-  stepping-end e = rw (walked-end (S .walked) e) (record { good = refl; count = S .walked .count; put = S .put })
+  pub stepping-end : lineAt text position ≡ Lines.end → StepsPutAs (stepsOf text) before now at (record { good = true; steps = n; top = largest; end = end })
+  stepping-end e = rw (walked-end (S .walked) e) (record { good = refl; count = S .walked .count; largest = S .tops; put = S .put })
 
-  pub stepping-refused : (k : ℕ) → lineAt text position ≡ Lines.refused k → StepsPutAs (stepsOf text) before now at (record { good = false; steps = n; end = end })
-  stepping-refused k e = rw (walked-refused (S .walked) k e) (record { good = refl; count = S .walked .count; put = S .put })
+  pub stepping-refused : (k : ℕ) → lineAt text position ≡ Lines.refused k → StepsPutAs (stepsOf text) before now at (record { good = false; steps = n; top = largest; end = end })
+  stepping-refused k e = rw (walked-refused (S .walked) k e) (record { good = refl; count = S .walked .count; largest = S .tops; put = S .put })
 
 -- the text is too long
-pub stepping-long : (text before : List ℕ) (at : ℕ) → longest < length text → StepsPutAs (stepsOf text) before before at (record { good = false; steps = 0; end = at })
+pub stepping-long : (text before : List ℕ) (at : ℕ) → longest < length text → StepsPutAs (stepsOf text) before before at (record { good = false; steps = 0; top = 0; end = at })
 stepping-long text before at h =
-    rw (refused-exact text [] 21 0 .1 (inl (h, (refl, (refl, refl))))) (record { good = refl; count = refl; put = put-none before at })
+    rw (refused-exact text [] 21 0 .1 (inl (h, (refl, (refl, refl))))) (record { good = refl; count = refl; largest = refl; put = put-none before at })
 
 -- The whole packet
 
@@ -246,7 +250,7 @@ packet-ends P ts p q = omega (arith, p .ends, q .ends, length-append (bytesOf 4 
 
 -- What `write_packet` comes to
 
--- of the bytes of a packet, whether its text passes and whether it fits
+-- of the bytes of a packet, whether its text passes and version 1 has room for its variables, and whether it fits
 abbrev pub byQuestions : Bool → Bool → List ℕ → PacketWritten
 byQuestions good fits bs = cond good (cond fits (written bs) (unwritten 52)) (unwritten 53)
 
@@ -260,18 +264,32 @@ module _ (table : List ℤ) (rules : ℕ) (proof : List ℕ) (size : ℕ) where
 
   pub no-packet : soundTable table rules ≡ true → allPlain (rulesAt rules table) ≡ false → writing table rules proof size ≡ unwritten 53
   unfolding writing
-  no-packet e p = rw (e, p)
+  no-packet e p = rw e (by (stepsOf proof))
+    where
+      by : (o : StepsRead) → held size (ifOld (Packets.paired (some (rulesAt rules table)) (stepsTaken o))) ≡ unwritten 53
+      by (steps us) = rw p
+      by (Texts.refused us k n) = refl
+
+  -- the text passes, and there is room for the variables
+  abbrev pub good : Bool
+  good = isRead (stepsOf proof) && leb (pairTop (rulesAt rules table) (stepsRead (stepsOf proof))) oldLargest
 
   -- the questions that are left of a table that passed
-  pub asked : soundTable table rules ≡ true → allPlain (rulesAt rules table) ≡ true → writing table rules proof size ≡ byQuestions (isRead (stepsOf proof)) (leb (length bytes) size) bytes
+  pub asked : soundTable table rules ≡ true → allPlain (rulesAt rules table) ≡ true → writing table rules proof size ≡ byQuestions good (leb (length bytes) size) bytes
   unfolding writing
-  asked e p = rw (e, p) (by (stepsOf proof))
+  asked e p = rw e (by (stepsOf proof))
     where
       P : List InputRule
       P = rulesAt rules table
 
-      by : (o : StepsRead) → held size (Packets.paired (some P) (stepsTaken o)) ≡ byQuestions (isRead o) (leb (length (packetOf P (stepsRead o))) size) (packetOf P (stepsRead o))
-      by (steps us) = refl
+      room : (t : Bool) (us : List Step)
+          → held size (cond t (Packets.pair P us) (Packets.refused 53)) ≡ byQuestions t (leb (length (packetOf P us)) size) (packetOf P us)
+      room true us = refl
+      room false us = refl
+
+      by : (o : StepsRead) → held size (ifOld (Packets.paired (some P) (stepsTaken o)))
+          ≡ byQuestions (isRead o && leb (pairTop P (stepsRead o)) oldLargest) (leb (length (packetOf P (stepsRead o))) size) (packetOf P (stepsRead o))
+      by (steps us) = rw p (room (leb (pairTop P us) oldLargest) us)
       by (Texts.refused us k n) = refl
 
 pub answer-told : {r : PacketWriting} (good good′ : Bool) (size size′ room room′ : ℕ) → r ≡ writingTold good size (leb size room) → good ≡ good′ → size ≡ size′ → room ≡ room′

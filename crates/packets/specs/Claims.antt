@@ -1,6 +1,7 @@
 -- What is claimed of packets: a pair is read back, a packet has one form, and what is read passes. proofs/ has the proofs.
 -- Assumes nothing.
 use mathlib.Core.Path.{_≡_}
+use mathlib.Core.Bool.{true}
 use mathlib.Core.Option.{some}
 use mathlib.Core.List.{List}
 use Prim.Native.Nat.{ℕ, _<_, _≤_}
@@ -10,7 +11,7 @@ use Rattle.words.specs.Lists.{_∈_}
 use Rattle.aspif.specs.Rules.{InputRule, programWords, tableWords}
 use Rattle.aspif.specs.Tables.{rulesOf}
 use Rattle.drupe.specs.Texts.{Step, steps, textOf, stepsOf}
-use Rattle.packets.specs.Packets.{packetOf, pair, reading, tableLeft, written, writing}
+use Rattle.packets.specs.Packets.{packetOf, fitsOld, pair, reading, tableLeft, written, writing}
 
 -- every one is a byte, as in every slice of bytes that is lent
 abbrev pub Bytes : List ℕ → Type 0
@@ -44,9 +45,9 @@ WrittenAgain =
     → Bytes packet → reading packet tableSize textSize ≡ pair P ts → length packet ≤ size
     → writing (tableLeft tableSize (pair P ts)) (length P) (textOf ts) size ≡ written packet
 
--- what the reader gives passes question 41 with that rule count, and questions 21 to 25
+-- what the reader gives passes question 41 with that rule count, and questions 21 to 25, and fits version 1
 abbrev pub ReadSound : Type 0
 ReadSound =
     (packet : List ℕ) (tableSize textSize : ℕ) (P : List InputRule) (ts : List Step)
     → reading packet tableSize textSize ≡ pair P ts
-    → (rulesOf (tableLeft tableSize (pair P ts)) (length P) ≡ some P) × (stepsOf (textOf ts) ≡ steps ts)
+    → (rulesOf (tableLeft tableSize (pair P ts)) (length P) ≡ some P) × (stepsOf (textOf ts) ≡ steps ts) × (fitsOld P ts ≡ true)

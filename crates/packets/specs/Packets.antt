@@ -1,23 +1,24 @@
--- Case packets: Change 1, with "Packets keep the old table and refuse a weight rule with 53" of Change 3. The pair is the rules P of a
--- table, none with a weight body, and the steps ts of a proof text; `packetOf P ts` is its one byte form, and `writing` and `reading` are
--- what the writer and the reader come to, question by question.
+-- Case packets: Change 1, with "Packets keep the old table and refuse a weight rule with 53" of Change 3 and "packets of version 1 keep
+-- the old ones", the old figures, of Change 6. The pair is the rules P of a table and the steps ts of a proof text, as far as a packet can
+-- hold them (`fitsOld`); `packetOf P ts` is its one byte form, and `writing` and `reading` are what the writer and the reader come to,
+-- question by question.
 -- Assumes nothing.
 use mathlib.Core.Path.{_≡_}
 use mathlib.Core.Bool.{Bool, true, false, cond, not, _&&_}
 use mathlib.Core.Option.{Option, none, some}
 use mathlib.Core.List.{List, [], _∷_, _++_, map}
-use Prim.Native.Nat.{ℕ, zero, suc, _+_, _-_, _*_}
+use Prim.Native.Nat.{ℕ, zero, suc, _+_, _-_, _*_, max}
 use lib.Dec.{leb}
 use lib.IntN.{ℤ, pos}
 use lib.ListN.{length, take, drop, replicate}
 use Rattle.words.specs.Limits.{longest, mostRules}
 use Rattle.words.specs.Lists.{concat}
-use Rattle.words.specs.Literals.{has}
+use Rattle.words.specs.Literals.{has, top}
 use Rattle.text.specs.Bytes.{byteOf, classOf}
 use Rattle.text.specs.declared.Letter.{Letter}
 use Rattle.text.specs.declared.Class.{Class}
 use Rattle.text.specs.declared.Class.the-variants as Class
-use Rattle.aspif.specs.Rules.{InputRule, literalsOf, allPlain, kindWord, programWords, tableWords}
+use Rattle.aspif.specs.Rules.{InputRule, literalsOf, allPlain, greatest, atoms, kindWord, programWords, tableWords}
 use Rattle.text.specs.Strings.{startsWith}
 use Rattle.aspif.specs.Tables.{ruleAt, sizeAt, soundAt, rulesOf}
 use Rattle.drupe.specs.Lines.{allPassed, lineRefusal}
@@ -59,6 +60,23 @@ packetHeader P ts = mark ++ (little 4 (length (packetWords P)) ++ little 4 (leng
 -- ".. those words, and each step"
 unfoldable pub packetOf : List InputRule → List Step → List ℕ
 packetOf P ts = packetHeader P ts ++ (bytesOf 4 (packetWords P) ++ stepsBytes ts)
+
+-- What a packet of version 1 can hold
+
+-- the largest variable
+abbrev pub oldLargest : ℕ
+oldLargest = 4095
+
+-- the largest variable that steps name, and that a pair names in a rule or in a step
+abbrev pub stepsTop : List Step → ℕ
+stepsTop ts = greatest (λ (t : Step). top (t .numbers)) ts
+
+abbrev pub pairTop : List InputRule → List Step → ℕ
+pairTop P ts = max (atoms P) (stepsTop ts)
+
+-- no rule with a weight body, and no variable above the old largest
+abbrev pub fitsOld : List InputRule → List Step → Bool
+fitsOld P ts = allPlain P && leb (pairTop P ts) oldLargest
 
 -- What stands in the bytes of a packet
 
@@ -172,6 +190,11 @@ paired none o = refused 53
 paired (some P) none = refused 53
 paired (some P) (some ts) = pair P ts
 
+-- "Packets .. refuse a weight rule with 53", and so a variable above the old largest
+abbrev pub ifOld : PacketRead → PacketRead
+ifOld (refused k) = refused k
+ifOld (pair P ts) = cond (fitsOld P ts) (pair P ts) (refused 53)
+
 -- "and last an output too short, again 52": the table outside the packet has its own words
 abbrev pub ifHeld : ℕ → ℕ → PacketRead → PacketRead
 ifHeld tableSize textSize (refused k) = refused k
@@ -181,7 +204,7 @@ ifHeld tableSize textSize (pair P ts) =
 -- of the bytes of the words and of the steps, with so many of either
 unfoldable pub partsRead : ℕ → List ℕ → ℕ → List ℕ → ℕ → ℕ → PacketRead
 partsRead words wordBytes count bytes tableSize textSize =
-    ifHeld tableSize textSize (paired (rulesIn (numbersFrom 4 words wordBytes)) (stepsIn count bytes))
+    ifHeld tableSize textSize (ifOld (paired (rulesIn (numbersFrom 4 words wordBytes)) (stepsIn count bytes)))
 
 -- "A wrong or missing mark or version is 51, lengths that don't make up the bytes given 52, .. tested in this order"
 unfoldable pub reading : List ℕ → ℕ → ℕ → PacketRead
@@ -234,14 +257,9 @@ abbrev pub held : ℕ → PacketRead → PacketWritten
 held size (refused k) = unwritten k
 held size (pair P ts) = cond (leb (length (packetOf P ts)) size) (written (packetOf P ts)) (unwritten 52)
 
--- "Packets .. refuse a weight rule with 53"
-abbrev pub ifPlain : Option (List InputRule) → Option (List InputRule)
-ifPlain none = none
-ifPlain (some P) = cond (allPlain P) (some P) none
-
 -- The writer has no mark to test, so 53 comes first, and then 52.
 unfoldable pub writing : List ℤ → ℕ → List ℕ → ℕ → PacketWritten
-writing table rules proof size = held size (paired (ifPlain (rulesOf table rules)) (stepsTaken (stepsOf proof)))
+writing table rules proof size = held size (ifOld (paired (rulesOf table rules) (stepsTaken (stepsOf proof))))
 
 abbrev pub writingAnswer : PacketWritten → PacketWriting
 writingAnswer (unwritten k) = Writing.Refused k

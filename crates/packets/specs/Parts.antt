@@ -1,7 +1,7 @@
 -- What the private functions of the reader come to; no reader of a public contract needs it.
 -- Assumes nothing.
 use mathlib.Core.Path.{_≡_}
-use mathlib.Core.Bool.{cond}
+use mathlib.Core.Bool.{true, cond}
 use mathlib.Core.Option.{Option, none, some}
 use mathlib.Core.List.{List, [], _∷_}
 use Prim.Native.Nat.{ℕ, _+_, _*_, _<_, _≤_}
@@ -13,13 +13,15 @@ use Rattle.text.specs.Bytes.{classOf}
 use Rattle.text.specs.Writing.{Put}
 use Rattle.text.specs.declared.Letter.{Letter}
 use Rattle.words.specs.Limits.{mostLiterals}
-use Rattle.aspif.specs.Rules.{InputRule, ruleWords, programWords}
+use Rattle.words.specs.Literals.{top}
+use Rattle.aspif.specs.Rules.{InputRule, allPlain, ruleTop, atoms, ruleWords, programWords}
 use Rattle.drupe.specs.Texts.{Step, stepText, textOf}
 use Rattle.packets.specs.Bytes.{numbersFrom}
-use Rattle.packets.specs.Packets.{rulePasses, ruleSize, ruleIn, letterIn, stepPasses, pair, ifHeld, ReadLeaves}
+use Rattle.packets.specs.Packets.{stepsTop, pairTop, rulePasses, ruleSize, ruleIn, letterIn, stepPasses, pair, ifOld, ifHeld, ReadLeaves}
 use Rattle.packets.specs.declared.PacketReading.{PacketReading}
 use Rattle.packets.specs.declared.reader.Part.{Part}
 use Rattle.packets.specs.declared.reader.Part.the-variants.{Taken, Refused}
+use Rattle.packets.specs.declared.reader.RuleRead.{RuleRead}
 
 -- The reader's rules
 
@@ -31,16 +33,18 @@ mostWords = 3 + mostLiterals + mostLiterals
 unfoldable pub sizeIfSound : List ℤ → ℕ
 sizeIfSound ws = cond (rulePasses ws) (ruleSize ws) 0
 
--- how many words of the packet the rule at their front takes, and its words stand in the table from `at` on, as many as fit
-pub record RuleTold (ws before after : List ℤ) (at r : ℕ) : Type 0 where
-  pub size : r ≡ sizeIfSound ws
-  pub within : r ≤ length ws
-  pub words : 0 < r → after ≡ sets before at (ruleWords (ruleIn ws))
+-- how many words of the packet the rule at their front takes, and its largest atom; and its words stand in the table from `at` on, as
+-- many as fit
+pub record RuleTold (ws before after : List ℤ) (at : ℕ) (r : RuleRead) : Type 0 where
+  pub size : r .size ≡ sizeIfSound ws
+  pub within : r .size ≤ length ws
+  pub words : 0 < r .size → after ≡ sets before at (ruleWords (ruleIn ws))
+  pub largest : 0 < r .size → r .top ≡ ruleTop (ruleIn ws)
 
--- the words of rules stand in the table from its front on, as many as fit, and it is told how many rules they are
+-- the words of rules stand in the table from its front on, as many as fit, and it is told how many rules they are, and their largest atom
 abbrev pub TableTold : Option (List InputRule) → List ℤ → List ℤ → Part → Type 0
 TableTold none before after r = r ≡ Refused
-TableTold (some P) before after r = (r ≡ Taken (length P)) × (after ≡ sets before 0 (programWords P))
+TableTold (some P) before after r = (r ≡ Taken (length P) (atoms P)) × (after ≡ sets before 0 (programWords P))
 
 -- The reader's steps
 
@@ -61,31 +65,35 @@ stepAt [] = none
 stepAt (x ∷ []) = none
 stepAt (x ∷ c ∷ bs) = ifPasses (letterIn (classOf x)) (numbersFrom 2 c bs)
 
--- a step's line stands in the text from `at` on, and the position after it is told
+-- a step's line stands in the text from `at` on, and the position after it is told, and its largest variable
 abbrev pub StepTold : Option Step → List ℕ → List ℕ → ℕ → Part → Type 0
 StepTold none before after at r = r ≡ Refused
-StepTold (some t) before after at r = (r ≡ Taken (at + length (stepText t))) × Put (stepText t) before after at (at + length (stepText t))
+StepTold (some t) before after at r =
+    (r ≡ Taken (at + length (stepText t)) (top (t .numbers))) × Put (stepText t) before after at (at + length (stepText t))
 
--- the lines of steps stand in the text from its front on, and their length is told
+-- the lines of steps stand in the text from its front on, and their length is told, and their largest variable
 abbrev pub TextTold : Option (List Step) → List ℕ → List ℕ → Part → Type 0
 TextTold none before after r = r ≡ Refused
-TextTold (some ts) before after r = (r ≡ Taken (length (textOf ts))) × (after ≡ sets before 0 (textOf ts))
+TextTold (some ts) before after r = (r ≡ Taken (length (textOf ts)) (stepsTop ts)) × (after ≡ sets before 0 (textOf ts))
 
 -- The reader's outputs
 
--- what the parts of a packet that are read come to: so many words of the table and bytes of the text, which stand in the outputs already
-pub record Parts (size rules bytes : ℕ) (table : List ℤ) (proof : List ℕ) (P : List InputRule) (ts : List Step) : Type 0 where
+-- what the parts of a packet that are read come to: so many words of the table and bytes of the text, which stand in the outputs already,
+-- and the largest variable
+pub record Parts (size rules bytes largest : ℕ) (table : List ℤ) (proof : List ℕ) (P : List InputRule) (ts : List Step) : Type 0 where
   pub size-of : size ≡ length (programWords P)
   pub rules-of : rules ≡ length P
   pub bytes-of : bytes ≡ length (textOf ts)
+  pub plain-of : allPlain P ≡ true
+  pub top-of : largest ≡ pairTop P ts
   pub table-of : table ≡ sets (replicate (length table) (pos 0)) 0 (programWords P)
   pub text-of : proof ≡ sets (replicate (length proof) 0) 0 (textOf ts)
 
--- what is given of the parts of a packet, whatever pair they are the parts of: the pair, where the outputs hold it
-abbrev pub Given : ℕ → ℕ → ℕ → List ℤ → List ℤ → List ℕ → List ℕ → PacketReading → Type 0
-Given size rules bytes table table′ proof proof′ r =
-    (P : List InputRule) (ts : List Step) → Parts size rules bytes table proof P ts
-    → ReadLeaves (ifHeld (length table) (length proof) (pair P ts)) table table′ proof proof′ r
+-- what is given of the parts of a packet, whatever pair they are the parts of: the pair, where it fits version 1 and the outputs hold it
+abbrev pub Given : ℕ → ℕ → ℕ → ℕ → List ℤ → List ℤ → List ℕ → List ℕ → PacketReading → Type 0
+Given size rules bytes largest table table′ proof proof′ r =
+    (P : List InputRule) (ts : List Step) → Parts size rules bytes largest table proof P ts
+    → ReadLeaves (ifHeld (length table) (length proof) (ifOld (pair P ts))) table table′ proof proof′ r
 
 -- the outputs hold zeros
 abbrev pub Zeros : {A : Type 0} → A → List A → Type 0

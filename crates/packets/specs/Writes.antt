@@ -8,7 +8,7 @@ use lib.ListN.{length}
 use Rattle.words.specs.Limits.{mostRules, mostNumbers}
 use Rattle.text.specs.Writing.{Put}
 use Rattle.drupe.specs.Texts.{Step, StepsRead, steps, refused}
-use Rattle.packets.specs.Packets.{stepsBytes}
+use Rattle.packets.specs.Packets.{stepsBytes, stepsTop}
 use Rattle.packets.specs.Parts.{mostWords}
 use Rattle.packets.specs.declared.PacketWriting.{PacketWriting}
 use Rattle.packets.specs.declared.PacketWriting.the-variants.{Written, Refused}
@@ -35,10 +35,12 @@ abbrev pub stepsRead : StepsRead → List Step
 stepsRead (steps ts) = ts
 stepsRead (refused before k n) = before
 
--- what is put of a proof text: the bytes of its steps from `at` on, how many steps, and whether they are all that the text has
+-- what is put of a proof text: the bytes of its steps from `at` on, how many steps, their largest variable, and whether they are all that
+-- the text has
 pub record StepsPutAs (read : StepsRead) (before after : List ℕ) (at : ℕ) (r : StepsPut) : Type 0 where
   pub good : r .good ≡ isRead read
   pub count : r .steps ≡ length (stepsRead read)
+  pub largest : r .top ≡ stepsTop (stepsRead read)
   pub put : Put (stepsBytes (stepsRead read)) before after at (r .end)
 
 -- 53, then 52: of a packet of so many bytes, whether its text passes and whether it fits

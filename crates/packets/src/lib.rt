@@ -14,6 +14,9 @@ const MARK: [u8; 5] = *b"RVP\x01\x00";
 // The header's bytes: the mark with the version, and two counts.
 const HEADER: usize = 13;
 
+// The largest variable of a packet of version 1.
+const OLD_LARGEST: usize = 4095;
+
 // How many bytes the packet has, or the number of the question that is answered no.
 pub enum PacketWriting {
     Written(usize),

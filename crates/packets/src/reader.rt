@@ -13,6 +13,7 @@ ghost use Rattle.packets.specs.Bytes.{value, numbersFrom};
 ghost use Rattle.packets.specs.Packets.{fills, lengthsFit, withKind, rulesIn, stepsIn, refused, partsRead, ReadLeaves};
 ghost use Rattle.packets.specs.Parts.{RuleTold, TableTold, stepSize, ifPasses, stepAt, StepTold, TextTold, Given, Zeros};
 use crate::HEADER;
+use crate::OLD_LARGEST;
 use crate::PacketReading;
 use crate::numbers;
 use text::Class;
@@ -24,10 +25,16 @@ const FRONT: usize = 3;
 // The words of the longest rule, and the body kind that they lack.
 const ROW: usize = FRONT + 1 + words::MOST_LITERALS + words::MOST_LITERALS;
 
-// How many rules, or bytes of text, a part of the packet comes to; or that it is refused.
+// How many rules, or bytes of text, a part of the packet comes to, with the largest variable of it; or that it is refused.
 pub enum Part {
-    Taken(usize),
+    Taken { count: usize, top: usize },
     Refused,
+}
+
+// How many words of the packet a rule takes, 0 where none stands there, and its largest atom.
+pub struct RuleRead {
+    pub size: usize,
+    pub top: usize,
 }
 
 // The count that stands in 4 bytes.
@@ -103,9 +110,8 @@ fn put_at(table: &mut [i32], at: usize, row: &[i32])
     }
 }
 
-// The rule whose words fill the row but for one place: they go to the table from `at` on, and how many the packet has is told; 0 where
-// no rule stands there.
-fn decode_rule(row: &mut [i32], bytes: &[u8], table: &mut [i32], at: usize) -> usize
+// The rule whose words fill the row but for one place: they go to the table from `at` on, and how many the packet has is told.
+fn decode_rule(row: &mut [i32], bytes: &[u8], table: &mut [i32], at: usize) -> RuleRead
     requires { ⌜ (3 ≤ length (now row)) × (4 * (length (now row) - 1) ≤ length (now bytes)) ⌝ }
     ensures { λ r. ⌜ RuleTold (numbersFrom 4 (length (now (row .entry)) - 1) (now (bytes .entry))) (now (table .entry))
         (now (table .exit)) at r ⌝ }
@@ -114,21 +120,24 @@ fn decode_rule(row: &mut [i32], bytes: &[u8], table: &mut [i32], at: usize) -> u
     put_kind(row);
     if aspif::tables::is_sound(row) {
         let size = aspif::tables::rule_size(row);
+        let top = aspif::tables::rule_top(row);
         put_at(table, at, &row[..size]);
-        return size - 1;
+        return RuleRead {
+            size: size - 1,
+            top,
+        };
     }
-    0
+    RuleRead { size: 0, top: 0 }
 }
 
-// The rule at the front of so many words: it goes to the table from `at` on, and how many of the words it takes is told; 0 where none
-// stands there.
-fn read_rule(bytes: &[u8], count: usize, table: &mut [i32], at: usize) -> usize
+// The rule at the front of so many words: it goes to the table from `at` on, and how many of the words it takes is told.
+fn read_rule(bytes: &[u8], count: usize, table: &mut [i32], at: usize) -> RuleRead
     requires { ⌜ 4 * count ≤ length (now bytes) ⌝ }
     ensures { λ r. ⌜ RuleTold (numbersFrom 4 count (now (bytes .entry))) (now (table .entry)) (now (table .exit)) at r ⌝ }
 {
     let mut row = [0; ROW];
     if count < FRONT {
-        return 0;
+        return RuleRead { size: 0, top: 0 };
     }
     if count < ROW {
         let end = count + 1;
@@ -144,20 +153,22 @@ fn read_rules(bytes: &[u8], count: usize, table: &mut [i32]) -> Part
     ensures { λ r. ⌜ TableTold (rulesIn (numbersFrom 4 count (now (bytes .entry)))) (now (table .entry)) (now (table .exit)) r ⌝ }
 {
     let mut rules = 0;
+    let mut top = 0;
     let mut i = 0;
     while i < count {
         if words::MOST_RULES <= rules {
             return Part::Refused;
         }
         let from = 4 * i;
-        let size = read_rule(&bytes[from..], count - i, table, i + rules);
-        if size == 0 {
+        let read = read_rule(&bytes[from..], count - i, table, i + rules);
+        if read.size == 0 {
             return Part::Refused;
         }
-        i += size;
+        i += read.size;
+        top = words::larger(top, read.top);
         rules += 1;
     }
-    Part::Taken(rules)
+    Part::Taken { count: rules, top }
 }
 
 // The step whose numbers the row is filled with: its line is written, and its position after it told where it passes.
@@ -171,8 +182,9 @@ fn decode_step(letter: Letter, row: &mut [i32], bytes: &[u8], proof: &mut [u8], 
     if words::contains(row, 0) {
         return Part::Refused;
     }
+    let top = words::largest_variable(row);
     if drupe::is_good(letter, row) {
-        return Part::Taken(end);
+        return Part::Taken { count: end, top };
     }
     Part::Refused
 }
@@ -217,6 +229,7 @@ fn read_steps(bytes: &[u8], count: usize, proof: &mut [u8], classes: &[u8; 256])
     let mut left = count;
     let mut i = 0;
     let mut end = 0;
+    let mut top = 0;
     while 0 < left {
         let rest = &bytes[i..];
         i += step_size(rest);
@@ -224,15 +237,19 @@ fn read_steps(bytes: &[u8], count: usize, proof: &mut [u8], classes: &[u8; 256])
         let read = read_step(rest, proof, end, classes);
         match read {
             Part::Refused => return Part::Refused,
-            Part::Taken(next) => {
+            Part::Taken {
+                count: next,
+                top: largest,
+            } => {
                 if words::LONGEST < next {
                     return Part::Refused;
                 }
                 end = next;
+                top = words::larger(top, largest);
             }
         }
     }
-    Part::Taken(end)
+    Part::Taken { count: end, top }
 }
 
 // Nothing of a packet that is refused stays in the outputs.
@@ -245,17 +262,22 @@ fn refuse(number: u8, table: &mut [i32], proof: &mut [u8]) -> PacketReading
     PacketReading::Refused(number)
 }
 
-// What both parts come to, where the outputs hold them: so many words of the table and bytes of the text, which stand there already.
+// What both parts come to, where version 1 has room for their largest variable and the outputs hold them: so many words of the table and
+// bytes of the text, which stand there already.
 fn give(
     size: usize,
     rules: usize,
     bytes: usize,
+    top: usize,
     table: &mut [i32],
     proof: &mut [u8],
 ) -> PacketReading
-    ensures { λ r. ⌜ Given size rules bytes (now (table .entry)) (now (table .exit)) (now (proof .entry))
+    ensures { λ r. ⌜ Given size rules bytes top (now (table .entry)) (now (table .exit)) (now (proof .entry))
         (now (proof .exit)) r ⌝ }
 {
+    if OLD_LARGEST < top {
+        return refuse(53, table, proof);
+    }
     if table.len() < size {
         return refuse(52, table, proof);
     }
@@ -284,9 +306,18 @@ pub fn read_parts(
     let rules = read_rules(words, count, table);
     match rules {
         Part::Refused => refuse(53, table, proof),
-        Part::Taken(rules) => match text {
+        Part::Taken {
+            count: rules,
+            top: atoms,
+        } => match text {
             Part::Refused => refuse(53, table, proof),
-            Part::Taken(end) => give(count + rules, rules, end, table, proof),
+            Part::Taken {
+                count: end,
+                top: largest,
+            } => {
+                let top = words::larger(atoms, largest);
+                give(count + rules, rules, end, top, table, proof)
+            }
         },
     }
 }

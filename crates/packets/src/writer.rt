@@ -17,6 +17,7 @@ ghost use Rattle.packets.specs.Packets.{mark, packetRule, packetWords, s
 ghost use Rattle.packets.specs.Writes.{ruleRoom, stepRoom, lastRuleEnd, StepsPutAs, writingTold};
 use crate::HEADER;
 use crate::MARK;
+use crate::OLD_LARGEST;
 use crate::PacketWriting;
 use crate::numbers;
 use aspif::Kind;
@@ -26,10 +27,11 @@ use drupe::reader;
 use text::Letter;
 use text::writing;
 
-// The steps that were put, the position after them, and whether they are all that the text has.
+// The steps that were put, their largest variable, the position after them, and whether they are all that the text has.
 struct StepsPut {
     good: bool,
     steps: usize,
+    top: usize,
     end: usize,
 }
 
@@ -160,6 +162,7 @@ fn put_lines(buffer: &mut [u8], at: usize, text: &[u8]) -> StepsPut
 {
     let mut position = 0;
     let mut steps = 0;
+    let mut top = 0;
     let mut end = at;
     loop {
         let reading = reader::step_at(text, position);
@@ -170,6 +173,7 @@ fn put_lines(buffer: &mut [u8], at: usize, text: &[u8]) -> StepsPut
                 return StepsPut {
                     good: true,
                     steps,
+                    top,
                     end,
                 };
             }
@@ -177,6 +181,7 @@ fn put_lines(buffer: &mut [u8], at: usize, text: &[u8]) -> StepsPut
                 return StepsPut {
                     good: false,
                     steps,
+                    top,
                     end,
                 };
             }
@@ -186,6 +191,7 @@ fn put_lines(buffer: &mut [u8], at: usize, text: &[u8]) -> StepsPut
                 next,
             } => {
                 end = put_step(buffer, end, letter, &numbers[..count]);
+                top = words::larger(top, words::largest_variable(&numbers[..count]));
                 position = next;
                 steps += 1;
             }
@@ -202,6 +208,7 @@ fn put_steps(buffer: &mut [u8], at: usize, text: &[u8]) -> StepsPut
         return StepsPut {
             good: false,
             steps: 0,
+            top: 0,
             end: at,
         };
     }
@@ -230,7 +237,8 @@ fn answer_of(good: bool, size: usize, fits: bool) -> PacketWriting
     PacketWriting::Refused(53)
 }
 
-// The packet of a table that passed question 41 and has no weight body, to an output of zeros.
+// The packet of a table that passed question 41 and has no weight body, to an output of zeros. Version 1 has no room for a variable above
+// the old largest.
 pub fn write_pair(table: &[i32], rules: usize, proof: &[u8], packet: &mut [u8]) -> PacketWriting
     requires { ⌜ (soundTable (now table) rules ≡ true) × (allPlain (rulesAt rules (now table)) ≡ true) ⌝ }
     requires { ⌜ now packet ≡ replicate (length (now packet)) 0 ⌝ }
@@ -239,7 +247,9 @@ pub fn write_pair(table: &[i32], rules: usize, proof: &[u8], packet: &mut [u8]) 
 {
     let middle = put_rules(packet, HEADER, table, rules);
     let put = put_steps(packet, middle, proof);
-    let answer = answer_of(put.good, put.end, put.end <= packet.len());
+    let top = words::larger(tables::largest_atom(table, rules), put.top);
+    let good = put.good & (top <= OLD_LARGEST);
+    let answer = answer_of(good, put.end, put.end <= packet.len());
     match answer {
         PacketWriting::Written(_) => {
             put_header(packet, (middle - HEADER) / 4, put.steps);

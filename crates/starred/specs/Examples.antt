@@ -91,7 +91,7 @@ store1 =
     ∷ pos 1 ∷ pos 1
     ∷ pos 0 ∷ []
 
--- A set listed, and the program that a text holds: what the set test answers on the table of its words and 4,096 marks, and whether the
+-- A set listed, and the program that a text holds: what the set test answers on the table of its words and 8,192 marks, and whether the
 -- set is an answer set.
 pub record SetPasses (text l : List ℕ) : Type 0 where
   pub P : List InputRule
@@ -138,9 +138,9 @@ pub record Starred : Type 0 where
   -- "literal `-0`: 3"
   pub minusZero : verdict (rules ("1 0 1 1 0 1 -0" ∷ [])) [] ≡ refusedProgram 3 2
   pub minusZeroPrints : printed (rules ("1 0 1 1 0 1 -0" ∷ [])) [] ≡ lines ("refused program 3 2" ∷ [])
-  -- "atom 4,095 good, 4,096: 4"
-  pub largestAtom : verdict (rules ("1 0 1 4095 0 0" ∷ [])) [] ≡ undecided 4095 1 0 0
-  pub tooLarge : verdict (rules ("1 0 1 4096 0 0" ∷ [])) [] ≡ refusedProgram 4 2
+  -- "atom 4,095 good, 4,096: 4", and by Change 6 "the case at 4,095 take[s] the new figures"
+  pub largestAtom : verdict (rules ("1 0 1 8191 0 0" ∷ [])) [] ≡ undecided 8191 1 0 0
+  pub tooLarge : verdict (rules ("1 0 1 8192 0 0" ∷ [])) [] ≡ refusedProgram 4 2
   -- "an `s` that leaves out one body: 30"
   pub leftOut : verdict (rules ("1 0 1 1 0 1 2" ∷ "1 0 1 1 0 1 -2" ∷ [])) (lines ("b 3 2 0" ∷ "b 4 -2 0" ∷ "s 1 3 0" ∷ [])) ≡ refusedProof 30 3
 
@@ -188,5 +188,5 @@ pub record LoopsOnly : Type 0 where
 
 -- lines with numbers of several digits, of which the starred examples have none
 pub record LongLines : Type 0 where
-  pub openLine : verdictLine (undecided 4095 1 0 0) ≡ lines ("open 4095 1 0 0" ∷ [])
+  pub openLine : verdictLine (undecided 8191 1 0 0) ≡ lines ("open 8191 1 0 0" ∷ [])
   pub programLine : verdictLine (refusedProgram 10 1025) ≡ lines ("refused program 10 1025" ∷ [])

@@ -121,7 +121,7 @@ lineOf s = ofWords (cut (map classOf s))
 
 -- Sizes
 
--- "Are all from -4,095 to 4,095?" is answered no of z
+-- "Are all from -4,095 to 4,095?", which is 8,191 since Change 6, is answered no of z
 abbrev pub outside : ℤ → Bool
 outside z = ltb largest (variable z)
 

@@ -9,3 +9,4 @@ pub mod Sorting
 pub mod Tops
 pub mod Words
 pub mod Ascending
+pub mod Blanks

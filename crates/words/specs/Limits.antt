@@ -1,12 +1,12 @@
--- The limits of document 01, each written once.
+-- The limits of document 01, with the largest variable of Change 6, each written once.
 -- Assumes nothing.
 use Prim.Native.Nat.{ℕ, suc}
 
--- "A variable is a number from 1 to 4,095": the largest variable
+-- "A variable is a number from 1 to 4,095", and by Change 6 "The largest variable becomes 8,191"
 abbrev pub largest : ℕ
-largest = 4095
+largest = 8191
 
--- "arrays of 4,096 entries", "4,096 bytes of marks": an entry for each variable, and one for 0
+-- "arrays of 4,096 entries", "4,096 bytes of marks", and by Change 6 "the marks 8,192 bytes": an entry for each variable, and one for 0
 abbrev pub entries : ℕ
 entries = suc largest
 

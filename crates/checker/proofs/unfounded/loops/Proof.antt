@@ -18,7 +18,7 @@ use Rattle.aspif.specs.Tables.{rulesAt}
 use Rattle.derivation.specs.Loops.{isLoop}
 use Rattle.nogoods.specs.Keeps.{Literals}
 use Rattle.checker.specs.Held.{PassedLine, gathered}
-use Rattle.checker.proofs.Letters.{some-number, cited}
+use Rattle.checker.proofs.Letters.{some-number, first-high, cited}
 use Rattle.checker.proofs.Kept.{kept-added}
 use Rattle.checker.proofs.Gathering.{gathered-literals}
 use Rattle.checker.proofs.LoopSteps.{members, loop-atoms, loop-not, loop-named, loop-added}
@@ -86,6 +86,11 @@ shared-slice-copy-out-gather c =
     let s = c .before .before .before .before .before .before .before .before .before .before .before .before .before .before .before in
     some-number Loop refl (s .pre .1 .1 .1)
 
+gather-requires : tie.Need-gather-requires
+gather-requires c κs =
+    let e = c .before .before .before .before .before .before .before .before .before .before .before in
+    ((search needs, search needs), rw (back (getD (U e) 0 (pos 0)) (c .before .before .gather-arg .given)) (first-high Loop refl (line e)))
+
 abbrev names : tie.After-gather → tie.After-names-of
 names c = c .before .before .before .before .before .before .before
 
@@ -145,7 +150,7 @@ loops-spec =
     shared-slice-copy-out-gather
     (λ c. search needs)
     (λ c. search needs)
-    (λ c κs. search needs)
+    gather-requires
     (λ c. search needs)
     slice-aggregate-append
     append-requires

@@ -1,4 +1,4 @@
--- The loop keeps `Loading`: the variables below v that are assigned are queued.
+-- The loop keeps `Loading`: the variables below v that are assigned are queued. Those from its end on may be left out.
 use Prim.Native.Nat.{_-_, _≤_, _<_}
 use native.Mathlib.Omega.{arith}
 use borrow.Author.Needs.{needs}
@@ -9,19 +9,25 @@ use Rattle.nogoods.proofs.occurrences.load.Statement.{statement}
 use Rattle.nogoods.proofs.occurrences.load.Tie as tie
 
 abbrev Inv-loop : tie.InvT-loop
-Inv-loop assignment queue₀ t₀ v₀ queue t v = (v ≤ entries) × Loading assignment queue v t
+Inv-loop assignment queue₀ end t₀ v₀ queue t v = (v ≤ end) × Loading assignment queue v t
 
 abbrev μ-loop : tie.MeasureT-loop
-μ-loop assignment queue₀ t₀ v₀ queue t v = entries - v
+μ-loop assignment queue₀ end t₀ v₀ queue t v = end - v
 
 loop-holds : tie.Need-loop-holds Inv-loop μ-loop
-loop-holds c = (omega arith, record { inside = c .pre .1; few = omega arith; room = omega arith })
+loop-holds c = (omega arith, record { inside = c .before .before .pre .1; few = omega arith; room = omega arith })
 
-inside : (c : tie.In-loop Inv-loop μ-loop) → c .before .loop .v < length (c .before .before .args .assignment .now)
-inside c = omega (arith, c .before .before .pre .0, c .loop-test .taken)
+-- the call of `extent`
+abbrev begin : tie.In-loop Inv-loop μ-loop → tie.After-extent Inv-loop μ-loop
+begin c = c .before .before
+
+inside : (c : tie.In-loop Inv-loop μ-loop) → c .before .loop .v < length (begin c .before .before .args .assignment .now)
+inside c = omega (arith, begin c .extent .ensures .0, c .loop-test .taken)
 
 few : (c : tie.After-is-assigned Inv-loop μ-loop) → c .before .before .before .before .loop .t < entries
-few c = let l = c .before .before .before in omega (arith, l .before .loop .inv .1 .few, l .loop-test .taken)
+few c =
+    let l = c .before .before .before in
+    omega (arith, l .before .loop .inv .1 .few, l .loop-test .taken, begin l .extent .ensures .0, begin l .before .before .pre .0)
 
 mul-queue : tie.Need-mul-queue Inv-loop μ-loop
 mul-queue c = let k = few (c .before) in search needs
@@ -50,7 +56,8 @@ loop-again-2 c =
 returns : tie.Need-returns Inv-loop μ-loop
 returns c =
     let l = c .before .loop in
-    loaded _ (l .queue) (l .v) (l .t) (l .inv .1) (omega (arith, c .before .before .pre .0, c .loop-test .left)) (l .inv .0)
+    let b = c .before .before in
+    loaded _ (l .queue) (l .v) (l .t) (l .inv .1) (omega (arith, l .inv .0, b .extent .ensures .0)) (b .before .before .pre .0)
 
 pub load-spec : {M : Type 1} → statement M
 load-spec =
@@ -58,6 +65,7 @@ load-spec =
     (tie.spec
     Inv-loop
     μ-loop
+    (λ c κs. search needs)
     loop-holds
     (λ c κs. search needs)
     (λ c. search needs)

@@ -1,4 +1,4 @@
--- The variable is at most 4,095.
+-- The variable is at most the largest.
 use mathlib.Core.Path.{_≡_}
 use native.Mathlib.Omega.{arith}
 use mir.Facts.{toZ-ofZ}

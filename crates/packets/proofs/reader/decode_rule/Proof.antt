@@ -32,16 +32,21 @@ module _ (c : tie.After-put-kind) where
 rule-size-requires : tie.Need-rule-size-requires
 rule-size-requires c κs = shape-of _ (sym (c .before .before .is-sound .ensures) ∙ c .before .if1 .taken)
 
-slice-aggregate-put-at : tie.Need-slice-aggregate-put-at
-slice-aggregate-put-at c = sym (length-take-le _ _ (c .before .before .rule-size .ensures .1))
+rule-top-requires : tie.Need-rule-top-requires
+rule-top-requires c κs = shape-of _ (sym (c .before .before .before .before .is-sound .ensures) ∙ c .before .before .before .if1 .taken)
 
-sub-result : tie.Need-sub-result
-sub-result c = let n = c .before .before .before .before .rule-size .ensures .0 in omega (arith, n, size-large (row (c .before .before .before .before .before .before .before .before .before .before)))
+slice-aggregate-put-at : tie.Need-slice-aggregate-put-at
+slice-aggregate-put-at c = sym (length-take-le _ _ (c .before .before .before .before .rule-size .ensures .1))
+
+sub-t26 : tie.Need-sub-t26
+sub-t26 c = let n = c .before .before .before .before .before .before .rule-size .ensures .0 in omega (arith, n, size-large (row (c .before .before .before .before .before .before .before .before .before .before .before .before)))
 
 returns : tie.Need-returns
 returns c =
-    let d = c .before .before .before .before .before .before .before .before .before .before in
-    told-sound (ws d) (row-is d) (sym (c .before .before .before .before .before .before .before .is-sound .ensures) ∙ c .before .before .before .before .before .before .if1 .taken) (c .before .before .before .before .rule-size .ensures .0) (c .before .put-at .ensures)
+    let z = c .before .before .before .before .before .before in
+    let d = c .before .before .before .before .before .before .before .before .before .before .before .before in
+    told-sound (ws d) (row-is d) (sym (z .before .before .before .is-sound .ensures) ∙ z .before .before .if1 .taken) (z .rule-size .ensures .0) (c .before .before .before .before .rule-top .ensures)
+    (c .before .put-at .ensures)
 
 returns-2 : tie.Need-returns-2
 returns-2 c = let d = c .before .before .before .before in told-unsound (ws d) (row-is d) (sym (c .before .is-sound .ensures) ∙ c .if1 .left)
@@ -57,10 +62,11 @@ decode-rule-spec =
     (λ c κs. search needs)
     (λ c κs. search needs)
     rule-size-requires
+    rule-top-requires
     (λ c. search needs)
     slice-aggregate-put-at
     (λ c κs. search needs)
-    sub-result
+    sub-t26
     (λ c. search needs)
     (λ c. search needs)
     returns

@@ -1,26 +1,41 @@
 -- `packets::reader::give` meets its contract.
 -- Assumes nothing.
+use Prim.Native.Nat.{_≤_}
 use native.Mathlib.Omega.{arith}
 use lib.ListN.{length}
 use borrow.Author.Needs.{needs}
-use Rattle.packets.proofs.Given.{table-short, text-short, given}
+use Rattle.packets.specs.Packets.{oldLargest, pairTop}
+use Rattle.packets.proofs.Given.{too-large, table-short, text-short, given}
 use Rattle.packets.proofs.reader.give.Statement.{statement}
 use Rattle.packets.proofs.reader.give.Tie as tie
 
 returns : tie.Need-returns
 returns c P ts k =
     let a = c .before .before .before .before .before .before .before .before .args in
-    rw (table-short P ts (length (a .table .now)) (length (a .proof .now)) (omega (arith, c .before .before .before .before .before .before .if1 .taken, k .size-of))) (c .before .before .before .refuse .ensures)
+    let d = c .before .before .before .before .before .before in
+    rw (too-large P ts (k .plain-of) (length (a .table .now)) (length (a .proof .now)) (omega (arith, d .if1 .taken, k .top-of)))
+    (c .before .before .before .refuse .ensures)
 
 returns-2 : tie.Need-returns-2
 returns-2 c P ts k =
     let a = c .before .before .before .before .before .before .before .before .before .args in
-    rw (text-short P ts (length (a .table .now)) (length (a .proof .now)) (omega (arith, c .before .before .before .before .before .before .if2 .taken, k .bytes-of))) (c .before .before .before .refuse2 .ensures)
+    let d = c .before .before .before .before .before .before in
+    let fits : pairTop P ts ≤ oldLargest = omega (arith, d .before .if1 .left, k .top-of) in
+    rw (table-short P ts (k .plain-of) (length (a .table .now)) (length (a .proof .now)) fits (omega (arith, d .if2 .taken, k .size-of)))
+    (c .before .before .before .refuse2 .ensures)
 
 returns-3 : tie.Need-returns-3
 returns-3 c P ts k =
-    let a = c .before .before .before .args in
-    given (a .size) (a .rules) (a .bytes) (a .table .now) (a .proof .now) P ts k (c .before .if1 .left) (c .if2 .left)
+    let a = c .before .before .before .before .before .before .before .before .before .before .args in
+    let d = c .before .before .before .before .before .before in
+    let fits : pairTop P ts ≤ oldLargest = omega (arith, d .before .before .if1 .left, k .top-of) in
+    rw (text-short P ts (k .plain-of) (length (a .table .now)) (length (a .proof .now)) fits (omega (arith, d .if3 .taken, k .bytes-of)))
+    (c .before .before .before .refuse3 .ensures)
+
+returns-4 : tie.Need-returns-4
+returns-4 c P ts k =
+    let a = c .before .before .before .before .args in
+    given (a .size) (a .rules) (a .bytes) (a .top) (a .table .now) (a .proof .now) P ts k (c .before .before .if1 .left) (c .before .if2 .left) (c .if3 .left)
 
 pub give-spec : {M : Type 1} → statement M
 give-spec =
@@ -34,4 +49,8 @@ give-spec =
     (λ c. search needs)
     (λ c. search needs)
     returns-2
-    returns-3)
+    (λ c κs. search needs)
+    (λ c. search needs)
+    (λ c. search needs)
+    returns-3
+    returns-4)

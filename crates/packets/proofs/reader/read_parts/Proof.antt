@@ -14,8 +14,8 @@ read-steps-requires c κs = search needs
 
 add-give : tie.Need-add-give
 add-give c =
-    let a = c .before .before .before .before .before .before .before .before .before .before .before .before .before .before .before .before .before in
-    let n = rules-few (a .args .count) (a .args .words .now) (a .args .steps) (a .args .bytes .now) (a .args .table .now) _ (c .before .before .before .before .rules .given .1) (c .before .before .before .before .before .before .before .read-rules .ensures) in
+    let a = c .before .before .before .before .before .before .before .before .before .before .before .before .before .before .before .before .before .before in
+    let n = rules-few (a .args .count) (a .args .words .now) (a .args .steps) (a .args .bytes .now) (a .args .table .now) _ (c .before .before .before .before .before .rules .given .1) (c .before .before .before .before .before .before .before .before .read-rules .ensures) in
     record { fits = omega (arith, n, a .pre .0 .0) }
 
 returns : tie.Need-returns
@@ -34,10 +34,10 @@ returns-2 c =
 
 returns-3 : tie.Need-returns-3
 returns-3 c =
-    let a = c .before .before .before .before .before .before .before .before .before .before .before .before .before .before .before .before .before .before .before .before .before .before .before in
-    let r = c .before .before .before .before .before .before .before .before .before .before .before .before .before .read-rules in
-    let s = c .before .before .before .before .before .before .before .before .before .before .before .before .before .before .before .before .before .read-steps in
-    both (a .args .count) (a .args .words .now) (a .args .steps) (a .args .bytes .now) (a .args .table .now) _ _ (a .args .proof .now) _ _ _ _ _ (a .pre .1 .0) (a .pre .1 .1) (r .kept .1 .1 .0) (s .kept .1 .1 .0) (c .before .before .before .before .before .before .before .before .before .before .rules .given .1) (r .ensures) (c .before .before .before .before .before .before .before .text .given .1) (s .ensures) (c .before .before .before .give .ensures)
+    let a = c .before .before .before .before .before .before .before .before .before .before .before .before .before .before .before .before .before .before .before .before .before .before .before .before in
+    let r = c .before .before .before .before .before .before .before .before .before .before .before .before .before .before .read-rules in
+    let s = c .before .before .before .before .before .before .before .before .before .before .before .before .before .before .before .before .before .before .read-steps in
+    both (a .args .count) (a .args .words .now) (a .args .steps) (a .args .bytes .now) (a .args .table .now) _ _ (a .args .proof .now) _ _ _ _ _ _ _ _ (a .pre .1 .0) (a .pre .1 .1) (r .kept .1 .1 .0) (s .kept .1 .1 .0) (c .before .before .before .before .before .before .before .before .before .before .before .rules .given .1) (r .ensures) (c .before .before .before .before .before .before .before .before .text .given .1) (s .ensures) (c .before .before .before .before .before .before .larger .ensures) (c .before .before .before .give .ensures)
 
 pub read-parts-spec : {M : Type 1} → statement M
 read-parts-spec =
@@ -51,6 +51,7 @@ read-parts-spec =
     (λ c. search needs)
     (λ c κs. search needs)
     (λ c. search needs)
+    (λ c κs. search needs)
     add-give
     (λ c κs. search needs)
     (λ c. search needs)

@@ -16,10 +16,10 @@ use Rattle.packets.proofs.reader.read_rules.Statement.{statement}
 use Rattle.packets.proofs.reader.read_rules.Tie as tie
 
 abbrev Inv-loop : tie.InvT-loop
-Inv-loop bytes count table₀ rules₀ i₀ table rules i = Filling (numbersFrom 4 count bytes) table₀ table rules i
+Inv-loop bytes count table₀ rules₀ top₀ i₀ table rules top i = Filling (numbersFrom 4 count bytes) table₀ table rules top i
 
 abbrev μ-loop : tie.MeasureT-loop
-μ-loop bytes count table₀ rules₀ i₀ table rules i = count - i
+μ-loop bytes count table₀ rules₀ top₀ i₀ table rules top i = count - i
 
 loop-holds : tie.Need-loop-holds Inv-loop μ-loop
 loop-holds c = filling-start _ _
@@ -85,34 +85,31 @@ read-rule-requires c κs =
     rw (tail-of (4 * i d) bytes) (omega (arith, length-drop (4 * i d) bytes, a d .pre))
 
 same-length-2 : tie.Need-same-length-2 Inv-loop μ-loop
-same-length-2 c = kept (c .before .before)
+same-length-2 c = kept (c .before .before .before)
 
 returns-2 : tie.Need-returns-2 Inv-loop μ-loop
 returns-2 c =
-    let e = c .before .before in
+    let e = c .before .before .before in
     let f = d e in
     rw (filling-stop (f .before .loop .inv) (some-left f) (told e) (c .if2 .taken)) refl
 
 add-i : tie.Need-add-i Inv-loop μ-loop
 add-i c =
-    let e = c .before .before in
+    let e = c .before .before .before .before in
     let f = d e in
     record { fits = omega (arith, told e .within, length-drop (i f) (ws f), long f, a f .fits .count, f .loop-test .taken) }
 
 add-rules : tie.Need-add-rules Inv-loop μ-loop
-add-rules c = record { fits = omega (arith, c .before .before .before .before .before .before .before .loop .inv .few) }
+add-rules c = record { fits = omega (arith, c .before .before .before .before .before .before .before .before .before .before .loop .inv .few) }
 
 loop-less : tie.Need-loop-less Inv-loop μ-loop
-loop-less c =
-    let e = c .before .before in
-    let f = d e in
-    omega (arith, c .if2 .left, f .loop-test .taken)
+loop-less c = let f = d (c .before .before .before .before .before) in omega (arith, c .before .before .if2 .left, f .loop-test .taken)
 
 loop-again : tie.Need-loop-again Inv-loop μ-loop
 loop-again c =
-    let e = c .before .before in
+    let e = c .before .before .before .before .before in
     let f = d e in
-    filling-on (f .before .loop .inv) (some-left f) (told e) (omega (arith, c .before .before .before .before .before .if1 .left)) (c .if2 .left)
+    filling-on (f .before .loop .inv) (some-left f) (told e) (c .larger .ensures) (omega (arith, c .before .before .before .before .before .before .before .before .if1 .left)) (c .before .before .if2 .left)
 
 same-length-3 : tie.Need-same-length-3 Inv-loop μ-loop
 same-length-3 c = filling-kept (c .before .loop .inv)
@@ -141,6 +138,7 @@ read-rules-spec =
     same-length-2
     returns-2
     add-i
+    (λ c κs. search needs)
     add-rules
     loop-less
     loop-again

@@ -13,10 +13,10 @@ use Rattle.packets.proofs.reader.read_steps.Statement.{statement}
 use Rattle.packets.proofs.reader.read_steps.Tie as tie
 
 abbrev Inv-loop : tie.InvT-loop
-Inv-loop bytes count proof₀ classes left₀ i₀ end₀ proof left i end = Going bytes count proof₀ proof left i end
+Inv-loop bytes count proof₀ classes left₀ i₀ end₀ top₀ proof left i end top = Going bytes count proof₀ proof left i end top
 
 abbrev μ-loop : tie.MeasureT-loop
-μ-loop bytes count proof₀ classes left₀ i₀ end₀ proof left i end = left
+μ-loop bytes count proof₀ classes left₀ i₀ end₀ top₀ proof left i end top = left
 
 loop-holds : tie.Need-loop-holds Inv-loop μ-loop
 loop-holds c = let a = c .before .before in going-start (a .args .bytes .now) (a .args .count) (a .args .proof .now) (a .pre .0)
@@ -72,13 +72,14 @@ returns-2 c =
     rw (going-long (d .before .before .before .before .before .loop .inv) (d .before .before .before .before .loop-test .taken) (after d) (c .before .before .read .given .1) (told d) (c .if1 .taken)) refl
 
 loop-less : tie.Need-loop-less Inv-loop μ-loop
-loop-less c = omega (arith, c .before .before .before .before .before .before .before .before .before .before .loop-test .taken)
+loop-less c = omega (arith, c .before .before .before .before .before .before .before .before .before .before .before .loop-test .taken)
 
 loop-again : tie.Need-loop-again Inv-loop μ-loop
 loop-again c =
-    let d = c .before .before .before .before .before .before in
-    let g = going-on (d .before .before .before .before .before .loop .inv) (d .before .before .before .before .loop-test .taken) (after d) (c .before .before .read .given .1) (told d) (c .if1 .left) in
-    rw (size (c .before .before .before .before .before .before .before .before) .0) g
+    let b = c .before in
+    let d = b .before .before .before .before .before .before in
+    let g = going-on (d .before .before .before .before .before .loop .inv) (d .before .before .before .before .loop-test .taken) (after d) (b .before .before .read .given .1) (told d) (c .larger .ensures) (b .if1 .left) in
+    rw (size (b .before .before .before .before .before .before .before .before) .0) g
 
 same-length-3 : tie.Need-same-length-3 Inv-loop μ-loop
 same-length-3 c = going-kept (c .before .loop .inv)
@@ -106,6 +107,7 @@ read-steps-spec =
     (λ c. search needs)
     same-length-2
     returns-2
+    (λ c κs. search needs)
     loop-less
     loop-again
     same-length-3

@@ -1,7 +1,7 @@
 -- `packets::writer::put_lines` meets its contract. After a turn the steps before the position are put.
 -- Assumes nothing.
-use mathlib.Core.Path.{_≡_, sym}
-use Prim.Native.Nat.{_-_, _≤_}
+use mathlib.Core.Path.{_≡_, sym, ap, _∙_}
+use Prim.Native.Nat.{_-_, _≤_, max}
 use native.Mathlib.Omega.{arith}
 use lib.ListN.{length, take}
 use lib.Seq.{length-take-le}
@@ -14,10 +14,10 @@ use Rattle.packets.proofs.writer.put_lines.Statement.{statement}
 use Rattle.packets.proofs.writer.put_lines.Tie as tie
 
 abbrev Inv-loop : tie.InvT-loop
-Inv-loop buffer₀ at text position₀ steps₀ end₀ buffer position steps end = Stepping text buffer₀ buffer at position steps end
+Inv-loop buffer₀ at text position₀ steps₀ top₀ end₀ buffer position steps top end = Stepping text buffer₀ buffer at position steps top end
 
 abbrev μ-loop : tie.MeasureT-loop
-μ-loop buffer₀ at text position₀ steps₀ end₀ buffer position steps end = length text - position
+μ-loop buffer₀ at text position₀ steps₀ top₀ end₀ buffer position steps top end = length text - position
 
 loop-holds : tie.Need-loop-holds Inv-loop μ-loop
 loop-holds c = stepping-start _ _ (c .before .before .pre .0)
@@ -64,23 +64,28 @@ put-step-requires c κs =
     let S = l d .loop .inv in
     (rw (length-take-le _ _ (room d .1)) (room d .0), omega (arith, S .near, S .within, a d .pre .0, a d .pre .1))
 
+array-share-prefix-numbers-2 : tie.Need-array-share-prefix-numbers-2 Inv-loop μ-loop
+array-share-prefix-numbers-2 c = room (c .before .before .before .before .before .before) .1
+
+slice-aggregate-largest-variable : tie.Need-slice-aggregate-largest-variable Inv-loop μ-loop
+slice-aggregate-largest-variable c = sym (length-take-le _ _ (room (c .before .before .before .before .before .before .before) .1))
+
 add-steps : tie.Need-add-steps Inv-loop μ-loop
 add-steps c =
-    let d = c .before .before .before .before .before .before in
-    let S = l d .loop .inv in
-    record { fits = omega (arith, S .few, S .within, a d .pre .0) }
+    let S = l (c .before .before .before .before .before .before .before .before .before) .loop .inv in
+    record { fits = omega (arith, S .few, S .within, a (c .before .before .before .before .before .before .before .before .before) .pre .0) }
 
 loop-less : tie.Need-loop-less Inv-loop μ-loop
 loop-less c =
-    let d = c .before .before .before .before .before .before in
+    let d = c .before .before .before .before .before .before .before .before .before in
     let u = passed-line (a d .args .text .now) (l d .loop .position) (there d) in
     omega (arith, u .0, u .1)
 
 loop-again : tie.Need-loop-again Inv-loop μ-loop
 loop-again c =
-    let d = c .before .before .before .before .before .before in
-    let p = c .before .before .put-step .ensures in
-    stepping-on (l d .loop .inv) (there d) (p .0) (p .1)
+    let d = c .before .before .before .before .before .before .before .before .before in
+    let p = c .before .before .before .before .before .put-step .ensures in
+    stepping-on (l d .loop .inv) (there d) (p .0) (p .1) (c .larger .ensures ∙ ap (max (l d .loop .top)) (c .before .largest-variable .ensures))
 
 pub put-lines-spec : {M : Type 1} → statement M
 put-lines-spec =
@@ -100,6 +105,10 @@ put-lines-spec =
     array-share-prefix-numbers
     slice-aggregate-put-step
     put-step-requires
+    array-share-prefix-numbers-2
+    slice-aggregate-largest-variable
+    (λ c κs. search needs)
+    (λ c κs. search needs)
     add-steps
     loop-less
     loop-again)

@@ -1,9 +1,9 @@
 -- `packets::writer::write_pair` meets its contract.
 -- Assumes nothing.
-use mathlib.Core.Path.{_≡_, refl, _∙_, ap}
-use mathlib.Core.Bool.{Bool}
+use mathlib.Core.Path.{_≡_, refl, _∙_, ap, ap₂}
+use mathlib.Core.Bool.{Bool, _&&_}
 use mathlib.Core.List.{List}
-use Prim.Native.Nat.{ℕ}
+use Prim.Native.Nat.{ℕ, max}
 use native.Mathlib.Omega.{arith}
 use lib.Dec.{leb}
 use lib.ListN.{length, replicate}
@@ -14,7 +14,7 @@ use Rattle.aspif.specs.Tables.{rulesAt}
 use Rattle.aspif.proofs.Cursors.{few-rules, sound-rules}
 use Rattle.drupe.specs.Texts.{Step, stepsOf}
 use Rattle.packets.specs.Bytes.{bytesOf}
-use Rattle.packets.specs.Packets.{packetWords, packetOf, writing}
+use Rattle.packets.specs.Packets.{packetWords, packetOf, oldLargest, pairTop, writing}
 use Rattle.packets.specs.Writes.{isRead, stepsRead, StepsPutAs, writingTold}
 use Rattle.packets.proofs.Writes.{put-length, packet-put, packet-ends, byQuestions, asked, answer-told, zeros-left, packet-left}
 use Rattle.packets.proofs.writer.write_pair.Statement.{statement}
@@ -25,16 +25,19 @@ put-rules-requires c κs =
     let a = c .before .before .before in
     ((sound-rules (a .args .table .now) (a .args .rules) (a .pre .0 .0), a .pre .0 .1), (few-rules (a .args .table .now) (a .args .rules) (a .pre .0 .0), omega arith))
 
+largest-atom-requires : tie.Need-largest-atom-requires
+largest-atom-requires c κs = let a = c .before .before .before .before .before .before .before .before .before .before in sound-rules (a .args .table .now) (a .args .rules) (a .pre .0 .0)
+
 -- the rules and the steps are put, and the questions asked
 module _ (c : tie.After-answer-of) where
   abbrev s : tie.Start
-  s = c .before .before .before .before .before .before .before .before .before .before .before .before
+  s = c .before .before .before .before .before .before .before .before .before .before .before .before .before .before .before
 
   abbrev steps-put : tie.After-put-steps
-  steps-put = c .before .before .before .before
+  steps-put = c .before .before .before .before .before .before .before
 
   abbrev rules-put : tie.After-put-rules
-  rules-put = c .before .before .before .before .before .before .before .before
+  rules-put = c .before .before .before .before .before .before .before .before .before .before .before
 
   abbrev proof : List ℕ
   proof = s .args .proof .now
@@ -52,7 +55,7 @@ module _ (c : tie.After-answer-of) where
   whole = packetOf P ts
 
   abbrev good : Bool
-  good = isRead (stepsOf proof)
+  good = isRead (stepsOf proof) && leb (pairTop P ts) oldLargest
 
   abbrev fits : Bool
   fits = leb (length whole) (length packet)
@@ -66,8 +69,13 @@ module _ (c : tie.After-answer-of) where
   same : length (steps-put .put-steps .last .0) ≡ length packet
   same = put-length (S .put) ∙ put-length R
 
+  passes : (steps-put .put-steps .result .good && leb (c .before .before .before .larger .result) oldLargest) ≡ good
+  passes =
+      ap₂ (λ (b : Bool) (n : ℕ). b && leb n oldLargest) (S .good)
+      (c .before .before .before .larger .ensures ∙ ap₂ max (c .before .before .before .before .largest-atom .ensures) (S .largest))
+
   told : c .answer-of .result ≡ writingTold good (length whole) fits
-  told = answer-told _ _ _ _ (length (steps-put .put-steps .last .0)) _ (c .answer-of .ensures) (S .good) (packet-ends P ts R (S .put)) same
+  told = answer-told _ _ _ _ (length (steps-put .put-steps .last .0)) _ (c .answer-of .ensures) passes (packet-ends P ts R (S .put)) same
 
   comes-to : writing (s .args .table .now) (s .args .rules) proof (length packet) ≡ byQuestions good fits whole
   comes-to = asked (s .args .table .now) (s .args .rules) proof (length packet) (s .pre .0 .0) (s .pre .0 .1)
@@ -88,6 +96,8 @@ write-pair-spec =
     tie.close
     (tie.spec
     put-rules-requires
+    (λ c κs. search needs)
+    largest-atom-requires
     (λ c κs. search needs)
     (λ c κs. search needs)
     (λ c. search needs)
