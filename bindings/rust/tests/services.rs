@@ -151,7 +151,7 @@ fn largest_variables() {
     let line = |text| read_line(text, 0).map(|(line, numbers)| (line, numbers[0]));
     assert_eq!(line(b"a -8191 0\n"), Ok((LineAnswer::Line { letter: Letter::Addition, count: 1, next: 10 }, -8_191)));
     assert_eq!(line(b"a 8192 0\n"), Ok((LineAnswer::Refused(ProofQuestion::Sizes), 0)));
-    assert_eq!(checked(b"asp 1 0 0\n1 0 1 1 0 0\n0\n", b"b 8191 0\n", 5, 2).0, "open 1 1 1 1");
+    assert_eq!(checked(b"asp 1 0 0\n1 0 1 1 0 0\n0\n", b"b 8191 0\n", 5, 3).0, "open 1 1 1 1");
 }
 
 #[test]
