@@ -8,7 +8,7 @@ use crate::cases::refutations::{go_on, refute, Author, Found};
 use crate::cases::{self, bytes, changes, deep, fixed, guided, limits, loops, noise, weights};
 use crate::comparison::Comparison;
 use crate::packets;
-use crate::reference::check::{most_live_words, verdict_line};
+use crate::reference::check::{check, most_live_words, verdict_line};
 use crate::reference::models::{self, every_set};
 use crate::reference::program::{read, table_words, Program};
 use crate::reference::{filled, MARKS};
@@ -122,12 +122,23 @@ fn run_fixed(comparison: &mut Comparison, index: u64) {
     let verdict = comparison.check_texts(&case.pair, case.table, case.store);
     let line = verdict_line(&verdict);
     comparison.settle(line == case.line, || format!("{}: the reference says {line:?}, document 01 {:?}", case.name, case.line));
-    if case.name == "starred 1" {
-        let mut store = vec![7; fixed::STORE_1.len()];
-        let answered = aspdrupe::check_texts(&case.pair.program, &case.pair.proof, &mut [0; 6], &mut store);
-        comparison.settle(answered.is_ok() && store == fixed::STORE_1, || format!("starred 1: the store is {store:?}"));
+    if let Some(words) = &case.words {
+        compare_store(comparison, case, words);
     }
     compare_all(comparison, &case.pair);
+}
+
+/// The words that the document lists, with 0 after them, against every word that the reference and the library leave in the store.
+fn compare_store(comparison: &mut Comparison, case: &fixed::Case, words: &[i32]) {
+    let expected = filled(words.to_vec(), case.store);
+    let ending = check(&case.pair.program, &case.pair.proof, case.table, case.store);
+    let (mut table, mut store) = (vec![7; case.table], vec![7; case.store]);
+    let answered = aspdrupe::check_texts(&case.pair.program, &case.pair.proof, &mut table, &mut store);
+    for (whose, store) in [("the reference", &ending.store), ("the library", &store)] {
+        let used = store.iter().rposition(|word| *word != 0).map_or(0, |last| last + 1);
+        let good = answered.is_ok() && *store == expected;
+        comparison.settle(good, || format!("{}: {whose} leaves {:?} in the store, not {words:?}", case.name, &store[..used]));
+    }
 }
 
 fn run_fixed_set(comparison: &mut Comparison, index: u64) {
@@ -175,7 +186,7 @@ fn run_wide_tables(comparison: &mut Comparison, _: u64) {
 /// The value of the index in every place of a rule and of a step.
 fn run_byte_values(comparison: &mut Comparison, index: u64) {
     for pair in bytes::pairs(index as u8) {
-        comparison.check_texts(&pair, 20, 20);
+        comparison.check_texts(&pair, 20, 30);
         comparison.read_program(&pair.program, 20);
         comparison.read_line(&pair.proof, 0);
     }

@@ -6,7 +6,7 @@ use inputs::lines::{self, Line};
 use inputs::rules::normal;
 
 /// The names of the chain, and the pairs of an addition and a deletion.
-const LINKS: i32 = 2_400;
+const LINKS: i32 = 2_000;
 const PAIRS: usize = 1_600;
 
 pub fn input() -> Input {
@@ -16,5 +16,5 @@ pub fn input() -> Input {
         lines.push(Line::of(b'a', &[2 + LINKS]));
         lines.push(Line::of(b'd', &[2 + LINKS]));
     }
-    Input::of("chain-2400", &[normal(1, &[-1])], &lines)
+    Input::of("chain-2000", &[normal(1, &[-1])], &lines)
 }

@@ -3,6 +3,7 @@
 
 use std::collections::BTreeSet;
 
+use crate::unverified::nogoods::NOGOOD_WORDS;
 use inputs::lines::Line;
 use inputs::rules::{largest_atom, Rule};
 
@@ -28,9 +29,14 @@ pub fn definitions(atoms: i32, bodies: &[Vec<i32>]) -> Vec<Line> {
     bodies.iter().map(|body| Line::with(b'b', name_of(atoms, bodies, body), body)).collect()
 }
 
+/// The words that a nogood of so many literals takes in the store.
+pub fn nogood_words(literals: usize) -> usize {
+    NOGOOD_WORDS + literals
+}
+
 /// The words that the nogoods of a body's definition take in the store.
 pub fn definition_words(body: &[i32]) -> usize {
-    2 + 4 * body.len()
+    nogood_words(1 + body.len()) + body.len() * nogood_words(2)
 }
 
 /// A `b` line for each body, a `c` line for each normal rule and each of its bodies, and an `s` line for each atom.

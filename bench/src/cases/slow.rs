@@ -2,7 +2,7 @@
 //! with twelve literals each, as the table holds beside a few plain rules that make a loop of it, and steps that go through all of them.
 //! Those without have as many edges as the table holds, and `l` lines over all of them.
 
-use super::completion::{bodies_of, definition_words, definitions};
+use super::completion::{bodies_of, definition_words, definitions, nogood_words};
 use super::Input;
 use inputs::lines::{line_of, proof_text, Line};
 use inputs::rules::{choice, largest_atom, normal, weighted, Rule};
@@ -73,7 +73,7 @@ impl Writing {
 
     /// A `d` line that frees the words of its nogood; whether it fits.
     fn deletes(&mut self, literals: &[i32]) -> bool {
-        let freed = literals.len() + 1;
+        let freed = nogood_words(literals.len());
         let fits = self.adds(Line::of(b'd', literals), 0);
         self.words -= if fits { freed } else { 0 };
         fits
@@ -82,7 +82,7 @@ impl Writing {
     /// `l` lines over a set without external bodies, each with a deletion, until the text is full.
     fn looping(set: &[i32]) -> Writing {
         let mut writing = Writing::empty();
-        while writing.adds(Line::of(b'l', set), 2) && writing.deletes(&set[..1]) {}
+        while writing.adds(Line::of(b'l', set), nogood_words(1)) && writing.deletes(&set[..1]) {}
         writing
     }
 }
@@ -94,7 +94,8 @@ fn one_heavy(last: bool) -> Input {
     let rules = rules(4_095, |atom| if atom == heavy { 4_095 } else { 1 });
     let mut writing = Writing::of(&rules);
     let step = || Line::of(b'l', &[HEAD]);
-    while writing.adds(step(), 3) || writing.deletes(&[HEAD, -(HEAD + 1)]) && writing.adds(step(), 3) {}
+    let words = nogood_words(2);
+    while writing.adds(step(), words) || writing.deletes(&[HEAD, -(HEAD + 1)]) && writing.adds(step(), words) {}
     Input::of(if last { "heavy-last" } else { "heavy-first" }, &rules, &writing.lines)
 }
 
@@ -117,7 +118,7 @@ fn shared_bodies(bound: i32) -> Input {
             }
         }
     }
-    while writing.adds(Line::of(b'l', &[HEAD]), 2 + bodies.len()) {}
+    while writing.adds(Line::of(b'l', &[HEAD]), nogood_words(1 + bodies.len())) {}
     Input::of(format!("shared-{}", bodies.len()), &rules, &writing.lines)
 }
 
@@ -127,7 +128,7 @@ fn shared_by_support() -> Input {
     let rules = rules(2, |atom| if atom == MOST { 2 } else { 1 });
     let mut writing = Writing::of(&rules);
     let mut names: Vec<i32> = writing.lines.iter().map(|line| line.numbers[0]).collect();
-    let words = 2 + names.len();
+    let words = nogood_words(1 + names.len());
     let nogood: Vec<i32> = [HEAD].into_iter().chain(names.iter().map(|name| -name)).collect();
     // the support names the head's own body too
     names.push(HEAD + 1 + names.len() as i32);

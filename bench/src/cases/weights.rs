@@ -5,7 +5,7 @@
 //! one head as the table holds beside two plain ones, by which the head is a loop, alone and with positive literals of the others; all bodies
 //! are named, and then there are `s` and `l` lines in turn until the store is full.
 
-use super::completion::{bodies_of, definition_words, definitions, externals, supports};
+use super::completion::{bodies_of, definition_words, definitions, externals, nogood_words, supports};
 use super::{refutations, Input};
 use inputs::lines::{line_of, proof_text, Line};
 use inputs::random::Random;
@@ -69,7 +69,7 @@ fn wide_proof(rules: &[Rule], random: &mut Random) -> Vec<Line> {
             _ => (Line::of(b'l', &set), externals(rules, atoms, &bodies, &set)),
         };
         bytes += line_of(line.letter, &line.numbers).len();
-        words += 2 + names.len();
+        words += nogood_words(1 + names.len());
         if words > ROOM || bytes > TEXT_LIMIT {
             break;
         }

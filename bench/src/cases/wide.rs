@@ -1,7 +1,7 @@
 //! As many rules and table words as there may be, and thousands of `l` and `s` lines until the store is full: each of them is a
 //! question about the whole program. The `l` lines are over loops of one to three atoms.
 
-use super::completion::{bodies_of, definition_words, definitions, edges, externals, supports};
+use super::completion::{bodies_of, definition_words, definitions, edges, externals, nogood_words, supports};
 use super::Input;
 use inputs::lines::{line_of, proof_text, Line};
 use inputs::random::Random;
@@ -15,9 +15,6 @@ const LITERALS: usize = ROOM / RULES - 5;
 /// The different bodies, and the atoms that they are over.
 const BODIES: usize = 64;
 const INNER: i32 = 96;
-
-/// The words of a nogood before its literals.
-const NOGOOD_WORDS: usize = 1;
 
 pub fn input() -> Input {
     let rules = rules(&mut Random::from_seed(3));
@@ -59,7 +56,7 @@ fn proof(rules: &[Rule], random: &mut Random) -> Vec<Line> {
 fn support_line(rules: &[Rule], atoms: i32, bodies: &[Vec<i32>], turn: usize) -> (Line, usize) {
     let atom = turn as i32 % atoms + 1;
     let names = supports(rules, atoms, bodies, atom);
-    (Line::with(b's', atom, &names), NOGOOD_WORDS + 1 + names.len())
+    (Line::with(b's', atom, &names), nogood_words(1 + names.len()))
 }
 
 /// An `l` line for a loop of one to three atoms, and the words of its nogood.
@@ -67,7 +64,7 @@ fn loop_line(rules: &[Rule], atoms: i32, bodies: &[Vec<i32>], loops: &[Vec<Vec<i
     let count = random.below(loops.len());
     let set = random.pick(&loops[count]);
     let names = externals(rules, atoms, bodies, set);
-    (Line::of(b'l', set), NOGOOD_WORDS + 1 + names.len())
+    (Line::of(b'l', set), nogood_words(1 + names.len()))
 }
 
 /// The loops of one, two and three inner atoms: edges to itself, to and fro, and round.

@@ -78,11 +78,25 @@ mod tests {
 
     #[test]
     fn starred_1_to_3() {
-        assert_eq!(line(RULE, PROOF, 6, 15), "inconsistent 1 1 5 6");
-        assert_eq!(line(RULE, PROOF, 6, 14), "refused proof 34 5");
-        assert_eq!(line(RULE, PROOF, 5, 15), "refused program 10 2");
-        assert_eq!(line(RULE, &format!("{PROOF}d 0\n"), 6, 15), "open 1 1 6 5");
-        assert_eq!(line(RULE, &PROOF.replace("c 2 1 0", "e 1 2 0"), 6, 15), "refused proof 27 2");
+        assert_eq!(line(RULE, PROOF, 6, 21), "inconsistent 1 1 5 6");
+        assert_eq!(line(RULE, PROOF, 6, 20), "refused proof 34 5");
+        assert_eq!(line(RULE, PROOF, 5, 21), "refused program 10 2");
+        assert_eq!(line(RULE, &format!("{PROOF}d 0\n"), 6, 21), "open 1 1 6 5");
+        assert_eq!(line(RULE, &PROOF.replace("c 2 1 0", "e 1 2 0"), 6, 21), "refused proof 27 2");
+    }
+
+    #[test]
+    fn words_of_the_store() {
+        let again = "b 2 0\nc 2 1 0\nd -2 0\nc 2 1 0\nc 2 1 0\n";
+        let extended = "b 2 0\ne 3 1 2 0\n";
+        for (proof, store, expected) in [
+            (again, 12, "open 1 1 5 3"),
+            (again, 11, "refused proof 34 5"),
+            (extended, 16, "open 1 1 2 4"),
+            (extended, 15, "refused proof 34 2"),
+        ] {
+            assert_eq!(line("1 0 1 1 0 0\n", proof, 5, store), expected, "{proof}");
+        }
     }
 
     #[test]

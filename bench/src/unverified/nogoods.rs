@@ -11,6 +11,9 @@ const FREE: u8 = 0;
 const TRUE: u8 = 1;
 const FALSE: u8 = 2;
 
+/// The words of a nogood in the store before its literals: the step that added it, and their count.
+pub const NOGOOD_WORDS: usize = 2;
+
 /// As the reason of a literal: it is assumed.
 const ASSUMED: u32 = u32::MAX;
 
@@ -278,7 +281,7 @@ impl Nogoods {
         self.lists[hash as usize % LISTS].push(Hashed { hash, nogood });
         self.newest = nogood;
         self.live += 1;
-        self.live_words += codes.len() + 1;
+        self.live_words += NOGOOD_WORDS + codes.len();
         match codes.len() {
             0 => self.empty += 1,
             1 => {
@@ -325,7 +328,7 @@ impl Nogoods {
     pub fn delete(&mut self, codes: &[u32]) {
         let Some(nogood) = self.take(codes) else { return };
         self.live -= 1;
-        self.live_words -= codes.len() + 1;
+        self.live_words -= NOGOOD_WORDS + codes.len();
         match codes.len() {
             0 => self.empty -= 1,
             1 => self.units.retain(|&unit| unit != nogood),

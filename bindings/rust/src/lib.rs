@@ -8,7 +8,7 @@
 //! ```
 //! let program = b"asp 1 0 0\n1 0 1 1 0 1 -1\n0\n";
 //! let proof = b"b 2 -1 0\nc 2 1 0\ns 1 2 0\na 1 0\na 0\n";
-//! let (mut table, mut store) = ([0; 6], [0; 15]);
+//! let (mut table, mut store) = ([0; 6], [0; 21]);
 //! let verdict = aspdrupe::check_texts(program, proof, &mut table, &mut store)?;
 //! assert_eq!(verdict.to_string(), "inconsistent 1 1 5 6");
 //! # Ok::<(), aspdrupe::UnknownAnswer>(())
@@ -101,8 +101,20 @@ pub fn read_line(text: &[u8], position: usize) -> Result<(LineAnswer, [i32; MOST
     Ok((codes::line_answer(code, answer)?, numbers))
 }
 
-/// Checks a proof text against a program text. The table then holds the program's rules and the store the live nogoods, with 0
-/// after them; both are 0 throughout where anything is refused.
+/// Checks a proof text against a program text. The table then holds the program's rules and the store the live nogoods, oldest first,
+/// each with 0 after them; both are 0 throughout where anything is refused.
+///
+/// A nogood's words are the step that added it, counted from 1, the literal count, and the literals ascending by variable:
+///
+/// ```
+/// let program = b"asp 1 0 0\n1 0 1 1 0 0\n0\n";
+/// let proof = b"b 2 0\nc 2 1 0\nc 2 1 0\nd -1 2 0\n";
+/// let (mut table, mut store) = ([0; 5], [0; 11]);
+/// aspdrupe::check_texts(program, proof, &mut table, &mut store)?;
+/// // -2 of step 1; -1 and 2 of step 3, since the deletion took the older of two equal ones
+/// assert_eq!(store, [1, 1, -2, 3, 2, -1, 2, 0, 0, 0, 0]);
+/// # Ok::<(), aspdrupe::UnknownAnswer>(())
+/// ```
 pub fn check_texts(program: &[u8], proof: &[u8], table: &mut [i32], store: &mut [i32]) -> Result<Verdict, UnknownAnswer> {
     let mut answer = [0; 4];
     // SAFETY: as said above.

@@ -77,7 +77,7 @@ mod tests {
         for size in 0..6 {
             let mut answer = [9u64; 6];
             let mut table = [7; 6];
-            let mut store = [7; 15];
+            let mut store = [7; 21];
             // SAFETY: the slices are valid for these lengths and do not overlap.
             let code = unsafe {
                 aspdrupe_check_texts(

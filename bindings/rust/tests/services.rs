@@ -6,7 +6,8 @@ use aspdrupe::*;
 const PROGRAM: &[u8] = b"asp 1 0 0\n1 0 1 1 0 1 -1\n0\n";
 const PROOF: &[u8] = b"b 2 -1 0\nc 2 1 0\ns 1 2 0\na 1 0\na 0\n";
 const RULES: [i32; 6] = [0, 1, 0, 1, 1, -1];
-const STORE: [i32; 15] = [2, -1, -2, 2, 1, 2, 2, -1, 2, 2, 1, -2, 1, 1, 0];
+// Before each count the step.
+const STORE: [i32; 21] = [1, 2, -1, -2, 1, 2, 1, 2, 2, 2, -1, 2, 3, 2, 1, -2, 4, 1, 1, 5, 0];
 
 // Its packet: mark and version, 5 words, 5 steps; the words without the body kind; the steps.
 const PACKET: [u8; 57] = [
@@ -32,20 +33,34 @@ fn refused(question: ProgramQuestion, line: usize) -> Result<ProgramReading, Unk
 
 #[test]
 fn starred_1() {
-    assert_eq!(checked(PROGRAM, PROOF, 6, 15), (line("inconsistent 1 1 5 6"), RULES.to_vec(), STORE.to_vec()));
-    assert_eq!(checked(PROGRAM, PROOF, 6, 14), (line("refused proof 34 5"), vec![0; 6], vec![0; 14]));
-    assert_eq!(checked(PROGRAM, PROOF, 5, 15), (line("refused program 10 2"), vec![0; 5], vec![0; 15]));
+    assert_eq!(checked(PROGRAM, PROOF, 6, 21), (line("inconsistent 1 1 5 6"), RULES.to_vec(), STORE.to_vec()));
+    assert_eq!(checked(PROGRAM, PROOF, 6, 20), (line("refused proof 34 5"), vec![0; 6], vec![0; 20]));
+    assert_eq!(checked(PROGRAM, PROOF, 5, 21), (line("refused program 10 2"), vec![0; 5], vec![0; 21]));
 }
 
 #[test]
 fn starred_2() {
     let proof = [PROOF, b"d 0\n"].concat();
-    assert_eq!(checked(PROGRAM, &proof, 6, 15), (line("open 1 1 6 5"), RULES.to_vec(), STORE.to_vec()));
+    let left = [&STORE[..19], &[0, 0]].concat();
+    assert_eq!(checked(PROGRAM, &proof, 6, 21), (line("open 1 1 6 5"), RULES.to_vec(), left));
+}
+
+#[test]
+fn steps_of_nogoods() {
+    let fact = b"asp 1 0 0\n1 0 1 1 0 0\n0\n";
+    for (proof, words) in [
+        (&b"d 1 0\nb 2 0\n"[..], &[2, 1, -2][..]),
+        (b"b 2 0\nc 2 1 0\nc 2 1 0\nd -1 2 0\n", &[1, 1, -2, 3, 2, -1, 2, 0, 0, 0, 0]),
+        (b"b 2 0\ne 3 1 2 0\n", &[1, 1, -2, 2, 3, 1, 2, -3, 2, 2, -1, 3, 2, 2, -2, 3]),
+    ] {
+        assert_eq!(checked(fact, proof, 5, words.len()).2, words);
+    }
+    assert_eq!(checked(fact, b"b 2 0\ne 3 1 2 0\n", 5, 15), (line("refused proof 34 2"), vec![0; 5], vec![0; 15]));
 }
 
 #[test]
 fn verdicts_as_enums() {
-    let (mut table, mut store) = ([7; 6], [7; 15]);
+    let (mut table, mut store) = ([7; 6], [7; 21]);
     let counts = Counts { atoms: 1, rules: 1, steps: 5, nogoods: 6 };
     assert_eq!(check_texts(PROGRAM, PROOF, &mut table, &mut store), Ok(Verdict::Inconsistent(counts)));
     let refusal = ProofRefusal { question: ProofQuestion::Addition, step: 1 };
@@ -136,7 +151,7 @@ fn largest_variables() {
     let line = |text| read_line(text, 0).map(|(line, numbers)| (line, numbers[0]));
     assert_eq!(line(b"a -8191 0\n"), Ok((LineAnswer::Line { letter: Letter::Addition, count: 1, next: 10 }, -8_191)));
     assert_eq!(line(b"a 8192 0\n"), Ok((LineAnswer::Refused(ProofQuestion::Sizes), 0)));
-    assert_eq!(checked(b"asp 1 0 0\n1 0 1 1 0 0\n0\n", b"b 8191 0\n", 5, 2).0, "open 1 1 1 1");
+    assert_eq!(checked(b"asp 1 0 0\n1 0 1 1 0 0\n0\n", b"b 8191 0\n", 5, 3).0, "open 1 1 1 1");
 }
 
 #[test]

@@ -55,7 +55,7 @@ pub fn proof(program: &Program, random: &mut Random) -> Vec<u8> {
             break;
         }
         if random.percent(25) {
-            let nogood = random.pick(&author.state.live).clone();
+            let nogood = random.pick(&author.state.live()).to_vec();
             let _ = author.write(b'd', &nogood);
         }
     }
@@ -93,7 +93,7 @@ fn far_addition(author: &Author, random: &mut Random) -> Vec<i32> {
             numbers.push(random.signed(variable));
         }
     }
-    let reached = closure(&author.state.live, &numbers);
+    let reached = closure(&author.state.live(), &numbers);
     let new = |variable: &i32| !numbers.contains(variable) && !numbers.contains(&-variable);
     let followed = known.iter().copied().filter(|variable| new(variable) && (reached.holds(*variable) || reached.holds(-variable)));
     let followed: Vec<i32> = followed.map(|variable| if reached.holds(variable) { -variable } else { variable }).collect();

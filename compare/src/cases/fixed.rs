@@ -1,17 +1,19 @@
 //! The starred examples of document 01, its 'Others', what it calls tempting, the worked example of source 000, the worked cases of weight
-//! bodies and of loops, and the set test's worked cases, each with the line or the answer that the document asks for.
+//! bodies, of loops and of the store's words, and the set test's worked cases, each with the line or the answer that the document asks for.
 
 use inputs::{Pair, ROOM};
 
 use crate::reference::models::Answer::{self, Broken, Differs, Yes};
 
-/// Two texts and the line that a table and a store of so many words must lead to.
+/// Two texts and the line that a table and a store of so many words must lead to; and where they are listed, the words that the store then
+/// holds, with 0 after them.
 pub struct Case {
     pub name: &'static str,
     pub pair: Pair,
     pub table: usize,
     pub store: usize,
     pub line: String,
+    pub words: Option<Vec<i32>>,
 }
 
 /// A program, a set of atoms, and the set test's answer.
@@ -29,8 +31,8 @@ const RULES_7: &[&str] = &["1 1 1 1 0 0"];
 const RULES_8: &[&str] = &["1 0 1 1 0 1 -1", "1 0 1 1 0 0"];
 pub const PROOF_1: &[&str] = &["b 2 -1 0", "c 2 1 0", "s 1 2 0", "a 1 0", "a 0"];
 
-/// The store's words of starred example 1, as the document lists them.
-pub const STORE_1: [i32; 15] = [2, -1, -2, 2, 1, 2, 2, -1, 2, 2, 1, -2, 1, 1, 0];
+/// The store's words of starred example 1, with the step before each nogood.
+const STORE_1: [i32; 21] = [1, 2, -1, -2, 1, 2, 1, 2, 2, 2, -1, 2, 3, 2, 1, -2, 4, 1, 1, 5, 0];
 
 pub fn program(rules: &[&str]) -> Vec<u8> {
     let mut text = String::from("asp 1 0 0\n");
@@ -48,7 +50,12 @@ pub fn proof(lines: &[&str]) -> Vec<u8> {
 }
 
 fn case(name: &'static str, rules: &[&str], steps: &[&str], line: &str) -> Case {
-    Case { name, pair: Pair::of(program(rules), proof(steps)), table: ROOM, store: ROOM, line: String::from(line) }
+    Case { name, pair: Pair::of(program(rules), proof(steps)), table: ROOM, store: ROOM, line: String::from(line), words: None }
+}
+
+/// A case with a store of so many words, and what it then holds.
+fn store_case(name: &'static str, rules: &[&str], steps: &[&str], store: usize, line: &str, words: &[i32]) -> Case {
+    Case { store, words: Some(words.to_vec()), ..case(name, rules, steps, line) }
 }
 
 pub fn cases() -> Vec<Case> {
@@ -59,6 +66,7 @@ pub fn cases() -> Vec<Case> {
     cases.extend(weight_steps());
     cases.extend(loop_steps());
     cases.extend(weight_loops());
+    cases.extend(origins());
     cases.push(source());
     cases
 }
@@ -68,13 +76,12 @@ fn starred() -> Vec<Case> {
     second.push("d 0");
     let mut third = PROOF_1.to_vec();
     third[1] = "e 1 2 0";
-    let enough = Case { store: 15, table: 6, ..case("starred 1, just enough", RULE_1, PROOF_1, "inconsistent 1 1 5 6") };
-    let short = Case { store: 14, ..case("starred 1, a store of 14", RULE_1, PROOF_1, "refused proof 34 5") };
+    let enough = Case { table: 6, ..store_case("starred 1, just enough", RULE_1, PROOF_1, 21, "inconsistent 1 1 5 6", &STORE_1) };
     vec![
-        case("starred 1", RULE_1, PROOF_1, "inconsistent 1 1 5 6"),
+        store_case("starred 1", RULE_1, PROOF_1, ROOM, "inconsistent 1 1 5 6", &STORE_1),
         enough,
-        short,
-        case("starred 2", RULE_1, &second, "open 1 1 6 5"),
+        store_case("starred 1, a store of 20", RULE_1, PROOF_1, 20, "refused proof 34 5", &[]),
+        store_case("starred 2", RULE_1, &second, 21, "open 1 1 6 5", &STORE_1[..19]),
         case("starred 3", RULE_1, &third, "refused proof 27 2"),
         case("starred 4", &[], &[], "open 0 0 0 0"),
         case("starred 4 with a proof", &[], &["a 0"], "refused proof 33 1"),
@@ -280,6 +287,49 @@ fn weight_loops() -> Vec<Case> {
     ]
 }
 
+/// The worked cases of Change 7, and a few more: which step each live nogood carries, and what a store must hold.
+fn origins() -> Vec<Case> {
+    let fact = &["1 0 1 1 0 0"];
+    let deleted = &["b 2 -1 0", "c 2 1 0", "d -1 -2 0", "s 1 2 0"];
+    let twice = &["b 2 0", "c 2 1 0", "c 2 1 0", "d -1 2 0"];
+    let anew = &["b 2 0", "c 2 1 0", "d -2 0", "c 2 1 0", "c 2 1 0"];
+    let extended = &["b 2 0", "e 3 1 2 0"];
+    let thrice = &["b 2 0", "c 2 1 0", "c 2 1 0", "c 2 1 0", "d -1 2 0", "d 2 -1 0"];
+    let again = [twice, &["d 2 -1 0", "c 2 1 0"][..]].concat();
+    let empty = [PROOF_1, &["a 0", "a 0", "d 0", "d 1 2 0"]].concat();
+    let idle = ["d 1 0"; 11];
+    let late = [&idle[..], &["e 2 -1 0"]].concat();
+    let vast = ROOM;
+    vec![
+        store_case("a definition in part deleted", RULE_1, deleted, vast, "open 1 1 4 3", &[1, 2, 1, 2, 2, 2, -1, 2, 4, 2, 1, -2]),
+        store_case("the older of two equal ones", fact, twice, vast, "open 1 1 4 2", &[1, 1, -2, 3, 2, -1, 2]),
+        store_case("an idle deletion counts", fact, &["d 1 0", "b 2 0"], vast, "open 1 1 2 1", &[2, 1, -2]),
+        store_case("a store of 12", fact, anew, 12, "open 1 1 5 3", &[2, 2, -1, 2, 4, 2, -1, 2, 5, 2, -1, 2]),
+        store_case("a store of 11", fact, anew, 11, "refused proof 34 5", &[]),
+        store_case("a store of 16", fact, extended, 16, "open 1 1 2 4", &[1, 1, -2, 2, 3, 1, 2, -3, 2, 2, -1, 3, 2, 2, -2, 3]),
+        store_case("a store of 15", fact, extended, 15, "refused proof 34 2", &[]),
+        store_case("the two older of three equal ones", fact, thrice, vast, "open 1 1 6 2", &[1, 1, -2, 4, 2, -1, 2]),
+        store_case("deleted twice and added again", fact, &again, 7, "refused proof 34 3", &[]),
+        store_case("deleted twice and added again", fact, &again, 11, "open 1 1 6 2", &[1, 1, -2, 6, 2, -1, 2]),
+        store_case(
+            "the oldest of three empty nogoods",
+            RULE_1,
+            &empty,
+            25,
+            "inconsistent 1 1 9 6",
+            &[1, 2, -1, -2, 2, 2, -1, 2, 3, 2, 1, -2, 4, 1, 1, 6, 0, 7, 0],
+        ),
+        store_case("a store of 24 for three empty nogoods", RULE_1, &empty, 24, "refused proof 34 7", &[]),
+        store_case("both nogoods of one step", RULE_1, &late, 8, "open 1 1 12 2", &[12, 2, -1, -2, 12, 2, 1, 2]),
+        store_case("a store of 7 for them", RULE_1, &late, 7, "refused proof 34 12", &[]),
+        store_case("a loop's nogood", RULES_6, &["d 0", "l 2 1 0"], 3, "open 2 2 2 1", &[2, 1, 2]),
+        store_case("no steps, no store", fact, &[], 0, "open 1 1 0 0", &[]),
+        store_case("idle deletions, no store", fact, &idle, 0, "open 1 1 11 0", &[]),
+        store_case("one nogood, no store", fact, &["b 2 0"], 0, "refused proof 34 1", &[]),
+        store_case("one nogood, two words", fact, &["b 2 0"], 2, "refused proof 34 1", &[]),
+    ]
+}
+
 fn source() -> Case {
     Case {
         name: "worked example of source 000",
@@ -290,6 +340,7 @@ fn source() -> Case {
         table: ROOM,
         store: ROOM,
         line: String::from(include_str!("../../../examples/source-000/expected").trim_end()),
+        words: None,
     }
 }
 
@@ -366,13 +417,16 @@ mod tests {
     use crate::reference::check::{check, verdict_line};
     use crate::reference::models::test_set;
     use crate::reference::program::{read, table_words};
-    use crate::reference::MARKS;
+    use crate::reference::{filled, MARKS};
 
     #[test]
     fn reference_says_what_the_documents_ask() {
         for case in cases() {
             let ending = check(&case.pair.program, &case.pair.proof, case.table, case.store);
             assert_eq!(verdict_line(&ending.verdict), case.line, "{}: {}", case.name, String::from_utf8_lossy(&case.pair.program));
+            if let Some(words) = case.words {
+                assert_eq!(ending.store, filled(words, case.store), "{}", case.name);
+            }
         }
     }
 

@@ -100,13 +100,13 @@ fn support_step(author: &Author, random: &mut Random) -> Vec<i32> {
 /// Literals that contradict, often cut down to the fewest.
 fn derivation(author: &Author, random: &mut Random) -> Vec<i32> {
     let mut numbers = known_literals(author, random, 6);
-    if !closure(&author.state.live, &numbers).contradictory() {
+    if !closure(&author.state.live(), &numbers).contradictory() {
         return numbers;
     }
     for place in (0..numbers.len()).rev() {
         let mut fewer = numbers.clone();
         fewer.remove(place);
-        if closure(&author.state.live, &fewer).contradictory() {
+        if closure(&author.state.live(), &fewer).contradictory() {
             numbers = fewer;
         }
     }
@@ -114,10 +114,10 @@ fn derivation(author: &Author, random: &mut Random) -> Vec<i32> {
 }
 
 fn deletion(author: &Author, random: &mut Random) -> Vec<i32> {
-    if author.state.live.is_empty() || random.percent(20) {
+    if author.state.stored.is_empty() || random.percent(20) {
         return known_literals(author, random, 3);
     }
-    let mut numbers = random.pick(&author.state.live).clone();
+    let mut numbers = random.pick(&author.state.live()).to_vec();
     random.shuffle(&mut numbers);
     numbers
 }

@@ -1,5 +1,6 @@
 //! Inputs at the limits of document 01: counts of heads, literals, numbers and rules, sizes of atoms and variables, lengths of
-//! texts, a store that is just full, loops of as many atoms as a line names, long loop nogoods and long chains of propagation.
+//! texts, a store that is just full, nogoods of late steps, loops of as many atoms as a line names, long loop nogoods and long chains of
+//! propagation.
 
 use std::sync::OnceLock;
 
@@ -43,6 +44,7 @@ fn all_cases() -> Vec<Case> {
     cases.extend(variable_sizes());
     cases.extend(proof_shapes());
     cases.extend(full_stores());
+    cases.extend(late_steps());
     cases.extend(wide_loops());
     cases.extend(weight_rings());
     cases.extend(long_loops());
@@ -163,7 +165,7 @@ fn many_minimal_sets() -> Case {
         text.push_str(&line_of(b'b', &[&[14 + place as i32], &body[..]].concat()));
     }
     text.push_str("l 13 1 0\nl 13 1 2 3 4 5 6 7 0\nl 13 0\n");
-    case("924 minimal sets", program_text(&rules), text, "refused proof 34 631")
+    case("924 minimal sets", program_text(&rules), text, "refused proof 34 497")
 }
 
 /// Lines of three kinds that have just so many bytes together, most of them of the first kind.
@@ -322,9 +324,10 @@ fn variable_sizes() -> Vec<Case> {
     for name in [4_095, 4_096, 8_191] {
         cases.push(case(format!("name {name}"), program(RULE_1), format!("e {name} -1 0\na {name} 1 0\n"), "open 1 1 2 3"));
     }
-    let names: String = (1_000..=8_191).rev().map(|name| line_of(b'e', &[name])).collect();
-    cases.push(case("7,192 names", program(RULE_1), names.clone() + "a -8191 0\n", "open 1 1 7193 7193"));
-    cases.push(case("a name of 7,192 again", program(RULE_1), names + "e 4096 0\n", "refused proof 27 7193"));
+    let names: String = (2_732..=8_191).rev().map(|name| line_of(b'e', &[name])).collect();
+    cases.push(case("5,460 names", program(RULE_1), names.clone() + "a -8191 0\n", "open 1 1 5461 5461"));
+    cases.push(case("one name more than the store holds", program(RULE_1), names.clone() + "e 2 0\ne 3 0\n", "refused proof 34 5462"));
+    cases.push(case("a name of 5,460 again", program(RULE_1), names + "e 4096 0\n", "refused proof 27 5461"));
     cases.push(case("names after 4,095", program(&["1 0 1 4095 0 0"]), "e 4096 0\n", "open 4095 1 1 1"));
     cases.push(case("no name is left", program(&["1 0 1 8191 0 0"]), "e 8191 0\n", "refused proof 27 1"));
     cases
@@ -392,21 +395,38 @@ fn proof_shapes() -> Vec<Case> {
     cases
 }
 
-/// Extensions that take the 16,384 words of the store to the last, and one word more.
+/// Extensions that take the 16,384 words of the store to the last, and one word more. One over so many literals takes three words and five for
+/// each of them.
 fn full_stores() -> Vec<Case> {
     let rules = [choice(&count_to(64), &[])];
-    let mut text: String = (0..63).map(|place| extension_over(100 + place, 64)).collect();
-    text.push_str(&extension_over(200, 32));
+    let wide = (0..50).map(|place| extension_over(100 + place, 64));
+    let text: String = wide.chain((0..3).map(|place| extension_over(200 + place, 15))).collect();
     let with = |more: &str| text.clone() + more;
+    let three = ["d 100 -1 0\n", "d 100 -2 0\n", "d 100 -3 0\n"].concat();
+    let four = ["e 203 0\n", "e 204 0\n", "e 205 0\n", "e 206 0\n"].concat();
     vec![
-        case("a full store", program_text(&rules), &text, "open 64 1 64 4128"),
-        case("a full store and two words", program_text(&rules), with("e 201 0\n"), "refused proof 34 65"),
-        case("a full store and a deletion of nothing", program_text(&rules), with("d 1 0\n"), "open 64 1 65 4128"),
-        case("a full store with words used again", program_text(&rules), with("d 100 -1 0\ne 201 0\n"), "open 64 1 66 4128"),
-        case("and one word more", program_text(&rules), with("d 100 -1 0\ne 201 0\ne 202 0\n"), "refused proof 34 67"),
-        case("a refused step before the store", program_text(&rules), with("a 0\n"), "refused proof 33 65"),
-        case("a line too wide for the store", program_text(&rules), with("a 100 -1 0\n"), "refused proof 34 65"),
+        case("a full store", program_text(&rules), &text, "open 64 1 53 3298"),
+        case("a full store and three words", program_text(&rules), with("e 203 0\n"), "refused proof 34 54"),
+        case("a full store and a deletion of nothing", program_text(&rules), with("d 1 0\n"), "open 64 1 54 3298"),
+        case("a full store with words used again", program_text(&rules), with("d 100 -1 0\ne 203 0\n"), "open 64 1 55 3298"),
+        case("all of them used again", program_text(&rules), with(&(three.clone() + &four)), "open 64 1 60 3299"),
+        case("and one word more", program_text(&rules), with(&(three[11..].to_string() + &four[8..])), "refused proof 34 58"),
+        case("a refused step before the store", program_text(&rules), with("a 0\n"), "refused proof 33 54"),
+        case("a line too wide for the store", program_text(&rules), with("a 100 -1 0\n"), "refused proof 34 54"),
     ]
+}
+
+/// Nogoods of late steps: up to the last of a text of 65,535 bytes, and after deletions that take nothing away or all that there is.
+fn late_steps() -> Vec<Case> {
+    let mut cases = Vec::new();
+    for idle in [126, 127, 254, 255, 4_094, 4_095, 8_191, 16_382] {
+        let text = "d 0\n".repeat(idle) + "e 2 0\n";
+        cases.push(case(format!("a nogood of step {}", idle + 1), program(RULE_1), text, &format!("open 1 1 {} 1", idle + 1)));
+    }
+    let pairs = "e 2 0\n".to_string() + &"a -2 0\nd -2 0\n".repeat(4_000);
+    cases.push(case("a nogood that is always the older one", program(RULE_1), &pairs, "open 1 1 8001 1"));
+    cases.push(case("a nogood that is added 4,000 times", program(RULE_1), pairs.replace("d -2 0\n", ""), "open 1 1 4001 4001"));
+    cases
 }
 
 fn extension_over(name: i32, count: i32) -> String {
@@ -557,7 +577,7 @@ fn chain(atom: i32, first: i32, last: i32) -> String {
 /// Chains of extensions that propagation has to go along, with the order of the store and against it.
 fn long_chains() -> Vec<Case> {
     let mut cases = Vec::new();
-    for (first, links) in [(5, 1), (5, 3), (5, 100), (5, 2_600), (5_592, 2_600)] {
+    for (first, links) in [(5, 1), (5, 3), (5, 100), (5, 2_000), (6_192, 2_000)] {
         let last = first + links - 1;
         let steps = String::from(DEAD_END_STEPS) + &chain(1, first, last);
         let with = |more: String| steps.clone() + &more + "\n";
@@ -591,7 +611,7 @@ fn chains_behind_many_words() -> Vec<Case> {
             format!("{last} behind many words"),
             program_text(&rules),
             wide.clone() + &steps + last + "\n",
-            "refused proof 34 64",
+            "refused proof 34 51",
         ));
         cases.push(case(format!("{last} before many words"), program_text(&rules), steps.clone() + &wide + last + "\n", ""));
     }

@@ -117,7 +117,7 @@ pub fn refute(author: &mut Author, random: &mut Random, at_first: usize) -> Foun
     }
     let mut decisions: Vec<i32> = Vec::new();
     while author.lines.len() < PATIENCE {
-        if closure(&author.state.live, &decisions).contradictory() {
+        if closure(&author.state.live(), &decisions).contradictory() {
             let Some(learnt) = learn(author, random, &decisions) else { return Found::Nothing };
             if learnt.is_empty() {
                 return Found::Refutation;
@@ -160,7 +160,7 @@ fn learn(author: &mut Author, random: &mut Random, decisions: &[i32]) -> Option<
     if random.percent(60) {
         for literal in decisions {
             let fewer: Vec<i32> = learnt.iter().copied().filter(|other| other != literal).collect();
-            if closure(&author.state.live, &fewer).contradictory() {
+            if closure(&author.state.live(), &fewer).contradictory() {
                 learnt = fewer;
             }
         }
@@ -178,8 +178,8 @@ fn learn(author: &mut Author, random: &mut Random, decisions: &[i32]) -> Option<
 
 /// Deletes one live nogood that the learnt one makes superfluous.
 fn forget_weaker(author: &mut Author, learnt: &[i32]) {
-    let weaker = |nogood: &&Vec<i32>| nogood.len() > learnt.len() && learnt.iter().all(|literal| nogood.contains(literal));
-    let found = author.state.live.iter().find(weaker).cloned();
+    let weaker = |nogood: &&[i32]| nogood.len() > learnt.len() && learnt.iter().all(|literal| nogood.contains(literal));
+    let found = author.state.live().into_iter().find(weaker).map(<[i32]>::to_vec);
     if let Some(nogood) = found.filter(|nogood| nogood.len() <= LINE_LIMIT) {
         let _ = author.write(b'd', &nogood);
     }
@@ -192,7 +192,7 @@ fn sprinkle(author: &mut Author, random: &mut Random) {
         1 => repeat(author, random),
         2 => {
             let numbers = known_literals(author, random, 4);
-            if !author.state.live.iter().any(|nogood| nogood.len() == numbers.len()) {
+            if !author.state.live().iter().any(|nogood| nogood.len() == numbers.len()) {
                 let _ = author.write(b'd', &numbers);
             }
         }
@@ -202,8 +202,8 @@ fn sprinkle(author: &mut Author, random: &mut Random) {
 
 /// Steps after the empty nogood: deletions, additions that only it lets pass, and now and then its own deletion.
 pub fn go_on(author: &mut Author, random: &mut Random) {
-    let deletions = if random.percent(50) { author.state.live.len() } else { random.below(6) };
-    let mut nogoods: Vec<Vec<i32>> = author.state.live.iter().filter(|nogood| !nogood.is_empty()).cloned().collect();
+    let deletions = if random.percent(50) { author.state.stored.len() } else { random.below(6) };
+    let mut nogoods: Vec<Vec<i32>> = author.state.live().into_iter().filter(|nogood| !nogood.is_empty()).map(<[i32]>::to_vec).collect();
     random.shuffle(&mut nogoods);
     for nogood in nogoods.iter().take(deletions).filter(|nogood| nogood.len() <= LINE_LIMIT) {
         let _ = author.write(b'd', nogood);
@@ -245,10 +245,10 @@ fn extend(author: &mut Author, random: &mut Random) {
 
 /// Adds a live nogood once more and deletes the older of the two.
 fn repeat(author: &mut Author, random: &mut Random) {
-    if author.state.live.is_empty() {
+    if author.state.stored.is_empty() {
         return;
     }
-    let mut nogood = random.pick(&author.state.live).clone();
+    let mut nogood = random.pick(&author.state.live()).to_vec();
     random.shuffle(&mut nogood);
     if nogood.len() <= LINE_LIMIT && author.write(b'a', &nogood).is_ok() && random.percent(70) {
         random.shuffle(&mut nogood);
@@ -258,7 +258,7 @@ fn repeat(author: &mut Author, random: &mut Random) {
 
 /// A known variable that is still open, with a random sign.
 fn next_decision(author: &Author, random: &mut Random, decisions: &[i32]) -> Option<i32> {
-    let reached = closure(&author.state.live, decisions);
+    let reached = closure(&author.state.live(), decisions);
     let open: Vec<i32> = author.state.known.iter().copied().filter(|v| !reached.holds(*v) && !reached.holds(-v)).collect();
     if open.is_empty() {
         return None;
@@ -270,7 +270,7 @@ fn next_decision(author: &Author, random: &mut Random, decisions: &[i32]) -> Opt
 /// At an assignment of all variables: the answer set; or a rule that it breaks, or a loop or a support that excludes atoms which nothing
 /// founds, is written.
 fn exclude(author: &mut Author, random: &mut Random, decisions: &[i32]) -> Result<(), Found> {
-    let reached = closure(&author.state.live, decisions);
+    let reached = closure(&author.state.live(), decisions);
     let set: Set = (1..=author.program.atoms).filter(|atom| reached.holds(*atom)).collect();
     let holds = |literal: &i32| set.contains(&literal.abs()) == (*literal > 0);
     let broken = |rule: &&Rule| !rule.choice && rule.body.iter().all(holds) && !rule.heads.iter().any(holds);

@@ -32,8 +32,8 @@ pub struct Ending {
 /// The whole check, lent a table and a store of so many words.
 pub fn check(program_text: &[u8], proof_text: &[u8], table_room: usize, store_room: usize) -> Ending {
     match course(program_text, proof_text, table_room, store_room) {
-        Ok((program, state, steps)) => Ending {
-            verdict: judged(&program, &state, steps),
+        Ok((program, state)) => Ending {
+            verdict: judged(&program, &state),
             table: filled(table_words(&program.rules), table_room),
             store: filled(state.store_words(), store_room),
         },
@@ -41,29 +41,28 @@ pub fn check(program_text: &[u8], proof_text: &[u8], table_room: usize, store_ro
     }
 }
 
-fn course(program_text: &[u8], proof_text: &[u8], table_room: usize, store_room: usize) -> Result<(Program, State, usize), Verdict> {
+fn course(program_text: &[u8], proof_text: &[u8], table_room: usize, store_room: usize) -> Result<(Program, State), Verdict> {
     let program = read(program_text, table_room).map_err(|(number, line)| Verdict::RefusedProgram { number, line })?;
-    let (state, steps) = run(&program, proof_text, store_room).map_err(|(number, step)| Verdict::RefusedProof { number, step })?;
-    Ok((program, state, steps))
+    let state = run(&program, proof_text, store_room).map_err(|(number, step)| Verdict::RefusedProof { number, step })?;
+    Ok((program, state))
 }
 
-/// All steps of the proof: the state after the last and how many there were, or a refusal's number and step.
-fn run(program: &Program, text: &[u8], store_room: usize) -> Result<(State, usize), (u8, usize)> {
+/// All steps of the proof: the state after the last, or a refusal's number and step.
+fn run(program: &Program, text: &[u8], store_room: usize) -> Result<State, (u8, usize)> {
     if text.len() > TEXT_LIMIT {
         return Err((21, 0));
     }
     let mut state = State::start(program);
     let mut position = 0;
-    let mut steps = 0;
     loop {
+        let place = state.steps + 1;
         match read_line(text, position) {
-            Answer::End => return Ok((state, steps)),
-            Answer::Refused(number) => return Err((number, steps + 1)),
+            Answer::End => return Ok(state),
+            Answer::Refused(number) => return Err((number, place)),
             Answer::Line(line) => {
-                steps += 1;
-                step(program, &mut state, &line).map_err(|number| (number, steps))?;
-                if state.store_words().len() > store_room {
-                    return Err((34, steps));
+                step(program, &mut state, &line).map_err(|number| (number, place))?;
+                if state.live_words() > store_room {
+                    return Err((34, place));
                 }
                 position = line.next;
             }
@@ -80,14 +79,14 @@ pub fn most_live_words(program: &Program, text: &[u8]) -> usize {
         if step(program, &mut state, &line).is_err() {
             break;
         }
-        most = most.max(state.store_words().len());
+        most = most.max(state.live_words());
         position = line.next;
     }
     most
 }
 
-fn judged(program: &Program, state: &State, steps: usize) -> Verdict {
-    let counts = Counts { atoms: program.atoms as usize, rules: program.rules.len(), steps, nogoods: state.live.len() };
+fn judged(program: &Program, state: &State) -> Verdict {
+    let counts = Counts { atoms: program.atoms as usize, rules: program.rules.len(), steps: state.steps, nogoods: state.stored.len() };
     if state.has_empty() {
         Verdict::Inconsistent(counts)
     } else {
@@ -115,17 +114,17 @@ mod tests {
 
     #[test]
     fn starred_example_1() {
-        let ending = check(PROGRAM, PROOF, 6, 15);
+        let ending = check(PROGRAM, PROOF, 6, 21);
         assert_eq!(verdict_line(&ending.verdict), "inconsistent 1 1 5 6");
-        assert_eq!(ending.store, [2, -1, -2, 2, 1, 2, 2, -1, 2, 2, 1, -2, 1, 1, 0]);
+        assert_eq!(ending.store, [1, 2, -1, -2, 1, 2, 1, 2, 2, 2, -1, 2, 3, 2, 1, -2, 4, 1, 1, 5, 0]);
         assert_eq!(ending.table, [0, 1, 0, 1, 1, -1]);
     }
 
     #[test]
     fn a_word_less() {
-        let short = check(PROGRAM, PROOF, 6, 14);
+        let short = check(PROGRAM, PROOF, 6, 20);
         assert_eq!(short.verdict, Verdict::RefusedProof { number: 34, step: 5 });
         assert!(short.store.iter().chain(&short.table).all(|word| *word == 0));
-        assert_eq!(check(PROGRAM, PROOF, 5, 15).verdict, Verdict::RefusedProgram { number: 10, line: 2 });
+        assert_eq!(check(PROGRAM, PROOF, 5, 21).verdict, Verdict::RefusedProgram { number: 10, line: 2 });
     }
 }

@@ -36,17 +36,17 @@ impl Literals {
 }
 
 /// "the least set that contains L and, for each literal of a live nogood whose other literals are all in A, the complement of that literal"
-pub fn closure(live: &[Vec<i32>], start: &[i32]) -> Literals {
+pub fn closure(live: &[&[i32]], start: &[i32]) -> Literals {
     let mut inside = Literals::of(start);
     while enlarge(live, &mut inside) {}
     inside
 }
 
 /// One round over all live nogoods; whether the set grew.
-fn enlarge(live: &[Vec<i32>], inside: &mut Literals) -> bool {
+fn enlarge(live: &[&[i32]], inside: &mut Literals) -> bool {
     let mut grown = false;
     for nogood in live {
-        for literal in nogood {
+        for literal in *nogood {
             let others = nogood.iter().all(|other| other == literal || inside.holds(*other));
             if others && !inside.holds(-literal) {
                 inside.add(-literal);
@@ -63,12 +63,12 @@ mod tests {
 
     #[test]
     fn follows() {
-        let live = vec![vec![1, -2], vec![2, 3], vec![-1, 4, 5]];
+        let live: [&[i32]; 3] = [&[1, -2], &[2, 3], &[-1, 4, 5]];
         let set = closure(&live, &[1]);
         assert!(set.holds(2) && set.holds(-3) && !set.holds(-4) && !set.holds(-5));
         assert!(!set.contradictory());
         assert!(closure(&live, &[1, 3]).contradictory());
-        assert!(closure(&[vec![7], vec![-7]], &[]).contradictory());
-        assert!(!closure(&[vec![]], &[]).contradictory());
+        assert!(closure(&[&[7], &[-7]], &[]).contradictory());
+        assert!(!closure(&[&[]], &[]).contradictory());
     }
 }

@@ -9,18 +9,33 @@ use super::lines::Line;
 use super::loops::is_loop;
 use super::program::{Program, Rule};
 
-/// "the live nogoods oldest first, the known variables, and which rule body has which name"
+/// "Each live nogood carries the number of the step that added it"
+#[derive(Clone, Debug, PartialEq, Eq)]
+pub struct Stored {
+    pub origin: usize,
+    pub literals: Vec<i32>,
+}
+
+impl Stored {
+    /// "as a word before its count"; then "the literal count, then literals ascending by variable"
+    fn words(&self) -> Vec<i32> {
+        [&[self.origin as i32, self.literals.len() as i32], &self.literals[..]].concat()
+    }
+}
+
+/// "the live nogoods oldest first, the known variables, and which rule body has which name", and the number of steps done
 #[derive(Clone, Debug)]
 pub struct State {
-    pub live: Vec<Vec<i32>>,
+    pub stored: Vec<Stored>,
     pub known: BTreeSet<i32>,
     pub names: Vec<(i32, Vec<i32>)>,
+    pub steps: usize,
 }
 
 impl State {
     /// "At the start there are no nogoods and no names, and the atoms alone are known."
     pub fn start(program: &Program) -> State {
-        State { live: Vec::new(), known: (1..=program.atoms).collect(), names: Vec::new() }
+        State { stored: Vec::new(), known: (1..=program.atoms).collect(), names: Vec::new(), steps: 0 }
     }
 
     pub fn name_of(&self, body: &[i32]) -> Option<i32> {
@@ -31,27 +46,40 @@ impl State {
         self.names.iter().find(|(given, _)| *given == name).map(|(_, body)| body.as_slice())
     }
 
+    /// The live nogoods, oldest first.
+    pub fn live(&self) -> Vec<&[i32]> {
+        self.stored.iter().map(|stored| stored.literals.as_slice()).collect()
+    }
+
     pub fn has_empty(&self) -> bool {
-        self.live.iter().any(Vec::is_empty)
+        self.stored.iter().any(|stored| stored.literals.is_empty())
     }
 
-    /// "the literal count, then literals ascending by variable"
+    /// What question 34 counts: two words more than the literals for each live nogood.
+    pub fn live_words(&self) -> usize {
+        self.stored.iter().map(|stored| 2 + stored.literals.len()).sum()
+    }
+
+    /// Every word of the store up to the last that is used.
     pub fn store_words(&self) -> Vec<i32> {
-        let mut words = Vec::new();
-        for nogood in &self.live {
-            words.push(nogood.len() as i32);
-            words.extend(nogood);
-        }
-        words
+        self.stored.iter().flat_map(Stored::words).collect()
     }
 
+    /// A nogood of the step that is being taken.
     fn add(&mut self, literals: &[i32]) {
-        self.live.push(by_variable(literals));
+        self.stored.push(Stored { origin: self.steps + 1, literals: by_variable(literals) });
     }
 }
 
-/// Puts questions 26 to 33 and 56 to the step and, where all are passed, takes it. The error is the refusal's number.
+/// Puts questions 26 to 33 and 56 to the step and, where all are passed, takes it; the error is the refusal's number. A step counts whatever
+/// its letter, "also those that take nothing away".
 pub fn step(program: &Program, state: &mut State, line: &Line) -> Result<(), u8> {
+    take(program, state, line)?;
+    state.steps += 1;
+    Ok(())
+}
+
+fn take(program: &Program, state: &mut State, line: &Line) -> Result<(), u8> {
     let introduces = line.letter == b'b' || line.letter == b'e';
     let cited = if introduces { &line.numbers[1..] } else { &line.numbers[..] };
     if !cited.iter().all(|number| state.known.contains(&number.abs())) {
@@ -156,18 +184,18 @@ fn exclude_loop(program: &Program, state: &mut State, atoms: &[i32]) -> Result<(
 
 /// "Accepted exactly when A has a literal and its complement, or the empty nogood is live. Adds L."
 fn derive(state: &mut State, literals: &[i32]) -> Result<(), u8> {
-    if !state.has_empty() && !closure(&state.live, literals).contradictory() {
+    if !state.has_empty() && !closure(&state.live(), literals).contradictory() {
         return Err(33);
     }
     state.add(literals);
     Ok(())
 }
 
-/// "removes the oldest live nogood equal to L as a set; none equal, nothing changes"
+/// "removes the oldest live nogood equal to L as a set; none equal, nothing changes"; "the oldest equal set, whatever its origin"
 fn delete(state: &mut State, literals: &[i32]) -> Result<(), u8> {
     let wanted = by_variable(literals);
-    if let Some(place) = state.live.iter().position(|nogood| *nogood == wanted) {
-        state.live.remove(place);
+    if let Some(place) = state.stored.iter().position(|stored| stored.literals == wanted) {
+        state.stored.remove(place);
     }
     Ok(())
 }

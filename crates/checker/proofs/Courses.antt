@@ -1,6 +1,6 @@
 -- The loop over the proof's lines: where it stands, and how it ends or goes on.
 -- Assumes nothing.
-use mathlib.Core.Path.{_≡_, refl, _∙_, subst}
+use mathlib.Core.Path.{_≡_, refl, _∙_, ap, subst}
 use mathlib.Core.List.{List, []}
 use Prim.Native.Nat.{ℕ, _+_, _-_, _≤_, _<_}
 use native.Mathlib.Omega.{arith}
@@ -14,22 +14,25 @@ use Rattle.drupe.specs.Lines as Lines
 use Rattle.drupe.proofs.Lines.{passed-line}
 use Rattle.derivation.specs.States.{State, start}
 use Rattle.derivation.specs.Steps.{Outcome, refused, next, step}
+use Rattle.nogoods.specs.Store.{Stored, live, wordsFor}
 use Rattle.nogoods.specs.Keeps.{Holds}
-use Rattle.checker.specs.Check.{Course, stopped, course}
+use Rattle.nogoods.proofs.Live.{live-nil, words-for}
+use Rattle.checker.specs.Check.{storedAfter, Course, stopped, course}
 use Rattle.checker.specs.Claims.{Runs, ends, unread, unaccepted, full, good}
-use Rattle.checker.specs.Held.{Tracks, Leaves, proofTurn, LineLeaves, Ran}
+use Rattle.checker.specs.Held.{Tracks, HoldsState, Leaves, proofTurn, LineLeaves, Ran}
 use Rattle.checker.specs.declared.outcomes.Stepped.{Stepped}
 use Rattle.checker.specs.declared.outcomes.Stepped.the-variants.{Uses, Fails}
 use Rattle.checker.specs.declared.runs.ProofTurn.{ProofTurn}
 use Rattle.checker.specs.declared.runs.ProofTurn.the-variants as Turn
 use Rattle.checker.specs.declared.runs.Run.the-variants as Run
 use Rattle.checker.proofs.Whole.{step-by-step}
+use Rattle.checker.proofs.Origins.{step-live}
 
 -- an empty store
 pub holds-none : (store : List ℤ) → store ≡ replicate (length store) (pos 0) → Holds store 0 []
 holds-none store e =
     let n : length store - 0 ≡ length store = omega arith in
-    record { words = rw n e; extent = refl; fits = omega arith; literals = λ g i. elim i [ ] }
+    record { words = rw n e; extent = refl; fits = omega arith; literals = λ x i. elim i [ ] }
 
 module _ (N : ℕ) (ws : List InputRule) (size : ℕ) (text : List ℕ) where
   abbrev P : List Rule
@@ -40,8 +43,9 @@ module _ (N : ℕ) (ws : List InputRule) (size : ℕ) (text : List ℕ) where
   pub record Going (store : List ℤ) (known names : List ℕ) (bodies : List ℤ) (used at steps : ℕ) : Type 0 where
     pub z : State
     pub tracks : Tracks N ws known names bodies (z .introduced) (z .named)
-    pub holds : Holds store used (z .live)
-    pub onward : (c : Course) → Runs N P size text at steps z c → Runs N P size text 0 0 start c
+    pub stored : List Stored
+    pub keeps : HoldsState store used z stored
+    pub onward : (c : Course) → Runs N P size text at steps z stored c → Runs N P size text 0 0 start [] c
     pub within : at ≤ length text
     pub count : steps ≤ at
     pub long : length store ≡ size
@@ -50,16 +54,26 @@ module _ (N : ℕ) (ws : List InputRule) (size : ℕ) (text : List ℕ) where
   pub going-start : {store : List ℤ} {known names : List ℕ} {bodies : List ℤ} → Tracks N ws known names bodies [] [] → store ≡ replicate (length store) (pos 0) → length store ≡ size
       → length names ≡ mostRules → Going store known names bodies 0 0 0
   going-start {store} T e l p =
-      record { z = start; tracks = T; holds = holds-none store e; onward = λ c r. r; within = omega arith; count = omega arith; long = l; places = p }
+      record {
+        z = start;
+        tracks = T;
+        stored = [];
+        keeps = record { holds = holds-none store e; same = live-nil };
+        onward = λ c r. r;
+        within = omega arith;
+        count = omega arith;
+        long = l;
+        places = p;
+      }
 
   module _ (short : length text ≤ longest) {store : List ℤ} {known names : List ℕ} {bodies : List ℤ} {used at steps : ℕ} (G : Going store known names bodies used at steps) where
-    comes : (c : Course) → Runs N P size text at steps (G .z) c → course N P size text ≡ c
+    comes : (c : Course) → Runs N P size text at steps (G .z) (G .stored) c → course N P size text ≡ c
     comes c r = step-by-step N P size text c short .1 (G .onward c r)
 
     module _ (after : List ℤ) (known′ names′ : List ℕ) (bodies′ : List ℤ) (same : length after ≡ length store) (same′ : length names′ ≡ length names) where
       -- what the turn at the position leaves
       abbrev Turned : LineAt → ProofTurn → Type 0
-      Turned = LineLeaves N ws known′ names′ bodies′ after used (G .z)
+      Turned = LineLeaves N ws known′ names′ bodies′ after used (steps + 1) (G .z) (G .stored)
 
       pub going-ends : {r : ProofTurn} → r ≡ Turn.Ends → Turned (lineAt text at) r → Ran after (course N P size text) (Run.Through steps used)
       going-ends e t = by (lineAt text at) refl (subst (Turned (lineAt text at)) e t)
@@ -87,10 +101,13 @@ module _ (N : ℕ) (ws : List InputRule) (size : ℕ) (text : List ℕ) where
           by (Lines.refused j) q t = stops j (cc) (comes _ (unread q))
           by (line x zs n) q t = outcome (step N P (G .z) (record { letter = x; numbers = zs })) refl (t .0) (t .1) (t .2)
             where
-              outcome : (o : Outcome) → step N P (G .z) (record { letter = x; numbers = zs }) ≡ o → (s : Stepped) → Turn.Fails k ≡ proofTurn n s → Leaves N ws known′ names′ bodies′ after o s → Stops
+              outcome : (o : Outcome) → step N P (G .z) (record { letter = x; numbers = zs }) ≡ o → (s : Stepped) → Turn.Fails k ≡ proofTurn n s → Leaves N ws (storedAfter (steps + 1) x zs (G .stored)) known′ names′ bodies′ after o s → Stops
               outcome o p (Uses m) e l = absurd (zero-one (cc))
               outcome (refused j) p (Fails i) e l = stops j (cc) (comes _ (unaccepted q p))
-              outcome (next z) p (Fails i) e l = let a = l .0 .0 in stops 34 (cc) (comes _ (full q p (omega (arith, l .0 .1, same, G .long))))
+              outcome (next z) p (Fails i) e l =
+                  let a = l .0 .0 in
+                  let m = step-live N P (steps + 1) (G .z) (G .stored) (G .keeps .same) (record { letter = x; numbers = zs }) z p in
+                  stops 34 (cc) (comes _ (full q p (omega (arith, l .0 .1, ap wordsFor m, same, G .long))))
 
       pub going-on : {r : ProofTurn} (n m : ℕ) → r ≡ Turn.Goes n m → Turned (lineAt text at) r → Going after known′ names′ bodies′ m n (steps + 1) × (at < n)
       going-on n m e t = by (lineAt text at) refl (subst (Turned (lineAt text at)) e t)
@@ -103,7 +120,7 @@ module _ (N : ℕ) (ws : List InputRule) (size : ℕ) (text : List ℕ) where
           by (Lines.refused j) q t = absurd (zero-one (cc))
           by (line x zs k) q t = outcome (step N P (G .z) (record { letter = x; numbers = zs })) refl (t .0) (t .1) (t .2)
             where
-              outcome : (o : Outcome) → step N P (G .z) (record { letter = x; numbers = zs }) ≡ o → (s : Stepped) → Turn.Goes n m ≡ proofTurn k s → Leaves N ws known′ names′ bodies′ after o s → Goes
+              outcome : (o : Outcome) → step N P (G .z) (record { letter = x; numbers = zs }) ≡ o → (s : Stepped) → Turn.Goes n m ≡ proofTurn k s → Leaves N ws (storedAfter (steps + 1) x zs (G .stored)) known′ names′ bodies′ after o s → Goes
               outcome o p (Fails i) e l = absurd (zero-one (cc))
               outcome (refused j) p (Uses i) e l = absurd (zero-one (cc))
               outcome (next z) p (Uses i) e l =
@@ -111,12 +128,15 @@ module _ (N : ℕ) (ws : List InputRule) (size : ℕ) (text : List ℕ) where
                   let f : n ≡ k = cc in
                   let g : m ≡ i = cc in
                   let H = l .0 in
+                  let b = storedAfter (steps + 1) x zs (G .stored) z in
+                  let m : live b ≡ z .live = step-live N P (steps + 1) (G .z) (G .stored) (G .keeps .same) (record { letter = x; numbers = zs }) z p in
                   let w : length after ≡ size = same ∙ G .long in (
                     record {
                       z = z;
                       tracks = l .1;
-                      holds = rw g H;
-                      onward = λ c r. G .onward c (good q p (omega (arith, H .extent, H .fits, w)) (rw f at r));
+                      stored = b;
+                      keeps = record { holds = rw g H; same = m };
+                      onward = λ c r. G .onward c (good q p (omega (arith, H .extent, H .fits, w, words-for b, ap wordsFor m)) (rw f at r));
                       within = omega (arith, u .1, f);
                       count = omega (arith, u .0, f, G .count);
                       long = w;

@@ -1,32 +1,47 @@
 -- What the steps add to the store: question 34, and the first number of a line with the complements of the others.
 -- Assumes nothing.
-use mathlib.Core.Path.{_≡_, refl, ap, _∙_}
+use mathlib.Core.Path.{_≡_, refl, sym, ap, subst, _∙_}
 use mathlib.Core.List.{List, [], _∷_, _++_, map}
-use Prim.Native.Nat.{_-_, _≤_}
+use Prim.Native.Nat.{ℕ, _-_, _≤_}
 use native.Mathlib.Omega.{arith}
 use lib.IntN.{ℤ, pos}
 use lib.ListN.{length, drop, take, getD, length-drop, length-map}
+use lib.Seq.{drop-append-seam}
 use borrow.Rule.Slice.PartMut.{putMid}
 use Rattle.words.specs.Literals.{complement, ascending}
 use Rattle.words.proofs.Parts.{tail-of, put-tail}
 use Rattle.words.proofs.Sorting.{length-ascending}
+use Rattle.derivation.specs.States.{State}
+use Rattle.derivation.specs.Steps.{add}
+use Rattle.nogoods.specs.Store.{Stored, addedIn, live}
 use Rattle.nogoods.specs.Keeps.{Literals, Fits}
 use Rattle.nogoods.specs.declared.store.Added.{Added}
 use Rattle.nogoods.specs.declared.store.Added.the-variants as Added
 use Rattle.nogoods.proofs.Literals.{literals-ascending, literals-complement-others}
 use Rattle.nogoods.proofs.Defined.{name-and-literals}
-use Rattle.checker.specs.Held.{fitted, Fitted}
+use Rattle.checker.specs.Check.{withAdded}
+use Rattle.checker.specs.Held.{fitted, Fitted, HoldsState}
 use Rattle.checker.specs.declared.outcomes.Stepped.{Stepped}
 
 -- what is added fits, or the step is refused
-pub kept-fits : (live : List (List ℤ)) (store : List ℤ) (a : Added) → Fits live store a → Fitted live store (fitted a)
-kept-fits live store (Added.Uses n) h = h
-kept-fits live store Added.Full h = (refl, h)
+pub kept-fits : (stored : List Stored) (store : List ℤ) (a : Added) → Fits stored store a → Fitted stored store (fitted a)
+kept-fits stored store (Added.Uses n) h = h
+kept-fits stored store Added.Full h = (refl, h)
 
 -- one nogood more, which is g
-pub kept-added : (live : List (List ℤ)) (store : List ℤ) {l g : List ℤ} (a : Added) {r : Stepped} → r ≡ fitted a → l ≡ g → Fits (live ++ (l ∷ [])) store a
-    → Fitted (live ++ (g ∷ [])) store r
-kept-added live store {l} a e p h = rw (e, ← p) (kept-fits (live ++ (l ∷ [])) store a h)
+pub kept-one : (stored : List Stored) (n : ℕ) (store : List ℤ) {l g : List ℤ} (a : Added) {r : Stepped} → r ≡ fitted a → l ≡ g
+    → Fits (stored ++ addedIn n (l ∷ [])) store a → Fitted (stored ++ addedIn n (g ∷ [])) store r
+kept-one stored n store {l} a e p h = rw (e, ← p) (kept-fits (stored ++ addedIn n (l ∷ [])) store a h)
+
+-- what the step added to the live nogoods
+pub new-only : (stored : List Stored) (l gs : List (List ℤ)) → live stored ≡ l → drop (length (live stored)) (l ++ gs) ≡ gs
+new-only stored l gs e = ap (λ (k : List (List ℤ)). drop (length k) (l ++ gs)) e ∙ drop-append-seam l gs
+
+-- nogoods that are added to those stored are added to the state that these are of
+pub kept-more : {store : List ℤ} {used : ℕ} {z : State} {stored : List Stored} → HoldsState store used z stored
+    → (n : ℕ) (gs : List (List ℤ)) (after : List ℤ) (r : Stepped) → Fitted (stored ++ addedIn n gs) after r → Fitted (withAdded n stored (add z gs)) after r
+kept-more {z = z} {stored = stored} K n gs after r f =
+    subst (λ (hs : List (List ℤ)). Fitted (stored ++ addedIn n hs) after r) (sym (new-only stored (z .live) gs (K .same))) f
 
 -- `join`: s is the first number with the complements of the others, sorted
 pub record Joined (numbers s : List ℤ) : Type 0 where

@@ -1,6 +1,7 @@
 -- What holds of the whole check: its course line by line and demand 3; and the laws of the line that says
 -- its verdict.
 pub mod Whole
+pub mod Origins
 pub mod Names
 pub mod Loops
 pub mod Tracking

@@ -2,7 +2,7 @@
 -- Assumes nothing.
 use mathlib.Core.Path.{_≡_, refl, sym, _∙_, ap, subst}
 use mathlib.Core.Bool.{Bool, true, false, not, true≢false}
-use mathlib.Core.List.{List, [], _∷_, _++_, map}
+use mathlib.Core.List.{List, [], _∷_, map}
 use Prim.Native.Nat.{ℕ, _≤_, _<_}
 use native.Mathlib.Omega.{arith}
 use lib.Dec.{T}
@@ -18,10 +18,12 @@ use Rattle.text.specs.declared.Letter.the-variants.{Loop}
 use Rattle.drupe.specs.Lines.{isPositive}
 use Rattle.derivation.specs.States.{State, isAtom}
 use Rattle.derivation.specs.Loops.{isLoop}
-use Rattle.derivation.specs.Steps.{isExternal, allAtoms, allNamed, byLetter}
+use Rattle.derivation.specs.Steps.{add, isExternal, allAtoms, allNamed, byLetter}
 use Rattle.names.specs.Queries.{askedNames}
 use Rattle.names.specs.declared.queries.Query.the-variants.{External}
 use Rattle.loops.specs.Edges.{Members}
+use Rattle.nogoods.specs.Store.{Stored}
+use Rattle.checker.specs.Check.{withAdded, storedAfter}
 use Rattle.checker.specs.Held.{PassedLine, nameOf, Tracks, Fitted, Leaves, gathered}
 use Rattle.checker.specs.declared.outcomes.Stepped.{Stepped}
 use Rattle.checker.specs.declared.outcomes.Stepped.the-variants.{Fails}
@@ -43,10 +45,10 @@ members U line = record {
 }
 
 module _ {N : ℕ} {ws : List InputRule} {known names : List ℕ} {bodies : List ℤ} (z : State) (tracks : Tracks N ws known names bodies (z .introduced) (z .named))
-    (store : List ℤ) where
-  -- what the step leaves
+    (origin : ℕ) (stored : List Stored) (store : List ℤ) where
+  -- what the step of this number leaves
   abbrev LoopLeaves : List ℤ → Stepped → Type 0
-  LoopLeaves U r = Leaves N ws known names bodies store (byLetter N (expand ws) z Loop U) r
+  LoopLeaves U r = Leaves N ws (storedAfter origin Loop U stored) known names bodies store (byLetter N (expand ws) z Loop U) r
 
   module _ (U : List ℤ) (line : PassedLine Loop U) where
     atoms-not : N < top U → allAtoms N z U ≡ false
@@ -82,11 +84,12 @@ module _ {N : ℕ} {ws : List InputRule} {known names : List ℕ} {bodies : List
 
     pub loop-added : (U : List ℤ) → PassedLine Loop U → all (λ x. marked known (variable x)) U ≡ true → top U ≤ N
         → isLoop (expand ws) U ≡ true → Marks inside (map variable U)
-        → marked m 0 ≡ false → N ≤ largest → (r : Stepped) → Fitted (z .live ++ (gathered (marked m) (getD U 0 (pos 0)) largest 1 ∷ [])) store r → LoopLeaves U r
+        → marked m 0 ≡ false → N ≤ largest → (r : Stepped)
+        → Fitted (withAdded origin stored (add z (gathered (marked m) (getD U 0 (pos 0)) largest 1 ∷ []))) store r → LoopLeaves U r
     loop-added [] line k a l set n high r q = absurd (true≢false (sym (line .signs)))
     loop-added (h ∷ hs) line k a l set n high r q =
         let U = h ∷ hs in
         let all-atoms = atoms-are U line a in
         let atom : T (isAtom N (variable h)) = passed (isAtom N (variable h)) .from (and-left _ _ all-atoms) in
         rw (cited z tracks Loop U line refl k, all-atoms, l, sym (named-is U line set) ∙ ap not n)
-        (subst (λ (g : List ℤ). Fitted (z .live ++ (g ∷ [])) store r) (loop-nogood (expand ws) z (tracks .proper) h U atom high (external U line set)) q, tracks)
+        (subst (λ (g : List ℤ). Fitted (withAdded origin stored (add z (g ∷ []))) store r) (loop-nogood (expand ws) z (tracks .proper) h U atom high (external U line set)) q, tracks)

@@ -23,7 +23,7 @@ use Rattle.aspif.proofs.Cursors.{few-rules, sound-rules, atoms-small, rules-of}
 use Rattle.aspif.proofs.Readable.{table-read}
 use Rattle.drupe.specs.Texts.{stepsOf}
 use Rattle.derivation.specs.States.{State}
-use Rattle.nogoods.specs.Store.{storeWords}
+use Rattle.nogoods.specs.Store.{Stored, live, storeWords}
 use Rattle.nogoods.specs.Keeps.{Holds}
 use Rattle.checker.specs.Check.{Course, stopped, through, course, saying, judged, judgedReading, check}
 use Rattle.checker.specs.Held.{Program, Ran}
@@ -42,15 +42,16 @@ too-long N P size text h = rw (lt-ltb longest (length text) h)
 module _ (store : List ℤ) where
   pub ran-stopped : (o : Course) {r : Run} (x : ProofRefusal) → Ran store o r → r ≡ Stopped x → o ≡ stopped (x .number) (x .step)
   ran-stopped (stopped k n) x l e = let p : x ≡ record { number = k; step = n } = cc in rw p
-  ran-stopped (through n z) x l e = let q = l .1 in absurd (zero-one (cc))
+  ran-stopped (through n z b) x l e = let q = l .1 in absurd (zero-one (cc))
 
-  pub ran-through : (o : Course) {r : Run} (n used : ℕ) → Ran store o r → r ≡ Through n used → (z : State) × (o ≡ through n z) × Holds store used (z .live)
+  pub ran-through : (o : Course) {r : Run} (n used : ℕ) → Ran store o r → r ≡ Through n used
+      → (z : State) × (stored : List Stored) × (o ≡ through n z stored) × Holds store used stored
   ran-through (stopped k m) n used l e = absurd (zero-one (cc))
-  ran-through (through m z) n used l e =
-      let q = l .1 in
-      let a : m ≡ n = cc in
-      let b : l .0 ≡ used = cc in
-      (z, ap (λ i. through i z) a, rw b at (l .2))
+  ran-through (through m z b) n used l e =
+      let w = l .1 in
+      let p : m ≡ n = cc in
+      let q : l .0 ≡ used = cc in
+      (z, b, ap (λ i. through i z b) p, rw q at (l .2))
 
 -- The verdict on a proof
 
@@ -59,11 +60,11 @@ module _ (t s : ℕ) (P : List InputRule) (o : Course) {v : Verdict} {table stor
       → record { verdict = v; table = table; store = store } ≡ judged t s P o
   judged-stopped x p q a b = rw (p, q, a, b)
 
-  pub judged-through : (n used N R : ℕ) (z : State) → o ≡ through n z
-      → v ≡ saying (any isEmpty (z .live)) (record { atoms = N; rules = R; steps = n; nogoods = length (z .live) })
-      → N ≡ atoms P → R ≡ length P → table ≡ tableWords t P → Holds store used (z .live) → length store ≡ s
+  pub judged-through : (n used N R : ℕ) (z : State) (stored : List Stored) → o ≡ through n z stored → live stored ≡ z .live
+      → v ≡ saying (any isEmpty (live stored)) (record { atoms = N; rules = R; steps = n; nogoods = length (live stored) })
+      → N ≡ atoms P → R ≡ length P → table ≡ tableWords t P → Holds store used stored → length store ≡ s
       → record { verdict = v; table = table; store = store } ≡ judged t s P o
-  judged-through n used N R z p q a b c H l = let w : store ≡ storeWords s (z .live) = rw l at (H .words) in rw (p, q, a, b, c, w)
+  judged-through n used N R z stored p m q a b c H l = let w : store ≡ storeWords s stored = rw l at (H .words) in rw (p, q, a, b, c, w, m)
 
 -- the verdict of a course, with the lengths that the caller knows
 pub judged-lengths : (P : List InputRule) (proof : List ℕ) {t t′ s s′ : ℕ} → t ≡ t′ → s ≡ s′ → judged t s P (course (atoms P) (expand P) s proof) ≡ judged t′ s′ P (course (atoms P) (expand P) s′ proof)

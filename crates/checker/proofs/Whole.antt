@@ -7,7 +7,6 @@ use mathlib.Core.Option.{Option, none, some}
 use mathlib.Core.List.{List, [], _∷_, _++_, List·Memᴰ·head, List·Memᴰ·tail}
 use Prim.Native.Nat.{ℕ, zero, suc, _+_, _<_, _≤_}
 use native.Mathlib.Omega.{arith}
-use lib.Dec.{leb}
 use lib.IntN.{ℤ, pos}
 use lib.ListN.{length}
 use borrow.Author.Tests.{le-leb, lt-leb, leb-true, leb-false, le-ltb}
@@ -28,31 +27,36 @@ use Rattle.drupe.proofs.Texts.{steps-exact, read-back}
 use Rattle.derivation.specs.Steps.{Outcome, next, byLetter, step, emptyLive}
 use Rattle.derivation.specs.Steps as Steps
 use Rattle.derivation.proofs.AsWritten.{soundness-as-written}
-use Rattle.nogoods.specs.Store.{liveWords}
-use Rattle.checker.specs.Check.{Course, stopped, through, thenStopped, runSteps, runRead, course, countsOf, saying, judged, judgedReading, check, Checked}
+use Rattle.nogoods.specs.Store.{Stored, wordsFor}
+use Rattle.checker.specs.Check.{storedAfter, Course, stopped, through, thenStopped, fitting, runSteps, runRead, course}
+use Rattle.checker.specs.Check.{countsOf, saying, judged, judgedReading, check, Checked}
 use Rattle.checker.specs.Claims.{Runs, ends, unread, unaccepted, full, good, StepByStep, Ended, Written, EndedWritten, VerdictExact, SoundWhole, ServiceExact, ServiceSound}
 use Rattle.checker.specs.declared.Counts.{Counts}
 use Rattle.checker.specs.declared.ProofRefusal.{ProofRefusal}
-use Rattle.checker.specs.declared.Verdict.the-variants.{Inconsistent, RefusedProof}
+use Rattle.checker.specs.declared.Verdict.the-variants.{RefusedProof}
+
+-- what is stored once step t, the next after n, left the state z
+abbrev pub storedNext : ℕ → List Stored → Step → State → List Stored
+storedNext n b t z = storedAfter (n + 1) (t .letter) (t .numbers) b z
 
 module _ (N : ℕ) (P : List Rule) (size : ℕ) where
   -- what a step comes to; `on` goes on with the state that it left
   abbrev stepThen : (State → Course) → ℕ → Outcome → Course
   stepThen on n (Steps.refused k) = stopped k (n + 1)
-  stepThen on n (next z) = cond (leb (length (liveWords (z .live))) size) (on z) (stopped 34 (n + 1))
+  stepThen on n (next z) = cond (fitting size z) (on z) (stopped 34 (n + 1))
 
   -- the course of a step and of those that were read after it
-  run-after : (n : ℕ) (z : State) (t : Step) (o : StepsRead)
-      → runRead N P size n z (after t o) ≡ stepThen (λ z′. runRead N P size (n + 1) z′ o) n (step N P z t)
-  run-after n z t (steps ts) = by (step N P z t)
+  run-after : (n : ℕ) (z : State) (b : List Stored) (t : Step) (o : StepsRead)
+      → runRead N P size n z b (after t o) ≡ stepThen (λ z′. runRead N P size (n + 1) z′ (storedNext n b t z′) o) n (step N P z t)
+  run-after n z b t (steps ts) = by (step N P z t)
     where
       by : (o : Outcome) → elim o [
         | Steps.refused k ↦ stopped k (n + 1)
-        | next z′ ↦ cond (leb (length (liveWords (z′ .live))) size) (runSteps N P size (n + 1) z′ ts) (stopped 34 (n + 1))
-      ] ≡ stepThen (λ z′. runSteps N P size (n + 1) z′ ts) n o
+        | next z′ ↦ cond (fitting size z′) (runSteps N P size (n + 1) z′ (storedNext n b t z′) ts) (stopped 34 (n + 1))
+      ] ≡ stepThen (λ z′. runSteps N P size (n + 1) z′ (storedNext n b t z′) ts) n o
       by (Steps.refused k) = refl
       by (next z′) = refl
-  run-after n z t (refused ts k m) = by (step N P z t)
+  run-after n z b t (refused ts k m) = by (step N P z t)
     where
       fits : (b : Bool) (c : Course) → thenStopped k m (cond b c (stopped 34 (n + 1))) ≡ cond b (thenStopped k m c) (stopped 34 (n + 1))
       fits true c = refl
@@ -60,23 +64,25 @@ module _ (N : ℕ) (P : List Rule) (size : ℕ) where
 
       by : (o : Outcome) → thenStopped k m (elim o [
         | Steps.refused j ↦ stopped j (n + 1)
-        | next z′ ↦ cond (leb (length (liveWords (z′ .live))) size) (runSteps N P size (n + 1) z′ ts) (stopped 34 (n + 1))
-      ]) ≡ stepThen (λ z′. thenStopped k m (runSteps N P size (n + 1) z′ ts)) n o
+        | next z′ ↦ cond (fitting size z′) (runSteps N P size (n + 1) z′ (storedNext n b t z′) ts) (stopped 34 (n + 1))
+      ]) ≡ stepThen (λ z′. thenStopped k m (runSteps N P size (n + 1) z′ (storedNext n b t z′) ts)) n o
       by (Steps.refused j) = refl
-      by (next z′) = fits (leb (length (liveWords (z′ .live))) size) (runSteps N P size (n + 1) z′ ts)
+      by (next z′) = fits (fitting size z′) (runSteps N P size (n + 1) z′ (storedNext n b t z′) ts)
 
 module _ (N : ℕ) (P : List Rule) (size : ℕ) (text : List ℕ) where
   -- one turn more than there are bytes left is enough
-  runs : (turns at n : ℕ) (z : State) → at ≤ length text → length text < turns + at → Runs N P size text at n z (runRead N P size n z (stepsAt text turns at n))
+  runs : (turns at n : ℕ) (z : State) (b : List Stored) → at ≤ length text → length text < turns + at
+      → Runs N P size text at n z b (runRead N P size n z b (stepsAt text turns at n))
   unfolding stepsAt
-  runs zero at n z h l = absurd (omega arith)
-  runs (suc turns) at n z h l = go (λ at′ z′ u. runs turns at′ (n + 1) z′ (u .1) (omega arith)) (lineAt text at) refl
+  runs zero at n z b h l = absurd (omega arith)
+  runs (suc turns) at n z b h l = go (λ at′ z′ b′ u. runs turns at′ (n + 1) z′ b′ (u .1) (omega arith)) (lineAt text at) refl
     where
       left : ℕ → StepsRead
       left at′ = stepsAt text turns at′ (n + 1)
 
-      go : ((at′ : ℕ) (z′ : State) → (at < at′) × (at′ ≤ length text) → Runs N P size text at′ (n + 1) z′ (runRead N P size (n + 1) z′ (left at′)))
-          → (o : LineAt) → lineAt text at ≡ o → Runs N P size text at n z (runRead N P size n z (elim o [
+      go : ((at′ : ℕ) (z′ : State) (b′ : List Stored) → (at < at′) × (at′ ≤ length text)
+          → Runs N P size text at′ (n + 1) z′ b′ (runRead N P size (n + 1) z′ b′ (left at′)))
+          → (o : LineAt) → lineAt text at ≡ o → Runs N P size text at n z b (runRead N P size n z b (elim o [
             | end ↦ steps []
             | Lines.refused k ↦ refused [] k (n + 1)
             | line x zs at′ ↦ after (record { letter = x; numbers = zs }) (left at′)
@@ -84,14 +90,21 @@ module _ (N : ℕ) (P : List Rule) (size : ℕ) (text : List ℕ) where
       go later end e = ends e
       go later (Lines.refused k) e = unread e
       go later (line x zs at′) e =
-          subst (Runs N P size text at n z) (sym (run-after N P size n z (record { letter = x; numbers = zs }) (left at′))) (outcome (step N P z (record { letter = x; numbers = zs })) refl)
+          subst (Runs N P size text at n z b) (sym (run-after N P size n z b (record { letter = x; numbers = zs }) (left at′)))
+          (outcome (step N P z (record { letter = x; numbers = zs })) refl)
         where
-          outcome : (o : Outcome) → step N P z (record { letter = x; numbers = zs }) ≡ o → Runs N P size text at n z (stepThen N P size (λ z′. runRead N P size (n + 1) z′ (left at′)) n o)
+          outcome : (o : Outcome) → step N P z (record { letter = x; numbers = zs }) ≡ o
+              → Runs N P size text at n z b
+              (stepThen N P size (λ z′. runRead N P size (n + 1) z′ (storedAfter (n + 1) x zs b z′) (left at′)) n o)
           outcome (Steps.refused k) s = unaccepted e s
-          outcome (next z′) s = fits (leb (length (liveWords (z′ .live))) size) refl
+          outcome (next z′) s = fits (fitting size z′) refl
             where
-              fits : (b : Bool) → leb (length (liveWords (z′ .live))) size ≡ b → Runs N P size text at n z (cond b (runRead N P size (n + 1) z′ (left at′)) (stopped 34 (n + 1)))
-              fits true q = let u = passed-line text at e in good e s (leb-true _ _ q) (later at′ z′ (u .0, u .1))
+              fits : (f : Bool) → fitting size z′ ≡ f
+                  → Runs N P size text at n z b
+                  (cond f (runRead N P size (n + 1) z′ (storedAfter (n + 1) x zs b z′) (left at′)) (stopped 34 (n + 1)))
+              fits true q =
+                  let u = passed-line text at e in
+                  good e s (leb-true _ _ q) (later at′ z′ (storedAfter (n + 1) x zs b z′) (u .0, u .1))
               fits false q = full e s (leb-false _ _ q)
 
   read-as : (turns at n : ℕ) {o : LineAt} → lineAt text at ≡ o → stepsAt text (suc turns) at n ≡ elim o [
@@ -107,82 +120,99 @@ module _ (N : ℕ) (P : List Rule) (size : ℕ) (text : List ℕ) where
         | line x zs at′ ↦ after (record { letter = x; numbers = zs }) (stepsAt text turns at′ (n + 1))
       ]) e
 
-  line-then : (turns at n at′ : ℕ) (z : State) (x : Letter) (zs : List ℤ) {o : Outcome} → lineAt text at ≡ line x zs at′ → step N P z (record { letter = x; numbers = zs }) ≡ o
-      → runRead N P size n z (stepsAt text (suc turns) at n) ≡ stepThen N P size (λ z′. runRead N P size (n + 1) z′ (stepsAt text turns at′ (n + 1))) n o
-  line-then turns at n at′ z x zs e s =
-      ap (runRead N P size n z) (read-as turns at n e) ∙ run-after N P size n z (record { letter = x; numbers = zs }) (stepsAt text turns at′ (n + 1))
-      ∙ ap (stepThen N P size (λ z′. runRead N P size (n + 1) z′ (stepsAt text turns at′ (n + 1))) n) s
+  line-then : (turns at n at′ : ℕ) (z : State) (b : List Stored) (x : Letter) (zs : List ℤ) {o : Outcome}
+      → lineAt text at ≡ line x zs at′ → step N P z (record { letter = x; numbers = zs }) ≡ o
+      → runRead N P size n z b (stepsAt text (suc turns) at n)
+      ≡ stepThen N P size (λ z′. runRead N P size (n + 1) z′ (storedAfter (n + 1) x zs b z′) (stepsAt text turns at′ (n + 1))) n o
+  line-then turns at n at′ z b x zs e s =
+      let left = stepsAt text turns at′ (n + 1) in
+      ap (runRead N P size n z b) (read-as turns at n e) ∙ run-after N P size n z b (record { letter = x; numbers = zs }) left
+      ∙ ap (stepThen N P size (λ z′. runRead N P size (n + 1) z′ (storedAfter (n + 1) x zs b z′) left) n) s
 
   -- what `Runs` says that the lines come to is the course
-  only : (turns : ℕ) {at n : ℕ} {z : State} {c : Course} → at ≤ length text → length text < turns + at
-      → Runs N P size text at n z c → runRead N P size n z (stepsAt text turns at n) ≡ c
+  only : (turns : ℕ) {at n : ℕ} {z : State} {b : List Stored} {c : Course} → at ≤ length text → length text < turns + at
+      → Runs N P size text at n z b c → runRead N P size n z b (stepsAt text turns at n) ≡ c
   only zero h l r = absurd (omega arith)
-  only (suc turns) h l (ends {at = at} {n = n} {z = z} e) = ap (runRead N P size n z) (read-as turns at n e)
-  only (suc turns) h l (unread {at = at} {n = n} {z = z} e) = ap (runRead N P size n z) (read-as turns at n e)
-  only (suc turns) h l (unaccepted {at = at} {n = n} {after = at′} {z = z} {x = x} {zs = zs} e s) = line-then turns at n at′ z x zs e s
-  only (suc turns) h l (full {at = at} {n = n} {after = at′} {z = z} {z′ = z′} {x = x} {zs = zs} e s f) =
-      line-then turns at n at′ z x zs e s ∙ rw (lt-leb (length (liveWords (z′ .live))) size f)
-  only (suc turns) h l (good {at = at} {n = n} {after = at′} {z = z} {z′ = z′} {x = x} {zs = zs} e s f r) =
+  only (suc turns) h l (ends {at = at} {n = n} {z = z} {b = b} e) = ap (runRead N P size n z b) (read-as turns at n e)
+  only (suc turns) h l (unread {at = at} {n = n} {z = z} {b = b} e) = ap (runRead N P size n z b) (read-as turns at n e)
+  only (suc turns) h l (unaccepted {at = at} {n = n} {after = at′} {z = z} {b = b} {x = x} {zs = zs} e s) =
+      line-then turns at n at′ z b x zs e s
+  only (suc turns) h l (full {at = at} {n = n} {after = at′} {z = z} {z′ = z′} {b = b} {x = x} {zs = zs} e s f) =
+      line-then turns at n at′ z b x zs e s ∙ rw (lt-leb (wordsFor (z′ .live)) size f)
+  only (suc turns) h l (good {at = at} {n = n} {after = at′} {z = z} {z′ = z′} {b = b} {x = x} {zs = zs} e s f r) =
       let u = passed-line text at e in
-      line-then turns at n at′ z x zs e s ∙ rw (le-leb (length (liveWords (z′ .live))) size f) (only turns (u .1) (omega arith) r)
+      line-then turns at n at′ z b x zs e s ∙ rw (le-leb (wordsFor (z′ .live)) size f) (only turns (u .1) (omega arith) r)
 
 pub step-by-step : StepByStep
 unfolding course stepsOf
-step-by-step N P size text c h =
-    (λ e. subst (Runs N P size text 0 0 start) (sym turns ∙ e) from, λ r. turns ∙ only N P size text (suc (length text)) (omega arith) (omega arith) r)
+step-by-step N P size text c h = (
+  λ e. subst (Runs N P size text 0 0 start []) (sym turns ∙ e) from,
+  λ r. turns ∙ only N P size text (suc (length text)) (omega arith) (omega arith) r,
+)
   where
-    turns : course N P size text ≡ runRead N P size 0 start (stepsAt text (suc (length text)) 0 0)
+    turns : course N P size text ≡ runRead N P size 0 start [] (stepsAt text (suc (length text)) 0 0)
     turns = rw (le-ltb longest (length text) h)
 
-    from : Runs N P size text 0 0 start (runRead N P size 0 start (stepsAt text (suc (length text)) 0 0))
-    from = runs N P size text (suc (length text)) 0 0 start (omega arith) (omega arith)
+    from : Runs N P size text 0 0 start [] (runRead N P size 0 start [] (stepsAt text (suc (length text)) 0 0))
+    from = runs N P size text (suc (length text)) 0 0 start [] (omega arith) (omega arith)
+
+-- the first of some steps that run through: it is accepted and fits, and the others run through
+module _ (N : ℕ) (P : List Rule) (size n : ℕ) (z : State) (b : List Stored) (t : Step) (ts : List Step) where
+  pub record First (c : Course) : Type 0 where
+    pub left : State
+    pub is : step N P z t ≡ next left
+    pub fits : fitting size left ≡ true
+    pub later : runSteps N P size (n + 1) left (storedNext n b t left) ts ≡ c
+
+pub run-first : (N : ℕ) (P : List Rule) (size n m : ℕ) (z w : State) (b l : List Stored) (t : Step) (ts : List Step)
+    → runSteps N P size n z b (t ∷ ts) ≡ through m w l → First N P size n z b t ts (through m w l)
+run-first N P size n m z w b l t ts e = by (step N P z t) refl e
+  where
+    on : State → Course
+    on z′ = runSteps N P size (n + 1) z′ (storedNext n b t z′) ts
+
+    by : (o : Outcome) → step N P z t ≡ o → elim o [
+      | Steps.refused k ↦ stopped k (n + 1)
+      | next z′ ↦ cond (fitting size z′) (on z′) (stopped 34 (n + 1))
+    ] ≡ through m w l → First N P size n z b t ts (through m w l)
+    by (Steps.refused k) q e = absurd (zero-one (cc))
+    by (next z′) q e = fits (fitting size z′) refl e
+      where
+        fits : (f : Bool) → fitting size z′ ≡ f → cond f (on z′) (stopped 34 (n + 1)) ≡ through m w l
+            → First N P size n z b t ts (through m w l)
+        fits true f e = record { left = z′; is = q; fits = f; later = e }
+        fits false f e = absurd (zero-one (cc))
 
 -- steps that run through are accepted in turn, and are as many as are counted
-pub run-through : (N : ℕ) (P : List Rule) (size n m : ℕ) (z w : State) (ts : List Step) → runSteps N P size n z ts ≡ through m w → (Steps.steps N P z ts ≡ next w) × (m ≡ n + length ts)
-run-through N P size n m z w [] e = let a : z ≡ w = cc in let b : n ≡ m = cc in (ap next a, omega arith)
-run-through N P size n m z w (t ∷ ts) e = by (λ z′ f. run-through N P size (n + 1) m z′ w ts f) (step N P z t) e
-  where
-    by : ((z′ : State) → runSteps N P size (n + 1) z′ ts ≡ through m w → (Steps.steps N P z′ ts ≡ next w) × (m ≡ n + 1 + length ts))
-        → (o : Outcome) → elim o [
-          | Steps.refused k ↦ stopped k (n + 1)
-          | next z′ ↦ cond (leb (length (liveWords (z′ .live))) size) (runSteps N P size (n + 1) z′ ts) (stopped 34 (n + 1))
-        ] ≡ through m w → (elim o [ Steps.refused k ↦ Steps.refused k | next z′ ↦ Steps.steps N P z′ ts ] ≡ next w) × (m ≡ n + suc (length ts))
-    by later (Steps.refused k) e = absurd (zero-one (cc))
-    by later (next z′) e = fits (leb (length (liveWords (z′ .live))) size) e
-      where
-        fits : (b : Bool) → cond b (runSteps N P size (n + 1) z′ ts) (stopped 34 (n + 1)) ≡ through m w → (Steps.steps N P z′ ts ≡ next w) × (m ≡ n + suc (length ts))
-        fits true e = let r = later z′ e in (r .0, omega (arith, r .1))
-        fits false e = absurd (zero-one (cc))
+pub run-through : (N : ℕ) (P : List Rule) (size n m : ℕ) (z w : State) (b l : List Stored) (ts : List Step)
+    → runSteps N P size n z b ts ≡ through m w l → (Steps.steps N P z ts ≡ next w) × (m ≡ n + length ts)
+run-through N P size n m z w b l [] e = let p : z ≡ w = cc in let q : n ≡ m = cc in (ap next p, omega arith)
+run-through N P size n m z w b l (t ∷ ts) e =
+    let r = run-first N P size n m z w b l t ts e in
+    let q = run-through N P size (n + 1) m (r .left) w (storedNext n b t (r .left)) l ts (r .later) in
+    (rw (r .is, Steps.steps) (q .0), omega (arith, q .1))
 
 -- steps after steps that run through
-pub run-append : (N : ℕ) (P : List Rule) (size n m : ℕ) (z w : State) (ts us : List Step) → runSteps N P size n z ts ≡ through m w → runSteps N P size n z (ts ++ us) ≡ runSteps N P size m w us
-run-append N P size n m z w [] us e =
-    let a : z ≡ w = cc in
-    let b : n ≡ m = cc in
-    ap₂ (λ i x. runSteps N P size i x us) b a
-run-append N P size n m z w (t ∷ ts) us e = by (λ z′ f. run-append N P size (n + 1) m z′ w ts us f) (step N P z t) e
-  where
-    by : ((z′ : State) → runSteps N P size (n + 1) z′ ts ≡ through m w → runSteps N P size (n + 1) z′ (ts ++ us) ≡ runSteps N P size m w us)
-        → (o : Outcome) → elim o [
-          | Steps.refused k ↦ stopped k (n + 1)
-          | next z′ ↦ cond (leb (length (liveWords (z′ .live))) size) (runSteps N P size (n + 1) z′ ts) (stopped 34 (n + 1))
-        ] ≡ through m w → elim o [
-          | Steps.refused k ↦ stopped k (n + 1)
-          | next z′ ↦ cond (leb (length (liveWords (z′ .live))) size) (runSteps N P size (n + 1) z′ (ts ++ us)) (stopped 34 (n + 1))
-        ] ≡ runSteps N P size m w us
-    by later (Steps.refused k) e = absurd (zero-one (cc))
-    by later (next z′) e = fits (leb (length (liveWords (z′ .live))) size) e
-      where
-        fits : (b : Bool) → cond b (runSteps N P size (n + 1) z′ ts) (stopped 34 (n + 1)) ≡ through m w
-            → cond b (runSteps N P size (n + 1) z′ (ts ++ us)) (stopped 34 (n + 1)) ≡ runSteps N P size m w us
-        fits true e = later z′ e
-        fits false e = absurd (zero-one (cc))
+pub run-append : (N : ℕ) (P : List Rule) (size n m : ℕ) (z w : State) (b l : List Stored) (ts us : List Step)
+    → runSteps N P size n z b ts ≡ through m w l → runSteps N P size n z b (ts ++ us) ≡ runSteps N P size m w l us
+run-append N P size n m z w b l [] us e =
+    let p : z ≡ w = cc in
+    let q : n ≡ m = cc in
+    let r : b ≡ l = cc in
+    ap₂ (λ i x. runSteps N P size i x b us) q p ∙ ap (λ (k : List Stored). runSteps N P size m w k us) r
+run-append N P size n m z w b l (t ∷ ts) us e =
+    let r = run-first N P size n m z w b l t ts e in
+    let b′ = storedNext n b t (r .left) in
+    run-after N P size n z b t (steps (ts ++ us))
+    ∙ ap (stepThen N P size (λ z′. runSteps N P size (n + 1) z′ (storedNext n b t z′) (ts ++ us)) n) (r .is)
+    ∙ ap (λ f. cond f (runSteps N P size (n + 1) (r .left) b′ (ts ++ us)) (stopped 34 (n + 1))) (r .fits)
+    ∙ run-append N P size (n + 1) m (r .left) w b′ l ts us (r .later)
 
 -- the course of a text that a writer of good steps leaves
 pub course-written : (N : ℕ) (P : List Rule) (size : ℕ) (ts : List Step) → ((t : Step) → t ∈ ts → LinePasses t) → length (textOf ts) ≤ longest
-    → course N P size (textOf ts) ≡ runSteps N P size 0 start ts
+    → course N P size (textOf ts) ≡ runSteps N P size 0 start [] ts
 unfolding course
-course-written N P size ts p h = ap (runRead N P size 0 start) (read-back ts p h)
+course-written N P size ts p h = ap (runRead N P size 0 start []) (read-back ts p h)
 
 -- a step that is accepted passes questions 22 to 25
 accepted-passes : (N : ℕ) (P : List Rule) (z w : State) (t : Step) → step N P z t ≡ next w → LinePasses t
@@ -208,12 +238,12 @@ pub ended-written : EndedWritten
 ended-written ws size proof b c = (to, from)
   where
     to : Ended ws size proof b c → Written ws size proof b c
-    to E = let x = steps-exact proof (E .0) .0 (E .2) in (E .0, E .1, x .0, x .1, E .3, E .4, E .5)
+    to E = let x = steps-exact proof (E .0) .0 (E .3) in (E .0, E .1, E .2, x .0, x .1, E .4, E .5, E .6)
 
     from : Written ws size proof b c → Ended ws size proof b c
     from W =
-        let a = run-through (atoms ws) (expand ws) size 0 _ start (W .1) (W .0) (W .4) .0 in
-        (W .0, W .1, steps-exact proof (W .0) .1 (W .2, W .3, steps-pass (atoms ws) (expand ws) start (W .1) (W .0) a), W .4, W .5, W .6)
+        let a = run-through (atoms ws) (expand ws) size 0 _ start (W .1) [] (W .2) (W .0) (W .5) .0 in
+        (W .0, W .1, W .2, steps-exact proof (W .0) .1 (W .3, W .4, steps-pass (atoms ws) (expand ws) start (W .1) (W .0) a), W .5, W .6, W .7)
 
 -- the two verdicts of a course that went through tell whether the empty nogood is live, and the counts
 same-saying : (a b : Bool) (c d : Counts) → saying a c ≡ saying b d → (a ≡ b) × (d ≡ c)
@@ -240,39 +270,52 @@ module _ (proof : List ℕ) (t s : ℕ) (ws : List InputRule) (b : Bool) (c : Co
     where
       unread : (k n : ℕ) (o : Course) → judged t s ws (thenStopped k n o) .verdict ≡ saying b c → Ended ws s proof b c
       unread k n (stopped j m) e = absurd (refusal-apart b c _ e)
-      unread k n (through m z) e = absurd (refusal-apart b c _ e)
+      unread k n (through m z l) e = absurd (refusal-apart b c _ e)
 
-      ran : (ts : List Step) → stepsOf proof ≡ steps ts → (o : Course) → runSteps N P s 0 start ts ≡ o → judged t s ws o .verdict ≡ saying b c → Ended ws s proof b c
+      ran : (ts : List Step) → stepsOf proof ≡ steps ts → (o : Course) → runSteps N P s 0 start [] ts ≡ o → judged t s ws o .verdict ≡ saying b c → Ended ws s proof b c
       ran ts p (stopped k n) r e = absurd (refusal-apart b c _ e)
-      ran ts p (through n z) r e =
+      ran ts p (through n z l) r e =
           let q = same-saying (emptyLive z) b (countsOf N (length ws) n z) c e in
-          let m : n ≡ length ts = omega (arith, run-through N P s 0 n start z ts r .1) in
-          (ts, z, p, rw m at r, q .0, rw m at (q .1))
+          let m : n ≡ length ts = omega (arith, run-through N P s 0 n start z [] l ts r .1) in
+          (ts, z, l, p, rw m at r, q .0, rw m at (q .1))
 
-      by : (o : StepsRead) → stepsOf proof ≡ o → judged t s ws (runRead N P s 0 start o) .verdict ≡ saying b c → Ended ws s proof b c
-      by (steps ts) p e = ran ts p (runSteps N P s 0 start ts) refl e
-      by (refused ts k n) p e = unread k n (runSteps N P s 0 start ts) e
+      by : (o : StepsRead) → stepsOf proof ≡ o → judged t s ws (runRead N P s 0 start [] o) .verdict ≡ saying b c → Ended ws s proof b c
+      by (steps ts) p e = ran ts p (runSteps N P s 0 start [] ts) refl e
+      by (refused ts k n) p e = unread k n (runSteps N P s 0 start [] ts) e
+
+  pub ended-course : (E : Ended ws s proof b c) → course N P s proof ≡ through (length (E .0)) (E .1) (E .2)
+  unfolding course
+  ended-course E = ap (runRead N P s 0 start []) (E .3) ∙ E .4
 
   ended← : Ended ws s proof b c → judged t s ws (course N P s proof) .verdict ≡ saying b c
-  unfolding course
   ended← E =
-      ap (λ (o : Course). judged t s ws o .verdict) (ap (runRead N P s 0 start) (E .2) ∙ E .3) ∙ ap₂ (λ a d. saying a d) (E .4) (sym (E .5))
+      ap (λ (o : Course). judged t s ws o .verdict) (ended-course E) ∙ ap₂ (λ a d. saying a d) (E .5) (sym (E .6))
 
 pub verdict-exact : VerdictExact
 unfolding check
 verdict-exact text proof t s ws q c = rw q ((ended→ proof t s ws true c, ended← proof t s ws true c), (ended→ proof t s ws false c, ended← proof t s ws false c))
 
--- no program that is refused is said to be inconsistent
-read-of : (t s : ℕ) (proof : List ℕ) (r : Reading) (c : Counts) → judgedReading t s proof r .verdict ≡ Inconsistent c → (ws : List InputRule) × (r ≡ program ws)
-read-of t s proof (Reading.refused k n) c e = absurd (zero-one (cc))
-read-of t s proof (program ws) c e = (ws, refl)
+-- no program that is refused is said to be inconsistent or open
+read-of : (t s : ℕ) (proof : List ℕ) (r : Reading) (b : Bool) (c : Counts) → judgedReading t s proof r .verdict ≡ saying b c
+    → (ws : List InputRule) × (r ≡ program ws)
+read-of t s proof (Reading.refused k n) true c e = absurd (zero-one (cc))
+read-of t s proof (Reading.refused k n) false c e = absurd (zero-one (cc))
+read-of t s proof (program ws) b c e = (ws, refl)
+
+-- the program that a verdict is about, and how its steps ended
+pub said : (text proof : List ℕ) (t s : ℕ) (b : Bool) (c : Counts) → check text proof t s .verdict ≡ saying b c
+    → (ws : List InputRule) × (readText t text ≡ program ws) × Ended ws s proof b c
+unfolding check
+said text proof t s b c e =
+    let r = read-of t s proof (readText t text) b c e in
+    (r .0, r .1, ended→ proof t s (r .0) b c (rw (r .1) at e))
 
 pub soundness-whole : SoundWhole
-unfolding check
 soundness-whole text proof t s c e =
-    let r = read-of t s proof (readText t text) c e in
-    let E = verdict-exact text proof t s (r .0) (r .1) c .0 .0 e in
-    (r .0, r .1, soundness-as-written (r .0) (E .0) (E .1) (run-through (atoms (r .0)) (expand (r .0)) s 0 _ start (E .1) (E .0) (E .3) .0) (E .4))
+    let r = said text proof t s true c e in
+    let E = r .2 in
+    let a = run-through (atoms (r .0)) (expand (r .0)) s 0 _ start (E .1) [] (E .2) (E .0) (E .4) .0 in
+    (r .0, r .1, soundness-as-written (r .0) (E .0) (E .1) a (E .5))
 
 pub service-exact : ServiceExact
 service-exact text proof table store table′ store′ r e ws q c =

@@ -2,11 +2,15 @@
 -- Assumes nothing.
 use mathlib.Core.Path.{_≡_}
 use mathlib.Core.Bool.{Bool, cond}
-use mathlib.Core.List.{List, [], _∷_}
+use mathlib.Core.List.{List, [], _∷_, _++_}
 use Prim.Native.Nat.{ℕ, _+_}
 use lib.Dec.{leb}
 use lib.IntN.{ℤ, pos}
-use lib.ListN.{length, replicate}
+use lib.ListN.{length, drop, replicate}
+use Rattle.words.specs.Lists.{dropFirst}
+use Rattle.words.specs.Literals.{sameList, ascending}
+use Rattle.text.specs.declared.Letter.{Letter}
+use Rattle.text.specs.declared.Letter.the-variants.{Addition, Body, Completion, Deletion, Extension, Loop, Support}
 use Rattle.aspif.specs.Rules.{Rule, InputRule, expand, atoms, tableWords}
 use Rattle.aspif.specs.Reading.{Reading, refused, program, readText}
 use Rattle.drupe.specs.Texts.{Step, StepsRead, steps, stepsOf}
@@ -14,40 +18,64 @@ use Rattle.drupe.specs.Texts as Texts
 use Rattle.derivation.specs.States.{State, start}
 use Rattle.derivation.specs.Steps.{next, step, emptyLive}
 use Rattle.derivation.specs.Steps as Steps
-use Rattle.nogoods.specs.Store.{liveWords, storeWords}
+use Rattle.nogoods.specs.Store.{Stored, addedIn, live, storeWords, wordsFor}
 use Rattle.checker.specs.declared.Counts.{Counts}
 use Rattle.checker.specs.declared.Verdict.{Verdict}
 use Rattle.checker.specs.declared.Verdict.the-variants.{Inconsistent, Open, RefusedProgram, RefusedProof}
 
--- what the proof comes to: a refusal with its number and step, or how many steps there were and what they left
+module _ (n : ℕ) where
+  -- what was stored before step n, and after it, with its number, the nogoods that it added to those of the state that it left
+  abbrev pub withAdded : (before : List Stored) → State → List Stored
+  withAdded before z = before ++ addedIn n (drop (length (live before)) (z .live))
+
+  -- what is stored after step n, by its letter and numbers and the state that it left: "Deletion still takes the oldest equal set,
+  -- whatever its origin"
+  abbrev pub storedAfter : Letter → List ℤ → (before : List Stored) → State → List Stored
+  storedAfter Addition zs before z = withAdded before z
+  storedAfter Body zs before z = withAdded before z
+  storedAfter Completion zs before z = withAdded before z
+  storedAfter Deletion zs before z = dropFirst (λ e. sameList (e .literals) (ascending zs)) before
+  storedAfter Extension zs before z = withAdded before z
+  storedAfter Loop zs before z = withAdded before z
+  storedAfter Support zs before z = withAdded before z
+
+-- what the proof comes to: a refusal with its number and step, or how many steps there were, the state that they left, and what is
+-- stored then
 pub data Course : Type 0 where
   stopped : (number step : ℕ) → Course
-  through : (done : ℕ) (left : State) → Course
+  through : (done : ℕ) (left : State) (stored : List Stored) → Course
 
 -- "The first "no" decides": a line that is refused stops the check where no step before it did
 abbrev pub thenStopped : (number step : ℕ) → Course → Course
 thenStopped k n (stopped j m) = stopped j m
-thenStopped k n (through m z) = stopped k n
+thenStopped k n (through m z stored) = stopped k n
+
+-- "Do the live words after the step fit the store? 34."
+abbrev pub fitting : (size : ℕ) → State → Bool
+fitting size z = leb (wordsFor (z .live)) size
 
 -- N is the program's largest atom, beside its plain rules P.
 module _ (N : ℕ) (P : List Rule) (size : ℕ) where
-  -- Steps in their turn, after n that left the state z: each is accepted, and then "Do the live words after the step fit the store? 34."
-  abbrev pub runSteps : (done : ℕ) → State → List Step → Course
-  runSteps n z [] = through n z
-  runSteps n z (t ∷ ts) =
+  -- steps in their turn, after n that left the state z and what is stored: each is accepted, and then it fits
+  abbrev pub runSteps : (done : ℕ) → State → List Stored → List Step → Course
+  runSteps n z stored [] = through n z stored
+  runSteps n z stored (t ∷ ts) =
       elim (step N P z t) [
         | Steps.refused k ↦ stopped k (n + 1)
-        | next z′ ↦ cond (leb (length (liveWords (z′ .live))) size) (runSteps (n + 1) z′ ts) (stopped 34 (n + 1))
+        | next z′ ↦
+            cond (fitting size z′)
+            (runSteps (n + 1) z′ (storedAfter (n + 1) (t .letter) (t .numbers) stored z′) ts)
+            (stopped 34 (n + 1))
       ]
 
   -- a text's steps; or those before the line that is refused, and then that refusal
-  abbrev pub runRead : (done : ℕ) → State → StepsRead → Course
-  runRead n z (steps ts) = runSteps n z ts
-  runRead n z (Texts.refused before k m) = thenStopped k m (runSteps n z before)
+  abbrev pub runRead : (done : ℕ) → State → List Stored → StepsRead → Course
+  runRead n z stored (steps ts) = runSteps n z stored ts
+  runRead n z stored (Texts.refused before k m) = thenStopped k m (runSteps n z stored before)
 
 -- the proof text's steps, from the start
 unfoldable pub course : (N : ℕ) → List Rule → (size : ℕ) → List ℕ → Course
-course N P size text = runRead N P size 0 start (stepsOf text)
+course N P size text = runRead N P size 0 start [] (stepsOf text)
 
 -- the verdict with N, R, S and K, every word of the table and every word of the store
 pub record Checked : Type 0 where
@@ -68,8 +96,9 @@ saying b c = cond b (Inconsistent c) (Open c)
 abbrev pub judged : (tableSize storeSize : ℕ) → List InputRule → Course → Checked
 judged t s ws (stopped k n) =
     record { verdict = RefusedProof (record { number = k; step = n }); table = replicate t (pos 0); store = replicate s (pos 0) }
-judged t s ws (through n z) =
-    record { verdict = saying (emptyLive z) (countsOf (atoms ws) (length ws) n z); table = tableWords t ws; store = storeWords s (z .live) }
+judged t s ws (through n z stored) =
+    let said = saying (emptyLive z) (countsOf (atoms ws) (length ws) n z) in
+    record { verdict = said; table = tableWords t ws; store = storeWords s stored }
 
 -- "The verdict is judged on this expansion": the steps are about the plain rules that the program stands for
 abbrev pub judgedReading : (tableSize storeSize : ℕ) → (proof : List ℕ) → Reading → Checked

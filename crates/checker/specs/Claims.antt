@@ -1,13 +1,14 @@
--- What the whole check says, as statements; proofs/Whole.antt proves them: the steps line by line, demand 2 of the notice, and
--- demand 3, part two, also of the function `check_texts` by its contract.
+-- What the whole check says, as statements; proofs/Whole.antt and proofs/Origins.antt prove them: the steps line by line, demand 2
+-- of the notice, demand 3, part two, and what is said of origins, also of the function `check_texts` by its contract.
 -- Assumes nothing.
 use mathlib.Core.Path.{_≡_}
-use mathlib.Core.Logic.{_↔_}
+use mathlib.Core.Logic.{_↔_, _⊎_}
 use mathlib.Core.Bool.{Bool, true, false}
-use mathlib.Core.List.{List}
+use mathlib.Core.List.{List, [], _∷_}
 use Prim.Native.Nat.{ℕ, _+_, _<_, _≤_}
 use lib.IntN.{ℤ}
 use lib.ListN.{length}
+use Rattle.words.specs.Lists.{_∈_}
 use Rattle.words.specs.Limits.{longest}
 use Rattle.text.specs.declared.Letter.{Letter}
 use Rattle.aspif.specs.Rules.{Rule, InputRule, expand, atoms}
@@ -19,46 +20,50 @@ use Rattle.derivation.specs.States.{State, start}
 use Rattle.derivation.specs.Steps.{next, step, emptyLive}
 use Rattle.derivation.specs.Steps as Steps
 use Rattle.derivation.specs.Claims.{NoneAsWritten}
-use Rattle.nogoods.specs.Store.{liveWords}
-use Rattle.checker.specs.Check.{Course, stopped, through, runSteps, course, countsOf, check, CheckedTexts}
+use Rattle.nogoods.specs.Store.{Stored, live, storeWords, wordsFor}
+use Rattle.checker.specs.Check.{storedAfter, Course, stopped, through, runSteps, course, countsOf, check, CheckedTexts}
 use Rattle.checker.specs.declared.Counts.{Counts}
 use Rattle.checker.specs.declared.Verdict.{Verdict}
 use Rattle.checker.specs.declared.Verdict.the-variants.{Inconsistent, Open}
 
--- What the proof's lines come to from a position on, after n steps that left the state z, with no bound on the turns.
+-- What the proof's lines come to from a position on, after n steps that left the state z and what is stored, with no bound on the
+-- turns.
 -- "The first "no" decides": `unread` is a line that fails one of questions 22 to 25, `unaccepted` a step that fails one of 26 to
 -- 33, `full` a step after which the live words do not fit the store, which is 34, and `good` a step that passes them all.
 -- N is the program's largest atom, here and below.
 module _ (N : ℕ) (P : List Rule) (size : ℕ) (text : List ℕ) where
-  pub data Runs : (at done : ℕ) → State → Course → Type 0 where
-    ends : {at n : ℕ} {z : State} → lineAt text at ≡ end → Runs at n z (through n z)
-    unread : {at n k : ℕ} {z : State} → lineAt text at ≡ Lines.refused k → Runs at n z (stopped k (n + 1))
-    unaccepted : {at n k after : ℕ} {z : State} {x : Letter} {zs : List ℤ} → lineAt text at ≡ line x zs after
-        → step N P z (record { letter = x; numbers = zs }) ≡ Steps.refused k → Runs at n z (stopped k (n + 1))
-    full : {at n after : ℕ} {z z′ : State} {x : Letter} {zs : List ℤ} → lineAt text at ≡ line x zs after
-        → step N P z (record { letter = x; numbers = zs }) ≡ next z′ → size < length (liveWords (z′ .live)) → Runs at n z (stopped 34 (n + 1))
-    good : {at n after : ℕ} {z z′ : State} {x : Letter} {zs : List ℤ} {c : Course} → lineAt text at ≡ line x zs after
-        → step N P z (record { letter = x; numbers = zs }) ≡ next z′ → length (liveWords (z′ .live)) ≤ size → Runs after (n + 1) z′ c → Runs at n z c
+  pub data Runs : (at done : ℕ) → State → List Stored → Course → Type 0 where
+    ends : {at n : ℕ} {z : State} {b : List Stored} → lineAt text at ≡ end → Runs at n z b (through n z b)
+    unread : {at n k : ℕ} {z : State} {b : List Stored} → lineAt text at ≡ Lines.refused k → Runs at n z b (stopped k (n + 1))
+    unaccepted : {at n k after : ℕ} {z : State} {b : List Stored} {x : Letter} {zs : List ℤ} → lineAt text at ≡ line x zs after
+        → step N P z (record { letter = x; numbers = zs }) ≡ Steps.refused k → Runs at n z b (stopped k (n + 1))
+    full : {at n after : ℕ} {z z′ : State} {b : List Stored} {x : Letter} {zs : List ℤ} → lineAt text at ≡ line x zs after
+        → step N P z (record { letter = x; numbers = zs }) ≡ next z′ → size < wordsFor (z′ .live)
+        → Runs at n z b (stopped 34 (n + 1))
+    good : {at n after : ℕ} {z z′ : State} {b : List Stored} {x : Letter} {zs : List ℤ} {c : Course}
+        → lineAt text at ≡ line x zs after → step N P z (record { letter = x; numbers = zs }) ≡ next z′ → wordsFor (z′ .live) ≤ size
+        → Runs after (n + 1) z′ (storedAfter (n + 1) x zs b z′) c → Runs at n z b c
 
 -- The course of a proof text that passes 21 is what its lines come to from the start, and nothing else.
 abbrev pub StepByStep : Type 0
 StepByStep =
     (N : ℕ) (P : List Rule) (size : ℕ) (text : List ℕ) (c : Course) → length text ≤ longest
-    → (course N P size text ≡ c) ↔ Runs N P size text 0 0 start c
+    → (course N P size text ≡ c) ↔ Runs N P size text 0 0 start [] c
 
 -- The proof text's steps are ts, they run through, and after the last the empty nogood is live, or is not; the counts are those of
 -- the program, the steps and the live nogoods.
 abbrev pub Ended : List InputRule → (size : ℕ) → (proof : List ℕ) → (empty : Bool) → Counts → Type 0
 Ended ws size proof empty c =
-    (ts : List Step) × (z : State) × (stepsOf proof ≡ steps ts) × (runSteps (atoms ws) (expand ws) size 0 start ts ≡ through (length ts) z)
+    (ts : List Step) × (z : State) × (stored : List Stored) × (stepsOf proof ≡ steps ts)
+    × (runSteps (atoms ws) (expand ws) size 0 start [] ts ≡ through (length ts) z stored)
     × (emptyLive z ≡ empty) × (c ≡ countsOf (atoms ws) (length ws) (length ts) z)
 
 -- What `Ended` says, in the words of a writer: the proof is the text of the steps ts, and no reader is spoken of. That each step passes
 -- 22 to 25 need not be said, since a step that is accepted does.
 abbrev pub Written : List InputRule → (size : ℕ) → (proof : List ℕ) → (empty : Bool) → Counts → Type 0
 Written ws size proof empty c =
-    (ts : List Step) × (z : State) × (proof ≡ textOf ts) × (length proof ≤ longest)
-    × (runSteps (atoms ws) (expand ws) size 0 start ts ≡ through (length ts) z)
+    (ts : List Step) × (z : State) × (stored : List Stored) × (proof ≡ textOf ts) × (length proof ≤ longest)
+    × (runSteps (atoms ws) (expand ws) size 0 start [] ts ≡ through (length ts) z stored)
     × (emptyLive z ≡ empty) × (c ≡ countsOf (atoms ws) (length ws) (length ts) z)
 
 abbrev pub EndedWritten : Type 0
@@ -99,3 +104,40 @@ ServiceSound =
     (text proof : List ℕ) (table store table′ store′ : List ℤ) (c : Counts)
     → CheckedTexts text proof table store table′ store′ (Inconsistent c)
     → (ws : List InputRule) × (readText (length table) text ≡ program ws) × NoneAsWritten ws
+
+-- Origins
+
+-- what holds after every list of steps that run through: of how many there were, the state that they left and what is stored then
+abbrev pub AfterSteps : (ℕ → State → List Stored → Type 0) → Type 0
+AfterSteps C =
+    (N : ℕ) (P : List Rule) (size : ℕ) (ts : List Step) (n : ℕ) (z : State) (stored : List Stored)
+    → runSteps N P size 0 start [] ts ≡ through n z stored → C n z stored
+
+-- The literals of what is stored are the live nogoods, in their order. What is said of K, of the empty nogood and of `a` is said of
+-- the store by this.
+abbrev pub LiveStored : Type 0
+LiveStored = AfterSteps (λ n z stored. live stored ≡ z .live)
+
+-- "An origin is never 0 or above the steps done."
+abbrev pub Bounded : (done : ℕ) → List Stored → Type 0
+Bounded n stored = (e : Stored) → e ∈ stored → (1 ≤ e .origin) × (e .origin ≤ n)
+
+abbrev pub OriginsBounded : Type 0
+OriginsBounded = AfterSteps (λ n z stored. Bounded n stored)
+
+-- no origin is below the one before it: "oldest first" can be read off the store
+abbrev pub Rising : (least : ℕ) → List Stored → Type 0
+Rising m [] = Unit
+Rising m (e ∷ stored) = (m ≤ e .origin) × Rising (e .origin) stored
+
+abbrev pub OriginsRise : Type 0
+OriginsRise = AfterSteps (λ n z stored. Rising 1 stored)
+
+-- The store that the function `check_texts` leaves, by its contract, where it answers "inconsistent" or "open": the words of stored
+-- nogoods, as many as it tells, with origins that rise from 1 to no more than the steps that it tells.
+abbrev pub OriginsService : Type 0
+OriginsService =
+    (text proof : List ℕ) (table store table′ store′ : List ℤ) (r : Verdict) → CheckedTexts text proof table store table′ store′ r
+    → (c : Counts) → (r ≡ Inconsistent c) ⊎ (r ≡ Open c)
+    → (stored : List Stored) × (store′ ≡ storeWords (length store) stored) × (length (live stored) ≡ c .nogoods)
+    × Bounded (c .steps) stored × Rising 1 stored

@@ -19,12 +19,12 @@ use Rattle.drupe.specs.Lines as Lines
 use Rattle.derivation.specs.States.{Named, State, isAtom, isKnown}
 use Rattle.derivation.specs.Steps.{Outcome, refused, next, byLetter, step}
 use Rattle.nogoods.specs.Keeps.{Literals, Holds}
-use Rattle.nogoods.specs.Store.{liveWords}
+use Rattle.nogoods.specs.Store.{Stored, live, wordsFor}
 use Rattle.nogoods.specs.declared.store.Added.{Added}
 use Rattle.nogoods.specs.declared.store.Added.the-variants as Added
 use Rattle.names.specs.ByName.{bodyWords}
 use Rattle.names.specs.Queries.{HoldsRules, Kept}
-use Rattle.checker.specs.Check.{Course, stopped, through}
+use Rattle.checker.specs.Check.{storedAfter, Course, stopped, through}
 use Rattle.checker.specs.declared.outcomes.Stepped.{Stepped}
 use Rattle.checker.specs.declared.outcomes.Stepped.the-variants.{Uses, Fails}
 use Rattle.checker.specs.declared.runs.ProofTurn.{ProofTurn}
@@ -81,22 +81,30 @@ abbrev pub fitted : Added → Stepped
 fitted (Added.Uses n) = Uses n
 fitted Added.Full = Fails 34
 
--- the store holds the nogoods, or they do not fit: "Do the live words after the step fit the store? 34."
-abbrev pub Fitted : List (List ℤ) → List ℤ → Stepped → Type 0
-Fitted live store (Uses n) = Holds store n live
-Fitted live store (Fails k) = (k ≡ 34) × (length store < length (liveWords live))
+-- the store holds what is stored, or it does not fit: "Do the live words after the step fit the store? 34."
+abbrev pub Fitted : List Stored → List ℤ → Stepped → Type 0
+Fitted stored store (Uses n) = Holds store n stored
+Fitted stored store (Fails k) = (k ≡ 34) × (length store < wordsFor (live stored))
 
--- what a step leaves, by what it comes to: the number of the question, or arrays and store that hold the next state
-abbrev pub Leaves : ℕ → List InputRule → List ℕ → List ℕ → List ℤ → List ℤ → Outcome → Stepped → Type 0
-Leaves N ws known names bodies store (refused k) r = r ≡ Fails k
-Leaves N ws known names bodies store (next z) r = Fitted (z .live) store r × Tracks N ws known names bodies (z .introduced) (z .named)
+-- the store holds what is stored in its first `used` words, and its literals are the state's live nogoods
+pub record HoldsState (store : List ℤ) (used : ℕ) (z : State) (stored : List Stored) : Type 0 where
+  pub holds : Holds store used stored
+  pub same : live stored ≡ z .live
 
--- the contract of a letter's function: what the step leaves, of whatever state the arrays and the store held before
-abbrev pub Stepping : ℕ → List InputRule → Letter → List ℤ → ℕ
+-- what a step leaves, by what it comes to: the number of the question, or arrays and store that hold the next state, with what is
+-- `after` it in the store
+abbrev pub Leaves : ℕ → List InputRule → (after : State → List Stored) → List ℕ → List ℕ → List ℤ → List ℤ
+    → Outcome → Stepped → Type 0
+Leaves N ws after known names bodies store (refused k) r = r ≡ Fails k
+Leaves N ws after known names bodies store (next z) r =
+    Fitted (after z) store r × Tracks N ws known names bodies (z .introduced) (z .named)
+
+-- the contract of a letter's function: what step n leaves, of whatever state the arrays and the store held before
+abbrev pub Stepping : ℕ → List InputRule → Letter → List ℤ → (used n : ℕ)
     → List ℕ → List ℕ → List ℤ → List ℤ → List ℕ → List ℕ → List ℤ → List ℤ → Stepped → Type 0
-Stepping N ws x zs used known names bodies store known′ names′ bodies′ store′ r =
-    (z : State) → Tracks N ws known names bodies (z .introduced) (z .named) → Holds store used (z .live)
-    → Leaves N ws known′ names′ bodies′ store′ (byLetter N (expand ws) z x zs) r
+Stepping N ws x zs used n known names bodies store known′ names′ bodies′ store′ r =
+    (z : State) (stored : List Stored) → Tracks N ws known names bodies (z .introduced) (z .named) → HoldsState store used z stored
+    → Leaves N ws (storedAfter n x zs stored) known′ names′ bodies′ store′ (byLetter N (expand ws) z x zs) r
 
 -- the nogood of an `l` step, ascending: of n numbers from v on, h itself and minus each one that passes
 abbrev pub gathered : (ℕ → Bool) → ℤ → ℕ → ℕ → List ℤ
@@ -113,16 +121,17 @@ proofTurn at (Fails k) = Turn.Fails k
 
 module _ (N : ℕ) (ws : List InputRule) (known names : List ℕ) (bodies store : List ℤ) where
   -- what the step of a line leaves, with the position after the line
-  abbrev pub StepLeaves : ℕ → Outcome → ProofTurn → Type 0
-  StepLeaves at o r = (s : Stepped) × (r ≡ proofTurn at s) × Leaves N ws known names bodies store o s
+  abbrev pub StepLeaves : ℕ → (after : State → List Stored) → Outcome → ProofTurn → Type 0
+  StepLeaves at after o r = (s : Stepped) × (r ≡ proofTurn at s) × Leaves N ws after known names bodies store o s
 
-  -- what one turn of the check leaves, by what stands at the position; so many words were used
-  abbrev pub LineLeaves : ℕ → State → LineAt → ProofTurn → Type 0
-  LineLeaves used z end r = (r ≡ Turn.Ends) × Holds store used (z .live)
-  LineLeaves used z (Lines.refused k) r = r ≡ Turn.Fails k
-  LineLeaves used z (line x zs at) r = StepLeaves at (step N (expand ws) z (record { letter = x; numbers = zs })) r
+  -- what one turn of the check leaves, by what stands at the position; so many words were used, and its step is step n
+  abbrev pub LineLeaves : (used n : ℕ) → State → List Stored → LineAt → ProofTurn → Type 0
+  LineLeaves used n z stored end r = (r ≡ Turn.Ends) × Holds store used stored
+  LineLeaves used n z stored (Lines.refused k) r = r ≡ Turn.Fails k
+  LineLeaves used n z stored (line x zs at) r =
+      StepLeaves at (storedAfter n x zs stored) (step N (expand ws) z (record { letter = x; numbers = zs })) r
 
 -- what the lines leave, by what they come to
 abbrev pub Ran : List ℤ → Course → Run → Type 0
 Ran store (stopped k n) r = r ≡ Run.Stopped (record { number = k; step = n })
-Ran store (through n z) r = (used : ℕ) × (r ≡ Run.Through n used) × Holds store used (z .live)
+Ran store (through n z stored) r = (used : ℕ) × (r ≡ Run.Through n used) × Holds store used stored

@@ -1,9 +1,12 @@
-// `a` and `d`: nogoods as a line gives them. Document 01, questions 26, 33 and 34.
+// `a` and `d`: nogoods as a line gives them. Document 01, questions 26, 33 and 34. The origin is the number of the step, here and in
+// the functions of the other letters.
 ghost use mathlib.Core.List.{List};
-ghost use Prim.Native.Nat.{ℕ};
+ghost use Prim.Native.Nat.{ℕ, _≤_};
 ghost use lib.IntN.{ℤ};
+ghost use Rattle.words.specs.Limits.{longest};
 ghost use Rattle.aspif.specs.Rules.{InputRule};
 ghost use Rattle.text.specs.declared.Letter.the-variants.{Addition, Deletion};
+ghost use Rattle.nogoods.specs.Store.{Stored};
 ghost use Rattle.nogoods.specs.Keeps.{Holds};
 ghost use Rattle.checker.specs.Held.{PassedLine, Stepping};
 use crate::outcomes;
@@ -12,11 +15,17 @@ use nogoods::propagation;
 use nogoods::store;
 
 // `a`: literals that unit propagation refutes, or any where the empty nogood is live. Adds them as a nogood.
-pub fn addition(known: &[u8], store: &mut [i32], used: usize, numbers: &mut [i32]) -> Stepped
-    requires live { ⌜ ((live : List (List ℤ)) × Holds (now store) used live) ⌝ }
+pub fn addition(
+    known: &[u8],
+    store: &mut [i32],
+    used: usize,
+    origin: usize,
+    numbers: &mut [i32],
+) -> Stepped
+    requires store { ⌜ ((stored : List Stored) × Holds (now store) used stored) × (origin ≤ longest) ⌝ }
     requires line { ⌜ PassedLine Addition (now numbers) ⌝ }
     ensures { λ r. ⌜ ((N : ℕ) (ws : List InputRule) (names : List ℕ) (bodies : List ℤ)
-        → Stepping N ws Addition (now (numbers .entry)) used (now (known .entry)) names bodies (now (store .entry))
+        → Stepping N ws Addition (now (numbers .entry)) used origin (now (known .entry)) names bodies (now (store .entry))
         (now (known .entry)) names bodies (now (store .exit)) r) ⌝ }
 {
     if !marks::all_marked(numbers, known) {
@@ -26,15 +35,15 @@ pub fn addition(known: &[u8], store: &mut [i32], used: usize, numbers: &mut [i32
         return Stepped::Fails(33);
     }
     words::sort(numbers);
-    outcomes::fitted(store::append(store, used, numbers))
+    outcomes::fitted(store::append(store, used, origin, numbers))
 }
 
 // `d`: literals. Removes the oldest live nogood that has just them; where there is none, nothing changes.
 pub fn deletion(known: &[u8], store: &mut [i32], used: usize, numbers: &mut [i32]) -> Stepped
-    requires live { ⌜ ((live : List (List ℤ)) × Holds (now store) used live) ⌝ }
+    requires store { ⌜ ((stored : List Stored) × Holds (now store) used stored) ⌝ }
     requires line { ⌜ PassedLine Deletion (now numbers) ⌝ }
-    ensures { λ r. ⌜ ((N : ℕ) (ws : List InputRule) (names : List ℕ) (bodies : List ℤ)
-        → Stepping N ws Deletion (now (numbers .entry)) used (now (known .entry)) names bodies (now (store .entry))
+    ensures { λ r. ⌜ ((N origin : ℕ) (ws : List InputRule) (names : List ℕ) (bodies : List ℤ)
+        → Stepping N ws Deletion (now (numbers .entry)) used origin (now (known .entry)) names bodies (now (store .entry))
         (now (known .entry)) names bodies (now (store .exit)) r) ⌝ }
 {
     if !marks::all_marked(numbers, known) {

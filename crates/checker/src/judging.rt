@@ -1,13 +1,14 @@
 // The verdict on a proof, once its program is read.
 ghost use mathlib.Core.Path.{_≡_};
 ghost use mathlib.Core.List.{List};
-ghost use lib.IntN.{ℤ, pos};
+ghost use lib.IntN.{pos};
 ghost use Prim.Native.Nat.{_≤_};
 ghost use lib.ListN.{length, replicate};
 ghost use Rattle.words.specs.Limits.{mostRules};
 ghost use Rattle.words.specs.Lists.{any};
 ghost use Rattle.aspif.specs.Rules.{InputRule, isEmpty, tableWords};
 ghost use Rattle.aspif.specs.Reading.{program};
+ghost use Rattle.nogoods.specs.Store.{Stored, live};
 ghost use Rattle.nogoods.specs.Keeps.{Holds};
 ghost use Rattle.checker.specs.Check.{saying, judgedReading};
 ghost use Rattle.checker.specs.Held.{Program};
@@ -31,9 +32,10 @@ fn refuse(table: &mut [i32], store: &mut [i32], refusal: ProofRefusal) -> Verdic
 
 // The verdict once every step is good.
 fn conclude(store: &[i32], used: usize, atoms: usize, rules: usize, steps: usize) -> Verdict
-    requires { ⌜ ((live : List (List ℤ)) × Holds (now store) used live) ⌝ }
-    ensures { λ r. ⌜ ((live : List (List ℤ)) → Holds (now (store .entry)) used live
-        → r ≡ saying (any isEmpty live) (record { atoms = atoms; rules = rules; steps = steps; nogoods = length live })) ⌝ }
+    requires { ⌜ ((stored : List Stored) × Holds (now store) used stored) ⌝ }
+    ensures { λ r. ⌜ ((stored : List Stored) → Holds (now (store .entry)) used stored
+        → r ≡ saying (any isEmpty (live stored))
+        (record { atoms = atoms; rules = rules; steps = steps; nogoods = length (live stored) })) ⌝ }
 {
     let counts = Counts {
         atoms,

@@ -5,12 +5,13 @@ ghost use mathlib.Core.List.{List, _∷_, _++_};
 ghost use Prim.Native.Nat.{ℕ, _≤_};
 ghost use lib.IntN.{ℤ, pos};
 ghost use lib.ListN.{length, drop, getD, set};
-ghost use Rattle.words.specs.Limits.{largest, mostNumbers};
+ghost use Rattle.words.specs.Limits.{largest, longest, mostNumbers};
 ghost use Rattle.words.specs.Literals.{variable, ascending};
 ghost use Rattle.aspif.specs.Rules.{InputRule, expand};
 ghost use Rattle.text.specs.declared.Letter.the-variants.{Body, Extension};
 ghost use Rattle.derivation.specs.States.{State, isKnown};
 ghost use Rattle.derivation.specs.Steps.{definition, isUnnamedBody};
+ghost use Rattle.nogoods.specs.Store.{Stored, addedIn};
 ghost use Rattle.nogoods.specs.Keeps.{Literals, Holds};
 ghost use Rattle.names.specs.Queries.{HoldsRules, Kept};
 ghost use Rattle.checker.specs.Held.{PassedLine, nameOf, Tracks, Fitted, Stepping};
@@ -22,24 +23,36 @@ use nogoods::definitions;
 use nogoods::store;
 
 // The name is known from now on, and its definition live.
-fn define(known: &mut [u8], store: &mut [i32], used: usize, numbers: &mut [i32]) -> Stepped
-    requires live { ⌜ ((live : List (List ℤ)) × Holds (now store) used live) ⌝ }
+fn define(
+    known: &mut [u8],
+    store: &mut [i32],
+    used: usize,
+    origin: usize,
+    numbers: &mut [i32],
+) -> Stepped
+    requires store { ⌜ ((stored : List Stored) × Holds (now store) used stored) × (origin ≤ longest) ⌝ }
     requires line { ⌜ Literals (now numbers) × (1 ≤ length (now numbers)) × (length (now numbers) ≤ mostNumbers) ⌝ }
     ensures known { λ r. ⌜ now (known .exit) ≡ set (now (known .entry)) (variable (getD (now (numbers .entry)) 0 (pos 0))) 1 ⌝ }
-    ensures defined { λ r. ⌜ ((live : List (List ℤ)) → Holds (now (store .entry)) used live
+    ensures defined { λ r. ⌜ ((stored : List Stored) → Holds (now (store .entry)) used stored
         → (let added = definition (getD (now (numbers .entry)) 0 (pos 0)) (drop 1 (now (numbers .entry))) in
-        Fitted (live ++ added) (now (store .exit)) r)) ⌝ }
+        Fitted (stored ++ addedIn origin added) (now (store .exit)) r)) ⌝ }
 {
     marks::mark(known, words::variable_of(numbers[0]));
-    outcomes::fitted(definitions::append(store, used, numbers))
+    outcomes::fitted(definitions::append(store, used, origin, numbers))
 }
 
 // `e`: a fresh name n and any literals L. Adds -n with L, and n with the complement of each literal of L.
-pub fn extension(known: &mut [u8], store: &mut [i32], used: usize, numbers: &mut [i32]) -> Stepped
-    requires live { ⌜ ((live : List (List ℤ)) × Holds (now store) used live) ⌝ }
+pub fn extension(
+    known: &mut [u8],
+    store: &mut [i32],
+    used: usize,
+    origin: usize,
+    numbers: &mut [i32],
+) -> Stepped
+    requires store { ⌜ ((stored : List Stored) × Holds (now store) used stored) × (origin ≤ longest) ⌝ }
     requires line { ⌜ PassedLine Extension (now numbers) ⌝ }
     ensures { λ r. ⌜ ((N : ℕ) (ws : List InputRule) (names : List ℕ) (bodies : List ℤ)
-        → Stepping N ws Extension (now (numbers .entry)) used (now (known .entry)) names bodies (now (store .entry))
+        → Stepping N ws Extension (now (numbers .entry)) used origin (now (known .entry)) names bodies (now (store .entry))
         (now (known .exit)) names bodies (now (store .exit)) r) ⌝ }
 {
     if !marks::all_marked(&numbers[1..], known) {
@@ -48,7 +61,7 @@ pub fn extension(known: &mut [u8], store: &mut [i32], used: usize, numbers: &mut
     if marks::is_marked(known, words::variable_of(numbers[0])) {
         return Stepped::Fails(27);
     }
-    define(known, store, used, numbers)
+    define(known, store, used, origin, numbers)
 }
 
 // Question 28: the literals are the body of a rule, which has no name yet. It then gets the name, and the literals ascend.
@@ -89,13 +102,14 @@ pub fn body(
     bodies: &mut [i16],
     store: &mut [i32],
     used: usize,
+    origin: usize,
     numbers: &mut [i32],
 ) -> Stepped
     requires program { ⌜ ((ws : List InputRule) × HoldsRules (now table) rules ws) × (rules ≤ length (now names)) ⌝ }
-    requires live { ⌜ ((live : List (List ℤ)) × Holds (now store) used live) ⌝ }
+    requires store { ⌜ ((stored : List Stored) × Holds (now store) used stored) × (origin ≤ longest) ⌝ }
     requires line { ⌜ PassedLine Body (now numbers) ⌝ }
     ensures { λ r. ⌜ ((N : ℕ) (ws : List InputRule) → HoldsRules (now (table .entry)) rules ws
-        → Stepping N ws Body (now (numbers .entry)) used
+        → Stepping N ws Body (now (numbers .entry)) used origin
         (now (known .entry)) (now (names .entry)) (now (bodies .entry)) (now (store .entry))
         (now (known .exit)) (now (names .exit)) (now (bodies .exit)) (now (store .exit)) r) ⌝ }
 {
@@ -112,5 +126,5 @@ pub fn body(
     if !name_body(table, rules, names, bodies, &mut row[1..count], name) {
         return Stepped::Fails(28);
     }
-    define(known, store, used, numbers)
+    define(known, store, used, origin, numbers)
 }

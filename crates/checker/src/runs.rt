@@ -1,18 +1,19 @@
 // The proof's lines, one after another: questions 22 to 34 and 56.
 ghost use mathlib.Core.Path.{_≡_};
 ghost use mathlib.Core.List.{List};
-ghost use Prim.Native.Nat.{_≤_};
-ghost use lib.IntN.{ℤ, pos};
+ghost use Prim.Native.Nat.{_+_, _≤_};
+ghost use lib.IntN.{pos};
 ghost use lib.ListN.{length, replicate};
 ghost use Rattle.words.specs.Limits.{longest, mostRules};
 ghost use Rattle.aspif.specs.Rules.{InputRule, expand};
 ghost use Rattle.aspif.specs.Tables.{rulesAt};
 ghost use Rattle.drupe.specs.Lines.{lineAt};
 ghost use Rattle.derivation.specs.States.{State};
+ghost use Rattle.nogoods.specs.Store.{Stored};
 ghost use Rattle.nogoods.specs.Keeps.{Holds};
 ghost use Rattle.loops.specs.Relevance.{Relevant};
 ghost use Rattle.checker.specs.Check.{course};
-ghost use Rattle.checker.specs.Held.{Program, Tracks, NoBodies, proofTurn, LineLeaves, Ran};
+ghost use Rattle.checker.specs.Held.{Program, Tracks, NoBodies, HoldsState, proofTurn, LineLeaves, Ran};
 use crate::ProofRefusal;
 use crate::outcomes::Stepped;
 use crate::states::CheckingState;
@@ -51,7 +52,7 @@ fn turn_of(next: usize, stepped: Stepped) -> ProofTurn
     }
 }
 
-// The line at the position, and its step.
+// The line at the position, and its step. The origin is the step's number, which is at most that of the bytes read.
 fn turn_at(
     proof: &[u8],
     at: usize,
@@ -64,14 +65,17 @@ fn turn_at(
     bodies: &mut [i16],
     store: &mut [i32],
     used: usize,
+    origin: usize,
 ) -> ProofTurn
     requires program { ⌜ ((ws : List InputRule) × Program (now table) rules atoms ws) × (rules ≤ length (now names)) ⌝ }
     requires relevant { ⌜ Relevant (now relevant) (rulesAt rules (now table)) ⌝ }
-    requires live { ⌜ ((live : List (List ℤ)) × Holds (now store) used live) ⌝ }
+    requires store { ⌜ ((stored : List Stored) × Holds (now store) used stored) × (origin ≤ at + 1) ⌝ }
+    requires short { ⌜ length (now proof) ≤ longest ⌝ }
     ensures { λ r. ⌜ ((ws : List InputRule) → Program (now (table .entry)) rules atoms ws
-        → (z : State) → Tracks atoms ws (now (known .entry)) (now (names .entry)) (now (bodies .entry)) (z .introduced) (z .named)
-        → Holds (now (store .entry)) used (z .live)
-        → LineLeaves atoms ws (now (known .exit)) (now (names .exit)) (now (bodies .exit)) (now (store .exit)) used z
+        → (z : State) (stored : List Stored)
+        → Tracks atoms ws (now (known .entry)) (now (names .entry)) (now (bodies .entry)) (z .introduced) (z .named)
+        → HoldsState (now (store .entry)) used z stored
+        → LineLeaves atoms ws (now (known .exit)) (now (names .exit)) (now (bodies .exit)) (now (store .exit)) used origin z stored
         (lineAt (now (proof .entry)) at) r) ⌝ }
 {
     let reading = reader::step_at(proof, at);
@@ -98,6 +102,7 @@ fn turn_at(
                 bodies,
                 store,
                 used,
+                origin,
             );
             turn_of(next, stepped)
         }
@@ -129,6 +134,7 @@ fn run_lines(
     let mut at = 0;
     let mut steps = 0;
     loop {
+        let step = steps + 1;
         let turned = turn_at(
             proof,
             at,
@@ -141,17 +147,15 @@ fn run_lines(
             bodies,
             store,
             used,
+            step,
         );
         match turned {
             ProofTurn::Ends => return Run::Through { steps, used },
-            ProofTurn::Fails(number) => {
-                let step = steps + 1;
-                return Run::Stopped(ProofRefusal { number, step });
-            }
+            ProofTurn::Fails(number) => return Run::Stopped(ProofRefusal { number, step }),
             ProofTurn::Goes { next, used: n } => {
                 at = next;
                 used = n;
-                steps += 1;
+                steps = step;
             }
         }
     }

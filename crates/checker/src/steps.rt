@@ -3,10 +3,11 @@
 ghost use mathlib.Core.Path.{_≡_};
 ghost use mathlib.Core.List.{List};
 ghost use Prim.Native.Nat.{_≤_};
-ghost use lib.IntN.{ℤ};
 ghost use lib.ListN.{length};
+ghost use Rattle.words.specs.Limits.{longest};
 ghost use Rattle.aspif.specs.Rules.{InputRule};
 ghost use Rattle.aspif.specs.Tables.{rulesAt};
+ghost use Rattle.nogoods.specs.Store.{Stored};
 ghost use Rattle.nogoods.specs.Keeps.{Holds};
 ghost use Rattle.loops.specs.Relevance.{Relevant};
 ghost use Rattle.checker.specs.Held.{PassedLine, Program, Stepping};
@@ -17,7 +18,7 @@ use crate::supports;
 use crate::unfounded;
 use text::Letter;
 
-// The step of a line that passed questions 22 to 25.
+// The step of a line that passed questions 22 to 25. The origin is its number, which the nogoods that it adds carry.
 pub fn step(
     table: &[i32],
     rules: usize,
@@ -30,24 +31,45 @@ pub fn step(
     bodies: &mut [i16],
     store: &mut [i32],
     used: usize,
+    origin: usize,
 ) -> Stepped
     requires program { ⌜ ((ws : List InputRule) × Program (now table) rules atoms ws) × (rules ≤ length (now names)) ⌝ }
     requires relevant { ⌜ Relevant (now relevant) (rulesAt rules (now table)) ⌝ }
-    requires live { ⌜ ((live : List (List ℤ)) × Holds (now store) used live) ⌝ }
+    requires store { ⌜ ((stored : List Stored) × Holds (now store) used stored) × (origin ≤ longest) ⌝ }
     requires line { ⌜ PassedLine letter (now line) ⌝ }
     ensures { λ r. ⌜ ((ws : List InputRule) → Program (now (table .entry)) rules atoms ws
-        → Stepping atoms ws letter (now (line .entry)) used
+        → Stepping atoms ws letter (now (line .entry)) used origin
         (now (known .entry)) (now (names .entry)) (now (bodies .entry)) (now (store .entry))
         (now (known .exit)) (now (names .exit)) (now (bodies .exit)) (now (store .exit)) r) ⌝ }
 {
     match letter {
-        Letter::Addition => additions::addition(known, store, used, line),
-        Letter::Body => naming::body(table, rules, known, names, bodies, store, used, line),
+        Letter::Addition => additions::addition(known, store, used, origin, line),
+        Letter::Body => naming::body(
+            table,
+            rules,
+            known,
+            names,
+            bodies,
+            store,
+            used,
+            origin,
+            line,
+        ),
         Letter::Completion => {
-            supports::completion(table, rules, known, names, bodies, store, used, line)
+            supports::completion(
+                table,
+                rules,
+                known,
+                names,
+                bodies,
+                store,
+                used,
+                origin,
+                line,
+            )
         }
         Letter::Deletion => additions::deletion(known, store, used, line),
-        Letter::Extension => naming::extension(known, store, used, line),
+        Letter::Extension => naming::extension(known, store, used, origin, line),
         Letter::Loop => {
             unfounded::loops(
                 table,
@@ -59,11 +81,23 @@ pub fn step(
                 bodies,
                 store,
                 used,
+                origin,
                 line,
             )
         }
         Letter::Support => {
-            supports::support(table, rules, atoms, known, names, bodies, store, used, line)
+            supports::support(
+                table,
+                rules,
+                atoms,
+                known,
+                names,
+                bodies,
+                store,
+                used,
+                origin,
+                line,
+            )
         }
     }
 }

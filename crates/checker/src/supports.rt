@@ -2,14 +2,15 @@
 ghost use mathlib.Core.Path.{_≡_};
 ghost use mathlib.Core.List.{List, [], _∷_, _++_, map};
 ghost use Prim.Native.Nat.{ℕ, _≤_};
-ghost use lib.IntN.{ℤ, pos};
+ghost use lib.IntN.{pos};
 ghost use lib.ListN.{length, drop, getD};
 ghost use Rattle.words.specs.Literals.{complement, ascending};
-ghost use Rattle.words.specs.Limits.{mostNumbers};
+ghost use Rattle.words.specs.Limits.{longest, mostNumbers};
 ghost use Rattle.aspif.specs.Rules.{InputRule, expand};
 ghost use Rattle.text.specs.declared.Letter.the-variants.{Completion, Support};
 ghost use Rattle.derivation.specs.States.{State};
 ghost use Rattle.derivation.specs.Steps.{isSupport};
+ghost use Rattle.nogoods.specs.Store.{Stored, addedIn};
 ghost use Rattle.nogoods.specs.Keeps.{Literals, Holds};
 ghost use Rattle.names.specs.Queries.{HoldsRules};
 ghost use Rattle.checker.specs.Held.{PassedLine, Program, Tracks, Fitted, Stepping};
@@ -20,16 +21,16 @@ use names::queries::Query;
 use nogoods::store;
 
 // The first number with the complements of the others is live, after the other nogoods.
-fn join(store: &mut [i32], used: usize, numbers: &mut [i32]) -> Stepped
-    requires live { ⌜ ((live : List (List ℤ)) × Holds (now store) used live) ⌝ }
+fn join(store: &mut [i32], used: usize, origin: usize, numbers: &mut [i32]) -> Stepped
+    requires store { ⌜ ((stored : List Stored) × Holds (now store) used stored) × (origin ≤ longest) ⌝ }
     requires line { ⌜ Literals (now numbers) × (1 ≤ length (now numbers)) × (length (now numbers) ≤ mostNumbers) ⌝ }
-    ensures { λ r. ⌜ ((live : List (List ℤ)) → Holds (now (store .entry)) used live
+    ensures { λ r. ⌜ ((stored : List Stored) → Holds (now (store .entry)) used stored
         → (let added = getD (now (numbers .entry)) 0 (pos 0) ∷ map complement (drop 1 (now (numbers .entry))) in
-        Fitted (live ++ (ascending added ∷ [])) (now (store .exit)) r)) ⌝ }
+        Fitted (stored ++ addedIn origin (ascending added ∷ [])) (now (store .exit)) r)) ⌝ }
 {
     words::complement_all(&mut numbers[1..]);
     words::sort(numbers);
-    outcomes::fitted(store::append(store, used, numbers))
+    outcomes::fitted(store::append(store, used, origin, numbers))
 }
 
 // `c`: the name n of the body of a normal rule, and the rule's head h where it has one. Adds n with -h, or n alone.
@@ -41,13 +42,14 @@ pub fn completion(
     bodies: &[i16],
     store: &mut [i32],
     used: usize,
+    origin: usize,
     numbers: &mut [i32],
 ) -> Stepped
     requires program { ⌜ ((ws : List InputRule) × HoldsRules (now table) rules ws) × (rules ≤ length (now names)) ⌝ }
-    requires live { ⌜ ((live : List (List ℤ)) × Holds (now store) used live) ⌝ }
+    requires store { ⌜ ((stored : List Stored) × Holds (now store) used stored) × (origin ≤ longest) ⌝ }
     requires line { ⌜ PassedLine Completion (now numbers) ⌝ }
     ensures { λ r. ⌜ ((N : ℕ) (ws : List InputRule) → HoldsRules (now (table .entry)) rules ws
-        → Stepping N ws Completion (now (numbers .entry)) used
+        → Stepping N ws Completion (now (numbers .entry)) used origin
         (now (known .entry)) (now (names .entry)) (now (bodies .entry)) (now (store .entry))
         (now (known .entry)) (now (names .entry)) (now (bodies .entry)) (now (store .exit)) r) ⌝ }
 {
@@ -58,7 +60,7 @@ pub fn completion(
     if !queries::is_completed(table, rules, names, bodies, &numbers[1..], name) {
         return Stepped::Fails(29);
     }
-    join(store, used, numbers)
+    join(store, used, origin, numbers)
 }
 
 // Question 30: h, the first number, is an atom, and the others are the names of just the bodies of the rules with h in the head.
@@ -97,13 +99,14 @@ pub fn support(
     bodies: &[i16],
     store: &mut [i32],
     used: usize,
+    origin: usize,
     numbers: &mut [i32],
 ) -> Stepped
     requires program { ⌜ ((ws : List InputRule) × Program (now table) rules atoms ws) × (rules ≤ length (now names)) ⌝ }
-    requires live { ⌜ ((live : List (List ℤ)) × Holds (now store) used live) ⌝ }
+    requires store { ⌜ ((stored : List Stored) × Holds (now store) used stored) × (origin ≤ longest) ⌝ }
     requires line { ⌜ PassedLine Support (now numbers) ⌝ }
     ensures { λ r. ⌜ ((ws : List InputRule) → Program (now (table .entry)) rules atoms ws
-        → Stepping atoms ws Support (now (numbers .entry)) used
+        → Stepping atoms ws Support (now (numbers .entry)) used origin
         (now (known .entry)) (now (names .entry)) (now (bodies .entry)) (now (store .entry))
         (now (known .entry)) (now (names .entry)) (now (bodies .entry)) (now (store .exit)) r) ⌝ }
 {
@@ -113,5 +116,5 @@ pub fn support(
     if !is_supported(table, rules, atoms, names, bodies, numbers) {
         return Stepped::Fails(30);
     }
-    join(store, used, numbers)
+    join(store, used, origin, numbers)
 }

@@ -2,14 +2,14 @@
 ghost use mathlib.Core.Path.{_≡_};
 ghost use mathlib.Core.List.{List, _++_};
 ghost use Prim.Native.Nat.{_≤_, _<_};
-ghost use lib.IntN.{ℤ};
 ghost use lib.ListN.{length, take};
-ghost use Rattle.words.specs.Limits.{largest, entries};
+ghost use Rattle.words.specs.Limits.{largest, entries, longest};
 ghost use Rattle.words.specs.Literals.{variable};
 ghost use Rattle.marks.specs.Marks.{marked};
 ghost use Rattle.aspif.specs.Rules.{InputRule};
 ghost use Rattle.aspif.specs.Tables.{rulesAt};
 ghost use Rattle.text.specs.declared.Letter.the-variants.{Loop};
+ghost use Rattle.nogoods.specs.Store.{Stored};
 ghost use Rattle.nogoods.specs.Keeps.{Holds};
 ghost use Rattle.loops.specs.Relevance.{Relevant};
 ghost use Rattle.checker.specs.Held.{PassedLine, Program, gathered, Stepping};
@@ -67,14 +67,15 @@ pub fn loops(
     bodies: &[i16],
     store: &mut [i32],
     used: usize,
+    origin: usize,
     numbers: &[i32],
 ) -> Stepped
     requires program { ⌜ ((ws : List InputRule) × Program (now table) rules atoms ws) × (rules ≤ length (now names)) ⌝ }
     requires relevant { ⌜ Relevant (now relevant) (rulesAt rules (now table)) ⌝ }
-    requires live { ⌜ ((live : List (List ℤ)) × Holds (now store) used live) ⌝ }
+    requires store { ⌜ ((stored : List Stored) × Holds (now store) used stored) × (origin ≤ longest) ⌝ }
     requires line { ⌜ PassedLine Loop (now numbers) ⌝ }
     ensures { λ r. ⌜ ((ws : List InputRule) → Program (now (table .entry)) rules atoms ws
-        → Stepping atoms ws Loop (now (numbers .entry)) used
+        → Stepping atoms ws Loop (now (numbers .entry)) used origin
         (now (known .entry)) (now (names .entry)) (now (bodies .entry)) (now (store .entry))
         (now (known .entry)) (now (names .entry)) (now (bodies .entry)) (now (store .exit)) r) ⌝ }
 {
@@ -94,5 +95,5 @@ pub fn loops(
     }
     let mut row = [0i32; words::ENTRIES];
     let count = gather(numbers[0], &found, &mut row);
-    outcomes::fitted(store::append(store, used, &row[..count]))
+    outcomes::fitted(store::append(store, used, origin, &row[..count]))
 }

@@ -14,7 +14,7 @@ use Rattle.nogoods.specs.Records.{Stands}
 use Rattle.nogoods.specs.Propagate.{free}
 use Rattle.nogoods.specs.PropagateChains.{places, Links, Below, Queue}
 use Rattle.nogoods.proofs.Assignments.{zeros, free-assigned, free-cons, free-most}
-use Rattle.nogoods.proofs.Recorded.{encoded, live-at}
+use Rattle.nogoods.proofs.Recorded.{encoded, stands-at}
 
 -- Entries below a bound
 
@@ -32,7 +32,7 @@ below-weaker p q l h b j = omega (arith, b j)
 module _ (s : List ℤ) where
   pub links-none : (n : ℕ) → 0 < length s → Links s (replicate n 0) (replicate n 0)
   links-none n some = record {
-    stands = λ p. rw (zeros n p) (λ live h. live-at s (encoded s h (λ g u. u)) some);
+    stands = λ p. rw (zeros n p) (λ stored h. stands-at s (encoded s h (λ e u. u)) some);
     down = λ p h. rw (zeros n p) h;
   }
 

@@ -13,30 +13,32 @@ use Rattle.words.specs.Literals.{variable, complement}
 use Rattle.words.proofs.Literals.{complement-twice, variable-complement}
 use Rattle.derivation.specs.Propagation.{Closure, given, unit, Conflict}
 use Rattle.words.proofs.Places.{same?}
+use Rattle.nogoods.specs.Store.{live}
 use Rattle.nogoods.specs.Keeps.{Literals}
 use Rattle.words.specs.Limits.{entries}
 use Rattle.nogoods.specs.Records.{nogoodAt, Stands}
 use Rattle.nogoods.specs.Propagate.{entry, Assigns, Valued, free, Settled, AllTrue, Derives, InClosure, Grows, Clashes, Ends}
 use Rattle.nogoods.specs.declared.units.Value.the-variants.{Free}
 use Rattle.nogoods.specs.declared.units.Derived.the-variants.{Assigned}
+use Rattle.nogoods.proofs.Live.{live-in}
 use Rattle.nogoods.proofs.Assignments.{positive-complement, not-both, assigned→, assigned-kept, assigned-fewer}
 
-module _ (live : List (List ℤ)) (L : List ℤ) (m : List ℕ) (w : InClosure live L m) (g : List ℤ) (u : g ∈ live) where
+module _ (gs : List (List ℤ)) (L : List ℤ) (m : List ℕ) (w : InClosure gs L m) (g : List ℤ) (u : g ∈ gs) where
   -- the complement of a literal whose others are true
-  unit-in : (z : ℤ) → z ∈ g → ((y : ℤ) → y ∈ g → ¬ (y ≡ z) → Assigns m y) → Closure live L (complement z)
+  unit-in : (z : ℤ) → z ∈ g → ((y : ℤ) → y ∈ g → ¬ (y ≡ z) → Assigns m y) → Closure gs L (complement z)
   unit-in z v f = unit g u (Memᴰ·cast (complement-twice z) v) (λ k i n. w k (f k i (λ e. n (e ∙ sym (complement-twice z)))))
 
-  all-true : AllTrue m g → Conflict live L
+  all-true : AllTrue m g → Conflict gs L
   all-true f = go g refl
     where
-      go : (l : List ℤ) → g ≡ l → Conflict live L
+      go : (l : List ℤ) → g ≡ l → Conflict gs L
       go [] e = inr (rw e at u)
       go (x ∷ l) e = let v : x ∈ g = rw e (List·Memᴰ·head refl) in inl (x, w x (f x v), unit-in x v (λ y i n. f y i))
 
 -- nothing follows from any live nogood: the assignment has the closure, and no conflict
-module _ (live : List (List ℤ)) (L : List ℤ) (m : List ℕ) (lits : (g : List ℤ) → g ∈ live → Literals g) (start : Literals L)
-    (base : (z : ℤ) → z ∈ L → Assigns m z) (settled : (g : List ℤ) → g ∈ live → Settled m g) where
-  closure-assigned : {x : ℤ} → Closure live L x → (1 ≤ variable x) × Assigns m x
+module _ (gs : List (List ℤ)) (L : List ℤ) (m : List ℕ) (lits : (g : List ℤ) → g ∈ gs → Literals g) (start : Literals L)
+    (base : (z : ℤ) → z ∈ L → Assigns m z) (settled : (g : List ℤ) → g ∈ gs → Settled m g) where
+  closure-assigned : {x : ℤ} → Closure gs L x → (1 ≤ variable x) × Assigns m x
   closure-assigned (given {x = x} u) = (start .low x u, base x u)
   closure-assigned (unit {x = x} g u v f) = (positive, go (λ k i n. closure-assigned (f k i n) .1) (settled g u))
     where
@@ -51,7 +53,7 @@ module _ (live : List (List ℤ)) (L : List ℤ) (m : List ℕ) (lits : (g : Lis
       go below (inl (z, i, a)) = rw (ap complement (only below z i (λ b. not-both m z (lits g u .low z i) b a)) ∙ complement-twice x) at a
       go below (inr (y, z, i, j, d, a, b)) = absurd (d (only below y i a ∙ sym (only below z j b)))
 
-  pub no-conflict : Conflict live L → ⊥
+  pub no-conflict : Conflict gs L → ⊥
   no-conflict (inl (x, a, b)) = not-both m x (closure-assigned a .0) (closure-assigned a .1) (closure-assigned b .1)
   no-conflict (inr u) = elim (settled [] u) [ inl r ↦ List·Memᴰ·not-nil (r .1) | inr r ↦ List·Memᴰ·not-nil (r .2) ]
 
@@ -59,11 +61,11 @@ module _ (live : List (List ℤ)) (L : List ℤ) (m : List ℕ) (lits : (g : Lis
 
 module _ {s : List ℤ} where
   pub grows-not : {m : List ℕ} → Grows s m m
-  grows-not = record { sound = λ live L h w. w; kept = λ z a. a; size = refl; fewer = omega arith }
+  grows-not = record { sound = λ stored L h w. w; kept = λ z a. a; size = refl; fewer = omega arith }
 
   pub grows-on : {a b c : List ℕ} → Grows s a b → Grows s b c → Grows s a c
   grows-on p q = record {
-    sound = λ live L h w. q .sound live L h (p .sound live L h w);
+    sound = λ stored L h w. q .sound stored L h (p .sound stored L h w);
     kept = λ z a. q .kept z (p .kept z a);
     size = q .size ∙ p .size;
     fewer = omega (arith, p .fewer, q .fewer);
@@ -71,7 +73,7 @@ module _ {s : List ℤ} where
 
 module _ (s : List ℤ) (a b : List ℕ) (g : Grows s a b) where
   pub clashes-before : Clashes s b → Clashes s a
-  clashes-before k live L h w = k live L h (g .sound live L h w)
+  clashes-before k stored L h w = k stored L h (g .sound stored L h w)
 
   pub ends-before : (c : List ℕ) (r : Bool) → Ends s b c r → Ends s a c r
   ends-before c true k = clashes-before k
@@ -79,7 +81,7 @@ module _ (s : List ℤ) (a b : List ℕ) (g : Grows s a b) where
 
 module _ (s : List ℤ) (r : ℕ) (stands : Stands s r) (lits : Literals (nogoodAt s r)) (m : List ℕ) (size : length m ≡ entries) where
   pub conflicting : AllTrue m (nogoodAt s r) → Clashes s m
-  conflicting f live L h w = all-true live L m w (nogoodAt s r) (stands live h .0) f
+  conflicting f stored L h w = all-true (live stored) L m w (nogoodAt s r) (live-in (stands stored h .0)) f
 
   pub derived : (m′ : List ℕ) (v : ℕ) → Derives (nogoodAt s r) m m′ (Assigned v)
       → Grows s m m′ × (suc (free m′) ≡ free m) × (1 ≤ v) × (v < entries)
@@ -93,8 +95,8 @@ module _ (s : List ℤ) (r : ℕ) (stands : Stands s r) (lits : Literals (nogood
       let open-x : Valued m x Free = (last .left .1, rw (complement-twice z) (last .left .0)) in
       let f : suc (free m′) ≡ free m = rw is (assigned-fewer m x hx lx open-x) in (
         record {
-          sound = λ live L h w y a. elim (assigned→ m x hx y lx (rw is at a)) [
-            | inl q ↦ rw q (unit-in live L m w (nogoodAt s r) (stands live h .0) z i (last .others))
+          sound = λ stored L h w y a. elim (assigned→ m x hx y lx (rw is at a)) [
+            | inl q ↦ rw q (unit-in (live stored) L m w (nogoodAt s r) (live-in (stands stored h .0)) z i (last .others))
             | inr b ↦ w y b
           ];
           kept = λ y a. rw is (assigned-kept m x hx (open-x .1) y a);

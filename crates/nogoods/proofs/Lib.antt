@@ -1,6 +1,7 @@
 -- The laws that the proofs share.
 pub mod Assignments
 pub mod Looks
+pub mod Live
 pub mod Recorded
 pub mod Stored
 pub mod Literals

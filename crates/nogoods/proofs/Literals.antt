@@ -13,6 +13,7 @@ use Rattle.words.proofs.Lists.{if-true, is-true, each-cons}
 use Rattle.words.proofs.Literals.{variable-complement, ascending→}
 use Rattle.words.proofs.Sorting.{none-twice-ascending}
 use Rattle.words.proofs.Places.{once-decides}
+use Rattle.nogoods.specs.Store.{Stored, recordOf, addedIn}
 use Rattle.nogoods.specs.Keeps.{Literals}
 
 pub literals-ascending : (l : List ℤ) → Literals l → Literals (ascending l)
@@ -22,6 +23,10 @@ literals-ascending l h =
       high = λ x m. h .high x (ascending→ l m);
       once = none-twice-ascending l ∙ h .once;
     }
+
+-- what a step adds
+pub added-literals : (n : ℕ) (gs : List (List ℤ)) → ((g : List ℤ) → g ∈ gs → Literals g) → (e : Stored) → e ∈ addedIn n gs → Literals (e .literals)
+added-literals n gs h e m = let r = Memᴰ·of-map (recordOf n) gs m in rw (← r .2) (h (r .0) (r .1))
 
 -- Literal by literal
 

@@ -3,24 +3,26 @@
 use mathlib.Core.Path.{_≡_, refl, sym, _∙_}
 use mathlib.Core.Logic.{_⊎_, inl, inr}
 use mathlib.Core.Bool.{Bool, true, false, true≢false}
-use mathlib.Core.List.{List, List·Memᴰ·head, List·Memᴰ·not-nil, List·Memᴰ·cases-cons}
+use mathlib.Core.List.{List, List·Memᴰ·head, List·Memᴰ·not-nil}
 use Prim.Native.Nat.{ℕ, _≤_, _<_}
 use native.Mathlib.Omega.{arith}
 use lib.IntN.{ℤ}
 use lib.ListN.{length}
 use Rattle.words.specs.Lists.{_∈_}
 use Rattle.words.specs.Limits.{entries}
+use Rattle.nogoods.specs.Store.{Stored, live}
 use Rattle.nogoods.specs.Keeps.{Literals}
-use Rattle.nogoods.specs.Records.{Encodes, endAt, nogoodAt, Stands}
+use Rattle.nogoods.specs.Records.{Encodes, endAt, nogoodAt, storedAt, Stands}
 use Rattle.nogoods.specs.Propagate.{free, Settled, Derives, Grows, AllSettled}
 use Rattle.nogoods.specs.declared.units.Derived.the-variants.{Assigned}
+use Rattle.nogoods.proofs.Live.{live-nil, live-first}
 use Rattle.nogoods.proofs.Recorded.{Rest, rest-at, rest-first, rest-next, rest-over, Inside, inside-tail, encoded}
 use Rattle.nogoods.proofs.Closures.{grows-not, grows-on, derived}
 
--- those left are live; where nothing has changed, nothing follows from the others
-pub record Behind (m : List ℕ) (changed : Bool) (live left : List (List ℤ)) : Type 0 where
-  pub inside : Inside live left
-  pub done : changed ≡ false → (g : List ℤ) → g ∈ live → (g ∈ left) ⊎ Settled m g
+-- those left are stored; where nothing has changed, nothing follows from the other live ones
+pub record Behind (m : List ℕ) (changed : Bool) (stored left : List Stored) : Type 0 where
+  pub inside : Inside stored left
+  pub done : changed ≡ false → (g : List ℤ) → g ∈ live stored → (g ∈ live left) ⊎ Settled m g
 
 module _ (s : List ℤ) where
   -- from m₀ to m, by the nogoods before i
@@ -29,7 +31,7 @@ module _ (s : List ℤ) where
     pub grows : Grows s m₀ m
     pub more : changed ≡ true → free m < free m₀
     pub same : changed ≡ false → m ≡ m₀
-    pub ahead : (live : List (List ℤ)) → Encodes s live → Rest (Behind m changed) s (length s) live i
+    pub ahead : (stored : List Stored) → Encodes s stored → Rest (Behind m changed) s (length s) stored i
 
   pub sweep-start : (m : List ℕ) → length m ≡ entries → Sweeping m m false 0
   sweep-start m size = record {
@@ -37,21 +39,21 @@ module _ (s : List ℤ) where
     grows = grows-not;
     more = λ e. absurd (true≢false (sym e));
     same = λ e. refl;
-    ahead = λ live h. encoded s h (record { inside = λ g u. u; done = λ e g u. inl u });
+    ahead = λ stored h. encoded s h (record { inside = λ g u. u; done = λ e g u. inl u });
   }
 
   module _ (m₀ m : List ℕ) (changed : Bool) (i : ℕ) (k : Sweeping m₀ m changed i) (h : i < length s) where
     pub sweep-at : Stands s i
-    sweep-at live e = let w = k .ahead live e in (rest-first w h .inside _ (List·Memᴰ·head refl), rest-at w h .room)
+    sweep-at stored e = let w = k .ahead stored e in (rest-first w h .inside _ (List·Memᴰ·head refl), rest-at w h .room)
 
     -- the nogood at i is passed
-    past : (live : List (List ℤ)) → Encodes s live → (m′ : List ℕ) (c : Bool)
-        → (c ≡ false → (changed ≡ false) × (m′ ≡ m) × Settled m (nogoodAt s i)) → Rest (Behind m′ c) s (length s) live (endAt s i)
-    past live enc m′ c q = rest-next (k .ahead live enc) h (λ gs b. record {
-      inside = inside-tail gs (b .inside);
+    past : (stored : List Stored) → Encodes s stored → (m′ : List ℕ) (c : Bool)
+        → (c ≡ false → (changed ≡ false) × (m′ ≡ m) × Settled m (nogoodAt s i)) → Rest (Behind m′ c) s (length s) stored (endAt s i)
+    past stored enc m′ c q = rest-next (k .ahead stored enc) h (λ es b. record {
+      inside = inside-tail es (b .inside);
       done = λ e g u. rw (q e .1) (elim (b .done (q e .0) g u) [
         | inr a ↦ inr a
-        | inl v ↦ elim (List·Memᴰ·cases-cons v) [ inl r ↦ inr (rw r (q e .2)) | inr t ↦ inl t ]
+        | inl v ↦ elim (live-first (storedAt s i) es v) [ inl r ↦ inr (rw r (q e .2)) | inr t ↦ inl t ]
       ]);
     })
 
@@ -61,7 +63,7 @@ module _ (s : List ℤ) where
       grows = k .grows;
       more = k .more;
       same = k .same;
-      ahead = λ live enc. past live enc m changed (λ e. (e, refl, a));
+      ahead = λ stored enc. past stored enc m changed (λ e. (e, refl, a));
     }
 
     pub sweep-assigned : Literals (nogoodAt s i) → (m′ : List ℕ) (v : ℕ) → Derives (nogoodAt s i) m m′ (Assigned v) → Sweeping m₀ m′ true (endAt s i)
@@ -74,9 +76,9 @@ module _ (s : List ℤ) where
           grows = grows-on (k .grows) g;
           more = λ e. omega (arith, p .1);
           same = λ e. absurd (true≢false e);
-          ahead = λ live enc. past live enc m′ true (λ e. absurd (true≢false e));
+          ahead = λ stored enc. past stored enc m′ true (λ e. absurd (true≢false e));
         }
 
   pub sweep-over : (m₀ m : List ℕ) (changed : Bool) (i : ℕ) → Sweeping m₀ m changed i → length s ≤ i → changed ≡ false → AllSettled s m₀
-  sweep-over m₀ m changed i k h e live enc g u =
-      rw (← k .same e) (elim (rest-over (k .ahead live enc) h .done e g u) [ inr a ↦ a | inl v ↦ absurd (List·Memᴰ·not-nil v) ])
+  sweep-over m₀ m changed i k h e stored enc g u =
+      rw (← k .same e) (elim (rest-over (k .ahead stored enc) h .done e g u) [ inr a ↦ a | inl v ↦ absurd (List·Memᴰ·not-nil (rw live-nil at v)) ])

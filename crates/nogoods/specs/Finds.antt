@@ -5,11 +5,12 @@ use mathlib.Core.List.{List, [], _∷_}
 use Prim.Native.Nat.{ℕ, _+_}
 use lib.IntN.{ℤ}
 use Rattle.words.specs.Literals.{sameList}
-use Rattle.nogoods.specs.Store.{recordSize}
+use Rattle.nogoods.specs.Store.{Stored, recordSize}
 use Rattle.nogoods.specs.declared.store.Found.{Found}
 use Rattle.nogoods.specs.declared.store.Found.the-variants.{At, Nothing}
 
--- the place of the first that is the list, where the words begin at i
-abbrev pub foundAt : ℕ → List ℤ → List (List ℤ) → Found
+-- the place of the first whose literals are the list, where the words begin at i
+abbrev pub foundAt : ℕ → List ℤ → List Stored → Found
 foundAt i literals [] = Nothing
-foundAt i literals (g ∷ live) = cond (sameList g literals) (At i) (foundAt (i + recordSize g) literals live)
+foundAt i literals (e ∷ stored) =
+    cond (sameList (e .literals) literals) (At i) (foundAt (i + recordSize (e .literals)) literals stored)

@@ -9,7 +9,7 @@ use lib.ListN.{length, drop}
 use Rattle.words.specs.Limits.{largest}
 use Rattle.words.specs.Lists.{_∈_}
 use Rattle.words.specs.Literals.{variable, distinct}
-use Rattle.nogoods.specs.Store.{liveWords, storeWords}
+use Rattle.nogoods.specs.Store.{Stored, live, wordsOf, storeWords, wordsFor}
 use Rattle.nogoods.specs.declared.store.Added.{Added}
 use Rattle.nogoods.specs.declared.store.Added.the-variants.{Uses, Full}
 
@@ -23,14 +23,14 @@ pub record Literals (g : List ℤ) : Type 0 where
   pub high : (x : ℤ) → x ∈ g → variable x ≤ largest
   pub once : distinct g ≡ true
 
--- The store holds the live nogoods in its first `used` words, and 0 after them.
-pub record Holds (store : List ℤ) (used : ℕ) (live : List (List ℤ)) : Type 0 where
-  pub words : store ≡ storeWords (length store) live
-  pub extent : used ≡ length (liveWords live)
+-- The store holds what is stored in its first `used` words, and 0 after them.
+pub record Holds (store : List ℤ) (used : ℕ) (stored : List Stored) : Type 0 where
+  pub words : store ≡ storeWords (length store) stored
+  pub extent : used ≡ length (wordsOf stored)
   pub fits : used ≤ length store
-  pub literals : (g : List ℤ) → g ∈ live → Literals g
+  pub literals : (e : Stored) → e ∈ stored → Literals (e .literals)
 
--- "Do the live words after the step fit the store?", with these nogoods live then: the store holds them, or is too short
-abbrev pub Fits : List (List ℤ) → List ℤ → Added → Type 0
-Fits live after (Uses n) = Holds after n live
-Fits live after Full = length after < length (liveWords live)
+-- "Do the live words after the step fit the store?", with these stored then: the store holds them, or is too short
+abbrev pub Fits : List Stored → List ℤ → Added → Type 0
+Fits stored after (Uses n) = Holds after n stored
+Fits stored after Full = length after < wordsFor (live stored)

@@ -11,6 +11,7 @@ use lib.ListN.{length, getD, set}
 use Rattle.words.specs.Lists.{_∈_}
 use Rattle.words.specs.Literals.{variable, complement}
 use Rattle.derivation.specs.Propagation.{Closure, Conflict}
+use Rattle.nogoods.specs.Store.{Stored, live}
 use Rattle.nogoods.specs.Records.{Encodes}
 use Rattle.nogoods.specs.declared.units.Value.{Value}
 use Rattle.nogoods.specs.declared.units.Value.the-variants.{True, False, Free}
@@ -80,22 +81,22 @@ Derives g m m′ Nothing = (m′ ≡ m) × Settled m g
 
 -- what the assignment makes true is in the closure
 abbrev pub InClosure : List (List ℤ) → List ℤ → List ℕ → Type 0
-InClosure live L m = (z : ℤ) → Assigns m z → Closure live L z
+InClosure gs L m = (z : ℤ) → Assigns m z → Closure gs L z
 
 -- from m to m′ the assignment grew by what follows from the nogoods
 pub record Grows (s : List ℤ) (m m′ : List ℕ) : Type 0 where
-  pub sound : (live : List (List ℤ)) (L : List ℤ) → Encodes s live → InClosure live L m → InClosure live L m′
+  pub sound : (stored : List Stored) (L : List ℤ) → Encodes s stored → InClosure (live stored) L m → InClosure (live stored) L m′
   pub kept : (z : ℤ) → Assigns m z → Assigns m′ z
   pub size : length m′ ≡ length m
   pub fewer : free m′ ≤ free m
 
 -- the nogoods and what the assignment makes true contradict each other
 abbrev pub Clashes : List ℤ → List ℕ → Type 0
-Clashes s m = (live : List (List ℤ)) (L : List ℤ) → Encodes s live → InClosure live L m → Conflict live L
+Clashes s m = (stored : List Stored) (L : List ℤ) → Encodes s stored → InClosure (live stored) L m → Conflict (live stored) L
 
--- nothing follows from any nogood
+-- nothing follows from any live nogood
 abbrev pub AllSettled : List ℤ → List ℕ → Type 0
-AllSettled s m = (live : List (List ℤ)) → Encodes s live → (g : List ℤ) → g ∈ live → Settled m g
+AllSettled s m = (stored : List Stored) → Encodes s stored → (g : List ℤ) → g ∈ live stored → Settled m g
 
 -- what one pass over the nogoods says, and the assignment afterwards
 abbrev pub Sweeps : List ℤ → List ℕ → List ℕ → Swept → Type 0

@@ -8,11 +8,10 @@ ghost use mathlib.Core.Path.{_≡_};
 ghost use mathlib.Core.Bool.{true};
 ghost use mathlib.Core.List.{List};
 ghost use Prim.Native.Nat.{_+_, _≤_, _<_};
-ghost use lib.IntN.{ℤ};
 ghost use lib.ListN.{length};
 ghost use Rattle.words.specs.Limits.{largest, entries};
 ghost use Rattle.words.specs.Literals.{variable};
-ghost use Rattle.nogoods.specs.Store.{headerSize};
+ghost use Rattle.nogoods.specs.Store.{Stored, headerSize};
 ghost use Rattle.nogoods.specs.Records.{Encodes, endAt, Readable, Stands};
 ghost use Rattle.nogoods.specs.Propagate.{Saturates};
 ghost use Rattle.nogoods.specs.PropagateChains.{places, reach, Links, Below, Queue, Walks};
@@ -85,7 +84,7 @@ fn enter_all(
     head: &mut [u16; PLACES],
     counts: &mut [u16; REACH],
 )
-    requires encoded { ⌜ ((live : List (List ℤ)) × Encodes (now nogoods) live) ⌝ }
+    requires encoded { ⌜ ((stored : List Stored) × Encodes (now nogoods) stored) ⌝ }
     requires reach { ⌜ (0 < length (now nogoods)) × (length (now nogoods) ≤ reach) ⌝ }
     requires links { ⌜ Links (now nogoods) (now owner) (now next) ⌝ }
     requires heads { ⌜ Below 1 (now head) ⌝ }
@@ -154,7 +153,7 @@ fn visit(
     queue: &mut [u16; ENTRIES],
     start: usize,
 ) -> Walk
-    requires encoded { ⌜ ((live : List (List ℤ)) × Encodes (now nogoods) live) ⌝ }
+    requires encoded { ⌜ ((stored : List Stored) × Encodes (now nogoods) stored) ⌝ }
     requires reach { ⌜ length (now nogoods) ≤ reach ⌝ }
     requires links { ⌜ Links (now nogoods) (now owner) (now next) ⌝ }
     requires first { ⌜ first < length (now nogoods) ⌝ }
@@ -194,7 +193,7 @@ fn run(
     assignment: &mut [u8; ENTRIES],
     queue: &mut [u16; ENTRIES],
 ) -> bool
-    requires encoded { ⌜ ((live : List (List ℤ)) × Encodes (now nogoods) live) ⌝ }
+    requires encoded { ⌜ ((stored : List Stored) × Encodes (now nogoods) stored) ⌝ }
     requires reach { ⌜ length (now nogoods) ≤ reach ⌝ }
     requires links { ⌜ Links (now nogoods) (now owner) (now next) ⌝ }
     requires heads { ⌜ Below (length (now nogoods)) (now head) ⌝ }
@@ -223,7 +222,7 @@ fn run(
 
 // The assignment grows by what follows from the nogoods, unless these are too long. Whether there is a conflict.
 pub fn saturate(nogoods: &[i32], assignment: &mut [u8; ENTRIES]) -> bool
-    requires encoded { ⌜ ((live : List (List ℤ)) × Encodes (now nogoods) live) ⌝ }
+    requires encoded { ⌜ ((stored : List Stored) × Encodes (now nogoods) stored) ⌝ }
     requires size { ⌜ length (now assignment) ≡ entries ⌝ }
     ensures { λ r. ⌜ Saturates (now (nogoods .entry)) (now (assignment .entry)) (now (assignment .exit)) r ⌝ }
 {

@@ -8,6 +8,7 @@ ghost use lib.ListN.{length};
 ghost use Rattle.words.specs.Lists.{_∈_};
 ghost use Rattle.derivation.specs.Propagation.{refuted};
 ghost use Rattle.nogoods.specs.Keeps.{Literals, Holds};
+ghost use Rattle.nogoods.specs.Store.{Stored, live};
 ghost use Rattle.words.specs.Limits.{entries};
 ghost use Rattle.nogoods.specs.Records.{Encodes};
 ghost use Rattle.nogoods.specs.Propagate.{Assigns, Sweeps, Settles, Ends};
@@ -26,7 +27,7 @@ enum Swept {
 
 // One pass over the nogoods, each with what those before it gave.
 fn sweep(nogoods: &[i32], assignment: &mut [u8; ENTRIES]) -> Swept
-    requires encoded { ⌜ ((live : List (List ℤ)) × Encodes (now nogoods) live) ⌝ }
+    requires encoded { ⌜ ((stored : List Stored) × Encodes (now nogoods) stored) ⌝ }
     requires size { ⌜ length (now assignment) ≡ entries ⌝ }
     ensures { λ r. ⌜ Sweeps (now (nogoods .entry)) (now (assignment .entry)) (now (assignment .exit)) r ⌝ }
 {
@@ -68,7 +69,7 @@ fn assigned(literals: &[i32]) -> [u8; ENTRIES]
 
 // Sweeps until nothing changes, at most so many.
 fn settle(nogoods: &[i32], rounds: usize, assignment: &mut [u8; ENTRIES]) -> Swept
-    requires encoded { ⌜ ((live : List (List ℤ)) × Encodes (now nogoods) live) ⌝ }
+    requires encoded { ⌜ ((stored : List Stored) × Encodes (now nogoods) stored) ⌝ }
     requires size { ⌜ length (now assignment) ≡ entries ⌝ }
     ensures { λ r. ⌜ Settles (now (nogoods .entry)) rounds (now (assignment .entry)) (now (assignment .exit)) r ⌝ }
 {
@@ -92,7 +93,7 @@ fn settle(nogoods: &[i32], rounds: usize, assignment: &mut [u8; ENTRIES]) -> Swe
 // What a few sweeps leave: the counters, and then sweeps until nothing changes. Each before the last one assigns a variable, so
 // that one more than there are entries is enough.
 fn finish(nogoods: &[i32], assignment: &mut [u8; ENTRIES]) -> bool
-    requires encoded { ⌜ ((live : List (List ℤ)) × Encodes (now nogoods) live) ⌝ }
+    requires encoded { ⌜ ((stored : List Stored) × Encodes (now nogoods) stored) ⌝ }
     requires size { ⌜ length (now assignment) ≡ entries ⌝ }
     ensures { λ r. ⌜ Ends (now (nogoods .entry)) (now (assignment .entry)) (now (assignment .exit)) r ⌝ }
 {
@@ -109,7 +110,7 @@ fn finish(nogoods: &[i32], assignment: &mut [u8; ENTRIES]) -> bool
 
 // Propagation to its end. Whether that is a conflict.
 fn propagate(nogoods: &[i32], assignment: &mut [u8; ENTRIES]) -> bool
-    requires encoded { ⌜ ((live : List (List ℤ)) × Encodes (now nogoods) live) ⌝ }
+    requires encoded { ⌜ ((stored : List Stored) × Encodes (now nogoods) stored) ⌝ }
     requires size { ⌜ length (now assignment) ≡ entries ⌝ }
     ensures { λ r. ⌜ Ends (now (nogoods .entry)) (now (assignment .entry)) (now (assignment .exit)) r ⌝ }
 {
@@ -123,10 +124,10 @@ fn propagate(nogoods: &[i32], assignment: &mut [u8; ENTRIES]) -> bool
 
 // Whether propagation from the literals over the nogoods in the store's first `used` words comes to a conflict.
 pub fn refutes(store: &[i32], used: usize, literals: &[i32]) -> bool
-    requires held { ⌜ ((live : List (List ℤ)) × Holds (now store) used live) ⌝ }
+    requires held { ⌜ ((stored : List Stored) × Holds (now store) used stored) ⌝ }
     requires literals { ⌜ Literals (now literals) ⌝ }
-    ensures { λ r. ⌜ ((live : List (List ℤ)) → Holds (now (store .entry)) used live
-        → r ≡ refuted live (now (literals .entry))) ⌝ }
+    ensures { λ r. ⌜ ((stored : List Stored) → Holds (now (store .entry)) used stored
+        → r ≡ refuted (live stored) (now (literals .entry))) ⌝ }
 {
     let mut assignment = assigned(literals);
     propagate(&store[..used], &mut assignment)

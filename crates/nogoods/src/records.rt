@@ -4,14 +4,18 @@ ghost use Prim.Native.Nat.{_≤_};
 ghost use lib.ListN.{length};
 ghost use Rattle.nogoods.specs.Records.{countAt, endAt, nogoodAt};
 
-// As many words a header has: the literal count alone.
-pub const HEADER: usize = 1;
+// As many words a header has: the origin, and the literal count.
+pub const HEADER: usize = 2;
 
-// The literal count of the record at r; 0 past the end.
+// Where the literal count stands in a record.
+pub const COUNT: usize = 1;
+
+// The literal count of the record at r.
 pub fn count_at(store: &[i32], r: usize) -> usize
+    requires { ⌜ endAt (now store) r ≤ length (now store) ⌝ }
     ensures { λ n. ⌜ n ≡ countAt (now (store .entry)) r ⌝ }
 {
-    words::variable_of(words::word_at(store, r))
+    words::variable_of(store[r + COUNT])
 }
 
 // Where the record at r ends; the next one begins there.

@@ -2,16 +2,16 @@
 ghost use mathlib.Core.Path.{_≡_};
 ghost use mathlib.Core.List.{List, [], _∷_, _++_};
 ghost use Prim.Native.Nat.{_≤_};
-ghost use lib.IntN.{ℤ};
 ghost use lib.ListN.{length};
-ghost use Rattle.words.specs.Limits.{largest};
+ghost use Rattle.words.specs.Limits.{largest, longest};
 ghost use Rattle.words.specs.Lists.{any, dropFirst};
 ghost use Rattle.words.specs.Literals.{sameList};
 ghost use Rattle.aspif.specs.Rules.{isEmpty};
 ghost use Rattle.nogoods.specs.Keeps.{Literals, Holds, Fits, WrittenFront};
-ghost use Rattle.nogoods.specs.Store.{nogoodWords, recordSize};
+ghost use Rattle.nogoods.specs.Store.{Stored, recordOf, addedIn, live, storedWords, recordSize};
 ghost use Rattle.nogoods.specs.Finds.{foundAt};
 use crate::records;
+use crate::records::COUNT;
 use crate::records::HEADER;
 
 // Where a nogood stands.
@@ -26,35 +26,39 @@ pub enum Added {
     Full,
 }
 
-// The words of a nogood at the front of the free tail.
-pub fn write(free: &mut [i32], literals: &[i32])
+// The words of a nogood, with the number of its step, at the front of the free tail.
+pub fn write(free: &mut [i32], origin: usize, literals: &[i32])
+    requires origin { ⌜ origin ≤ longest ⌝ }
     requires room { ⌜ (recordSize (now literals) ≤ length (now free)) × (length (now literals) ≤ largest) ⌝ }
-    ensures { λ _. ⌜ WrittenFront (nogoodWords (now (literals .entry))) (now (free .entry)) (now (free .exit)) ⌝ }
+    ensures { λ _. ⌜ WrittenFront (storedWords (recordOf origin (now (literals .entry))))
+        (now (free .entry)) (now (free .exit)) ⌝ }
 {
-    free[0] = literals.len() as i32;
+    free[0] = origin as i32;
+    free[COUNT] = literals.len() as i32;
     words::copy(&mut free[HEADER..], literals);
 }
 
-// One more live nogood, after the others.
-pub fn append(store: &mut [i32], used: usize, literals: &[i32]) -> Added
-    requires held { ⌜ ((live : List (List ℤ)) × Holds (now store) used live) ⌝ }
+// One more live nogood, after the others, with the number of the step that adds it.
+pub fn append(store: &mut [i32], used: usize, origin: usize, literals: &[i32]) -> Added
+    requires held { ⌜ ((stored : List Stored) × Holds (now store) used stored) ⌝ }
+    requires origin { ⌜ origin ≤ longest ⌝ }
     requires literals { ⌜ Literals (now literals) × (length (now literals) ≤ largest) ⌝ }
-    ensures { λ r. ⌜ ((live : List (List ℤ)) → Holds (now (store .entry)) used live
-        → Fits (live ++ (now (literals .entry) ∷ [])) (now (store .exit)) r) ⌝ }
+    ensures { λ r. ⌜ ((stored : List Stored) → Holds (now (store .entry)) used stored
+        → Fits (stored ++ addedIn origin (now (literals .entry) ∷ [])) (now (store .exit)) r) ⌝ }
 {
     let size = HEADER + literals.len();
     if store.len() - used < size {
         return Added::Full;
     }
-    write(&mut store[used..], literals);
+    write(&mut store[used..], origin, literals);
     Added::Uses(used + size)
 }
 
 // The oldest live nogood that is the list of literals.
 fn find(store: &[i32], used: usize, literals: &[i32]) -> Found
-    requires { ⌜ ((live : List (List ℤ)) × Holds (now store) used live) ⌝ }
-    ensures { λ r. ⌜ ((live : List (List ℤ)) → Holds (now (store .entry)) used live
-        → r ≡ foundAt 0 (now (literals .entry)) live) ⌝ }
+    requires { ⌜ ((stored : List Stored) × Holds (now store) used stored) ⌝ }
+    ensures { λ r. ⌜ ((stored : List Stored) → Holds (now (store .entry)) used stored
+        → r ≡ foundAt 0 (now (literals .entry)) stored) ⌝ }
 {
     let mut i = 0;
     while i < used {
@@ -68,9 +72,9 @@ fn find(store: &[i32], used: usize, literals: &[i32]) -> Found
 
 // The oldest live nogood that is the list of literals goes out, and the words close up. How many words are used then.
 pub fn delete(store: &mut [i32], used: usize, literals: &[i32]) -> usize
-    requires { ⌜ ((live : List (List ℤ)) × Holds (now store) used live) ⌝ }
-    ensures { λ r. ⌜ ((live : List (List ℤ)) → Holds (now (store .entry)) used live
-        → Holds (now (store .exit)) r (dropFirst (λ g. sameList g (now (literals .entry))) live)) ⌝ }
+    requires { ⌜ ((stored : List Stored) × Holds (now store) used stored) ⌝ }
+    ensures { λ r. ⌜ ((stored : List Stored) → Holds (now (store .entry)) used stored
+        → Holds (now (store .exit)) r (dropFirst (λ e. sameList (e .literals) (now (literals .entry))) stored)) ⌝ }
 {
     match find(store, used, literals) {
         Found::At(i) => {
@@ -84,8 +88,8 @@ pub fn delete(store: &mut [i32], used: usize, literals: &[i32]) -> usize
 
 // How many nogoods are live.
 pub fn count(store: &[i32], used: usize) -> usize
-    requires { ⌜ ((live : List (List ℤ)) × Holds (now store) used live) ⌝ }
-    ensures { λ r. ⌜ ((live : List (List ℤ)) → Holds (now (store .entry)) used live → r ≡ length live) ⌝ }
+    requires { ⌜ ((stored : List Stored) × Holds (now store) used stored) ⌝ }
+    ensures { λ r. ⌜ ((stored : List Stored) → Holds (now (store .entry)) used stored → r ≡ length (live stored)) ⌝ }
 {
     let mut n = 0;
     let mut i = 0;
@@ -98,8 +102,8 @@ pub fn count(store: &[i32], used: usize) -> usize
 
 // The empty nogood is live.
 pub fn has_empty(store: &[i32], used: usize) -> bool
-    requires { ⌜ ((live : List (List ℤ)) × Holds (now store) used live) ⌝ }
-    ensures { λ r. ⌜ ((live : List (List ℤ)) → Holds (now (store .entry)) used live → r ≡ any isEmpty live) ⌝ }
+    requires { ⌜ ((stored : List Stored) × Holds (now store) used stored) ⌝ }
+    ensures { λ r. ⌜ ((stored : List Stored) → Holds (now (store .entry)) used stored → r ≡ any isEmpty (live stored)) ⌝ }
 {
     let mut i = 0;
     while i < used {

@@ -3,7 +3,7 @@
 -- Assumes nothing.
 use mathlib.Core.Path.{_≡_}
 use mathlib.Core.List.{List, [], _∷_, _++_}
-use Prim.Native.Nat.{ℕ}
+use Prim.Native.Nat.{ℕ, _-_}
 use Prim.Native.String.{String}
 use lib.IntN.{ℤ, pos, negℤ}
 use lib.ListN.{length, replicate}
@@ -81,15 +81,18 @@ neg v = negℤ (pos v)
 abbrev pub table1 : List ℤ
 table1 = pos 0 ∷ pos 1 ∷ pos 0 ∷ pos 1 ∷ pos 1 ∷ neg 1 ∷ []
 
--- "Store: 2 -1 -2, 2 1 2, 2 -1 2, 2 1 -2, 1 1, 0. These are 15 words"
+-- "Store: 2 -1 -2, 2 1 2, 2 -1 2, 2 1 -2, 1 1, 0", each with "the number of the step that added it, as a word before its count";
+-- without the last, which the closing `a 0` adds, and with it
+abbrev pub store2 : List ℤ
+store2 =
+    pos 1 ∷ pos 2 ∷ neg 1 ∷ neg 2
+    ∷ pos 1 ∷ pos 2 ∷ pos 1 ∷ pos 2
+    ∷ pos 2 ∷ pos 2 ∷ neg 1 ∷ pos 2
+    ∷ pos 3 ∷ pos 2 ∷ pos 1 ∷ neg 2
+    ∷ pos 4 ∷ pos 1 ∷ pos 1 ∷ []
+
 abbrev pub store1 : List ℤ
-store1 =
-    pos 2 ∷ neg 1 ∷ neg 2
-    ∷ pos 2 ∷ pos 1 ∷ pos 2
-    ∷ pos 2 ∷ neg 1 ∷ pos 2
-    ∷ pos 2 ∷ pos 1 ∷ neg 2
-    ∷ pos 1 ∷ pos 1
-    ∷ pos 0 ∷ []
+store1 = store2 ++ (pos 5 ∷ pos 0 ∷ [])
 
 -- A set listed, and the program that a text holds: what the set test answers on the table of its words and 8,192 marks, and whether the
 -- set is an answer set.
@@ -106,13 +109,13 @@ pub record SetFails (text l : List ℕ) (r : SetAnswer) : Type 0 where
   pub none : ¬ AnswerSet (Listed l) (expand P)
 
 pub record Starred : Type 0 where
-  -- 1: "Prints `inconsistent 1 1 5 6`", with its store; "These are 15 words; a store of 14 gives 34 at step 5."
+  -- 1: "Prints `inconsistent 1 1 5 6`", with its store; "example 1 needs 21 words", and 20 give 34 at step 5
   pub onePrints : printed program1 proof1 ≡ lines ("inconsistent 1 1 5 6" ∷ [])
   pub one : check program1 proof1 lent lent
-      ≡ record { verdict = inconsistent 1 1 5 6; table = table1 ++ replicate 16378 (pos 0); store = store1 ++ replicate 16369 (pos 0) }
-  pub oneFits : check program1 proof1 6 15 ≡ record { verdict = inconsistent 1 1 5 6; table = table1; store = store1 }
-  pub oneShort : check program1 proof1 6 14
-      ≡ record { verdict = refusedProof 34 5; table = replicate 6 (pos 0); store = replicate 14 (pos 0) }
+      ≡ record { verdict = inconsistent 1 1 5 6; table = table1 ++ replicate 16378 (pos 0); store = store1 ++ replicate 16363 (pos 0) }
+  pub oneFits : check program1 proof1 6 21 ≡ record { verdict = inconsistent 1 1 5 6; table = table1; store = store1 }
+  pub oneShort : check program1 proof1 6 20
+      ≡ record { verdict = refusedProof 34 5; table = replicate 6 (pos 0); store = replicate 20 (pos 0) }
   -- 2: "example 1 with `d 0` added: `open 1 1 6 5`"
   pub two : verdict program1 (proof1 ++ lines ("d 0" ∷ [])) ≡ undecided 1 1 6 5
   pub twoPrints : printed program1 (proof1 ++ lines ("d 0" ∷ [])) ≡ lines ("open 1 1 6 5" ∷ [])
@@ -185,6 +188,45 @@ pub record LoopsOnly : Type 0 where
   -- "weight rules as expanded": with bound 2 on 1=2, 2=1 the minimal set is {1}; on 1=1, 2=2 it is {2}
   pub weightLoop : verdict (rules ("1 0 1 1 1 2 2 1 2 2 1" ∷ [])) (lines ("l 1 0" ∷ [])) ≡ undecided 2 1 1 1
   pub weightNoLoop : verdict (rules ("1 0 1 1 1 2 2 1 1 2 2" ∷ [])) (lines ("l 1 0" ∷ [])) ≡ refusedProof 56 1
+
+-- Origins (Change 7), no starred ones: the store that each proof leaves, of the length given, with 0 after its words. The fact
+-- `1 0 1 1 0 0` is the one rule of all but the first two.
+
+abbrev pub leaves : (text proof : List ℕ) (size : ℕ) → Verdict → List ℤ → Type 0
+leaves text proof size v words =
+    (check text proof lent size .verdict ≡ v)
+    × (check text proof lent size .store ≡ words ++ replicate (size - length words) (pos 0))
+
+abbrev pub fact : List ℕ
+fact = rules ("1 0 1 1 0 0" ∷ [])
+
+pub record OriginWords : Type 0 where
+  -- the empty nogood goes out, with its step
+  pub deleted : leaves program1 (proof1 ++ lines ("d 0" ∷ [])) 24 (undecided 1 1 6 5) store2
+  -- a deletion counts as a step
+  pub counted : leaves program1 (lines ("b 2 -1 0" ∷ "c 2 1 0" ∷ "d -1 -2 0" ∷ "s 1 2 0" ∷ [])) 16 (undecided 1 1 4 3)
+      (pos 1 ∷ pos 2 ∷ pos 1 ∷ pos 2
+      ∷ pos 2 ∷ pos 2 ∷ neg 1 ∷ pos 2
+      ∷ pos 4 ∷ pos 2 ∷ pos 1 ∷ neg 2 ∷ [])
+  -- "Deletion still takes the oldest equal set, whatever its origin"
+  pub oldest : leaves fact (lines ("b 2 0" ∷ "c 2 1 0" ∷ "c 2 1 0" ∷ "d -1 2 0" ∷ [])) 16 (undecided 1 1 4 2)
+      (pos 1 ∷ pos 1 ∷ neg 2
+      ∷ pos 3 ∷ pos 2 ∷ neg 1 ∷ pos 2 ∷ [])
+  -- a deletion that takes nothing away counts too
+  pub idle : leaves fact (lines ("d 1 0" ∷ "b 2 0" ∷ [])) 16 (undecided 1 1 2 1) (pos 2 ∷ pos 1 ∷ neg 2 ∷ [])
+  -- the words are just enough, or one too few
+  pub again : leaves fact (lines ("b 2 0" ∷ "c 2 1 0" ∷ "d -2 0" ∷ "c 2 1 0" ∷ "c 2 1 0" ∷ [])) 12 (undecided 1 1 5 3)
+      (pos 2 ∷ pos 2 ∷ neg 1 ∷ pos 2
+      ∷ pos 4 ∷ pos 2 ∷ neg 1 ∷ pos 2
+      ∷ pos 5 ∷ pos 2 ∷ neg 1 ∷ pos 2 ∷ [])
+  pub againShort : leaves fact (lines ("b 2 0" ∷ "c 2 1 0" ∷ "d -2 0" ∷ "c 2 1 0" ∷ "c 2 1 0" ∷ [])) 11 (refusedProof 34 5) []
+  -- all nogoods of one `e` carry its number
+  pub together : leaves fact (lines ("b 2 0" ∷ "e 3 1 2 0" ∷ [])) 16 (undecided 1 1 2 4)
+      (pos 1 ∷ pos 1 ∷ neg 2
+      ∷ pos 2 ∷ pos 3 ∷ pos 1 ∷ pos 2 ∷ neg 3
+      ∷ pos 2 ∷ pos 2 ∷ neg 1 ∷ pos 3
+      ∷ pos 2 ∷ pos 2 ∷ neg 2 ∷ pos 3 ∷ [])
+  pub togetherShort : leaves fact (lines ("b 2 0" ∷ "e 3 1 2 0" ∷ [])) 15 (refusedProof 34 2) []
 
 -- lines with numbers of several digits, of which the starred examples have none
 pub record LongLines : Type 0 where

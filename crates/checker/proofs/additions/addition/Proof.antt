@@ -1,44 +1,60 @@
-use mathlib.Core.Path.{refl, sym, _∙_}
+use mathlib.Core.Path.{_≡_, refl, sym, ap, _∙_}
+use mathlib.Core.Bool.{Bool}
+use mathlib.Core.List.{List}
+use Prim.Native.Nat.{ℕ}
 use native.Mathlib.Omega.{arith}
 use borrow.Author.Tests.{not-true, not-false}
 use Rattle.words.proofs.Sorting.{length-ascending}
+use lib.IntN.{ℤ}
 use Rattle.text.specs.declared.Letter.the-variants.{Addition}
+use Rattle.derivation.specs.States.{State}
+use Rattle.derivation.specs.Propagation.{refuted}
+use Rattle.nogoods.specs.Store.{Stored, live}
+use Rattle.checker.specs.Held.{HoldsState}
 use Rattle.nogoods.proofs.Literals.{literals-ascending}
-use Rattle.checker.proofs.Kept.{kept-added}
+use Rattle.checker.proofs.Kept.{kept-one, kept-more}
 use Rattle.checker.proofs.Letters.{cited}
 use borrow.Author.Needs.{needs}
 use Rattle.checker.proofs.additions.addition.Statement.{statement}
 use Rattle.checker.proofs.additions.addition.Tie as tie
 
+-- question 33 of the live nogoods
+refutes-live : {store : List ℤ} {used : ℕ} {z : State} {b : List Stored} → HoldsState store used z b → (L : List ℤ) {r a : Bool} → r ≡ refuted (live b) L → r ≡ a
+    → refuted (z .live) L ≡ a
+refutes-live K L e f = sym (e ∙ ap (λ l. refuted l L) (K .same)) ∙ f
+
 returns : tie.Need-returns
 returns c =
-    λ N ws names bodies z T H.
+    λ N ws names bodies z b T K.
     let s = c .before .before .before .before in
     rw (cited z T Addition _ (s .pre .1) refl (sym (c .before .all-marked .ensures) ∙ not-true _ (c .if1 .taken))) refl
 
 returns-2 : tie.Need-returns-2
 returns-2 c =
-    λ N ws names bodies z T H.
+    λ N ws names bodies z b T K.
     let k = c .before .before .before .before in
     let s = k .before .before .before .before in
-    rw (cited z T Addition _ (s .pre .1) refl (sym (k .before .all-marked .ensures) ∙ not-false _ (k .if1 .left)), sym (c .before .refutes .ensures (z .live) H) ∙ not-true _ (c .if2 .taken)) refl
+    rw (cited z T Addition _ (s .pre .1) refl (sym (k .before .all-marked .ensures) ∙ not-false _ (k .if1 .left)), refutes-live K (s .args .numbers .now) (c .before .refutes .ensures b (K .holds)) (not-true _ (c .if2 .taken))) refl
 
 append-requires : tie.Need-append-requires
 append-requires c κs =
     let o = c .before .before .before in
     let s = o .before .before .before .before .before .before .before .before .before .before in
     let l = s .pre .1 in
-    (s .pre .0, rw (o .sort .ensures, length-ascending) (literals-ascending _ (l .literals), omega (arith, l .few)))
+    (s .pre .0 .0, (s .pre .0 .1, rw (o .sort .ensures, length-ascending) (literals-ascending _ (l .literals), omega (arith, l .few))))
 
 returns-3 : tie.Need-returns-3
 returns-3 c =
-    λ N ws names bodies z T H.
+    λ N ws names bodies z b T K.
     let o = c .before .before .before .before .before .before in
     let m = o .before .before in
     let k = m .before .before .before .before in
     let s = k .before .before .before .before in
-    rw (cited z T Addition _ (s .pre .1) refl (sym (k .before .all-marked .ensures) ∙ not-false _ (k .if1 .left)), sym (m .before .refutes .ensures (z .live) H) ∙ not-false _ (m .if2 .left))
-    (kept-added (z .live) _ (c .before .before .append .result) (c .fitted .ensures) (o .sort .ensures) (c .before .before .append .ensures (z .live) H), T)
+    rw (cited z T Addition _ (s .pre .1) refl (sym (k .before .all-marked .ensures) ∙ not-false _ (k .if1 .left)), refutes-live K (s .args .numbers .now) (m .before .refutes .ensures b (K .holds)) (not-false _ (m .if2 .left))) (
+      kept-more K (s .args .origin) _ _ (c .fitted .result)
+          (kept-one b (s .args .origin) _ (c .before .before .append .result) (c .fitted .ensures) (o .sort .ensures) (c .before .before .append .ensures b (K .holds))),
+      T,
+    )
 
 pub addition-spec : {M : Type 1} → statement M
 addition-spec =

@@ -8,19 +8,19 @@ use Rattle.checker.proofs.additions.deletion.Tie as tie
 
 returns : tie.Need-returns
 returns c =
-    λ N ws names bodies z T H.
+    λ N n ws names bodies z b T K.
     let s = c .before .before .before .before in
     rw (cited z T Deletion _ (s .pre .1) refl (sym (c .before .all-marked .ensures) ∙ not-true _ (c .if1 .taken))) refl
 
 returns-2 : tie.Need-returns-2
 returns-2 c =
-    λ N ws names bodies z T H.
+    λ N n ws names bodies z b T K.
     let d = c .before in
     let o = d .before .before .before .before in
     let k = o .before .before in
     let s = k .before .before .before .before in
     rw (cited z T Deletion _ (s .pre .1) refl (sym (k .before .all-marked .ensures) ∙ not-false _ (k .if1 .left)))
-    (rw (o .sort .ensures) at (d .delete .ensures (z .live) H), T)
+    (rw (o .sort .ensures) at (d .delete .ensures b (K .holds)), T)
 
 pub deletion-spec : {M : Type 1} → statement M
 deletion-spec =

@@ -7,6 +7,7 @@ use Rattle.aspif.specs.Rules.{InputRule, expand, atoms}
 use Rattle.checker.specs.Check.{Course, course}
 use Rattle.checker.specs.Held.{Program, Ran}
 use Rattle.checker.proofs.Tracking.{rules-held}
+use Rattle.checker.proofs.Origins.{course-live}
 use Rattle.checker.proofs.Verdicts.{too-long, ran-stopped, ran-through, judged-stopped, judged-through}
 use borrow.Author.Needs.{needs}
 use Rattle.checker.proofs.judging.check_proof.Statement.{statement}
@@ -37,7 +38,7 @@ conclude-requires c κs =
     let q = c .before .before .before .before .before in
     let p = start q .pre .0 .0 in
     let r = ran-through (store′ q) (came q (p .0)) _ _ (ran q (p .0) (p .1)) (c .before .before .run2 .given .1) in
-    (r .0 .live, r .2)
+    (r .1, r .3)
 
 returns-2 : tie.Need-returns-2
 returns-2 c = λ ws p w.
@@ -52,7 +53,7 @@ returns-3 c = λ ws p w.
     let q = c .before .before .before .before .before .before in
     let same : length (store′ q) ≡ length (start q .args .store .now) = search needs in
     let t = ran-through (store′ q) (came q ws) _ _ (ran q ws p) (c .before .before .before .run2 .given .1) in
-    judged-through _ _ ws _ _ _ _ _ (t .0) (t .1) (c .conclude .ensures (t .0 .live) (t .2)) (p .top) (sym (rules-held (p .holds))) w (t .2) same
+    judged-through _ _ ws _ _ _ _ _ (t .0) (t .1) (t .2) (course-live _ _ _ _ (t .2)) (c .conclude .ensures (t .1) (t .3)) (p .top) (sym (rules-held (p .holds))) w (t .3) same
 
 pub check-proof-spec : {M : Type 1} → statement M
 check-proof-spec =

@@ -15,6 +15,7 @@ use Rattle.derivation.specs.States.{State, isKnown}
 use Rattle.derivation.specs.Steps.{isUnnamedBody}
 use Rattle.names.specs.Queries.{HoldsRules, Kept}
 use Rattle.checker.specs.Held.{nameOf, Tracks}
+use Rattle.checker.proofs.Kept.{kept-more}
 use Rattle.checker.proofs.Letters.{first, copied, some-number, first-low, first-high, others-literals, introduced, unknown, body-tracks}
 use borrow.Author.Needs.{needs}
 use Rattle.checker.proofs.naming.body.Statement.{statement}
@@ -28,7 +29,7 @@ part-all-marked-start c = search (needs, some-number Body refl (c .before .befor
 
 returns : tie.Need-returns
 returns c =
-    λ N ws p z T H.
+    λ N ws p z stored T K.
     let s = c .before .before .before .before .before .before .before in
     rw (introduced z T Body _ (s .pre .1 .1) refl refl (sym (c .before .all-marked .ensures) ∙ not-true _ (c .if1 .taken)) refl) refl
 
@@ -44,7 +45,7 @@ named c = rw (name (c .before .before)) at (c .is-marked .ensures)
 
 returns-2 : tie.Need-returns-2
 returns-2 c =
-    λ N ws p z T H.
+    λ N ws p z stored T K.
     let k = c .before .before .before .before .before in
     let s = k .before .before .before .before .before .before .before in
     rw (introduced z T Body _ (s .pre .1 .1) refl refl (sym (k .before .all-marked .ensures) ∙ not-false _ (k .if1 .left)) (sym (named (c .before)) ∙ c .if2 .taken)) refl
@@ -94,7 +95,7 @@ module _ (c : tie.After-name-body) where
 
 returns-3 : tie.Need-returns-3
 returns-3 c =
-    λ N ws p z T H.
+    λ N ws p z stored T K.
     let b = c .before .before .before .before .before in
     let m = b .before .before .before .before .before .before .before .before in
     let k = m .before .before .before .before .before in
@@ -109,7 +110,7 @@ define-requires c κs =
 
 returns-4 : tie.Need-returns-4
 returns-4 c =
-    λ N ws p z T H.
+    λ N ws p z stored T K.
     let d = c .before .before .before .before in
     let e = d .before .before .before .before in
     let b = e .before .before .before .before .before in
@@ -120,7 +121,7 @@ returns-4 c =
     let u = not-false _ (e .if3 .left) in
     let q = sym (answer b N ws p z T) ∙ u in
     rw (introduced z T Body _ (s .pre .1 .1) refl refl (sym (k .before .all-marked .ensures) ∙ not-false _ (k .if1 .left)) f, q)
-    (d .define .ensures .1 (z .live) H, rw (d .define .ensures .0) (body-tracks z T Body _ (s .pre .1 .1) refl f q (entered b N ws p z T u (unknown z T Body _ (s .pre .1 .1) refl f))))
+    (kept-more K (s .args .origin) _ _ (d .define .result) (d .define .ensures .1 stored (K .holds)), rw (d .define .ensures .0) (body-tracks z T Body _ (s .pre .1 .1) refl f q (entered b N ws p z T u (unknown z T Body _ (s .pre .1 .1) refl f))))
 
 pub body-spec : {M : Type 1} → statement M
 body-spec =

@@ -4,6 +4,7 @@ use Rattle.words.specs.Literals.{variable}
 use Rattle.words.proofs.Words.{back}
 use Rattle.text.specs.declared.Letter.the-variants.{Extension}
 use Rattle.marks.specs.Marks.{marked}
+use Rattle.checker.proofs.Kept.{kept-more}
 use Rattle.checker.proofs.Letters.{first, some-number, introduced, extension-tracks}
 use borrow.Author.Needs.{needs}
 use Rattle.checker.proofs.naming.extension.Statement.{statement}
@@ -17,7 +18,7 @@ part-all-marked-start c = search (needs, some-number Extension refl (c .before .
 
 returns : tie.Need-returns
 returns c =
-    λ N ws names bodies z T H.
+    λ N ws names bodies z b T K.
     let s = c .before .before .before .before .before .before in
     rw (introduced z T Extension _ (s .pre .1) refl refl (sym (c .before .all-marked .ensures) ∙ not-true _ (c .if1 .taken)) refl) refl
 
@@ -31,7 +32,7 @@ named c = rw (c .before .variable-of .ensures, back _ (c .before .before .variab
 
 returns-2 : tie.Need-returns-2
 returns-2 c =
-    λ N ws names bodies z T H.
+    λ N ws names bodies z b T K.
     let k = c .before .before .before .before .before in
     let s = k .before .before .before .before .before .before in
     rw (introduced z T Extension _ (s .pre .1) refl refl (sym (k .before .all-marked .ensures) ∙ not-false _ (k .if1 .left)) (sym (named (c .before)) ∙ c .if2 .taken)) refl
@@ -44,14 +45,14 @@ define-requires c κs =
 
 returns-3 : tie.Need-returns-3
 returns-3 c =
-    λ N ws names bodies z T H.
+    λ N ws names bodies z b T K.
     let d = c .before .before .before .before in
     let m = d .before .before .before .before in
     let k = m .before .before .before .before .before in
     let s = k .before .before .before .before .before .before in
     let f = sym (named (m .before)) ∙ m .if2 .left in
     rw (introduced z T Extension _ (s .pre .1) refl refl (sym (k .before .all-marked .ensures) ∙ not-false _ (k .if1 .left)) f)
-    (d .define .ensures .1 (z .live) H, rw (d .define .ensures .0) (extension-tracks z T Extension _ (s .pre .1) refl f))
+    (kept-more K (s .args .origin) _ _ (d .define .result) (d .define .ensures .1 b (K .holds)), rw (d .define .ensures .0) (extension-tracks z T Extension _ (s .pre .1) refl f))
 
 pub extension-spec : {M : Type 1} → statement M
 extension-spec =

@@ -47,8 +47,8 @@ module _ (c : tie.After-turn-at Inv-loop μ-loop) where
   G : Going (start .args .atoms) ws (length (start .args .store .now)) (start .args .proof .now) (l .loop .store) (l .loop .known) (l .loop .names) (l .loop .bodies) (l .loop .used) (l .loop .at) (l .loop .steps)
   G = l .loop .inv .2
 
-  turned : LineLeaves (start .args .atoms) ws known′ names′ bodies′ store′ (l .loop .used) (G .z) (lineAt (start .args .proof .now) (l .loop .at)) (c .turn-at .result)
-  turned = c .turn-at .ensures ws (l .loop .inv .1) (G .z) (G .tracks) (G .holds)
+  turned : LineLeaves (start .args .atoms) ws known′ names′ bodies′ store′ (l .loop .used) (l .loop .steps + 1) (G .z) (G .stored) (lineAt (start .args .proof .now) (l .loop .at)) (c .turn-at .result)
+  turned = c .turn-at .ensures ws (l .loop .inv .1) (G .z) (G .stored) (G .tracks) (G .keeps)
 
   -- as many words as were lent
   same-bodies : length bodies′ ≡ length (start .args .bodies .now)
@@ -68,6 +68,13 @@ loop-holds c =
     let p = q .0 .0 .1 in
     rw (s .1, s .2) (q .0 .0 .0, p, going-start _ _ _ _ (start-tracks (s .0) (omega (arith, q .0 .1, rules-held (p .holds))) (rw (← p .holds .are) (q .1 .1 .0))) (q .1 .1 .1 .1) refl (length-replicate {A = ℕ} mostRules 0), refl)
 
+-- the number of the next step
+add-step : tie.Need-add-step Inv-loop μ-loop
+add-step c =
+    let g = c .loop .inv .2 in
+    let p = c .before .before .before .before .before .before .pre .1 .1 .1 .0 in
+    search (needs, g .count, g .within, p)
+
 slice-aggregate-turn-at-2 : tie.Need-slice-aggregate-turn-at-2 Inv-loop μ-loop
 slice-aggregate-turn-at-2 c = let p = c .before .before .loop .inv .2 .places in search needs
 
@@ -75,7 +82,7 @@ turn-at-requires : tie.Need-turn-at-requires Inv-loop μ-loop
 turn-at-requires c κs =
     let i = c .before .before .before .before .loop .inv in
     let p = c .before .before .before .before .before .before .before .before .before .before .pre in
-    ((p .0 .0, omega (arith, p .0 .1, i .2 .places)), (p .1 .0, (i .2 .z .live, i .2 .holds)))
+    ((p .0 .0, omega (arith, p .0 .1, i .2 .places)), (p .1 .0, (((i .2 .stored, i .2 .keeps .holds), omega (arith, i .2 .count)), p .1 .1 .1 .0)))
 
 enum-told : tie.Need-enum-told Inv-loop μ-loop
 enum-told c = search needs
@@ -114,6 +121,7 @@ run-lines-spec =
     μ-loop
     start-requires
     loop-holds
+    add-step
     (λ c. search needs)
     slice-aggregate-turn-at-2
     turn-at-requires
@@ -122,11 +130,9 @@ run-lines-spec =
     (λ c. search needs)
     returns
     (λ c. search needs)
-    (λ c. search needs)
     (λ c. same-bodies (c .before .before .before .before .before .before .before))
     (λ c. search needs)
     returns-2
-    (λ c. search needs)
     (λ c. search needs)
     loop-less
     loop-again)

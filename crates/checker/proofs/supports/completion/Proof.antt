@@ -11,6 +11,7 @@ use Rattle.derivation.specs.States.{State}
 use Rattle.derivation.specs.Steps.{isCompletion}
 use Rattle.names.specs.Queries.{HoldsRules}
 use Rattle.checker.specs.Held.{Tracks}
+use Rattle.checker.proofs.Kept.{kept-more}
 use Rattle.checker.proofs.Letters.{first, some-number, first-low, first-high, cited, completed}
 use borrow.Author.Needs.{needs}
 use Rattle.checker.proofs.supports.completion.Statement.{statement}
@@ -18,7 +19,7 @@ use Rattle.checker.proofs.supports.completion.Tie as tie
 
 returns : tie.Need-returns
 returns c =
-    λ N ws p z T H.
+    λ N ws p z b T K.
     let s = c .before .before .before .before .before in
     rw (cited z T Completion _ (s .pre .1 .1) refl (sym (c .before .all-marked .ensures) ∙ not-true _ (c .if1 .taken))) refl
 
@@ -52,7 +53,7 @@ answer c N ws z p T =
 
 returns-2 : tie.Need-returns-2
 returns-2 c =
-    λ N ws p z T H.
+    λ N ws p z b T K.
     let k = c .before .before .before .before .before .before in
     let s = k .before .before .before .before .before in
     rw (cited z T Completion _ (s .pre .1 .1) refl (sym (k .before .all-marked .ensures) ∙ not-false _ (k .if1 .left)), sym (answer (c .before) N ws z p T) ∙ not-true _ (c .if2 .taken)) refl
@@ -65,12 +66,12 @@ join-requires c κs =
 
 returns-3 : tie.Need-returns-3
 returns-3 c =
-    λ N ws p z T H.
+    λ N ws p z b T K.
     let m = c .before .before .before .before .before in
     let k = m .before .before .before .before .before .before in
     let s = k .before .before .before .before .before in
     rw (cited z T Completion _ (s .pre .1 .1) refl (sym (k .before .all-marked .ensures) ∙ not-false _ (k .if1 .left)), sym (answer (m .before) N ws z p T) ∙ not-false _ (m .if2 .left))
-    (c .before .before .join .ensures (z .live) H, T)
+    (kept-more K (s .args .origin) _ _ (c .before .before .join .result) (c .before .before .join .ensures b (K .holds)), T)
 
 pub completion-spec : {M : Type 1} → statement M
 completion-spec =

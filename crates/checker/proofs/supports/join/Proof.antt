@@ -4,7 +4,7 @@ use lib.ListN.{drop, getD}
 use Rattle.words.proofs.Parts.{tail-of}
 use Rattle.nogoods.proofs.Literals.{literals-tail}
 use Rattle.nogoods.proofs.Defined.{name-and-literals}
-use Rattle.checker.proofs.Kept.{kept-added, Joined, joined}
+use Rattle.checker.proofs.Kept.{kept-one, Joined, joined}
 use borrow.Author.Needs.{needs}
 use Rattle.checker.proofs.supports.join.Statement.{statement}
 use Rattle.checker.proofs.supports.join.Tie as tie
@@ -29,13 +29,13 @@ module _ (c : tie.After-sort) where
 append-requires : tie.Need-append-requires
 append-requires c κs =
     let o = c .before .before .before in
-    (s o .pre .0, (added o .literals, omega (arith, added o .size, s o .pre .1 .2)))
+    (s o .pre .0 .0, (s o .pre .0 .1, (added o .literals, omega (arith, added o .size, s o .pre .1 .2))))
 
 returns : tie.Need-returns
 returns c =
     let a = c .before .before in
     let o = a .before .before .before .before in
-    λ live H. kept-added live _ (a .append .result) (c .fitted .ensures) (added o .is) (a .append .ensures live H)
+    λ b H. kept-one b (s o .args .origin) _ (a .append .result) (c .fitted .ensures) (added o .is) (a .append .ensures b H)
 
 pub join-spec : {M : Type 1} → statement M
 join-spec =

@@ -1,6 +1,7 @@
 use mathlib.Core.Path.{refl, sym, _∙_}
 use borrow.Author.Tests.{not-true, not-false}
 use Rattle.text.specs.declared.Letter.the-variants.{Support}
+use Rattle.checker.proofs.Kept.{kept-more}
 use Rattle.checker.proofs.Letters.{some-number, cited}
 use borrow.Author.Needs.{needs}
 use Rattle.checker.proofs.supports.support.Statement.{statement}
@@ -8,13 +9,13 @@ use Rattle.checker.proofs.supports.support.Tie as tie
 
 returns : tie.Need-returns
 returns c =
-    λ ws p z T H.
+    λ ws p z b T K.
     let s = c .before .before .before .before .before in
     rw (cited z T Support _ (s .pre .1 .1) refl (sym (c .before .all-marked .ensures) ∙ not-true _ (c .if1 .taken))) refl
 
 returns-2 : tie.Need-returns-2
 returns-2 c =
-    λ ws p z T H.
+    λ ws p z b T K.
     let k = c .before .before .before in
     let s = k .before .before .before .before .before in
     rw (cited z T Support _ (s .pre .1 .1) refl (sym (k .before .all-marked .ensures) ∙ not-false _ (k .if1 .left)), sym (c .before .is-supported .ensures ws p (s .args .known .now) z T) ∙ not-true _ (c .if2 .taken)) refl
@@ -27,12 +28,12 @@ join-requires c κs =
 
 returns-3 : tie.Need-returns-3
 returns-3 c =
-    λ ws p z T H.
+    λ ws p z b T K.
     let m = c .before .before .before .before .before in
     let k = m .before .before .before in
     let s = k .before .before .before .before .before in
     rw (cited z T Support _ (s .pre .1 .1) refl (sym (k .before .all-marked .ensures) ∙ not-false _ (k .if1 .left)), sym (m .before .is-supported .ensures ws p (s .args .known .now) z T) ∙ not-false _ (m .if2 .left))
-    (c .before .before .join .ensures (z .live) H, T)
+    (kept-more K (s .args .origin) _ _ (c .before .before .join .result) (c .before .before .join .ensures b (K .holds)), T)
 
 pub support-spec : {M : Type 1} → statement M
 support-spec =

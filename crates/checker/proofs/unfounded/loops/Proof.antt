@@ -19,7 +19,7 @@ use Rattle.derivation.specs.Loops.{isLoop}
 use Rattle.nogoods.specs.Keeps.{Literals}
 use Rattle.checker.specs.Held.{PassedLine, gathered}
 use Rattle.checker.proofs.Letters.{some-number, first-high, cited}
-use Rattle.checker.proofs.Kept.{kept-added}
+use Rattle.checker.proofs.Kept.{kept-one, kept-more}
 use Rattle.checker.proofs.Gathering.{gathered-literals}
 use Rattle.checker.proofs.LoopSteps.{members, loop-atoms, loop-not, loop-named, loop-added}
 use borrow.Author.Needs.{needs}
@@ -46,14 +46,14 @@ module _ (c : tie.Else2) where
 returns : tie.Need-returns
 returns c =
     let s = c .before .before .before .before .before in
-    λ ws p z tracks H. rw (cited z tracks Loop (s .args .numbers .now) (s .pre .1 .1 .1) refl (sym (c .before .all-marked .ensures) ∙ not-true _ (c .if1 .taken))) refl
+    λ ws p z b tracks K. rw (cited z tracks Loop (s .args .numbers .now) (s .pre .1 .1 .1) refl (sym (c .before .all-marked .ensures) ∙ not-true _ (c .if1 .taken))) refl
 
 returns-2 : tie.Need-returns-2
 returns-2 c =
     let d = c .before .before in
     let s = d .before .before .before .before .before in
-    λ ws p z tracks H.
-    loop-atoms z tracks _ (s .args .numbers .now) (s .pre .1 .1 .1) (sym (d .before .all-marked .ensures) ∙ not-false _ (d .if1 .left))
+    λ ws p z b tracks K.
+    loop-atoms z tracks (s .args .origin) b _ (s .args .numbers .now) (s .pre .1 .1 .1) (sym (d .before .all-marked .ensures) ∙ not-false _ (d .if1 .left))
     (omega (arith, c .if2 .taken, c .before .largest-variable .ensures))
 
 is-loop-requires : tie.Need-is-loop-requires
@@ -67,8 +67,8 @@ looped c = sym (c .is-loop .ensures)
 returns-3 : tie.Need-returns-3
 returns-3 c =
     let e = c .before .before in
-    λ ws p z tracks H.
-    loop-not z tracks _ (U e) (line e) (known e) (low e) (rw (← p .holds .are) (looped (c .before) ∙ not-true _ (c .if3 .taken)))
+    λ ws p z b tracks K.
+    loop-not z tracks (s e .args .origin) b _ (U e) (line e) (known e) (low e) (rw (← p .holds .are) (looped (c .before) ∙ not-true _ (c .if3 .taken)))
 
 returns-4 : tie.Need-returns-4
 returns-4 c =
@@ -76,8 +76,8 @@ returns-4 c =
     let m = n .before .before in
     let f = m .before in
     let e = f .before .before in
-    λ ws p z tracks H.
-    loop-named z tracks _ (n .names-of .ensures ws (p .holds) _ (tracks .kept)) (U e) (line e) (known e) (low e)
+    λ ws p z b tracks K.
+    loop-named z tracks (s e .args .origin) b _ (n .names-of .ensures ws (p .holds) _ (tracks .kept)) (U e) (line e) (known e) (low e)
     (rw (← p .holds .are) (looped (f .before) ∙ not-false _ (f .if3 .left))) (m .marks-of .ensures)
     (sym (c .before .is-marked .ensures) ∙ c .if4 .taken)
 
@@ -116,7 +116,7 @@ append-requires c κs =
     let d = c .before .before .before in
     let g = d .gather in
     let e = tests d in
-    (s e .pre .1 .1 .0, (subst Literals (sym (gives d)) (gathered-literals (marked (names d .names-of .result)) (getD (U e) 0 (pos 0)) largest 1 (omega arith) (omega arith)), omega (arith, size d, g .ensures .0)))
+    (s e .pre .1 .1 .0 .0, (s e .pre .1 .1 .0 .1, (subst Literals (sym (gives d)) (gathered-literals (marked (names d .names-of .result)) (getD (U e) 0 (pos 0)) largest 1 (omega arith) (omega arith)), omega (arith, size d, g .ensures .0))))
 
 returns-5 : tie.Need-returns-5
 returns-5 c =
@@ -125,11 +125,13 @@ returns-5 c =
     let d = g .before .before .before .before in
     let n = names g in
     let e = tests g in
-    λ ws p z tracks H.
-    loop-added z tracks _ (n .names-of .ensures ws (p .holds) _ (tracks .kept)) (U e) (line e) (known e) (low e)
+    λ ws p z b tracks K.
+    loop-added z tracks (s e .args .origin) b _ (n .names-of .ensures ws (p .holds) _ (tracks .kept)) (U e) (line e) (known e) (low e)
     (rw (← p .holds .are) (looped (asked g .before) ∙ not-false _ (asked g .if3 .left))) (n .before .before .marks-of .ensures)
     (sym (d .before .is-marked .ensures) ∙ d .if4 .left)
-    (p .high) (c .fitted .result) (kept-added (z .live) _ (a .append .result) (c .fitted .ensures) (gives g) (a .append .ensures (z .live) H))
+    (p .high) (c .fitted .result)
+    (kept-more K (s e .args .origin) _ _ (c .fitted .result)
+    (kept-one b (s e .args .origin) _ (a .append .result) (c .fitted .ensures) (gives g) (a .append .ensures b (K .holds))))
 
 pub loops-spec : {M : Type 1} → statement M
 loops-spec =

@@ -36,8 +36,8 @@ returns c =
     let y : toZ w32 (ofZ w32 (k .complement-of .result)) ≡ complement (getD (a .numbers .now) 0 (pos 0)) =
     toZ-ofZ (sfits-of {z = k .complement-of .result} (k .complement-of .ok)) ∙ k .complement-of .ensures
     ∙ ap complement (back (getD (a .numbers .now) 0 (pos 0)) (k .before .complement-of-arg .given)) in
-    first-written (a .numbers .now) (a .free .now) (k .before .before .before .write .last .0) (c .before .sort .last .0) _ _
-    (headerSize + length (a .numbers .now) - headerSize) (s .pre .0 .1) (omega arith) y
+    first-written (a .origin) (a .numbers .now) (a .free .now) (k .before .before .before .write .last .0) (c .before .sort .last .0) _ _
+    (headerSize + length (a .numbers .now) - headerSize) (s .pre .1 .0 .1) (omega arith) y
     (k .before .before .before .write .ensures) (c .before .sort .ensures)
 
 pub write-first-spec : {M : Type 1} → statement M

@@ -12,7 +12,7 @@ use borrow.Rule.Slice.PartMut.{same-len-mid}
 use Rattle.words.proofs.Parts.{tail-of}
 use Rattle.words.proofs.Places.{in-at}
 use Rattle.words.proofs.Words.{back}
-use Rattle.nogoods.specs.Store.{liveWords}
+use Rattle.nogoods.specs.Store.{addedIn, wordsOf}
 use Rattle.nogoods.specs.Keeps.{WrittenFront}
 use Rattle.nogoods.specs.Definitions.{pair, pairSize}
 use Rattle.nogoods.proofs.Defined.{pair-next}
@@ -21,12 +21,12 @@ use Rattle.nogoods.proofs.definitions.write_pairs.Statement.{statement}
 use Rattle.nogoods.proofs.definitions.write_pairs.Tie as tie
 
 abbrev Inv-loop : tie.InvT-loop
-Inv-loop free₀ name literals at₀ i₀ free at i =
+Inv-loop free₀ origin name literals at₀ i₀ free at i =
     (i ≤ length literals) × (at ≡ pairSize * i) × (length free ≡ length free₀)
-    × WrittenFront (liveWords (map (pair (toZ w32 name)) (take i literals))) free₀ free
+    × WrittenFront (wordsOf (addedIn origin (map (pair (toZ w32 name)) (take i literals)))) free₀ free
 
 abbrev μ-loop : tie.MeasureT-loop
-μ-loop free₀ name literals at₀ i₀ free at i = length literals - i
+μ-loop free₀ origin name literals at₀ i₀ free at i = length literals - i
 
 write-pair-requires : tie.Need-write-pair-requires Inv-loop μ-loop
 write-pair-requires c κs =
@@ -35,8 +35,11 @@ write-pair-requires c κs =
     let s = t .before .before in
     let L = s .args .literals .now in
     let i = t .loop-test .taken in (
-      rw (back (getD L (l .i) (pos 0)) (c .write-pair-arg2 .given)) (s .pre .0 .high (getD L (l .i) (pos 0)) (in-at (pos 0) L (l .i) i)),
-      rw (tail-of (l .at) (l .free), length-drop) (omega (arith, i, l .inv, s .pre .1)),
+      s .pre .0,
+      (
+        rw (back (getD L (l .i) (pos 0)) (c .write-pair-arg2 .given)) (s .pre .1 .0 .high (getD L (l .i) (pos 0)) (in-at (pos 0) L (l .i) i)),
+        rw (tail-of (l .at) (l .free), length-drop) (omega (arith, i, l .inv, s .pre .1 .1)),
+      ),
     )
 
 loop-again : tie.Need-loop-again Inv-loop μ-loop
@@ -50,7 +53,7 @@ loop-again c =
       omega (arith, i),
       omega (arith, l .inv .1),
       same-len-mid (l .at) (length (l .free) - l .at) (l .free) (w .write-pair .last .0) (w .write-pair .kept .0) ∙ l .inv .2,
-      pair-next (toZ w32 (ofZ w32 (s .args .name))) L (s .args .free .now) (l .free) (w .write-pair .last .0) (l .at) (l .i) i (l .inv .1) (l .inv .3)
+      pair-next (s .args .origin) (toZ w32 (ofZ w32 (s .args .name))) L (s .args .free .now) (l .free) (w .write-pair .last .0) (l .at) (l .i) i (l .inv .1) (l .inv .3)
           (rw (back (getD L (l .i) (pos 0)) (w .before .write-pair-arg2 .given)) at (w .write-pair .ensures)),
     )
 

@@ -5,17 +5,17 @@ use native.Mathlib.Omega.{arith}
 use borrow.Author.Needs.{needs}
 use lib.IntN.{ℤ}
 use lib.ListN.{length}
-use Rattle.nogoods.specs.Store.{headerSize}
+use Rattle.nogoods.specs.Store.{Stored, headerSize}
 use Rattle.nogoods.specs.Records.{Encodes, endAt, Stands}
 use Rattle.nogoods.specs.PropagateChains.{reach, Links, Below}
-use Rattle.nogoods.proofs.Recorded.{Rest, rest-next, Inside, encoded, live-at, readable, inside-tail}
+use Rattle.nogoods.proofs.Recorded.{Rest, rest-next, Inside, encoded, stands-at, readable, inside-tail}
 use Rattle.nogoods.proofs.Chains.{below-weaker}
 use Rattle.nogoods.proofs.occurrences.enter_all.Statement.{statement}
 use Rattle.nogoods.proofs.occurrences.enter_all.Tie as tie
 
 abbrev Inv-loop : tie.InvT-loop
 Inv-loop nogoods owner₀ next₀ head₀ counts₀ r₀ owner next head counts r =
-    ((live : List (List ℤ)) → Encodes nogoods live → Rest Inside nogoods (length nogoods) live r)
+    ((stored : List Stored) → Encodes nogoods stored → Rest Inside nogoods (length nogoods) stored r)
     × Links nogoods owner next × Below (r + headerSize) head × Below (length nogoods) head
 
 abbrev μ-loop : tie.MeasureT-loop
@@ -26,7 +26,7 @@ loop-holds c =
     let p = c .pre in
     let none = p .1 .1 .1 in
     let h = c .args .head .now in
-    (λ live e. encoded _ e (λ g u. u), p .1 .1 .0, below-weaker 1 _ h (omega arith) none, below-weaker 1 _ h (p .1 .0 .0) none)
+    (λ stored e. encoded _ e (λ x u. u), p .1 .1 .0, below-weaker 1 _ h (omega arith) none, below-weaker 1 _ h (p .1 .0 .0) none)
 
 -- the record at r
 module _ (c : tie.In-loop Inv-loop μ-loop) where
@@ -34,7 +34,7 @@ module _ (c : tie.In-loop Inv-loop μ-loop) where
   words = c .before .before .args .nogoods .now
 
   stands : Stands words (c .before .loop .r)
-  stands live e = live-at words (c .before .loop .inv .0 live e) (c .loop-test .taken)
+  stands stored e = stands-at words (c .before .loop .inv .0 stored e) (c .loop-test .taken)
 
   room : (endAt words (c .before .loop .r) ≤ length words) × (length words ≤ reach)
   room = let p = c .before .before .pre in (stands (p .0 .0) (p .0 .1) .1, p .1 .0 .1)
@@ -48,6 +48,9 @@ enter-requires c κs =
 -- the record that was entered
 abbrev now-at : tie.After-count-at Inv-loop μ-loop → tie.In-loop Inv-loop μ-loop
 now-at c = c .before .before .before .before .before
+
+count-at-requires : tie.Need-count-at-requires Inv-loop μ-loop
+count-at-requires c κs = room (c .before .before .before .before) .0
 
 cast-counts : tie.Need-cast-counts Inv-loop μ-loop
 cast-counts c = let k = room (now-at c) in let e = c .count-at .ensures in search needs
@@ -72,7 +75,7 @@ loop-again c =
     let head = o .enter .last .1 .1 .1 .1 .0 in
     let b : Below e head = o .enter .ensures .1 in
     rw (c .end-at .ensures) (
-      λ live enc. rest-next (i .before .loop .inv .0 live enc) (i .loop-test .taken) inside-tail,
+      λ stored enc. rest-next (i .before .loop .inv .0 stored enc) (i .loop-test .taken) inside-tail,
       o .enter .ensures .0,
       below-weaker e (e + headerSize) head (omega arith) b,
       below-weaker e _ head (room i .0) b,
@@ -89,7 +92,7 @@ enter-all-spec =
     μ-loop
     loop-holds
     enter-requires
-    (λ c κs. search needs)
+    count-at-requires
     cast-counts
     mul-counts
     element-write-counts

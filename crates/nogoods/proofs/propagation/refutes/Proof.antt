@@ -9,22 +9,27 @@ use Rattle.words.proofs.Lists.{passed, failed, not-decides}
 use Rattle.words.specs.Lists.{_∈_}
 use Rattle.derivation.specs.Propagation.{given, refuted}
 use Rattle.derivation.proofs.Closure.{refuted-decides}
+use Rattle.nogoods.specs.Store.{Stored, live}
 use Rattle.nogoods.specs.Keeps.{Literals}
 use Rattle.nogoods.specs.Records.{Encodes}
 use Rattle.nogoods.specs.Propagate.{Assigns, Ends}
+use Rattle.nogoods.proofs.Live.{live-from}
 use Rattle.nogoods.proofs.Recorded.{used-words}
 use Rattle.nogoods.proofs.Closures.{no-conflict}
 use borrow.Author.Needs.{needs}
 use Rattle.nogoods.proofs.propagation.refutes.Statement.{statement}
 use Rattle.nogoods.proofs.propagation.refutes.Tie as tie
 
-module _ (s : List ℤ) (live : List (List ℤ)) (enc : Encodes s live) (L : List ℤ) (lits : Literals L) (m m′ : List ℕ)
+module _ (s : List ℤ) (stored : List Stored) (enc : Encodes s stored) (L : List ℤ) (lits : Literals L) (m m′ : List ℕ)
     (only : (z : ℤ) → Assigns m z → z ∈ L) (all : (z : ℤ) → z ∈ L → Assigns m z) where
-  answer : (r : Bool) → Ends s m m′ r → r ≡ refuted live L
-  answer true k = sym (passed (refuted live L) .to (refuted-decides live L .from (k live L enc (λ z a. given (only z a)))))
+  live-literals : (g : List ℤ) → g ∈ live stored → Literals g
+  live-literals g u = let r = live-from stored u in rw (← r .2) (enc .literals (r .0) (r .1))
+
+  answer : (r : Bool) → Ends s m m′ r → r ≡ refuted (live stored) L
+  answer true k = sym (passed (refuted (live stored) L) .to (refuted-decides (live stored) L .from (k stored L enc (λ z a. given (only z a)))))
   answer false k =
-      sym (failed (refuted live L) (not-decides (refuted-decides live L) .from
-      (no-conflict live L m′ (enc .literals) lits (λ z u. k .0 .kept z (all z u)) (k .1 live enc))))
+      sym (failed (refuted (live stored) L) (not-decides (refuted-decides (live stored) L) .from
+      (no-conflict (live stored) L m′ live-literals lits (λ z u. k .0 .kept z (all z u)) (k .1 stored enc))))
 
 slice-aggregate-propagate : tie.Need-slice-aggregate-propagate
 slice-aggregate-propagate c =
@@ -38,11 +43,11 @@ propagate-requires c κs =
     ((p .0, used-words _ _ (p .0) (p .1)), a .assigned .ensures .0)
 
 returns : tie.Need-returns
-returns c live h =
+returns c stored h =
     let a = c .before .before .before in
     let s = a .before in
     let e = a .assigned .ensures .1 in
-    answer _ live (used-words (s .args .store .now) (s .args .used) live h) (s .args .literals .now) (s .pre .1) _ _
+    answer _ stored (used-words (s .args .store .now) (s .args .used) stored h) (s .args .literals .now) (s .pre .1) _ _
     (λ z. e z .0) (λ z. e z .1) (c .propagate .result) (c .propagate .ensures)
 
 pub refutes-spec : {M : Type 1} → statement M

@@ -1,30 +1,34 @@
 use mathlib.Core.Path.{_≡_, ap, _∙_}
 use mathlib.Core.List.{List, [], _∷_, append-nil, List·Memᴰ·eq-of-singleton}
+use Prim.Native.Nat.{ℕ}
 use native.Mathlib.Omega.{arith}
 use lib.IntN.{ℤ}
 use lib.ListN.{length}
-use Rattle.nogoods.specs.Store.{nogoodWords, recordSize, liveWords}
-use Rattle.nogoods.proofs.Recorded.{record-size}
+use Rattle.nogoods.specs.Store.{addedIn, recordOf, storedWords, recordSize, wordsOf}
+use Rattle.nogoods.proofs.Live.{stored-size}
+use Rattle.nogoods.proofs.Literals.{added-literals}
 use Rattle.nogoods.proofs.Stored.{full, added}
 use borrow.Author.Needs.{needs}
 use Rattle.nogoods.proofs.store.append.Statement.{statement}
 use Rattle.nogoods.proofs.store.append.Tie as tie
 
-size : (g : List ℤ) → length (liveWords (g ∷ [])) ≡ recordSize g
-size g = ap length (append-nil (nogoodWords g)) ∙ record-size g
+size : (o : ℕ) (g : List ℤ) → length (wordsOf (addedIn o (g ∷ []))) ≡ recordSize g
+size o g = ap length (append-nil (storedWords (recordOf o g))) ∙ stored-size (recordOf o g)
 
 returns : tie.Need-returns
 returns c =
-    λ live H.
+    λ stored H.
     let L = c .before .args .literals .now in
-    full H (L ∷ []) (size L) (omega (arith, c .if1 .taken))
+    let o = c .before .args .origin in
+    full H (addedIn o (L ∷ [])) (size o L) (omega (arith, c .if1 .taken))
 
 returns-2 : tie.Need-returns-2
 returns-2 c =
-    λ live H.
+    λ stored H.
     let s = c .before .before .before .before in
     let L = s .args .literals .now in
-    added H (L ∷ []) (size L) (λ g m. rw (List·Memᴰ·eq-of-singleton m) (s .pre .1 .0)) (c .before .write .last .0)
+    let o = s .args .origin in
+    added H (addedIn o (L ∷ [])) (size o L) (added-literals o (L ∷ []) (λ g m. rw (List·Memᴰ·eq-of-singleton m) (s .pre .1 .1 .0))) (c .before .write .last .0)
     (rw (append-nil L) (c .before .write .ensures))
 
 pub append-spec : {M : Type 1} → statement M

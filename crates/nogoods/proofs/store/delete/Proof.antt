@@ -4,9 +4,8 @@ use mathlib.Core.Path.{sym, _∙_}
 use mathlib.Core.List.{List}
 use Prim.Native.Nat.{_+_, _≤_}
 use native.Mathlib.Omega.{arith}
-use lib.IntN.{ℤ}
 use lib.ListN.{length}
-use Rattle.nogoods.specs.Store.{recordSize}
+use Rattle.nogoods.specs.Store.{Stored, recordSize}
 use Rattle.nogoods.specs.Keeps.{Holds}
 use Rattle.nogoods.proofs.Stored.{Hit, hit, miss, hit-room, hit-cut}
 use borrow.Author.Needs.{needs}
@@ -14,9 +13,9 @@ use Rattle.nogoods.proofs.store.delete.Statement.{statement}
 use Rattle.nogoods.proofs.store.delete.Tie as tie
 
 -- the nogood that was found
-found : (c : tie.After-i) (live : List (List ℤ)) → let a = c .before .before .before .before .args in
-    Holds (a .store .now) (a .used) live → Hit 0 (c .i .given .0 .0) (a .literals .now) live
-found c live H = hit 0 _ _ live (sym (c .before .before .find .ensures live H) ∙ c .i .given .1)
+found : (c : tie.After-i) (stored : List Stored) → let a = c .before .before .before .before .args in
+    Holds (a .store .now) (a .used) stored → Hit 0 (c .i .given .0 .0) (a .literals .now) stored
+found c stored H = hit 0 _ _ stored (sym (c .before .before .find .ensures stored H) ∙ c .i .given .1)
 
 room : (c : tie.After-i) → (let a = c .before .before .before .before .args in
     (c .i .given .0 .0 + recordSize (a .literals .now) ≤ a .used) × (a .used ≤ length (a .store .now)))
@@ -50,11 +49,11 @@ enum-told c = search needs
 
 returns : tie.Need-returns
 returns c =
-    λ live H. hit-cut H (found (c .before .before .before .before) live H) _ refl _ (c .before .close-up .ensures)
+    λ stored H. hit-cut H (found (c .before .before .before .before) stored H) _ refl _ (c .before .close-up .ensures)
 
 returns-2 : tie.Need-returns-2
 returns-2 c =
-    λ live H. rw (miss 0 _ live (sym (c .before .before .find .ensures live H) ∙ c .enum-told .given .1)) H
+    λ stored H. rw (miss 0 _ stored (sym (c .before .before .find .ensures stored H) ∙ c .enum-told .given .1)) H
 
 pub delete-spec : {M : Type 1} → statement M
 delete-spec =

@@ -8,22 +8,23 @@ use borrow.Author.Needs.{needs}
 use lib.IntN.{ℤ}
 use lib.ListN.{length}
 use Rattle.words.specs.Literals.{sameList}
-use Rattle.nogoods.specs.Store.{recordSize}
-use Rattle.nogoods.specs.Records.{endAt, nogoodAt}
+use Rattle.nogoods.specs.Store.{Stored, recordSize}
+use Rattle.nogoods.specs.Records.{endAt, storedAt}
 use Rattle.nogoods.specs.Finds.{foundAt}
 use Rattle.nogoods.specs.declared.store.Found.the-variants.{At}
 use Rattle.nogoods.proofs.Recorded.{rest-at, rest-first, rest-next, rest-over, Ahead, ahead, ahead-room}
 use Rattle.nogoods.proofs.store.find.Statement.{statement}
 use Rattle.nogoods.proofs.store.find.Tie as tie
 
-found-here : (i : ℕ) (L g : List ℤ) (gs : List (List ℤ)) → sameList g L ≡ true → foundAt i L (g ∷ gs) ≡ At i
-found-here i L g gs e = rw e
+found-here : (i : ℕ) (L : List ℤ) (e : Stored) (es : List Stored) → sameList (e .literals) L ≡ true → foundAt i L (e ∷ es) ≡ At i
+found-here i L e es h = rw h
 
-found-on : (i : ℕ) (L g : List ℤ) (gs : List (List ℤ)) → sameList g L ≡ false → foundAt i L (g ∷ gs) ≡ foundAt (i + recordSize g) L gs
-found-on i L g gs e = rw e
+found-on : (i : ℕ) (L : List ℤ) (e : Stored) (es : List Stored) → sameList (e .literals) L ≡ false
+    → foundAt i L (e ∷ es) ≡ foundAt (i + recordSize (e .literals)) L es
+found-on i L e es h = rw h
 
 abbrev Inv-loop : tie.InvT-loop
-Inv-loop store used literals i₀ i = Ahead (λ live left. foundAt i literals left ≡ foundAt 0 literals live) store used i
+Inv-loop store used literals i₀ i = Ahead (λ stored left. foundAt i literals left ≡ foundAt 0 literals stored) store used i
 
 abbrev μ-loop : tie.MeasureT-loop
 μ-loop store used literals i₀ i = used - i
@@ -32,12 +33,12 @@ abbrev μ-loop : tie.MeasureT-loop
 room : (c : tie.In-loop Inv-loop μ-loop) → let s = c .before .before .args .store .now in endAt s (c .before .loop .i) ≤ length s
 room c = ahead-room (c .before .loop .inv) (c .loop-test .taken) (c .before .before .pre)
 
--- the literals of the record at i
-abbrev g : tie.In-loop Inv-loop μ-loop → List ℤ
-g c = nogoodAt (c .before .before .args .store .now) (c .before .loop .i)
+-- the record at i
+abbrev it : tie.In-loop Inv-loop μ-loop → Stored
+it c = storedAt (c .before .before .args .store .now) (c .before .loop .i)
 
 loop-holds : tie.Need-loop-holds Inv-loop μ-loop
-loop-holds c = ahead (λ live. refl)
+loop-holds c = ahead (λ stored. refl)
 
 nogood-at-requires : tie.Need-nogood-at-requires Inv-loop μ-loop
 nogood-at-requires c κs = room c
@@ -47,16 +48,16 @@ module _ (c : tie.After-is-same-list Inv-loop μ-loop) where
   abbrev i : tie.In-loop Inv-loop μ-loop
   i = c .before .before
 
-  tells : sameList (g i) (i .before .before .args .literals .now) ≡ c .is-same-list .result
+  tells : sameList (it i .literals) (i .before .before .args .literals .now) ≡ c .is-same-list .result
   tells = sym (rw (c .before .nogood-at .ensures) at (c .is-same-list .ensures))
 
 returns : tie.Need-returns Inv-loop μ-loop
 returns c =
-    λ live H.
+    λ stored H.
     let k = i (c .before) in
-    let w = k .before .loop .inv live H in
+    let w = k .before .loop .inv stored H in
     let h = k .loop-test .taken in
-    sym (found-here _ (k .before .before .args .literals .now) (g k) (rest-at w h .gs) (tells (c .before) ∙ c .if1 .taken)) ∙ rest-first w h
+    sym (found-here _ (k .before .before .args .literals .now) (it k) (rest-at w h .others) (tells (c .before) ∙ c .if1 .taken)) ∙ rest-first w h
 
 end-at-requires : tie.Need-end-at-requires Inv-loop μ-loop
 end-at-requires c κs = room (i (c .before))
@@ -69,13 +70,13 @@ loop-again c =
     let o = c .before .before in
     let k = i o in
     let L = k .before .before .args .literals .now in
-    rw (c .end-at .ensures) (λ live H.
-    let w = k .before .loop .inv live H in
+    rw (c .end-at .ensures) (λ stored H.
+    let w = k .before .loop .inv stored H in
     let h = k .loop-test .taken in
-    rest-next w h (λ gs q. ap (λ m. foundAt m L gs) (rest-at w h .size) ∙ sym (found-on _ L (g k) gs (tells o ∙ c .before .if1 .left)) ∙ q))
+    rest-next w h (λ es q. ap (λ m. foundAt m L es) (rest-at w h .size) ∙ sym (found-on _ L (it k) es (tells o ∙ c .before .if1 .left)) ∙ q))
 
 returns-2 : tie.Need-returns-2 Inv-loop μ-loop
-returns-2 c = λ live H. rest-over (c .before .loop .inv live H) (c .loop-test .left)
+returns-2 c = λ stored H. rest-over (c .before .loop .inv stored H) (c .loop-test .left)
 
 pub find-spec : {M : Type 1} → statement M
 find-spec =

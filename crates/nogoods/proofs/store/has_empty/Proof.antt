@@ -4,26 +4,34 @@ use mathlib.Core.Bool.{true}
 use mathlib.Core.List.{List, [], _∷_}
 use Prim.Native.Nat.{_-_, _≤_}
 use native.Mathlib.Omega.{arith}
-use borrow.Author.Needs.{needs}
 use lib.IntN.{ℤ}
 use lib.ListN.{length}
 use Rattle.words.specs.Lists.{any}
 use Rattle.aspif.specs.Rules.{isEmpty}
-use Rattle.nogoods.specs.Records.{endAt, nogoodAt}
+use Rattle.nogoods.specs.Store.{Stored, live}
+use Rattle.nogoods.specs.Records.{endAt, storedAt}
+use Rattle.nogoods.proofs.Live.{live-nil, live-cons}
 use Rattle.nogoods.proofs.Recorded.{rest-at, rest-first, rest-next, rest-over, Ahead, ahead, ahead-room}
 use Rattle.nogoods.proofs.store.has_empty.Statement.{statement}
 use Rattle.nogoods.proofs.store.has_empty.Tie as tie
 
-first-empty : (g : List ℤ) (gs : List (List ℤ)) → length g ≡ 0 → any isEmpty (g ∷ gs) ≡ true
-first-empty [] gs e = refl
-first-empty (x ∷ g) gs e = absurd (omega arith)
+-- of the first nogood and the others
+empty-first : (g : List ℤ) (gs : List (List ℤ)) → length g ≡ 0 → any isEmpty (g ∷ gs) ≡ true
+empty-first [] gs e = refl
+empty-first (x ∷ g) gs e = absurd (omega arith)
 
-first-some : (g : List ℤ) (gs : List (List ℤ)) → (length g ≡ 0 → ⊥) → any isEmpty (g ∷ gs) ≡ any isEmpty gs
-first-some [] gs e = absurd (e refl)
-first-some (x ∷ g) gs e = refl
+some-first : (g : List ℤ) (gs : List (List ℤ)) → (length g ≡ 0 → ⊥) → any isEmpty (g ∷ gs) ≡ any isEmpty gs
+some-first [] gs e = absurd (e refl)
+some-first (x ∷ g) gs e = refl
+
+first-empty : (e : Stored) (es : List Stored) → length (e .literals) ≡ 0 → any isEmpty (live (e ∷ es)) ≡ true
+first-empty e es h = rw (live-cons e es) (empty-first (e .literals) (live es) h)
+
+first-some : (e : Stored) (es : List Stored) → (length (e .literals) ≡ 0 → ⊥) → any isEmpty (live (e ∷ es)) ≡ any isEmpty (live es)
+first-some e es h = rw (live-cons e es) (some-first (e .literals) (live es) h)
 
 abbrev Inv-loop : tie.InvT-loop
-Inv-loop store used i₀ i = Ahead (λ live left. any isEmpty left ≡ any isEmpty live) store used i
+Inv-loop store used i₀ i = Ahead (λ stored left. any isEmpty (live left) ≡ any isEmpty (live stored)) store used i
 
 abbrev μ-loop : tie.MeasureT-loop
 μ-loop store used i₀ i = used - i
@@ -32,20 +40,23 @@ abbrev μ-loop : tie.MeasureT-loop
 room : (c : tie.In-loop Inv-loop μ-loop) → let s = c .before .before .args .store .now in endAt s (c .before .loop .i) ≤ length s
 room c = ahead-room (c .before .loop .inv) (c .loop-test .taken) (c .before .before .pre)
 
--- the literals of the record at i
-abbrev g : tie.In-loop Inv-loop μ-loop → List ℤ
-g c = nogoodAt (c .before .before .args .store .now) (c .before .loop .i)
+-- the record at i
+abbrev it : tie.In-loop Inv-loop μ-loop → Stored
+it c = storedAt (c .before .before .args .store .now) (c .before .loop .i)
 
 loop-holds : tie.Need-loop-holds Inv-loop μ-loop
-loop-holds c = ahead (λ live. refl)
+loop-holds c = ahead (λ stored. refl)
+
+count-at-requires : tie.Need-count-at-requires Inv-loop μ-loop
+count-at-requires c κs = room c
 
 returns : tie.Need-returns Inv-loop μ-loop
 returns c =
-    λ live H.
+    λ stored H.
     let d = c .before in
-    let w = d .before .before .loop .inv live H in
+    let w = d .before .before .loop .inv stored H in
     let h = d .before .loop-test .taken in
-    sym (first-empty (g (d .before)) (rest-at w h .gs) (omega (arith, rest-at w h .count, d .count-at .ensures, c .if1 .taken))) ∙ rest-first w h
+    sym (first-empty (it (d .before)) (rest-at w h .others) (omega (arith, rest-at w h .count, d .count-at .ensures, c .if1 .taken))) ∙ rest-first w h
 
 end-at-requires : tie.Need-end-at-requires Inv-loop μ-loop
 end-at-requires c κs = room (c .before .before)
@@ -56,15 +67,15 @@ loop-less c = omega (arith, c .before .before .before .loop-test .taken, c .end-
 loop-again : tie.Need-loop-again Inv-loop μ-loop
 loop-again c =
     let d = c .before .before in
-    rw (c .end-at .ensures) (λ live H.
-    let w = d .before .before .loop .inv live H in
+    rw (c .end-at .ensures) (λ stored H.
+    let w = d .before .before .loop .inv stored H in
     let h = d .before .loop-test .taken in
-    rest-next w h (λ gs q. sym (first-some (g (d .before)) gs (λ z. c .before .if1 .left (omega (arith, rest-at w h .count, d .count-at .ensures)))) ∙ q))
+    rest-next w h (λ es q. sym (first-some (it (d .before)) es (λ z. c .before .if1 .left (omega (arith, rest-at w h .count, d .count-at .ensures)))) ∙ q))
 
 returns-2 : tie.Need-returns-2 Inv-loop μ-loop
-returns-2 c = λ live H. rest-over (c .before .loop .inv live H) (c .loop-test .left)
+returns-2 c = λ stored H. rw live-nil at (rest-over (c .before .loop .inv stored H) (c .loop-test .left))
 
 pub has-empty-spec : {M : Type 1} → statement M
 has-empty-spec =
     tie.close
-    (tie.spec Inv-loop μ-loop loop-holds (λ c κs. search needs) returns end-at-requires loop-less loop-again returns-2)
+    (tie.spec Inv-loop μ-loop loop-holds count-at-requires returns end-at-requires loop-less loop-again returns-2)

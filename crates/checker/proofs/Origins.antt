@@ -1,0 +1,249 @@
+-- What is stored beside the state: its literals are the live nogoods, and its origins rise from 1 to the steps done.
+-- Assumes nothing.
+use mathlib.Core.Path.{_≡_, refl, sym, _∙_, ap, ap₂, subst}
+use mathlib.Core.Logic.{_⊎_, inl, inr}
+use mathlib.Core.Bool.{Bool, true, false, cond}
+use mathlib.Core.Option.{Option, none, some}
+use mathlib.Core.List.{List, [], _∷_, _++_, map, List·Memᴰ·head, List·Memᴰ·tail, List·Memᴰ·append-cases, Memᴰ·of-map}
+use Prim.Native.Nat.{ℕ, _+_, _≤_}
+use native.Mathlib.Omega.{arith}
+use lib.IntN.{ℤ, pos, negℤ}
+use lib.ListN.{length, drop}
+use Rattle.words.proofs.Lists.{zero-one, by-test, dropFirst→}
+use Rattle.words.specs.Lists.{_∈_, dropFirst}
+use Rattle.words.specs.Literals.{variable, complement, sameList, has, ascending}
+use Rattle.text.specs.declared.Letter.{Letter}
+use Rattle.text.specs.declared.Letter.the-variants.{Addition, Body, Completion, Deletion, Extension, Loop, Support}
+use Rattle.aspif.specs.Rules.{Rule, expand, atoms}
+use Rattle.drupe.specs.Lines.{lineRefusal}
+use Rattle.drupe.specs.Texts.{Step, StepsRead, steps, refused, stepsOf}
+use Rattle.derivation.specs.States.{State, start, isKnown}
+use Rattle.derivation.specs.Loops.{isLoop}
+use Rattle.derivation.specs.Propagation.{refuted}
+use Rattle.derivation.specs.Steps.{Outcome, next, add, define, definition, externalNames, byLetter, step}
+use Rattle.derivation.specs.Steps.{allKnown, allAtoms, allNamed, naming, citing, isUnnamedBody, isCompletion, isSupport}
+use Rattle.derivation.specs.Steps.{addition, body, completion, deletion, extension, loop, support}
+use Rattle.derivation.specs.Steps as Steps
+use Rattle.nogoods.specs.Store.{Stored, recordOf, addedIn, live, storeWords}
+use Rattle.nogoods.proofs.Live.{live-nil, live-append, live-added, live-dropped}
+use Rattle.checker.specs.Check.{withAdded, storedAfter, Course, stopped, through, thenStopped, runSteps, runRead, course}
+use Rattle.checker.specs.Check.{saying, judged, check, Checked}
+use Rattle.checker.specs.Claims.{LiveStored, Bounded, OriginsBounded, Rising, OriginsRise, OriginsService}
+use Rattle.checker.specs.declared.Counts.{Counts}
+use Rattle.checker.specs.declared.Verdict.the-variants.{Inconsistent, Open}
+use Rattle.checker.proofs.Kept.{new-only}
+use Rattle.checker.proofs.Whole.{storedNext, run-first, said, ended-course}
+
+-- One step
+
+module _ (N : ℕ) (P : List Rule) (n : ℕ) (z : State) (b : List Stored) (same : live b ≡ z .live) where
+  -- what is stored after a step is what is live after it
+  abbrev Same : Letter → List ℤ → Outcome → Type 0
+  Same x zs (Steps.refused k) = Unit
+  Same x zs (next z′) = live (storedAfter n x zs b z′) ≡ z′ .live
+
+  more : (gs : List (List ℤ)) → live (withAdded n b (add z gs)) ≡ z .live ++ gs
+  more gs =
+      ap (λ (hs : List (List ℤ)). live (b ++ addedIn n hs)) (new-only b (z .live) gs same) ∙ live-append b (addedIn n gs)
+      ∙ ap₂ (λ k l. k ++ l) same (live-added n gs)
+
+  less : (L : List ℤ) → live (dropFirst (λ e. sameList (e .literals) L) b) ≡ dropFirst (λ g. sameList g L) (z .live)
+  less L = live-dropped L b ∙ ap (dropFirst (λ g. sameList g L)) same
+
+  -- questions that are asked before the step o: one, that of a step that introduces no name, and those of one that does
+  asks : (x : Letter) (zs : List ℤ) (t : Bool) (o : Outcome) (k : ℕ) → Same x zs o → Same x zs (cond t o (Steps.refused k))
+  asks x zs t o k h = by-test (Same x zs) t {x = o} {y = Steps.refused k} (λ q. h) (λ q. tt)
+
+  cites : (x : Letter) (zs : List ℤ) (o : Outcome) → Same x zs o → Same x zs (citing N z zs o)
+  cites x zs o h = asks x zs (allKnown N z zs) o 26 h
+
+  introduces : (x : Letter) (m : ℤ) (L : List ℤ) (o : Outcome) → Same x (m ∷ L) o → Same x (m ∷ L) (naming N z m L o)
+  introduces x m L o h =
+      asks x (m ∷ L) (allKnown N z L) (cond (isKnown N z (variable m)) (Steps.refused 27) o) 26
+      (by-test (Same x (m ∷ L)) (isKnown N z (variable m)) {x = Steps.refused 27} {y = o} (λ q. tt) (λ q. h))
+
+  -- the nogood of an `l` step
+  abbrev unfounded : List ℤ → ℤ → List ℤ
+  unfounded U h = ascending (h ∷ map (λ m. negℤ (pos m)) (externalNames P z U))
+
+  loop-same : (h : ℤ) (hs : List ℤ) → Same Loop (h ∷ hs) (loop N P z h hs)
+  loop-same h hs =
+      let U = h ∷ hs in
+      let last = next (add z (unfounded U h ∷ [])) in
+      let named = cond (allNamed P z U) last (Steps.refused 32) in
+      asks Loop U (allAtoms N z U) (cond (isLoop P U) named (Steps.refused 56)) 31
+      (asks Loop U (isLoop P U) named 56 (asks Loop U (allNamed P z U) last 32 (more (unfounded U h ∷ []))))
+
+  letter-same : (x : Letter) (zs : List ℤ) → Same x zs (byLetter N P z x zs)
+  letter-same Addition L =
+      let gs = ascending L ∷ [] in
+      cites Addition L (addition P z L) (asks Addition L (refuted (z .live) L) (next (add z gs)) 33 (more gs))
+  letter-same Body [] = tt
+  letter-same Body (m ∷ L) =
+      let to = next (define z m L (record { name = variable m; body = ascending L } ∷ z .named)) in
+      introduces Body m L (body P z m L) (asks Body (m ∷ L) (isUnnamedBody P z L) to 28 (more (definition m L)))
+  letter-same Completion [] = tt
+  letter-same Completion (m ∷ hs) =
+      let gs = ascending (m ∷ map complement hs) ∷ [] in
+      cites Completion (m ∷ hs) (completion P z m hs)
+      (asks Completion (m ∷ hs) (isCompletion P z m hs) (next (add z gs)) 29 (more gs))
+  letter-same Deletion L = cites Deletion L (deletion P z L) (less (ascending L))
+  letter-same Extension [] = tt
+  letter-same Extension (m ∷ L) = introduces Extension m L (extension P z m L) (more (definition m L))
+  letter-same Loop [] = tt
+  letter-same Loop (h ∷ hs) = cites Loop (h ∷ hs) (loop N P z h hs) (loop-same h hs)
+  letter-same Support [] = tt
+  letter-same Support (h ∷ ns) =
+      let gs = ascending (h ∷ map complement ns) ∷ [] in
+      cites Support (h ∷ ns) (support N P z h ns) (asks Support (h ∷ ns) (isSupport N P z h ns) (next (add z gs)) 30 (more gs))
+
+  step-same : (t : Step) → Same (t .letter) (t .numbers) (step N P z t)
+  step-same t =
+      let r = lineRefusal (t .letter) (t .numbers) in
+      by-test (Same (t .letter) (t .numbers)) (has (pos 0) (t .numbers)) {x = Steps.refused 22} {y = after r} (λ q. tt) (λ q. by r)
+    where
+      after : Option ℕ → Outcome
+      after o = elim o as (λ x. Outcome) [ some k ↦ Steps.refused k | none ↦ byLetter N P z (t .letter) (t .numbers) ]
+
+      by : (o : Option ℕ) → Same (t .letter) (t .numbers) (after o)
+      by (some k) = tt
+      by none = letter-same (t .letter) (t .numbers)
+
+  pub step-live : (t : Step) (z′ : State) → step N P z t ≡ next z′ → live (storedAfter n (t .letter) (t .numbers) b z′) ≡ z′ .live
+  step-live t z′ e = subst (Same (t .letter) (t .numbers)) e (step-same t)
+
+-- All steps
+
+-- what every step keeps holds after all of them
+module _ (N : ℕ) (P : List Rule) (size : ℕ) (I : ℕ → State → List Stored → Type 0)
+    (keeps : (n : ℕ) (z : State) (b : List Stored) (t : Step) (z′ : State) → I n z b → step N P z t ≡ next z′
+    → I (n + 1) z′ (storedNext n b t z′)) where
+  run-keeps : (n m : ℕ) (z w : State) (b l : List Stored) (ts : List Step) → I n z b
+      → runSteps N P size n z b ts ≡ through m w l → I m w l
+  run-keeps n m z w b l [] i e =
+      let p : n ≡ m = cc in
+      let q : z ≡ w = cc in
+      let r : b ≡ l = cc in
+      rw (p, q, r) at i
+  run-keeps n m z w b l (t ∷ ts) i e =
+      let r = run-first N P size n m z w b l t ts e in
+      let b′ = storedNext n b t (r .left) in
+      run-keeps (n + 1) m (r .left) w b′ l ts (keeps n z b t (r .left) i (r .is)) (r .later)
+
+pub live-stored : LiveStored
+live-stored N P size ts n z stored e =
+    run-keeps N P size (λ m w b. live b ≡ w .live) (λ m w b t w′ i s. step-live N P (m + 1) w b i t w′ s)
+    0 n start z [] stored ts live-nil e
+
+-- also after the steps of a text
+pub course-live : (N : ℕ) (P : List Rule) (size : ℕ) (text : List ℕ) {n : ℕ} {z : State} {stored : List Stored}
+    → course N P size text ≡ through n z stored → live stored ≡ z .live
+unfolding course
+course-live N P size text {n} {z} {stored} e = by (stepsOf text) e
+  where
+    unread : (k m : ℕ) (c : Course) → thenStopped k m c ≡ through n z stored → live stored ≡ z .live
+    unread k m (stopped j i) e = absurd (zero-one (cc))
+    unread k m (through i w b) e = absurd (zero-one (cc))
+
+    by : (r : StepsRead) → runRead N P size 0 start [] r ≡ through n z stored → live stored ≡ z .live
+    by (steps ts) e = live-stored N P size ts n z stored e
+    by (refused ts k m) e = unread k m (runSteps N P size 0 start [] ts) e
+
+-- Origins
+
+-- what rises goes on with a number that is no less
+rising-on : (m k : ℕ) (gs : List (List ℤ)) → m ≤ k → Rising m (addedIn k gs)
+rising-on m k [] h = tt
+rising-on m k (g ∷ gs) h = (h, rising-on k k gs (omega arith))
+
+rising-append : (m k : ℕ) (b : List Stored) (gs : List (List ℤ)) → m ≤ k → Rising m b → ((e : Stored) → e ∈ b → e .origin ≤ k)
+    → Rising m (b ++ addedIn k gs)
+rising-append m k [] gs h r u = rising-on m k gs h
+rising-append m k (e ∷ b) gs h r u =
+    (r .0, rising-append (e .origin) k b gs (u e (List·Memᴰ·head refl)) (r .1) (λ x i. u x (List·Memᴰ·tail i)))
+
+rising-weaker : (m k : ℕ) (b : List Stored) → m ≤ k → Rising k b → Rising m b
+rising-weaker m k [] h r = tt
+rising-weaker m k (e ∷ b) h r = (omega (arith, r .0), r .1)
+
+rising-dropped : (f : Stored → Bool) (m : ℕ) (b : List Stored) → Rising m b → Rising m (dropFirst f b)
+rising-dropped f m [] r = tt
+rising-dropped f m (e ∷ b) r =
+    by-test (Rising m) (f e) (λ q. rising-weaker m (e .origin) b (r .0) (r .1))
+    (λ q. (r .0, rising-dropped f (e .origin) b (r .1)))
+
+-- of the origins after n steps
+record Origins (n : ℕ) (b : List Stored) : Type 0 where
+  bounded : Bounded n b
+  rising : Rising 1 b
+
+module _ (n : ℕ) (b : List Stored) (o : Origins n b) where
+  origins-added : (gs : List (List ℤ)) → Origins (n + 1) (b ++ addedIn (n + 1) gs)
+  origins-added gs = record {
+    bounded = λ e i. elim (List·Memᴰ·append-cases b i) [
+      | inl u ↦ (o .bounded e u .0, omega (arith, o .bounded e u .1))
+      | inr u ↦ let r = Memᴰ·of-map (recordOf (n + 1)) gs u in rw (← r .2) (omega arith, omega arith)
+    ];
+    rising = rising-append 1 (n + 1) b gs (omega arith) (o .rising) (λ e u. omega (arith, o .bounded e u .1));
+  }
+
+  origins-dropped : (f : Stored → Bool) → Origins (n + 1) (dropFirst f b)
+  origins-dropped f = record {
+    bounded = λ e i. let u = o .bounded e (dropFirst→ f b i) in (u .0, omega (arith, u .1));
+    rising = rising-dropped f 1 b (o .rising);
+  }
+
+  origins-with : (z : State) → Origins (n + 1) (withAdded (n + 1) b z)
+  origins-with z = origins-added (drop (length (live b)) (z .live))
+
+  origins-after : (x : Letter) (zs : List ℤ) (z : State) → Origins (n + 1) (storedAfter (n + 1) x zs b z)
+  origins-after Addition zs z = origins-with z
+  origins-after Body zs z = origins-with z
+  origins-after Completion zs z = origins-with z
+  origins-after Deletion zs z = origins-dropped (λ e. sameList (e .literals) (ascending zs))
+  origins-after Extension zs z = origins-with z
+  origins-after Loop zs z = origins-with z
+  origins-after Support zs z = origins-with z
+
+origins : (N : ℕ) (P : List Rule) (size : ℕ) (ts : List Step) (n : ℕ) (z : State) (stored : List Stored)
+    → runSteps N P size 0 start [] ts ≡ through n z stored → Origins n stored
+origins N P size ts n z stored e =
+    run-keeps N P size (λ m w b. Origins m b) (λ m w b t w′ o s. origins-after m b o (t .letter) (t .numbers) w′)
+    0 n start z [] stored ts (record { bounded = λ x i. elim i [ ]; rising = tt }) e
+
+pub origins-bounded : OriginsBounded
+origins-bounded N P size ts n z stored e = origins N P size ts n z stored e .bounded
+
+pub origins-rise : OriginsRise
+origins-rise N P size ts n z stored e = origins N P size ts n z stored e .rising
+
+-- the store that is left, where the steps went through
+left : (text proof : List ℕ) (t s : ℕ) (b : Bool) (c : Counts) → check text proof t s .verdict ≡ saying b c
+    → (stored : List Stored) × (check text proof t s .store ≡ storeWords s stored) × (length (live stored) ≡ c .nogoods)
+    × Bounded (c .steps) stored × Rising 1 stored
+unfolding check
+left text proof t s b c e =
+    let r = said text proof t s b c e in
+    let ws = r .0 in
+    let E = r .2 in
+    let k = E .6 in
+    let words : check text proof t s .store ≡ storeWords s (E .2) =
+    rw (r .1) (ap (λ (o : Course). judged t s ws o .store) (ended-course proof t s ws b c E)) in
+    let same = live-stored (atoms ws) (expand ws) s (E .0) (length (E .0)) (E .1) (E .2) (E .4) in
+    let o = origins (atoms ws) (expand ws) s (E .0) (length (E .0)) (E .1) (E .2) (E .4) in (
+      E .2,
+      words,
+      ap length same ∙ sym (ap (λ (d : Counts). d .nogoods) k),
+      subst (λ m. Bounded m (E .2)) (sym (ap (λ (d : Counts). d .steps) k)) (o .bounded),
+      o .rising,
+    )
+
+pub origins-service : OriginsService
+origins-service text proof table store table′ store′ r e c v =
+    let w = which v in
+    let found = left text proof (length table) (length store) (w .0) c (sym (ap (λ (x : Checked). x .verdict) e) ∙ w .1) in
+    (found .0, ap (λ (x : Checked). x .store) e ∙ found .1, found .2, found .3, found .4)
+  where
+    which : (r ≡ Inconsistent c) ⊎ (r ≡ Open c) → (b : Bool) × (r ≡ saying b c)
+    which (inl p) = (true, p)
+    which (inr p) = (false, p)
