@@ -80,10 +80,11 @@ uint32_t aspdrupe_read_line(const uint8_t *text, size_t text_len, uint64_t posit
 
 /* Checks a proof text against a program text.
  * Returns ASPDRUPE_INCONSISTENT or ASPDRUPE_OPEN where both are good: answer[0] to answer[3] are N, the largest atom, the number of
- * rules, the number of steps, and the number of live nogoods after the last step; the table holds the rules' words and the store
- * the live nogoods, oldest first: the step that added it, the literal count, the literals ascending by variable. Both have 0 after these
- * words. A step's number is its place in the proof, counted from 1, deletions included. ASPDRUPE_INCONSISTENT means that the program has
- * no answer set.
+ * rules, the number of steps, and K, the number of live nogoods after the last step; the table holds the rules' words and the store
+ * nogoods, oldest first: the step that added it, the literal count, the literals ascending by variable. Both have 0 after these words. A
+ * nogood whose first word is negative was deleted; K counts the others. The deleted ones stay until a step would not fit otherwise; then
+ * all that are there go, and the others close up. A step's number is its place in the proof, counted from 1, deletions included.
+ * ASPDRUPE_INCONSISTENT means that the program has no answer set.
  * Returns ASPDRUPE_REFUSED_PROGRAM: answer[0] is the number of the question that the program fails, 1 to 11, 54 or 55, and answer[1] the
  * line.
  * Returns ASPDRUPE_REFUSED_PROOF: answer[0] is the number of the question that the proof fails, 21 to 34 or 56, and answer[1] the step.

@@ -13,7 +13,7 @@ use Rattle.words.proofs.Parts.{tail-of, put-tail}
 use Rattle.words.proofs.Sorting.{length-ascending}
 use Rattle.derivation.specs.States.{State}
 use Rattle.derivation.specs.Steps.{add}
-use Rattle.nogoods.specs.Store.{Stored, addedIn, live}
+use Rattle.nogoods.specs.Store.{Stored, addedIn, live, keptWith}
 use Rattle.nogoods.specs.Keeps.{Literals, Fits}
 use Rattle.nogoods.specs.declared.store.Added.{Added}
 use Rattle.nogoods.specs.declared.store.Added.the-variants as Added
@@ -29,9 +29,9 @@ kept-fits stored store (Added.Uses n) h = h
 kept-fits stored store Added.Full h = (refl, h)
 
 -- one nogood more, which is g
-pub kept-one : (stored : List Stored) (n : ℕ) (store : List ℤ) {l g : List ℤ} (a : Added) {r : Stepped} → r ≡ fitted a → l ≡ g
-    → Fits (stored ++ addedIn n (l ∷ [])) store a → Fitted (stored ++ addedIn n (g ∷ [])) store r
-kept-one stored n store {l} a e p h = rw (e, ← p) (kept-fits (stored ++ addedIn n (l ∷ [])) store a h)
+pub kept-one : (stored : List Stored) (n size : ℕ) (store : List ℤ) {l g : List ℤ} (a : Added) {r : Stepped} → r ≡ fitted a → l ≡ g
+    → Fits (keptWith size (addedIn n (l ∷ [])) stored) store a → Fitted (keptWith size (addedIn n (g ∷ [])) stored) store r
+kept-one stored n size store {l} a e p h = rw (e, ← p) (kept-fits (keptWith size (addedIn n (l ∷ [])) stored) store a h)
 
 -- what the step added to the live nogoods
 pub new-only : (stored : List Stored) (l gs : List (List ℤ)) → live stored ≡ l → drop (length (live stored)) (l ++ gs) ≡ gs
@@ -39,9 +39,10 @@ new-only stored l gs e = ap (λ (k : List (List ℤ)). drop (length k) (l ++ gs)
 
 -- nogoods that are added to those stored are added to the state that these are of
 pub kept-more : {store : List ℤ} {used : ℕ} {z : State} {stored : List Stored} → HoldsState store used z stored
-    → (n : ℕ) (gs : List (List ℤ)) (after : List ℤ) (r : Stepped) → Fitted (stored ++ addedIn n gs) after r → Fitted (withAdded n stored (add z gs)) after r
-kept-more {z = z} {stored = stored} K n gs after r f =
-    subst (λ (hs : List (List ℤ)). Fitted (stored ++ addedIn n hs) after r) (sym (new-only stored (z .live) gs (K .same))) f
+    → (n size : ℕ) (gs : List (List ℤ)) (after : List ℤ) (r : Stepped) → Fitted (keptWith size (addedIn n gs) stored) after r
+    → Fitted (withAdded n size stored (add z gs)) after r
+kept-more {z = z} {stored = stored} K n size gs after r f =
+    subst (λ (hs : List (List ℤ)). Fitted (keptWith size (addedIn n hs) stored) after r) (sym (new-only stored (z .live) gs (K .same))) f
 
 -- `join`: s is the first number with the complements of the others, sorted
 pub record Joined (numbers s : List ℤ) : Type 0 where

@@ -2,6 +2,7 @@
 -- its verdict.
 pub mod Whole
 pub mod Origins
+pub mod Late
 pub mod Names
 pub mod Loops
 pub mod Tracking

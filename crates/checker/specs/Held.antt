@@ -86,7 +86,7 @@ abbrev pub Fitted : List Stored → List ℤ → Stepped → Type 0
 Fitted stored store (Uses n) = Holds store n stored
 Fitted stored store (Fails k) = (k ≡ 34) × (length store < wordsFor (live stored))
 
--- the store holds what is stored in its first `used` words, and its literals are the state's live nogoods
+-- the store holds what is stored in its first `used` words, and what is live of it are the state's nogoods
 pub record HoldsState (store : List ℤ) (used : ℕ) (z : State) (stored : List Stored) : Type 0 where
   pub holds : Holds store used stored
   pub same : live stored ≡ z .live
@@ -104,7 +104,7 @@ abbrev pub Stepping : ℕ → List InputRule → Letter → List ℤ → (used n
     → List ℕ → List ℕ → List ℤ → List ℤ → List ℕ → List ℕ → List ℤ → List ℤ → Stepped → Type 0
 Stepping N ws x zs used n known names bodies store known′ names′ bodies′ store′ r =
     (z : State) (stored : List Stored) → Tracks N ws known names bodies (z .introduced) (z .named) → HoldsState store used z stored
-    → Leaves N ws (storedAfter n x zs stored) known′ names′ bodies′ store′ (byLetter N (expand ws) z x zs) r
+    → Leaves N ws (storedAfter n (length store) x zs stored) known′ names′ bodies′ store′ (byLetter N (expand ws) z x zs) r
 
 -- the nogood of an `l` step, ascending: of n numbers from v on, h itself and minus each one that passes
 abbrev pub gathered : (ℕ → Bool) → ℤ → ℕ → ℕ → List ℤ
@@ -124,12 +124,13 @@ module _ (N : ℕ) (ws : List InputRule) (known names : List ℕ) (bodies store 
   abbrev pub StepLeaves : ℕ → (after : State → List Stored) → Outcome → ProofTurn → Type 0
   StepLeaves at after o r = (s : Stepped) × (r ≡ proofTurn at s) × Leaves N ws after known names bodies store o s
 
-  -- what one turn of the check leaves, by what stands at the position; so many words were used, and its step is step n
-  abbrev pub LineLeaves : (used n : ℕ) → State → List Stored → LineAt → ProofTurn → Type 0
-  LineLeaves used n z stored end r = (r ≡ Turn.Ends) × Holds store used stored
-  LineLeaves used n z stored (Lines.refused k) r = r ≡ Turn.Fails k
-  LineLeaves used n z stored (line x zs at) r =
-      StepLeaves at (storedAfter n x zs stored) (step N (expand ws) z (record { letter = x; numbers = zs })) r
+  -- what one turn of the check leaves, by what stands at the position; so many words were used, and its step is step n in a store
+  -- of the size given
+  abbrev pub LineLeaves : (used n size : ℕ) → State → List Stored → LineAt → ProofTurn → Type 0
+  LineLeaves used n size z stored end r = (r ≡ Turn.Ends) × Holds store used stored
+  LineLeaves used n size z stored (Lines.refused k) r = r ≡ Turn.Fails k
+  LineLeaves used n size z stored (line x zs at) r =
+      StepLeaves at (storedAfter n size x zs stored) (step N (expand ws) z (record { letter = x; numbers = zs })) r
 
 -- what the lines leave, by what they come to
 abbrev pub Ran : List ℤ → Course → Run → Type 0

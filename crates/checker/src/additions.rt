@@ -22,7 +22,7 @@ pub fn addition(
     origin: usize,
     numbers: &mut [i32],
 ) -> Stepped
-    requires store { ⌜ ((stored : List Stored) × Holds (now store) used stored) × (origin ≤ longest) ⌝ }
+    requires store { ⌜ ((stored : List Stored) × Holds (now store) used stored) × ((1 ≤ origin) × (origin ≤ longest)) ⌝ }
     requires line { ⌜ PassedLine Addition (now numbers) ⌝ }
     ensures { λ r. ⌜ ((N : ℕ) (ws : List InputRule) (names : List ℕ) (bodies : List ℤ)
         → Stepping N ws Addition (now (numbers .entry)) used origin (now (known .entry)) names bodies (now (store .entry))
@@ -38,7 +38,7 @@ pub fn addition(
     outcomes::fitted(store::append(store, used, origin, numbers))
 }
 
-// `d`: literals. Removes the oldest live nogood that has just them; where there is none, nothing changes.
+// `d`: literals. The oldest live nogood that has just them is dead; where there is none, nothing changes.
 pub fn deletion(known: &[u8], store: &mut [i32], used: usize, numbers: &mut [i32]) -> Stepped
     requires store { ⌜ ((stored : List Stored) × Holds (now store) used stored) ⌝ }
     requires line { ⌜ PassedLine Deletion (now numbers) ⌝ }

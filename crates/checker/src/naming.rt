@@ -1,7 +1,7 @@
 // `b` and `e`: the steps that introduce a name. Document 01, questions 26 to 28 and 34.
 ghost use mathlib.Core.Path.{_≡_};
 ghost use mathlib.Core.Bool.{true, false};
-ghost use mathlib.Core.List.{List, _∷_, _++_};
+ghost use mathlib.Core.List.{List, _∷_};
 ghost use Prim.Native.Nat.{ℕ, _≤_};
 ghost use lib.IntN.{ℤ, pos};
 ghost use lib.ListN.{length, drop, getD, set};
@@ -11,7 +11,7 @@ ghost use Rattle.aspif.specs.Rules.{InputRule, expand};
 ghost use Rattle.text.specs.declared.Letter.the-variants.{Body, Extension};
 ghost use Rattle.derivation.specs.States.{State, isKnown};
 ghost use Rattle.derivation.specs.Steps.{definition, isUnnamedBody};
-ghost use Rattle.nogoods.specs.Store.{Stored, addedIn};
+ghost use Rattle.nogoods.specs.Store.{Stored, addedIn, keptWith};
 ghost use Rattle.nogoods.specs.Keeps.{Literals, Holds};
 ghost use Rattle.names.specs.Queries.{HoldsRules, Kept};
 ghost use Rattle.checker.specs.Held.{PassedLine, nameOf, Tracks, Fitted, Stepping};
@@ -30,12 +30,12 @@ fn define(
     origin: usize,
     numbers: &mut [i32],
 ) -> Stepped
-    requires store { ⌜ ((stored : List Stored) × Holds (now store) used stored) × (origin ≤ longest) ⌝ }
+    requires store { ⌜ ((stored : List Stored) × Holds (now store) used stored) × ((1 ≤ origin) × (origin ≤ longest)) ⌝ }
     requires line { ⌜ Literals (now numbers) × (1 ≤ length (now numbers)) × (length (now numbers) ≤ mostNumbers) ⌝ }
     ensures known { λ r. ⌜ now (known .exit) ≡ set (now (known .entry)) (variable (getD (now (numbers .entry)) 0 (pos 0))) 1 ⌝ }
     ensures defined { λ r. ⌜ ((stored : List Stored) → Holds (now (store .entry)) used stored
         → (let added = definition (getD (now (numbers .entry)) 0 (pos 0)) (drop 1 (now (numbers .entry))) in
-        Fitted (stored ++ addedIn origin added) (now (store .exit)) r)) ⌝ }
+        Fitted (keptWith (length (now (store .entry))) (addedIn origin added) stored) (now (store .exit)) r)) ⌝ }
 {
     marks::mark(known, words::variable_of(numbers[0]));
     outcomes::fitted(definitions::append(store, used, origin, numbers))
@@ -49,7 +49,7 @@ pub fn extension(
     origin: usize,
     numbers: &mut [i32],
 ) -> Stepped
-    requires store { ⌜ ((stored : List Stored) × Holds (now store) used stored) × (origin ≤ longest) ⌝ }
+    requires store { ⌜ ((stored : List Stored) × Holds (now store) used stored) × ((1 ≤ origin) × (origin ≤ longest)) ⌝ }
     requires line { ⌜ PassedLine Extension (now numbers) ⌝ }
     ensures { λ r. ⌜ ((N : ℕ) (ws : List InputRule) (names : List ℕ) (bodies : List ℤ)
         → Stepping N ws Extension (now (numbers .entry)) used origin (now (known .entry)) names bodies (now (store .entry))
@@ -106,7 +106,7 @@ pub fn body(
     numbers: &mut [i32],
 ) -> Stepped
     requires program { ⌜ ((ws : List InputRule) × HoldsRules (now table) rules ws) × (rules ≤ length (now names)) ⌝ }
-    requires store { ⌜ ((stored : List Stored) × Holds (now store) used stored) × (origin ≤ longest) ⌝ }
+    requires store { ⌜ ((stored : List Stored) × Holds (now store) used stored) × ((1 ≤ origin) × (origin ≤ longest)) ⌝ }
     requires line { ⌜ PassedLine Body (now numbers) ⌝ }
     ensures { λ r. ⌜ ((N : ℕ) (ws : List InputRule) → HoldsRules (now (table .entry)) rules ws
         → Stepping N ws Body (now (numbers .entry)) used origin

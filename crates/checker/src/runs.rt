@@ -69,14 +69,14 @@ fn turn_at(
 ) -> ProofTurn
     requires program { ⌜ ((ws : List InputRule) × Program (now table) rules atoms ws) × (rules ≤ length (now names)) ⌝ }
     requires relevant { ⌜ Relevant (now relevant) (rulesAt rules (now table)) ⌝ }
-    requires store { ⌜ ((stored : List Stored) × Holds (now store) used stored) × (origin ≤ at + 1) ⌝ }
+    requires store { ⌜ ((stored : List Stored) × Holds (now store) used stored) × ((1 ≤ origin) × (origin ≤ at + 1)) ⌝ }
     requires short { ⌜ length (now proof) ≤ longest ⌝ }
     ensures { λ r. ⌜ ((ws : List InputRule) → Program (now (table .entry)) rules atoms ws
         → (z : State) (stored : List Stored)
         → Tracks atoms ws (now (known .entry)) (now (names .entry)) (now (bodies .entry)) (z .introduced) (z .named)
         → HoldsState (now (store .entry)) used z stored
-        → LineLeaves atoms ws (now (known .exit)) (now (names .exit)) (now (bodies .exit)) (now (store .exit)) used origin z stored
-        (lineAt (now (proof .entry)) at) r) ⌝ }
+        → LineLeaves atoms ws (now (known .exit)) (now (names .exit)) (now (bodies .exit)) (now (store .exit)) used origin
+        (length (now (store .entry))) z stored (lineAt (now (proof .entry)) at) r) ⌝ }
 {
     let reading = reader::step_at(proof, at);
     let answer = reading.answer;

@@ -35,7 +35,7 @@ pub fn step(
 ) -> Stepped
     requires program { ⌜ ((ws : List InputRule) × Program (now table) rules atoms ws) × (rules ≤ length (now names)) ⌝ }
     requires relevant { ⌜ Relevant (now relevant) (rulesAt rules (now table)) ⌝ }
-    requires store { ⌜ ((stored : List Stored) × Holds (now store) used stored) × (origin ≤ longest) ⌝ }
+    requires store { ⌜ ((stored : List Stored) × Holds (now store) used stored) × ((1 ≤ origin) × (origin ≤ longest)) ⌝ }
     requires line { ⌜ PassedLine letter (now line) ⌝ }
     ensures { λ r. ⌜ ((ws : List InputRule) → Program (now (table .entry)) rules atoms ws
         → Stepping atoms ws letter (now (line .entry)) used origin

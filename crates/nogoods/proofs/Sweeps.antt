@@ -12,7 +12,7 @@ use Rattle.words.specs.Lists.{_∈_}
 use Rattle.words.specs.Limits.{entries}
 use Rattle.nogoods.specs.Store.{Stored, live}
 use Rattle.nogoods.specs.Keeps.{Literals}
-use Rattle.nogoods.specs.Records.{Encodes, endAt, nogoodAt, storedAt, Stands}
+use Rattle.nogoods.specs.Records.{Encodes, deadAt, endAt, nogoodAt, storedAt, Stands}
 use Rattle.nogoods.specs.Propagate.{free, Settled, Derives, Grows, AllSettled}
 use Rattle.nogoods.specs.declared.units.Derived.the-variants.{Assigned}
 use Rattle.nogoods.proofs.Live.{live-nil, live-first}
@@ -48,16 +48,16 @@ module _ (s : List ℤ) where
 
     -- the nogood at i is passed
     past : (stored : List Stored) → Encodes s stored → (m′ : List ℕ) (c : Bool)
-        → (c ≡ false → (changed ≡ false) × (m′ ≡ m) × Settled m (nogoodAt s i)) → Rest (Behind m′ c) s (length s) stored (endAt s i)
+        → (c ≡ false → (changed ≡ false) × (m′ ≡ m) × (deadAt s i ≡ false → Settled m (nogoodAt s i))) → Rest (Behind m′ c) s (length s) stored (endAt s i)
     past stored enc m′ c q = rest-next (k .ahead stored enc) h (λ es b. record {
       inside = inside-tail es (b .inside);
       done = λ e g u. rw (q e .1) (elim (b .done (q e .0) g u) [
         | inr a ↦ inr a
-        | inl v ↦ elim (live-first (storedAt s i) es v) [ inl r ↦ inr (rw r (q e .2)) | inr t ↦ inl t ]
+        | inl v ↦ elim (live-first (storedAt s i) es v) [ inl r ↦ inr (rw (r .1) (q e .2 (r .0))) | inr t ↦ inl t ]
       ]);
     })
 
-    pub sweep-settled : Settled m (nogoodAt s i) → Sweeping m₀ m changed (endAt s i)
+    pub sweep-settled : (deadAt s i ≡ false → Settled m (nogoodAt s i)) → Sweeping m₀ m changed (endAt s i)
     sweep-settled a = record {
       size = k .size;
       grows = k .grows;
@@ -66,9 +66,9 @@ module _ (s : List ℤ) where
       ahead = λ stored enc. past stored enc m changed (λ e. (e, refl, a));
     }
 
-    pub sweep-assigned : Literals (nogoodAt s i) → (m′ : List ℕ) (v : ℕ) → Derives (nogoodAt s i) m m′ (Assigned v) → Sweeping m₀ m′ true (endAt s i)
-    sweep-assigned lits m′ v d =
-        let p = derived s i sweep-at lits m (k .size) m′ v d in
+    pub sweep-assigned : deadAt s i ≡ false → Literals (nogoodAt s i) → (m′ : List ℕ) (v : ℕ) → Derives (nogoodAt s i) m m′ (Assigned v) → Sweeping m₀ m′ true (endAt s i)
+    sweep-assigned alive lits m′ v d =
+        let p = derived s i sweep-at alive lits m (k .size) m′ v d in
         let g = p .0 in
         let f = k .grows .fewer in
         record {

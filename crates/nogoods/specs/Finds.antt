@@ -4,13 +4,12 @@ use mathlib.Core.Bool.{cond}
 use mathlib.Core.List.{List, [], _∷_}
 use Prim.Native.Nat.{ℕ, _+_}
 use lib.IntN.{ℤ}
-use Rattle.words.specs.Literals.{sameList}
-use Rattle.nogoods.specs.Store.{Stored, recordSize}
+use Rattle.nogoods.specs.Store.{Stored, isTarget, recordSize}
 use Rattle.nogoods.specs.declared.store.Found.{Found}
 use Rattle.nogoods.specs.declared.store.Found.the-variants.{At, Nothing}
 
--- the place of the first whose literals are the list, where the words begin at i
+-- the place of the first live one whose literals are the list, where the words begin at i
 abbrev pub foundAt : ℕ → List ℤ → List Stored → Found
 foundAt i literals [] = Nothing
 foundAt i literals (e ∷ stored) =
-    cond (sameList (e .literals) literals) (At i) (foundAt (i + recordSize (e .literals)) literals stored)
+    cond (isTarget literals e) (At i) (foundAt (i + recordSize (e .literals)) literals stored)

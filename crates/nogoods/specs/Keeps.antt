@@ -23,12 +23,14 @@ pub record Literals (g : List ℤ) : Type 0 where
   pub high : (x : ℤ) → x ∈ g → variable x ≤ largest
   pub once : distinct g ≡ true
 
--- The store holds what is stored in its first `used` words, and 0 after them.
+-- The store holds what is stored, the dead included, in its first `used` words, and 0 after them. An origin is at least 1, so that
+-- the sign of its word says whether the nogood is dead.
 pub record Holds (store : List ℤ) (used : ℕ) (stored : List Stored) : Type 0 where
   pub words : store ≡ storeWords (length store) stored
   pub extent : used ≡ length (wordsOf stored)
   pub fits : used ≤ length store
   pub literals : (e : Stored) → e ∈ stored → Literals (e .literals)
+  pub origins : (e : Stored) → e ∈ stored → 1 ≤ e .origin
 
 -- "Do the live words after the step fit the store?", with these stored then: the store holds them, or is too short
 abbrev pub Fits : List Stored → List ℤ → Added → Type 0

@@ -12,7 +12,7 @@ use Rattle.words.specs.Lists.{_∈_}
 use Rattle.words.specs.Literals.{variable, complement}
 use Rattle.derivation.specs.Propagation.{Closure, Conflict}
 use Rattle.nogoods.specs.Store.{Stored, live}
-use Rattle.nogoods.specs.Records.{Encodes}
+use Rattle.nogoods.specs.Records.{Encodes, deadAt, nogoodAt}
 use Rattle.nogoods.specs.declared.units.Value.{Value}
 use Rattle.nogoods.specs.declared.units.Value.the-variants.{True, False, Free}
 use Rattle.nogoods.specs.declared.units.Look.{Look}
@@ -76,6 +76,12 @@ abbrev pub Derives : List ℤ → List ℕ → List ℕ → Derived → Type 0
 Derives g m m′ Conflicting = AllTrue m g
 Derives g m m′ (Assigned v) = (z : ℤ) × (Last m g z) × (variable z ≡ v) × (m′ ≡ set m v (entry (complement z)))
 Derives g m m′ Nothing = (m′ ≡ m) × Settled m g
+
+-- the same of the record at r: nothing follows from a dead one
+abbrev pub DerivesAt : List ℤ → ℕ → List ℕ → List ℕ → Derived → Type 0
+DerivesAt s r m m′ Conflicting = (deadAt s r ≡ false) × Derives (nogoodAt s r) m m′ Conflicting
+DerivesAt s r m m′ (Assigned v) = (deadAt s r ≡ false) × Derives (nogoodAt s r) m m′ (Assigned v)
+DerivesAt s r m m′ Nothing = (m′ ≡ m) × (deadAt s r ≡ false → Settled m (nogoodAt s r))
 
 -- Propagation
 

@@ -1,6 +1,6 @@
 // The nogoods that define a name, for `b` and `e`: document 01, "Adds -n with L, then for each literal of L, ascending by
 // variable, n with its complement."
-ghost use mathlib.Core.List.{List, _∷_, _++_, map};
+ghost use mathlib.Core.List.{List, _∷_, map};
 ghost use Prim.Native.Nat.{_*_, _≤_};
 ghost use lib.IntN.{pos};
 ghost use lib.ListN.{length, drop, getD};
@@ -8,7 +8,7 @@ ghost use Rattle.words.specs.Limits.{largest, longest, mostNumbers};
 ghost use Rattle.words.specs.Literals.{variable, complement, ascending};
 ghost use Rattle.derivation.specs.Steps.{definition};
 ghost use Rattle.nogoods.specs.Keeps.{Literals, Holds, Fits, WrittenFront};
-ghost use Rattle.nogoods.specs.Store.{Stored, recordOf, addedIn, storedWords, wordsOf, recordSize};
+ghost use Rattle.nogoods.specs.Store.{Stored, recordOf, addedIn, keptWith, storedWords, wordsOf, recordSize};
 ghost use Rattle.nogoods.specs.Definitions.{pair, pairSize, defined, definedSize};
 use crate::records::HEADER;
 use crate::store;
@@ -79,16 +79,18 @@ fn write_definition(free: &mut [i32], origin: usize, numbers: &mut [i32])
 // order.
 pub fn append(store: &mut [i32], used: usize, origin: usize, numbers: &mut [i32]) -> Added
     requires held { ⌜ ((stored : List Stored) × Holds (now store) used stored) ⌝ }
-    requires origin { ⌜ origin ≤ longest ⌝ }
+    requires origin { ⌜ (1 ≤ origin) × (origin ≤ longest) ⌝ }
     requires numbers { ⌜ Literals (now numbers) × (1 ≤ length (now numbers)) × (length (now numbers) ≤ mostNumbers) ⌝ }
     ensures { λ r. ⌜ ((stored : List Stored) → Holds (now (store .entry)) used stored
-        → Fits (stored ++ addedIn origin (definition (getD (now (numbers .entry)) 0 (pos 0)) (drop 1 (now (numbers .entry)))))
+        → Fits (keptWith (length (now (store .entry)))
+        (addedIn origin (definition (getD (now (numbers .entry)) 0 (pos 0)) (drop 1 (now (numbers .entry))))) stored)
         (now (store .exit)) r) ⌝ }
 {
     let size = HEADER + numbers.len() + PAIR * (numbers.len() - 1);
-    if store.len() - used < size {
+    let end = store::make_room(store, used, size);
+    if store.len() - end < size {
         return Added::Full;
     }
-    write_definition(&mut store[used..], origin, numbers);
-    Added::Uses(used + size)
+    write_definition(&mut store[end..], origin, numbers);
+    Added::Uses(end + size)
 }

@@ -76,7 +76,30 @@ fn enter(
     }
 }
 
-// The chains and counters of all nogoods.
+// The chains and the counter of the nogood at r, unless it is dead.
+fn enter_live(
+    nogoods: &[i32],
+    r: usize,
+    owner: &mut [u16; REACH],
+    next: &mut [u16; REACH],
+    head: &mut [u16; PLACES],
+    counts: &mut [u16; REACH],
+)
+    requires record { ⌜ Readable (now nogoods) r × Stands (now nogoods) r ⌝ }
+    requires reach { ⌜ length (now nogoods) ≤ reach ⌝ }
+    requires links { ⌜ Links (now nogoods) (now owner) (now next) ⌝ }
+    requires heads { ⌜ Below (r + headerSize) (now head) ⌝ }
+    ensures links { λ _. ⌜ Links (now (nogoods .entry)) (now (owner .exit)) (now (next .exit)) ⌝ }
+    ensures heads { λ _. ⌜ Below (endAt (now (nogoods .entry)) r) (now (head .exit)) ⌝ }
+{
+    if records::is_dead(nogoods, r) {
+        return;
+    }
+    enter(nogoods, r, owner, next, head);
+    counts[r] = records::count_at(nogoods, r) as u16;
+}
+
+// The chains and counters of all live nogoods.
 fn enter_all(
     nogoods: &[i32],
     owner: &mut [u16; REACH],
@@ -93,8 +116,7 @@ fn enter_all(
 {
     let mut r = 0;
     while r < nogoods.len() {
-        enter(nogoods, r, owner, next, head);
-        counts[r] = records::count_at(nogoods, r) as u16;
+        enter_live(nogoods, r, owner, next, head, counts);
         r = records::end_at(nogoods, r);
     }
 }

@@ -51,8 +51,8 @@ returns-3 c =
     let k = m .before .before .before .before in
     let s = k .before .before .before .before in
     rw (cited z T Addition _ (s .pre .1) refl (sym (k .before .all-marked .ensures) ∙ not-false _ (k .if1 .left)), refutes-live K (s .args .numbers .now) (m .before .refutes .ensures b (K .holds)) (not-false _ (m .if2 .left))) (
-      kept-more K (s .args .origin) _ _ (c .fitted .result)
-          (kept-one b (s .args .origin) _ (c .before .before .append .result) (c .fitted .ensures) (o .sort .ensures) (c .before .before .append .ensures b (K .holds))),
+      kept-more K (s .args .origin) _ _ _ (c .fitted .result)
+          (kept-one b (s .args .origin) _ _ (c .before .before .append .result) (c .fitted .ensures) (o .sort .ensures) (c .before .before .append .ensures b (K .holds))),
       T,
     )
 

@@ -1,4 +1,4 @@
-use mathlib.Core.Path.{_≡_, refl, _∙_}
+use mathlib.Core.Path.{_≡_, refl, subst, _∙_}
 use mathlib.Core.List.{List}
 use Prim.Native.Nat.{ℕ, _+_, _-_, _<_}
 use native.Mathlib.Omega.{arith}
@@ -47,8 +47,10 @@ module _ (c : tie.After-turn-at Inv-loop μ-loop) where
   G : Going (start .args .atoms) ws (length (start .args .store .now)) (start .args .proof .now) (l .loop .store) (l .loop .known) (l .loop .names) (l .loop .bodies) (l .loop .used) (l .loop .at) (l .loop .steps)
   G = l .loop .inv .2
 
-  turned : LineLeaves (start .args .atoms) ws known′ names′ bodies′ store′ (l .loop .used) (l .loop .steps + 1) (G .z) (G .stored) (lineAt (start .args .proof .now) (l .loop .at)) (c .turn-at .result)
-  turned = c .turn-at .ensures ws (l .loop .inv .1) (G .z) (G .stored) (G .tracks) (G .keeps)
+  turned : LineLeaves (start .args .atoms) ws known′ names′ bodies′ store′ (l .loop .used) (l .loop .steps + 1) (length (start .args .store .now)) (G .z) (G .stored) (lineAt (start .args .proof .now) (l .loop .at)) (c .turn-at .result)
+  turned =
+      subst (λ n. LineLeaves (start .args .atoms) ws known′ names′ bodies′ store′ (l .loop .used) (l .loop .steps + 1) n (G .z) (G .stored) (lineAt (start .args .proof .now) (l .loop .at)) (c .turn-at .result))
+      (G .long) (c .turn-at .ensures ws (l .loop .inv .1) (G .z) (G .stored) (G .tracks) (G .keeps))
 
   -- as many words as were lent
   same-bodies : length bodies′ ≡ length (start .args .bodies .now)

@@ -26,11 +26,12 @@ module _ (c : tie.After-answer2) where
   there = read-line (b .step-at .ensures) _ _ _ (c .answer2 .given .1)
 
   -- the step's number is at most that of the bytes
-  numbered : (let a = b .before .before .before .before .before .args in a .origin ≤ longest)
+  numbered : (let a = b .before .before .before .before .before .args in (1 ≤ a .origin) × (a .origin ≤ longest))
   numbered =
       let s = b .before .before .before .before .before in
       let u = passed-line (s .args .proof .now) (s .args .at) there in
-      omega (arith, u .0, u .1, s .pre .1 .1 .0 .1, s .pre .1 .1 .1)
+      let o = s .pre .1 .1 .0 .1 in
+      (o .0, omega (arith, u .0, u .1, o .1, s .pre .1 .1 .1))
 
   good : (let g = c .answer2 .given .0 in let zs = take (g .1 .0) (b .step-at .result .numbers) in (lineRefusal (g .0) zs ≡ none) × (has (pos 0) zs ≡ false))
   good = let a = b .before .before .before .before .before .args in let u = passed-line (a .proof .now) (a .at) there in (u .2, u .3)

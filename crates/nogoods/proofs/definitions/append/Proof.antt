@@ -1,36 +1,66 @@
-use Rattle.nogoods.specs.Store.{addedIn}
-use Rattle.nogoods.specs.Definitions.{defined}
-use Rattle.nogoods.proofs.Stored.{full, added}
-use Rattle.nogoods.proofs.Defined.{defined-size, defined-literals}
+use mathlib.Core.Path.{_≡_}
+use mathlib.Core.List.{List}
+use Prim.Native.Nat.{_≤_}
 use native.Mathlib.Omega.{arith}
-use lib.ListN.{length-drop}
+use lib.IntN.{ℤ}
+use lib.ListN.{length, length-drop}
 use Rattle.words.proofs.Parts.{tail-of}
+use Rattle.nogoods.specs.Store.{Stored, addedIn, wordsOf, keptFor}
+use Rattle.nogoods.specs.Keeps.{Holds}
+use Rattle.nogoods.specs.Definitions.{defined, definedSize}
+use Rattle.nogoods.proofs.Live.{closed-added}
+use Rattle.nogoods.proofs.Stored.{full, added, added-origins}
+use Rattle.nogoods.proofs.Defined.{defined-size, defined-literals}
 use borrow.Author.Needs.{needs}
 use Rattle.nogoods.proofs.definitions.append.Statement.{statement}
 use Rattle.nogoods.proofs.definitions.append.Tie as tie
 
+-- what is held once there is room
+module _ (c : tie.After-make-room) where
+  abbrev s : tie.Start
+  s = c .before .before
+
+  abbrev l : List ℤ
+  l = s .args .numbers .now
+
+  abbrev new : List Stored
+  new = addedIn (s .args .origin) (defined l)
+
+  size : length (wordsOf new) ≡ definedSize (length l)
+  size = defined-size (s .args .origin) l (s .pre .1 .1 .1)
+
+  held : (stored : List Stored) → Holds (s .args .store .now) (s .args .used) stored
+      → Holds (c .make-room .last .0) (c .make-room .result) (keptFor (length (s .args .store .now)) (length (wordsOf new)) stored)
+  held stored H = rw size (c .make-room .ensures stored H)
+
+  end-in : c .make-room .result ≤ length (c .make-room .last .0)
+  end-in = held (s .pre .0 .0) (s .pre .0 .1) .fits
+
+sub-if1 : tie.Need-sub-if1
+sub-if1 c = end-in (c .before)
+
 returns : tie.Need-returns
 returns c =
     λ stored H.
-    let s = c .before in
-    let l = s .args .numbers .now in
-    full H (addedIn (s .args .origin) (defined l)) (defined-size (s .args .origin) l (s .pre .1 .1 .1)) (c .if1 .taken)
+    let m = c .before .before in
+    full H (new m) (size m) (closed-added (s m .args .origin) (defined (l m))) (m .make-room .kept .0) (held m stored H) (c .if1 .taken)
 
 write-definition-requires : tie.Need-write-definition-requires
 write-definition-requires c κs =
-    let s = c .before .before .before in
-    let a = s .args in
-    (s .pre .1 .0, (s .pre .1 .1, rw (tail-of (a .used) (a .store .now), length-drop) (omega (arith, c .before .before .if1 .left, s .pre .1 .1))))
+    let e = c .before .before in
+    let m = e .before .before in
+    let p = s m .pre .1 in
+    (p .0 .1, (p .1, rw (tail-of (m .make-room .result) (m .make-room .last .0), length-drop) (omega (arith, e .if1 .left, p .1))))
 
 returns-2 : tie.Need-returns-2
 returns-2 c =
     λ stored H.
     let w = c .before .before .write-definition in
-    let s = c .before .before .before .before .before .before in
-    let l = s .args .numbers .now in
-    let o = s .args .origin in
-    let some = s .pre .1 .1 .1 in
-    added H (addedIn o (defined l)) (defined-size o l some) (defined-literals o l some (s .pre .1 .1 .0)) (w .last .0) (w .ensures)
+    let m = c .before .before .before .before .before .before .before in
+    let o = s m .args .origin in
+    let p = s m .pre .1 in
+    added (held m stored H) (new m) (size m) (defined-literals o (l m) (p .1 .1) (p .1 .0)) (added-origins o (p .0 .0) (defined (l m)))
+    (w .last .0) (w .ensures)
 
 pub append-spec : {M : Type 1} → statement M
 append-spec =
@@ -40,6 +70,8 @@ append-spec =
     (λ c. search needs)
     (λ c. search needs)
     (λ c. search needs)
+    (λ c κs. search needs)
+    sub-if1
     (λ c. search needs)
     returns
     (λ c. search needs)

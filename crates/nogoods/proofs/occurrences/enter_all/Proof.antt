@@ -2,7 +2,6 @@
 use mathlib.Core.List.{List}
 use Prim.Native.Nat.{_+_, _-_, _≤_}
 use native.Mathlib.Omega.{arith}
-use borrow.Author.Needs.{needs}
 use lib.IntN.{ℤ}
 use lib.ListN.{length}
 use Rattle.nogoods.specs.Store.{Stored, headerSize}
@@ -39,44 +38,28 @@ module _ (c : tie.In-loop Inv-loop μ-loop) where
   room : (endAt words (c .before .loop .r) ≤ length words) × (length words ≤ reach)
   room = let p = c .before .before .pre in (stands (p .0 .0) (p .0 .1) .1, p .1 .0 .1)
 
-enter-requires : tie.Need-enter-requires Inv-loop μ-loop
-enter-requires c κs =
-    let i = c .before .before .before in
+enter-live-requires : tie.Need-enter-live-requires Inv-loop μ-loop
+enter-live-requires c κs =
+    let i = c .before .before .before .before in
     let v = i .before .loop .inv in
     ((readable _ _ (i .before .before .pre .0) (stands i), stands i), (room i .1, (v .1, v .2)))
 
--- the record that was entered
-abbrev now-at : tie.After-count-at Inv-loop μ-loop → tie.In-loop Inv-loop μ-loop
-now-at c = c .before .before .before .before .before
-
-count-at-requires : tie.Need-count-at-requires Inv-loop μ-loop
-count-at-requires c κs = room (c .before .before .before .before) .0
-
-cast-counts : tie.Need-cast-counts Inv-loop μ-loop
-cast-counts c = let k = room (now-at c) in let e = c .count-at .ensures in search needs
-
-mul-counts : tie.Need-mul-counts Inv-loop μ-loop
-mul-counts c = let k = room (now-at c) in search needs
-
-element-write-counts : tie.Need-element-write-counts Inv-loop μ-loop
-element-write-counts c = let k = room (now-at c) in omega arith
-
 end-at-requires : tie.Need-end-at-requires Inv-loop μ-loop
-end-at-requires c κs = room (now-at c) .0
+end-at-requires c κs = room (c .before .before .before .before .before) .0
 
 loop-less : tie.Need-loop-less Inv-loop μ-loop
-loop-less c = omega (arith, now-at (c .before) .loop-test .taken, c .end-at .ensures)
+loop-less c = omega (arith, c .before .before .before .before .before .before .loop-test .taken, c .end-at .ensures)
 
 loop-again : tie.Need-loop-again Inv-loop μ-loop
 loop-again c =
-    let o = c .before .before in
-    let i = now-at (c .before) in
+    let o = c .before in
+    let i = o .before .before .before .before .before in
     let e = endAt (words i) (i .before .loop .r) in
-    let head = o .enter .last .1 .1 .1 .1 .0 in
-    let b : Below e head = o .enter .ensures .1 in
+    let head = o .enter-live .last .1 .1 .1 .1 .0 in
+    let b : Below e head = o .enter-live .ensures .1 in
     rw (c .end-at .ensures) (
       λ stored enc. rest-next (i .before .loop .inv .0 stored enc) (i .loop-test .taken) inside-tail,
-      o .enter .ensures .0,
+      o .enter-live .ensures .0,
       below-weaker e (e + headerSize) head (omega arith) b,
       below-weaker e _ head (room i .0) b,
     )
@@ -85,18 +68,4 @@ returns : tie.Need-returns Inv-loop μ-loop
 returns c = let v = c .before .loop .inv in (v .1, v .3)
 
 pub enter-all-spec : {M : Type 1} → statement M
-enter-all-spec =
-    tie.close
-    (tie.spec
-    Inv-loop
-    μ-loop
-    loop-holds
-    enter-requires
-    count-at-requires
-    cast-counts
-    mul-counts
-    element-write-counts
-    end-at-requires
-    loop-less
-    loop-again
-    returns)
+enter-all-spec = tie.close (tie.spec Inv-loop μ-loop loop-holds enter-live-requires end-at-requires loop-less loop-again returns)

@@ -6,8 +6,8 @@ use native.Mathlib.Omega.{arith}
 use borrow.Author.Needs.{needs}
 use lib.IntN.{ℤ}
 use lib.ListN.{length}
-use Rattle.nogoods.specs.Records.{Readable, Stands, nogoodAt}
-use Rattle.nogoods.specs.Propagate.{Derives}
+use Rattle.nogoods.specs.Records.{Readable, Stands}
+use Rattle.nogoods.specs.Propagate.{DerivesAt}
 use Rattle.nogoods.specs.declared.units.Derived.{Derived}
 use Rattle.nogoods.proofs.Recorded.{readable}
 use Rattle.nogoods.proofs.Closures.{clashes-before, conflicting}
@@ -46,15 +46,16 @@ end-at-requires c κs = read (c .before .before) .room
 
 -- what the nogood gave
 told : (c : tie.After-derive-at Inv-loop μ-loop) (x : Derived) → c .derive-at .result ≡ x
-    → let l = c .before .before .before .loop in Derives (nogoodAt (words (c .before .before)) (l .i)) (l .assignment) (c .derive-at .last .1 .1 .0) x
+    → let l = c .before .before .before .loop in DerivesAt (words (c .before .before)) (l .i) (l .assignment) (c .derive-at .last .1 .1 .0) x
 told c x e = rw e at (c .derive-at .ensures)
 
 returns : tie.Need-returns Inv-loop μ-loop
 returns c =
     let o = c .before .before .before in
     let k = o .before .before in
+    let t = told o _ (c .enum-told .given .1) in
     clashes-before _ _ _ (going k .grows)
-    (conflicting _ _ (stands k) (read k .literals) (k .before .loop .assignment) (going k .size) (told o _ (c .enum-told .given .1)))
+    (conflicting _ _ (stands k) (t .0) (read k .literals) (k .before .loop .assignment) (going k .size) (t .1))
 
 loop-less : tie.Need-loop-less Inv-loop μ-loop
 loop-less c = omega (arith, c .before .before .before .before .before .loop-test .taken)
@@ -63,8 +64,9 @@ loop-again : tie.Need-loop-again Inv-loop μ-loop
 loop-again c =
     let o = c .before .before .before in
     let k = o .before .before in
+    let t = told o _ (c .enum-told2 .given .1) in
     rw (c .before .before .end-at .ensures)
-    (sweep-assigned _ _ _ _ _ (going k) (k .loop-test .taken) (read k .literals) _ _ (told o _ (c .enum-told2 .given .1)))
+    (sweep-assigned _ _ _ _ _ (going k) (k .loop-test .taken) (t .0) (read k .literals) _ _ (t .1))
 
 loop-less-2 : tie.Need-loop-less-2 Inv-loop μ-loop
 loop-less-2 c = omega (arith, c .before .before .before .before .before .loop-test .taken)

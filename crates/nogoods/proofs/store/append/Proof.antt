@@ -1,13 +1,14 @@
 use mathlib.Core.Path.{_≡_, ap, _∙_}
 use mathlib.Core.List.{List, [], _∷_, append-nil, List·Memᴰ·eq-of-singleton}
-use Prim.Native.Nat.{ℕ}
+use Prim.Native.Nat.{ℕ, _-_, _≤_}
 use native.Mathlib.Omega.{arith}
 use lib.IntN.{ℤ}
 use lib.ListN.{length}
-use Rattle.nogoods.specs.Store.{addedIn, recordOf, storedWords, recordSize, wordsOf}
-use Rattle.nogoods.proofs.Live.{stored-size}
+use Rattle.nogoods.specs.Store.{Stored, addedIn, recordOf, storedWords, recordSize, wordsOf, keptFor}
+use Rattle.nogoods.specs.Keeps.{Holds}
+use Rattle.nogoods.proofs.Live.{stored-size, closed-added}
 use Rattle.nogoods.proofs.Literals.{added-literals}
-use Rattle.nogoods.proofs.Stored.{full, added}
+use Rattle.nogoods.proofs.Stored.{full, added, added-origins}
 use borrow.Author.Needs.{needs}
 use Rattle.nogoods.proofs.store.append.Statement.{statement}
 use Rattle.nogoods.proofs.store.append.Tie as tie
@@ -15,27 +16,50 @@ use Rattle.nogoods.proofs.store.append.Tie as tie
 size : (o : ℕ) (g : List ℤ) → length (wordsOf (addedIn o (g ∷ []))) ≡ recordSize g
 size o g = ap length (append-nil (storedWords (recordOf o g))) ∙ stored-size (recordOf o g)
 
+-- what is held once there is room
+module _ (c : tie.After-make-room) where
+  abbrev s : tie.Start
+  s = c .before .before
+
+  abbrev L : List ℤ
+  L = s .args .literals .now
+
+  abbrev new : List Stored
+  new = addedIn (s .args .origin) (L ∷ [])
+
+  held : (stored : List Stored) → Holds (s .args .store .now) (s .args .used) stored
+      → Holds (c .make-room .last .0) (c .make-room .result) (keptFor (length (s .args .store .now)) (length (wordsOf new)) stored)
+  held stored H = rw (size (s .args .origin) L) (c .make-room .ensures stored H)
+
+  end-in : c .make-room .result ≤ length (c .make-room .last .0)
+  end-in = held (s .pre .0 .0) (s .pre .0 .1) .fits
+
+sub-if1 : tie.Need-sub-if1
+sub-if1 c = end-in (c .before)
+
 returns : tie.Need-returns
 returns c =
     λ stored H.
-    let L = c .before .args .literals .now in
-    let o = c .before .args .origin in
-    full H (addedIn o (L ∷ [])) (size o L) (omega (arith, c .if1 .taken))
+    let m = c .before .before in
+    full H (new m) (size (s m .args .origin) (L m)) (closed-added (s m .args .origin) (L m ∷ [])) (m .make-room .kept .0) (held m stored H)
+    (omega (arith, c .if1 .taken))
 
 returns-2 : tie.Need-returns-2
 returns-2 c =
     λ stored H.
-    let s = c .before .before .before .before in
-    let L = s .args .literals .now in
-    let o = s .args .origin in
-    added H (addedIn o (L ∷ [])) (size o L) (added-literals o (L ∷ []) (λ g m. rw (List·Memᴰ·eq-of-singleton m) (s .pre .1 .1 .0))) (c .before .write .last .0)
-    (rw (append-nil L) (c .before .write .ensures))
+    let m = c .before .before .before .before .before in
+    let o = s m .args .origin in
+    let p = s m .pre .1 in
+    added (held m stored H) (new m) (size o (L m)) (added-literals o (L m ∷ []) (λ g u. rw (List·Memᴰ·eq-of-singleton u) (p .1 .0)))
+    (added-origins o (p .0 .0) (L m ∷ [])) (c .before .write .last .0) (rw (append-nil (L m)) (c .before .write .ensures))
 
 pub append-spec : {M : Type 1} → statement M
 append-spec =
     tie.close
     (tie.spec
     (λ c. search needs)
+    (λ c κs. search needs)
+    sub-if1
     (λ c. search needs)
     returns
     (λ c. search needs)

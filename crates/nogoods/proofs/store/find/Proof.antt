@@ -4,11 +4,9 @@ use mathlib.Core.Bool.{true, false}
 use mathlib.Core.List.{List, _∷_}
 use Prim.Native.Nat.{ℕ, _+_, _-_, _≤_}
 use native.Mathlib.Omega.{arith}
-use borrow.Author.Needs.{needs}
 use lib.IntN.{ℤ}
 use lib.ListN.{length}
-use Rattle.words.specs.Literals.{sameList}
-use Rattle.nogoods.specs.Store.{Stored, recordSize}
+use Rattle.nogoods.specs.Store.{Stored, isTarget, recordSize}
 use Rattle.nogoods.specs.Records.{endAt, storedAt}
 use Rattle.nogoods.specs.Finds.{foundAt}
 use Rattle.nogoods.specs.declared.store.Found.the-variants.{At}
@@ -16,10 +14,10 @@ use Rattle.nogoods.proofs.Recorded.{rest-at, rest-first, rest-next, res
 use Rattle.nogoods.proofs.store.find.Statement.{statement}
 use Rattle.nogoods.proofs.store.find.Tie as tie
 
-found-here : (i : ℕ) (L : List ℤ) (e : Stored) (es : List Stored) → sameList (e .literals) L ≡ true → foundAt i L (e ∷ es) ≡ At i
+found-here : (i : ℕ) (L : List ℤ) (e : Stored) (es : List Stored) → isTarget L e ≡ true → foundAt i L (e ∷ es) ≡ At i
 found-here i L e es h = rw h
 
-found-on : (i : ℕ) (L : List ℤ) (e : Stored) (es : List Stored) → sameList (e .literals) L ≡ false
+found-on : (i : ℕ) (L : List ℤ) (e : Stored) (es : List Stored) → isTarget L e ≡ false
     → foundAt i L (e ∷ es) ≡ foundAt (i + recordSize (e .literals)) L es
 found-on i L e es h = rw h
 
@@ -40,16 +38,16 @@ it c = storedAt (c .before .before .args .store .now) (c .before .loop .i)
 loop-holds : tie.Need-loop-holds Inv-loop μ-loop
 loop-holds c = ahead (λ stored. refl)
 
-nogood-at-requires : tie.Need-nogood-at-requires Inv-loop μ-loop
-nogood-at-requires c κs = room c
+is-target-requires : tie.Need-is-target-requires Inv-loop μ-loop
+is-target-requires c κs = room c
 
--- whether it is the list, as the call tells
-module _ (c : tie.After-is-same-list Inv-loop μ-loop) where
+-- whether it is the list and live, as the call tells
+module _ (c : tie.After-is-target Inv-loop μ-loop) where
   abbrev i : tie.In-loop Inv-loop μ-loop
-  i = c .before .before
+  i = c .before
 
-  tells : sameList (it i .literals) (i .before .before .args .literals .now) ≡ c .is-same-list .result
-  tells = sym (rw (c .before .nogood-at .ensures) at (c .is-same-list .ensures))
+  tells : isTarget (i .before .before .args .literals .now) (it i) ≡ c .is-target .result
+  tells = sym (c .is-target .ensures)
 
 returns : tie.Need-returns Inv-loop μ-loop
 returns c =
@@ -85,8 +83,7 @@ find-spec =
     Inv-loop
     μ-loop
     loop-holds
-    nogood-at-requires
-    (λ c κs. search needs)
+    is-target-requires
     returns
     end-at-requires
     loop-less
