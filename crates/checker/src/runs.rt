@@ -10,7 +10,7 @@ ghost use Rattle.aspif.specs.Tables.{rulesAt};
 ghost use Rattle.drupe.specs.Lines.{lineAt};
 ghost use Rattle.derivation.specs.States.{State};
 ghost use Rattle.nogoods.specs.Store.{Stored};
-ghost use Rattle.nogoods.specs.Keeps.{Holds};
+ghost use Rattle.nogoods.specs.Keeps.{Keeps};
 ghost use Rattle.loops.specs.Relevance.{Relevant};
 ghost use Rattle.checker.specs.Check.{course};
 ghost use Rattle.checker.specs.Held.{Program, Tracks, NoBodies, HoldsState, proofTurn, LineLeaves, Ran};
@@ -23,6 +23,7 @@ use drupe::LineAnswer;
 use drupe::reader;
 use loops::relevance;
 use names::by_name;
+use nogoods::index::INDEX;
 use weights::MOST_WEIGHTED;
 use words::MOST_RULES;
 
@@ -65,18 +66,19 @@ fn turn_at(
     bodies: &mut [i16],
     store: &mut [i32],
     used: usize,
+    index: &mut [u16; INDEX],
     origin: usize,
 ) -> ProofTurn
     requires program { ⌜ ((ws : List InputRule) × Program (now table) rules atoms ws) × (rules ≤ length (now names)) ⌝ }
     requires relevant { ⌜ Relevant (now relevant) (rulesAt rules (now table)) ⌝ }
-    requires store { ⌜ ((stored : List Stored) × Holds (now store) used stored) × ((1 ≤ origin) × (origin ≤ at + 1)) ⌝ }
+    requires store { ⌜ ((stored : List Stored) × Keeps (now store) (now index) used stored) × ((1 ≤ origin) × (origin ≤ at + 1)) ⌝ }
     requires short { ⌜ length (now proof) ≤ longest ⌝ }
     ensures { λ r. ⌜ ((ws : List InputRule) → Program (now (table .entry)) rules atoms ws
         → (z : State) (stored : List Stored)
         → Tracks atoms ws (now (known .entry)) (now (names .entry)) (now (bodies .entry)) (z .introduced) (z .named)
-        → HoldsState (now (store .entry)) used z stored
-        → LineLeaves atoms ws (now (known .exit)) (now (names .exit)) (now (bodies .exit)) (now (store .exit)) used origin
-        (length (now (store .entry))) z stored (lineAt (now (proof .entry)) at) r) ⌝ }
+        → HoldsState (now (store .entry)) (now (index .entry)) used z stored
+        → LineLeaves atoms ws (now (known .exit)) (now (names .exit)) (now (bodies .exit)) (now (store .exit)) (now (index .exit))
+        used origin (length (now (store .entry))) z stored (lineAt (now (proof .entry)) at) r) ⌝ }
 {
     let reading = reader::step_at(proof, at);
     let answer = reading.answer;
@@ -102,6 +104,7 @@ fn turn_at(
                 bodies,
                 store,
                 used,
+                index,
                 origin,
             );
             turn_of(next, stepped)
@@ -130,6 +133,7 @@ fn run_lines(
     let start = CheckingState::start(atoms);
     let mut known = start.known;
     let mut names = start.names;
+    let mut index = [0u16; INDEX];
     let mut used = start.used;
     let mut at = 0;
     let mut steps = 0;
@@ -147,6 +151,7 @@ fn run_lines(
             bodies,
             store,
             used,
+            &mut index,
             step,
         );
         match turned {

@@ -8,7 +8,7 @@ ghost use Rattle.words.specs.Limits.{longest};
 ghost use Rattle.aspif.specs.Rules.{InputRule};
 ghost use Rattle.aspif.specs.Tables.{rulesAt};
 ghost use Rattle.nogoods.specs.Store.{Stored};
-ghost use Rattle.nogoods.specs.Keeps.{Holds};
+ghost use Rattle.nogoods.specs.Keeps.{Keeps};
 ghost use Rattle.loops.specs.Relevance.{Relevant};
 ghost use Rattle.checker.specs.Held.{PassedLine, Program, Stepping};
 use crate::additions;
@@ -16,6 +16,7 @@ use crate::naming;
 use crate::outcomes::Stepped;
 use crate::supports;
 use crate::unfounded;
+use nogoods::index::INDEX;
 use text::Letter;
 
 // The step of a line that passed questions 22 to 25. The origin is its number, which the nogoods that it adds carry.
@@ -31,19 +32,20 @@ pub fn step(
     bodies: &mut [i16],
     store: &mut [i32],
     used: usize,
+    index: &mut [u16; INDEX],
     origin: usize,
 ) -> Stepped
     requires program { ⌜ ((ws : List InputRule) × Program (now table) rules atoms ws) × (rules ≤ length (now names)) ⌝ }
     requires relevant { ⌜ Relevant (now relevant) (rulesAt rules (now table)) ⌝ }
-    requires store { ⌜ ((stored : List Stored) × Holds (now store) used stored) × ((1 ≤ origin) × (origin ≤ longest)) ⌝ }
+    requires store { ⌜ ((stored : List Stored) × Keeps (now store) (now index) used stored) × ((1 ≤ origin) × (origin ≤ longest)) ⌝ }
     requires line { ⌜ PassedLine letter (now line) ⌝ }
     ensures { λ r. ⌜ ((ws : List InputRule) → Program (now (table .entry)) rules atoms ws
         → Stepping atoms ws letter (now (line .entry)) used origin
-        (now (known .entry)) (now (names .entry)) (now (bodies .entry)) (now (store .entry))
-        (now (known .exit)) (now (names .exit)) (now (bodies .exit)) (now (store .exit)) r) ⌝ }
+        (now (known .entry)) (now (names .entry)) (now (bodies .entry)) (now (store .entry)) (now (index .entry))
+        (now (known .exit)) (now (names .exit)) (now (bodies .exit)) (now (store .exit)) (now (index .exit)) r) ⌝ }
 {
     match letter {
-        Letter::Addition => additions::addition(known, store, used, origin, line),
+        Letter::Addition => additions::addition(known, store, used, index, origin, line),
         Letter::Body => naming::body(
             table,
             rules,
@@ -52,6 +54,7 @@ pub fn step(
             bodies,
             store,
             used,
+            index,
             origin,
             line,
         ),
@@ -64,12 +67,13 @@ pub fn step(
                 bodies,
                 store,
                 used,
+                index,
                 origin,
                 line,
             )
         }
-        Letter::Deletion => additions::deletion(known, store, used, line),
-        Letter::Extension => naming::extension(known, store, used, origin, line),
+        Letter::Deletion => additions::deletion(known, store, used, index, line),
+        Letter::Extension => naming::extension(known, store, used, index, origin, line),
         Letter::Loop => {
             unfounded::loops(
                 table,
@@ -81,6 +85,7 @@ pub fn step(
                 bodies,
                 store,
                 used,
+                index,
                 origin,
                 line,
             )
@@ -95,6 +100,7 @@ pub fn step(
                 bodies,
                 store,
                 used,
+                index,
                 origin,
                 line,
             )

@@ -5,6 +5,7 @@ pub mod Live
 pub mod Recorded
 pub mod Stored
 pub mod Closing
+pub mod Placed
 pub mod Literals
 pub mod Defined
 pub mod Closures

@@ -9,11 +9,13 @@ ghost use lib.ListN.{length, getD, set};
 ghost use Rattle.words.specs.Limits.{largest, longest};
 ghost use Rattle.words.specs.Lists.{any};
 ghost use Rattle.aspif.specs.Rules.{isEmpty};
-ghost use Rattle.nogoods.specs.Keeps.{Literals, Holds, Fits, WrittenFront};
+ghost use Rattle.nogoods.specs.Keeps.{Literals, Holds, Keeps, Fits, WrittenFront};
 ghost use Rattle.nogoods.specs.Store.{Stored, recordOf, addedIn, closed, live, killed, keptFor, keptWith, isTarget, storedWords, recordSize};
-ghost use Rattle.nogoods.specs.Records.{endAt, deadAt, countAt, storedAt};
+ghost use Rattle.nogoods.specs.Records.{HoldsFrom, endAt, deadAt, countAt, storedAt};
 ghost use Rattle.nogoods.specs.Moves.{MovedDown, Keeping};
-ghost use Rattle.nogoods.specs.Finds.{foundAt};
+ghost use Rattle.nogoods.specs.Finds.{foundAt, FoundListed};
+use crate::index;
+use crate::index::INDEX;
 use crate::records;
 use crate::records::COUNT;
 use crate::records::HEADER;
@@ -86,32 +88,45 @@ pub fn close(store: &mut [i32], used: usize) -> usize
 
 // Room for so many words after those that are used: the store is closed up if they do not fit otherwise. How many words are used
 // then.
-pub fn make_room(store: &mut [i32], used: usize, size: usize) -> usize
-    requires { ⌜ ((stored : List Stored) × Holds (now store) used stored) ⌝ }
-    ensures { λ r. ⌜ ((stored : List Stored) → Holds (now (store .entry)) used stored
-        → Holds (now (store .exit)) r (keptFor (length (now (store .entry))) size stored)) ⌝ }
+pub fn make_room(
+    store: &mut [i32],
+    used: usize,
+    index: &mut [u16; INDEX],
+    size: usize,
+) -> usize
+    requires { ⌜ ((stored : List Stored) × Keeps (now store) (now index) used stored) ⌝ }
+    ensures { λ r. ⌜ ((stored : List Stored) → Keeps (now (store .entry)) (now (index .entry)) used stored
+        → Keeps (now (store .exit)) (now (index .exit)) r (keptFor (length (now (store .entry))) size stored)) ⌝ }
 {
     if size <= store.len() - used {
         return used;
     }
+    index::clear(index);
     close(store, used)
 }
 
 // One more live nogood, after the others, with the number of the step that adds it.
-pub fn append(store: &mut [i32], used: usize, origin: usize, literals: &[i32]) -> Added
-    requires held { ⌜ ((stored : List Stored) × Holds (now store) used stored) ⌝ }
+pub fn append(
+    store: &mut [i32],
+    used: usize,
+    index: &mut [u16; INDEX],
+    origin: usize,
+    literals: &[i32],
+) -> Added
+    requires kept { ⌜ ((stored : List Stored) × Keeps (now store) (now index) used stored) ⌝ }
     requires origin { ⌜ (1 ≤ origin) × (origin ≤ longest) ⌝ }
     requires literals { ⌜ Literals (now literals) × (length (now literals) ≤ largest) ⌝ }
-    ensures { λ r. ⌜ ((stored : List Stored) → Holds (now (store .entry)) used stored
+    ensures { λ r. ⌜ ((stored : List Stored) → Keeps (now (store .entry)) (now (index .entry)) used stored
         → Fits (keptWith (length (now (store .entry))) (addedIn origin (now (literals .entry) ∷ [])) stored)
-        (now (store .exit)) r) ⌝ }
+        (now (store .exit)) (now (index .exit)) r) ⌝ }
 {
     let size = HEADER + literals.len();
-    let end = make_room(store, used, size);
+    let end = make_room(store, used, index, size);
     if store.len() - end < size {
         return Added::Full;
     }
     write(&mut store[end..], origin, literals);
+    index::cover(store, end + size, index);
     Added::Uses(end + size)
 }
 
@@ -126,13 +141,29 @@ fn is_target(store: &[i32], i: usize, literals: &[i32]) -> bool
     words::is_same_list(records::nogood_at(store, i), literals)
 }
 
-// The oldest live nogood that is the list of literals.
-fn find(store: &[i32], used: usize, literals: &[i32]) -> Found
-    requires { ⌜ ((stored : List Stored) × Holds (now store) used stored) ⌝ }
-    ensures { λ r. ⌜ ((stored : List Stored) → Holds (now (store .entry)) used stored
-        → r ≡ foundAt 0 (now (literals .entry)) stored) ⌝ }
+// The number of the first place in the index at which the list of literals stands; that of all places where there is none.
+fn find_listed(store: &[i32], used: usize, index: &[u16; INDEX], literals: &[i32]) -> usize
+    requires { ⌜ ((stored : List Stored) × Keeps (now store) (now index) used stored) ⌝ }
+    ensures { λ k. ⌜ FoundListed (now (store .entry)) (now (index .entry)) (now (literals .entry)) k ⌝ }
 {
-    let mut i = 0;
+    let n = index::listed(index);
+    let mut k = 0;
+    while k < n {
+        if is_target(store, index::place_at(index, k), literals) {
+            return k;
+        }
+        k += 1;
+    }
+    n
+}
+
+// The oldest live nogood that is the list of literals, of those from `from` on.
+fn find_from(store: &[i32], used: usize, from: usize, literals: &[i32]) -> Found
+    requires { ⌜ ((back : List Stored) × HoldsFrom (now store) used from back) ⌝ }
+    ensures { λ r. ⌜ ((back : List Stored) → HoldsFrom (now (store .entry)) used from back
+        → r ≡ foundAt from (now (literals .entry)) back) ⌝ }
+{
+    let mut i = from;
     while i < used {
         if is_target(store, i, literals) {
             return Found::At(i);
@@ -151,12 +182,23 @@ fn kill(store: &mut [i32], r: usize)
 }
 
 // The oldest live nogood that is the list of literals is dead: one word changes at most. As many words are used as before.
-pub fn delete(store: &mut [i32], used: usize, literals: &[i32]) -> usize
-    requires { ⌜ ((stored : List Stored) × Holds (now store) used stored) ⌝ }
-    ensures { λ r. ⌜ ((stored : List Stored) → Holds (now (store .entry)) used stored
-        → Holds (now (store .exit)) r (killed (now (literals .entry)) stored)) ⌝ }
+pub fn delete(
+    store: &mut [i32],
+    used: usize,
+    index: &mut [u16; INDEX],
+    literals: &[i32],
+) -> usize
+    requires { ⌜ ((stored : List Stored) × Keeps (now store) (now index) used stored) ⌝ }
+    ensures { λ r. ⌜ ((stored : List Stored) → Keeps (now (store .entry)) (now (index .entry)) used stored
+        → Keeps (now (store .exit)) (now (index .exit)) r (killed (now (literals .entry)) stored)) ⌝ }
 {
-    match find(store, used, literals) {
+    let k = find_listed(store, used, index, literals);
+    if k < index::listed(index) {
+        kill(store, index::place_at(index, k));
+        index::take_out(index, k);
+        return used;
+    }
+    match find_from(store, used, index::covered(index), literals) {
         Found::At(i) => {
             kill(store, i);
             used

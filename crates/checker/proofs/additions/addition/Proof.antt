@@ -19,7 +19,7 @@ use Rattle.checker.proofs.additions.addition.Statement.{statement}
 use Rattle.checker.proofs.additions.addition.Tie as tie
 
 -- question 33 of the live nogoods
-refutes-live : {store : List ℤ} {used : ℕ} {z : State} {b : List Stored} → HoldsState store used z b → (L : List ℤ) {r a : Bool} → r ≡ refuted (live b) L → r ≡ a
+refutes-live : {store : List ℤ} {index : List ℕ} {used : ℕ} {z : State} {b : List Stored} → HoldsState store index used z b → (L : List ℤ) {r a : Bool} → r ≡ refuted (live b) L → r ≡ a
     → refuted (z .live) L ≡ a
 refutes-live K L e f = sym (e ∙ ap (λ l. refuted l L) (K .same)) ∙ f
 
@@ -34,7 +34,7 @@ returns-2 c =
     λ N ws names bodies z b T K.
     let k = c .before .before .before .before in
     let s = k .before .before .before .before in
-    rw (cited z T Addition _ (s .pre .1) refl (sym (k .before .all-marked .ensures) ∙ not-false _ (k .if1 .left)), refutes-live K (s .args .numbers .now) (c .before .refutes .ensures b (K .holds)) (not-true _ (c .if2 .taken))) refl
+    rw (cited z T Addition _ (s .pre .1) refl (sym (k .before .all-marked .ensures) ∙ not-false _ (k .if1 .left)), refutes-live K (s .args .numbers .now) (c .before .refutes .ensures b (K .keeps)) (not-true _ (c .if2 .taken))) refl
 
 append-requires : tie.Need-append-requires
 append-requires c κs =
@@ -50,9 +50,9 @@ returns-3 c =
     let m = o .before .before in
     let k = m .before .before .before .before in
     let s = k .before .before .before .before in
-    rw (cited z T Addition _ (s .pre .1) refl (sym (k .before .all-marked .ensures) ∙ not-false _ (k .if1 .left)), refutes-live K (s .args .numbers .now) (m .before .refutes .ensures b (K .holds)) (not-false _ (m .if2 .left))) (
-      kept-more K (s .args .origin) _ _ _ (c .fitted .result)
-          (kept-one b (s .args .origin) _ _ (c .before .before .append .result) (c .fitted .ensures) (o .sort .ensures) (c .before .before .append .ensures b (K .holds))),
+    rw (cited z T Addition _ (s .pre .1) refl (sym (k .before .all-marked .ensures) ∙ not-false _ (k .if1 .left)), refutes-live K (s .args .numbers .now) (m .before .refutes .ensures b (K .keeps)) (not-false _ (m .if2 .left))) (
+      kept-more K (s .args .origin) _ _ _ _ (c .fitted .result)
+          (kept-one b (s .args .origin) _ _ _ (c .before .before .append .result) (c .fitted .ensures) (o .sort .ensures) (c .before .before .append .ensures b (K .keeps))),
       T,
     )
 

@@ -20,7 +20,7 @@ returns-2 c =
     let k = o .before .before in
     let s = k .before .before .before .before in
     rw (cited z T Deletion _ (s .pre .1) refl (sym (k .before .all-marked .ensures) ∙ not-false _ (k .if1 .left)))
-    (rw (o .sort .ensures) at (d .delete .ensures b (K .holds)), T)
+    (rw (o .sort .ensures) at (d .delete .ensures b (K .keeps)), T)
 
 pub deletion-spec : {M : Type 1} → statement M
 deletion-spec =

@@ -121,7 +121,7 @@ returns-4 c =
     let u = not-false _ (e .if3 .left) in
     let q = sym (answer b N ws p z T) ∙ u in
     rw (introduced z T Body _ (s .pre .1 .1) refl refl (sym (k .before .all-marked .ensures) ∙ not-false _ (k .if1 .left)) f, q)
-    (kept-more K (s .args .origin) _ _ _ (d .define .result) (d .define .ensures .1 stored (K .holds)), rw (d .define .ensures .0) (body-tracks z T Body _ (s .pre .1 .1) refl f q (entered b N ws p z T u (unknown z T Body _ (s .pre .1 .1) refl f))))
+    (kept-more K (s .args .origin) _ _ _ _ (d .define .result) (d .define .ensures .1 stored (K .keeps)), rw (d .define .ensures .0) (body-tracks z T Body _ (s .pre .1 .1) refl f q (entered b N ws p z T u (unknown z T Body _ (s .pre .1 .1) refl f))))
 
 pub body-spec : {M : Type 1} → statement M
 body-spec =

@@ -52,7 +52,7 @@ returns-3 c =
     let s = k .before .before .before .before .before .before in
     let f = sym (named (m .before)) ∙ m .if2 .left in
     rw (introduced z T Extension _ (s .pre .1) refl refl (sym (k .before .all-marked .ensures) ∙ not-false _ (k .if1 .left)) f)
-    (kept-more K (s .args .origin) _ _ _ (d .define .result) (d .define .ensures .1 b (K .holds)), rw (d .define .ensures .0) (extension-tracks z T Extension _ (s .pre .1) refl f))
+    (kept-more K (s .args .origin) _ _ _ _ (d .define .result) (d .define .ensures .1 b (K .keeps)), rw (d .define .ensures .0) (extension-tracks z T Extension _ (s .pre .1) refl f))
 
 pub extension-spec : {M : Type 1} → statement M
 extension-spec =

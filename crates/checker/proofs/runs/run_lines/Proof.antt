@@ -84,7 +84,7 @@ turn-at-requires : tie.Need-turn-at-requires Inv-loop μ-loop
 turn-at-requires c κs =
     let i = c .before .before .before .before .loop .inv in
     let p = c .before .before .before .before .before .before .before .before .before .before .pre in
-    ((p .0 .0, omega (arith, p .0 .1, i .2 .places)), (p .1 .0, (((i .2 .stored, i .2 .keeps .holds), omega (arith, i .2 .count)), p .1 .1 .1 .0)))
+    ((p .0 .0, omega (arith, p .0 .1, i .2 .places)), (p .1 .0, (((i .2 .stored, i .2 .keeps .keeps), omega (arith, i .2 .count)), p .1 .1 .1 .0)))
 
 enum-told : tie.Need-enum-told Inv-loop μ-loop
 enum-told c = search needs

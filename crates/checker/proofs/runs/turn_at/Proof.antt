@@ -49,7 +49,7 @@ step-requires c κs =
     (s .pre .0, (s .pre .1 .0, ((s .pre .1 .1 .0 .0, numbered d), good-line _ _ (good d .0) (good d .1))))
 
 returns : tie.Need-returns
-returns c = λ ws p z stored T K. rw (read-end (c .before .before .before .step-at .ensures) (c .enum-told .given .1)) (refl, K .holds)
+returns c = λ ws p z stored T K. rw (read-end (c .before .before .before .step-at .ensures) (c .enum-told .given .1)) (refl, K .keeps .holds)
 
 returns-2 : tie.Need-returns-2
 returns-2 c = λ ws p z stored T K. rw (read-refused (c .before .before .before .before .step-at .ensures) _ (c .before .answer .given .1)) refl

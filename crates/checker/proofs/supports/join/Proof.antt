@@ -35,7 +35,7 @@ returns : tie.Need-returns
 returns c =
     let a = c .before .before in
     let o = a .before .before .before .before in
-    λ b H. kept-one b (s o .args .origin) _ _ (a .append .result) (c .fitted .ensures) (added o .is) (a .append .ensures b H)
+    λ b H. kept-one b (s o .args .origin) _ _ _ (a .append .result) (c .fitted .ensures) (added o .is) (a .append .ensures b H)
 
 pub join-spec : {M : Type 1} → statement M
 join-spec =

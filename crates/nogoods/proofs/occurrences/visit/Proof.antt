@@ -9,7 +9,8 @@ use lib.ListN.{length, getD}
 use Rattle.words.specs.Limits.{entries}
 use Rattle.nogoods.specs.Records.{Stands, Readable}
 use Rattle.nogoods.specs.Propagate.{free, DerivesAt, Grows}
-use Rattle.nogoods.specs.PropagateChains.{reach, Queue}
+use Rattle.nogoods.specs.Index.{reach}
+use Rattle.nogoods.specs.PropagateChains.{Queue}
 use Rattle.nogoods.specs.declared.units.Derived.{Derived}
 use Rattle.nogoods.proofs.Recorded.{readable}
 use Rattle.nogoods.proofs.Closures.{grows-not, grows-on, clashes-before, conflicting, derived}
