@@ -7,7 +7,7 @@ use mathlib.Core.List.{List, [], _∷_, _++_, append-assoc, append-nil, List·Me
 use Prim.Native.Nat.{ℕ, zero, suc, _+_, _-_, _≤_, _<_}
 use native.Mathlib.Omega.{arith}
 use lib.IntN.{ℤ}
-use lib.ListN.{length, take, drop, getD, set, length-append, length-set, length-drop, List·getD-append}
+use lib.ListN.{length, take, drop, getD, set, length-append, length-set, length-drop, List·getD-append, replicate, length-replicate}
 use lib.Seq.{getD-take, getD-drop, getD-set-same, getD-set-other, drop-set-lt, take-suc-set, length-take-le, take-add, take-take, drop-at, drop-drop, drop-append-le}
 use Rattle.words.specs.Lists.{_∈_}
 use Rattle.words.proofs.Lists.{concat-append}
@@ -22,6 +22,7 @@ use Rattle.nogoods.specs.declared.store.Found.{Found}
 use Rattle.nogoods.specs.declared.store.Found.the-variants.{At, Nothing}
 use Rattle.nogoods.proofs.Live.{by-answer, stored-size, live-nil, live-first, killed-nil, killed-here, killed-on, target-alive, dead-target}
 use Rattle.nogoods.proofs.Recorded.{Originated, AtRecord, at-record, first-at, later, earlier, held-seg, encoded-seg, encoded-once, readable}
+use Rattle.nogoods.proofs.Assignments.{zeros}
 use Rattle.nogoods.proofs.Stored.{found-here, found-on}
 use Rattle.nogoods.proofs.Closing.{moved-more}
 
@@ -401,22 +402,28 @@ module _ {index : List ℕ} {stored : List Stored} (x : Indexed index stored) wh
         rw (is, b, a) (let t = indexed-next (rw a at h) (rw (b, a) at near) in (t .0, sym (t .1)))
 
 -- no place
+unlisted : (l : List ℕ) → length l ≡ indexSize → listed l ≡ 0 → covered l ≡ 0 → (stored : List Stored) → Indexed l stored
+unlisted l size n c stored = record {
+  front = [];
+  back = stored;
+  whole = refl;
+  size = size;
+  extent = c;
+  within = omega (arith, c);
+  count = n ∙ sym (ap length (places-nil 0));
+  all = ap (λ k. take k (drop firstPlace l)) n ∙ sym (places-nil 0);
+}
+
 pub indexed-none : (l : List ℕ) → length l ≡ indexSize → (stored : List Stored) → Indexed (set (set l 0 0) 1 0) stored
 indexed-none l h stored =
-    let z : listed (set (set l 0 0) 1 0) ≡ 0 =
-    getD-set-other (set l 0 0) 1 0 0 0 (λ e. absurd (omega (arith, e))) ∙ getD-set-same l 0 0 0 (omega (arith, h)) in
     let size : length (set l 0 0) ≡ indexSize = length-set l 0 0 ∙ h in
-    let c : covered (set (set l 0 0) 1 0) ≡ 0 = getD-set-same (set l 0 0) 1 0 0 (omega (arith, size)) in
-    record {
-      front = [];
-      back = stored;
-      whole = refl;
-      size = length-set (set l 0 0) 1 0 ∙ size;
-      extent = c;
-      within = omega (arith, c);
-      count = z ∙ sym (ap length (places-nil 0));
-      all = ap (λ k. take k (drop firstPlace (set (set l 0 0) 1 0))) z ∙ sym (places-nil 0);
-    }
+    unlisted (set (set l 0 0) 1 0) (length-set (set l 0 0) 1 0 ∙ size)
+    (getD-set-other (set l 0 0) 1 0 0 0 (λ e. absurd (omega (arith, e))) ∙ getD-set-same l 0 0 0 (omega (arith, h)))
+    (getD-set-same (set l 0 0) 1 0 0 (omega (arith, size))) stored
+
+-- an index of zeros
+pub indexed-zero : (stored : List Stored) → Indexed (replicate indexSize 0) stored
+indexed-zero = unlisted (replicate indexSize 0) (length-replicate {A = ℕ} indexSize 0) (zeros indexSize 0) (zeros indexSize 1)
 
 -- A place goes out
 

@@ -16,7 +16,7 @@ returns-2 : tie.Need-returns-2
 returns-2 c =
     λ N n ws names bodies z b T K.
     let d = c .before in
-    let o = d .before .before .before .before in
+    let o = d .before .before .before .before .before in
     let k = o .before .before in
     let s = k .before .before .before .before in
     rw (cited z T Deletion _ (s .pre .1) refl (sym (k .before .all-marked .ensures) ∙ not-false _ (k .if1 .left)))

@@ -104,7 +104,7 @@ returns-3 c =
 
 define-requires : tie.Need-define-requires
 define-requires c κs =
-    let s = c .before .before .before .before .before .before .before .before .before .before .before .before .before .before .before .before .before .before .before .before .before .before .before .before .before .before .before .before in
+    let s = c .before .before .before .before .before .before .before .before .before .before .before .before .before .before .before .before .before .before .before .before .before .before .before .before .before .before .before .before .before in
     let l = s .pre .1 .1 in
     (s .pre .1 .0, (l .literals, some-number Body refl l, l .few))
 
@@ -112,7 +112,7 @@ returns-4 : tie.Need-returns-4
 returns-4 c =
     λ N ws p z stored T K.
     let d = c .before .before .before .before in
-    let e = d .before .before .before .before in
+    let e = d .before .before .before .before .before in
     let b = e .before .before .before .before .before in
     let m = b .before .before .before .before .before .before .before .before in
     let k = m .before .before .before .before .before in

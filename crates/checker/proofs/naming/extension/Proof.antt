@@ -39,7 +39,7 @@ returns-2 c =
 
 define-requires : tie.Need-define-requires
 define-requires c κs =
-    let s = c .before .before .before .before .before .before .before .before .before .before .before .before .before .before in
+    let s = c .before .before .before .before .before .before .before .before .before .before .before .before .before .before .before in
     let l = s .pre .1 in
     (s .pre .0, (l .literals, some-number Extension refl l, l .few))
 
@@ -47,7 +47,7 @@ returns-3 : tie.Need-returns-3
 returns-3 c =
     λ N ws names bodies z b T K.
     let d = c .before .before .before .before in
-    let m = d .before .before .before .before in
+    let m = d .before .before .before .before .before in
     let k = m .before .before .before .before .before in
     let s = k .before .before .before .before .before .before in
     let f = sym (named (m .before)) ∙ m .if2 .left in

@@ -44,7 +44,7 @@ slice-aggregate-line c = let d = c .before .before in sym (length-take-le _ _ (r
 
 step-requires : tie.Need-step-requires
 step-requires c κs =
-    let d = c .before .before .before .before .before .before in
+    let d = c .before .before .before .before .before .before .before in
     let s = d .before .before .before .before .before .before .before .before in
     (s .pre .0, (s .pre .1 .0, ((s .pre .1 .1 .0 .0, numbered d), good-line _ _ (good d .0) (good d .1))))
 
@@ -57,7 +57,7 @@ returns-2 c = λ ws p z stored T K. rw (read-refused (c .before .before .before 
 returns-3 : tie.Need-returns-3
 returns-3 c = λ ws p z stored T K.
     let t = c .before .before .before .before .before .before .before .before .step in
-    let d = c .before .before .before .before .before .before .before .before .before .before .before .before .before .before .before in
+    let d = c .before .before .before .before .before .before .before .before .before .before .before .before .before .before .before .before in
     let a = b d .before .before .before .before .before .args in
     let g = d .answer2 .given .0 in
     let zs = take (g .1 .0) (b d .step-at .result .numbers) in

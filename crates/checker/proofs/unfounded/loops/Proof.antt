@@ -109,11 +109,11 @@ gives : (c : tie.After-gather)
 gives c = c .gather .ensures .1 ∙ ap (λ x. gathered (marked (names c .names-of .result)) x largest 1) (back (getD (U (tests c)) 0 (pos 0)) (c .before .before .before .gather-arg .given))
 
 slice-aggregate-append : tie.Need-slice-aggregate-append
-slice-aggregate-append c = sym (size (c .before .before .before))
+slice-aggregate-append c = sym (size (c .before .before .before .before))
 
 append-requires : tie.Need-append-requires
 append-requires c κs =
-    let d = c .before .before .before in
+    let d = c .before .before .before .before in
     let g = d .gather in
     let e = tests d in
     (s e .pre .1 .1 .0 .0, (s e .pre .1 .1 .0 .1, (subst Literals (sym (gives d)) (gathered-literals (marked (names d .names-of .result)) (getD (U e) 0 (pos 0)) largest 1 (omega arith) (omega arith)), omega (arith, size d, g .ensures .0))))
@@ -121,7 +121,7 @@ append-requires c κs =
 returns-5 : tie.Need-returns-5
 returns-5 c =
     let a = c .before .before in
-    let g = a .before .before .before .before in
+    let g = a .before .before .before .before .before in
     let d = g .before .before .before .before in
     let n = names g in
     let e = tests g in
