@@ -4,7 +4,7 @@ ghost use mathlib.Core.Path.{_≡_};
 ghost use mathlib.Core.Logic.{_↔_};
 ghost use mathlib.Core.List.{List};
 ghost use lib.IntN.{ℤ};
-ghost use lib.ListN.{length};
+ghost use lib.ListN.{length, replicate};
 ghost use Rattle.words.specs.Lists.{_∈_};
 ghost use Rattle.derivation.specs.Propagation.{refuted};
 ghost use Rattle.nogoods.specs.Keeps.{Literals, Keeps};
@@ -113,19 +113,18 @@ fn sweep(nogoods: &[i32], index: &[u16; INDEX], assignment: &mut [u8; ENTRIES]) 
     }
 }
 
-// The assignment that makes just the literals true.
-fn assigned(literals: &[i32]) -> [u8; ENTRIES]
-    requires { ⌜ Literals (now literals) ⌝ }
-    ensures size { λ m. ⌜ length m ≡ entries ⌝ }
-    ensures literals { λ m. ⌜ ((z : ℤ) → (Assigns m z) ↔ (z ∈ now (literals .entry))) ⌝ }
+// Of variables that are all free, just the literals become true.
+fn assign(literals: &[i32], assignment: &mut [u8; ENTRIES])
+    requires literals { ⌜ Literals (now literals) ⌝ }
+    requires free { ⌜ now assignment ≡ replicate entries 0 ⌝ }
+    ensures size { λ _. ⌜ length (now (assignment .exit)) ≡ entries ⌝ }
+    ensures literals { λ _. ⌜ ((z : ℤ) → (Assigns (now (assignment .exit)) z) ↔ (z ∈ now (literals .entry))) ⌝ }
 {
-    let mut assignment = [0u8; ENTRIES];
     let mut i = 0;
     while i < literals.len() {
-        units::make_true(literals[i], &mut assignment);
+        units::make_true(literals[i], assignment);
         i += 1;
     }
-    assignment
 }
 
 // Sweeps until nothing changes, at most so many.
@@ -190,6 +189,7 @@ pub fn refutes(store: &[i32], used: usize, index: &[u16; INDEX], literals: &[i32
     ensures { λ r. ⌜ ((stored : List Stored) → Keeps (now (store .entry)) (now (index .entry)) used stored
         → r ≡ refuted (live stored) (now (literals .entry))) ⌝ }
 {
-    let mut assignment = assigned(literals);
+    let mut assignment = [0u8; ENTRIES];
+    assign(literals, &mut assignment);
     propagate(&store[..used], index, &mut assignment)
 }
