@@ -271,10 +271,11 @@ pub fn read_into(
     text: &[u8],
     position: usize,
     classes: &[u8; 256],
-    numbers: &mut [i32; MOST_NUMBERS],
-    sorted: &mut [i32; MOST_NUMBERS],
+    numbers: &mut [i32],
+    sorted: &mut [i32],
 ) -> LineAnswer
     requires { ⌜ now classes ≡ byteClasses ⌝ }
+    requires rows { ⌜ (length (now numbers) ≡ mostNumbers) × (length (now sorted) ≡ mostNumbers) ⌝ }
     ensures { λ r. ⌜ ReadInto (now (text .entry)) position (now (numbers .entry)) (now (numbers .exit)) (now (sorted .exit)) r ⌝ }
 {
     if words::LONGEST < text.len() {

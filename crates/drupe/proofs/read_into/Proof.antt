@@ -25,9 +25,10 @@ returns-3 c =
 
 returns-4 : tie.Need-returns-4
 returns-4 c =
-    let b = c .before .before .before .before .before in
+    let n = c .before .before in
+    let b = n .before .before .before .before .before in
     let a = b .before .before .before .args in
-    into-text (into-same (at-line (a .text .now) (a .position) (b .before .if1 .left) (b .if2 .left)) (rw (part-to-end (a .text .now) (a .position)) at (c .read-letter .ensures)))
+    into-text (into-same (at-line (a .text .now) (a .position) (b .before .if1 .left) (b .if2 .left)) (rw (part-to-end (a .text .now) (a .position)) at (n .read-letter .ensures)))
 
 pub read-into-spec : {M : Type 1} → statement M
 read-into-spec =
@@ -40,4 +41,6 @@ read-into-spec =
     (λ c. search needs)
     (λ c. search needs)
     (λ c κs. search needs)
+    (λ c. search needs)
+    (λ c. search needs)
     returns-4)

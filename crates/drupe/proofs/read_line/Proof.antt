@@ -14,20 +14,21 @@ read-into-requires c κs = search needs
 
 returns : tie.Need-returns
 returns c =
-    let i = c .before .before .read-into .ensures in
-    let a = c .before .before .before .before .before .before .before .args in
+    let b = c .before .before .before .before in
+    let a = b .before .before .before .before .before .args in
+    let i = b .read-into .ensures in
     reads-of (i .answer) (numbers-read (a .text .now) (a .position) i (c .enum-told .given .1))
 
 returns-2 : tie.Need-returns-2
 returns-2 c =
-    let b = c .before .before .before in
+    let b = c .before .before .before .before .before in
     let a = b .before .before .before .before .before .args in
     let e = b .read-into .ensures .answer in
     reads-of (c .unread .ensures .0 ∙ e) (c .unread .ensures .1 ∙ sym (none-read (a .text .now) (a .position) e _ (c .before .enum-told2 .given .1) tt))
 
 returns-3 : tie.Need-returns-3
 returns-3 c =
-    let b = c .before .before .before in
+    let b = c .before .before .before .before .before in
     let a = b .before .before .before .before .before .args in
     let e = b .read-into .ensures .answer in
     reads-of (c .unread2 .ensures .0 ∙ e) (c .unread2 .ensures .1 ∙ sym (none-read (a .text .now) (a .position) e _ (c .before .enum-told3 .given .1) tt))
@@ -36,6 +37,8 @@ pub read-line-spec : {M : Type 1} → statement M
 read-line-spec =
     tie.close
     (tie.spec
+    (λ c. search needs)
+    (λ c. search needs)
     read-into-requires
     (λ c. search needs)
     (λ c. search needs)
