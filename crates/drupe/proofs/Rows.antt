@@ -4,7 +4,7 @@ use mathlib.Core.Path.{_≡_, refl, sym, ap, _∙_, subst}
 use mathlib.Core.Bool.{Bool, true, false}
 use mathlib.Core.Option.{Option, none, some}
 use mathlib.Core.List.{List, [], _∷_, _++_, append-nil}
-use Prim.Native.Nat.{ℕ, _+_, _-_, _≤_}
+use Prim.Native.Nat.{ℕ, _+_, _-_, _<_, _≤_}
 use native.Mathlib.Omega.{arith}
 use lib.IntN.{ℤ, pos}
 use lib.ListN.{length, take, drop, getD, set, replicate, length-replicate, drop-of-length-le}
@@ -16,8 +16,8 @@ use Rattle.words.proofs.Laws.{sets-append, padded}
 use Rattle.text.specs.Line.{anyOutside, isClosed}
 use Rattle.text.proofs.Lines.{capped-all, Numbered}
 use Rattle.text.specs.declared.Letter.{Letter}
-use Rattle.drupe.specs.Lines.{lineRefusal, LineAt, end, refused, line, refusedOr, lineAsked, lineAt, lineAnswer, numbersOf}
-use Rattle.drupe.specs.Rows.{Written, ReadInto, LineInto}
+use Rattle.drupe.specs.Lines.{lineRefusal, LineAt, end, refused, line, refusedOr, lineAsked, lineAt, lineAnswer, numbersOf, AnswerBounds}
+use Rattle.drupe.specs.Rows.{InRows, Written, ReadInto, LineInto}
 use Rattle.drupe.specs.declared.LineAnswer.{LineAnswer}
 use Rattle.drupe.specs.declared.LineAnswer.the-variants.{Line as Answered, End, Refused}
 use Rattle.drupe.proofs.Lines.{drop-replicate, Passed, passed, few, answer-within}
@@ -87,6 +87,34 @@ module _ {before numbers sorted : List ℤ} where
 
   pub into-text : {s : List ℕ} {at : ℕ} {r : LineAnswer} → LineInto (lineAt s at) before numbers sorted r → ReadInto s at before numbers sorted r
   into-text {s} {at} i = record { answer = i .answer; rows = i .rows; row = i .row; within = answer-within s at (i .answer) }
+
+-- For a caller
+
+-- what an answer with its numbers says
+abbrev pub lineTold : LineAnswer → List ℤ → LineAt
+lineTold End zs = end
+lineTold (Refused k) zs = refused k
+lineTold (Answered x count next) zs = line x (take count zs) next
+
+module _ {s : List ℕ} {at : ℕ} {before numbers sorted : List ℤ} {r : LineAnswer} (R : ReadInto s at before numbers sorted r) where
+  pub into-told : {a : LineAnswer} → r ≡ a → lineAt s at ≡ lineTold a numbers
+  into-told e = by (lineAt s at) (R .rows) ∙ ap (λ (a : LineAnswer). lineTold a numbers) (sym (R .answer) ∙ e)
+    where
+      by : (l : LineAt) → InRows l numbers sorted → l ≡ lineTold (lineAnswer l) numbers
+      by end w = refl
+      by (refused k) w = refl
+      by (line x zs next) w = ap (λ (l : List ℤ). line x l next) (sym (w .0))
+
+  pub into-sorted : {x : Letter} {count next : ℕ} → r ≡ Answered x count next → take count sorted ≡ ascending (take count numbers)
+  into-sorted {x} {count} {next} e = by (lineAt s at) (sym (R .answer) ∙ e) (R .rows)
+    where
+      by : (l : LineAt) → lineAnswer l ≡ Answered x count next → InRows l numbers sorted → take count sorted ≡ ascending (take count numbers)
+      by end e w = absurd (zero-one cc)
+      by (refused k) e w = absurd (zero-one cc)
+      by (line y zs n) e w = let c : length zs ≡ count = cc in rw (← c, w .0) (w .1)
+
+  pub into-room : {x : Letter} {count next : ℕ} → r ≡ Answered x count next → (at < next) × (next ≤ length s) × (count ≤ mostNumbers)
+  into-room e = subst (AnswerBounds at (length s)) e (R .within)
 
 -- For `read_line`, whose row was zeros
 
