@@ -228,7 +228,7 @@ module _ (L : List ℤ) where
         (λ a.
         let p = places-live i x xs a in
         let b′ : (j : ℕ) → j < length (i ∷ livePlaces (i + recordSize (x .literals)) xs)
-          → isAt (getD (i ∷ livePlaces (i + recordSize (x .literals)) xs) j 0) ≡ false = rw p at b in
+        → isAt (getD (i ∷ livePlaces (i + recordSize (x .literals)) xs) j 0) ≡ false = rw p at b in
         let f : isTarget L x ≡ false = ap (isTarget L) (sym (first-at S o .is)) ∙ b′ 0 (omega arith) in
         found-on i L x xs f ∙ found-none xs (first-at S o .rest) (fewer o) (λ j l. b′ (suc j) (omega arith)))
 
@@ -360,9 +360,12 @@ module _ {index : List ℕ} {stored : List Stored} (x : Indexed index stored) wh
           next-places ∙ ap (λ (l : List ℕ). livePlaces 0 (x .front) ++ l) (places-past (covered index) it [] d ∙ places-nil _)
           ∙ append-nil (livePlaces 0 (x .front)) in
           let n : listed (set index 1 end) ≡ listed index = getD-set-other index 1 0 end 0 (λ e. absurd (omega (arith, e))) in
-          rw d (built (set index 1 end) r (length-set index 1 end ∙ x .size) c
-          (n ∙ x .count ∙ ap length (sym same))
-          (ap₂ (λ k (l : List ℕ). take k l) n (drop-set-lt firstPlace index 1 end (omega arith)) ∙ x .all ∙ sym same), c))
+          rw d (
+            built (set index 1 end) r (length-set index 1 end ∙ x .size) c
+                (n ∙ x .count ∙ ap length (sym same))
+                (ap₂ (λ k (l : List ℕ). take k l) n (drop-set-lt firstPlace index 1 end (omega arith)) ∙ x .all ∙ sym same),
+            c,
+          ))
           (λ a. rw a (live-next a r))
         where
           live-next : deadAt s (covered index) ≡ false → end ≤ reach
@@ -389,10 +392,12 @@ module _ {index : List ℕ} {stored : List Stored} (x : Indexed index stored) wh
               ∙ ap (drop firstPlace) (take-suc-set index (firstPlace + n) p (omega (arith, x .size)))
               ∙ drop-append-le firstPlace (take (firstPlace + n) index) (p ∷ [])
               (omega (arith, x .size, length-take-le (firstPlace + n) index (omega (arith, x .size))))
-              ∙ ap (λ (l : List ℕ). l ++ (p ∷ [])) (drop-part firstPlace n (firstPlace + n) index refl (omega (arith, x .size))) in
-              (built l r (length-set l₂ 1 end ∙ size₂) c
-              (omega (arith, k, x .count, ap length more, length-append (livePlaces 0 (x .front)) (p ∷ [])))
-              (ap₂ (λ k (l : List ℕ). take k l) k d ∙ t ∙ ap (λ (l : List ℕ). l ++ (p ∷ [])) (x .all) ∙ sym more), c)
+              ∙ ap (λ (l : List ℕ). l ++ (p ∷ [])) (drop-part firstPlace n (firstPlace + n) index refl (omega (arith, x .size))) in (
+                built l r (length-set l₂ 1 end ∙ size₂) c
+                    (omega (arith, k, x .count, ap length more, length-append (livePlaces 0 (x .front)) (p ∷ [])))
+                    (ap₂ (λ k (l : List ℕ). take k l) k d ∙ t ∙ ap (λ (l : List ℕ). l ++ (p ∷ [])) (x .all) ∙ sym more),
+                c,
+              )
 
     -- one more record is covered, as the code does it
     pub covered-more : (r end : ℕ) (l : List ℕ) → r ≡ covered index → end ≡ endAt s r → r < e → end ≤ reach

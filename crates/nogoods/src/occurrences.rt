@@ -241,7 +241,14 @@ pub fn saturate(nogoods: &[i32], index: &[u16; INDEX], assignment: &mut [u8; ENT
     let mut head = [0u16; PLACES];
     let mut counts = [0u16; REACH];
     let mut queue = [0u16; ENTRIES];
-    enter_all(nogoods, index, &mut owner, &mut next, &mut head, &mut counts);
+    enter_all(
+        nogoods,
+        index,
+        &mut owner,
+        &mut next,
+        &mut head,
+        &mut counts,
+    );
     run(
         nogoods,
         &owner,

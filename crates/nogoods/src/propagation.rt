@@ -128,7 +128,12 @@ fn assign(literals: &[i32], assignment: &mut [u8; ENTRIES])
 }
 
 // Sweeps until nothing changes, at most so many.
-fn settle(nogoods: &[i32], index: &[u16; INDEX], rounds: usize, assignment: &mut [u8; ENTRIES]) -> Swept
+fn settle(
+    nogoods: &[i32],
+    index: &[u16; INDEX],
+    rounds: usize,
+    assignment: &mut [u8; ENTRIES],
+) -> Swept
     requires encoded { ⌜ ((stored : List Stored) × Encodes (now nogoods) stored × Indexed (now index) stored) ⌝ }
     requires size { ⌜ length (now assignment) ≡ entries ⌝ }
     ensures { λ r. ⌜ Settles (now (nogoods .entry)) rounds (now (assignment .entry)) (now (assignment .exit)) r ⌝ }

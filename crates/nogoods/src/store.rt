@@ -88,12 +88,7 @@ pub fn close(store: &mut [i32], used: usize) -> usize
 
 // Room for so many words after those that are used: the store is closed up if they do not fit otherwise. How many words are used
 // then.
-pub fn make_room(
-    store: &mut [i32],
-    used: usize,
-    index: &mut [u16; INDEX],
-    size: usize,
-) -> usize
+pub fn make_room(store: &mut [i32], used: usize, index: &mut [u16; INDEX], size: usize) -> usize
     requires { ⌜ ((stored : List Stored) × Keeps (now store) (now index) used stored) ⌝ }
     ensures { λ r. ⌜ ((stored : List Stored) → Keeps (now (store .entry)) (now (index .entry)) used stored
         → Keeps (now (store .exit)) (now (index .exit)) r (keptFor (length (now (store .entry))) size stored)) ⌝ }
@@ -182,12 +177,7 @@ fn kill(store: &mut [i32], r: usize)
 }
 
 // The oldest live nogood that is the list of literals is dead: one word changes at most. As many words are used as before.
-pub fn delete(
-    store: &mut [i32],
-    used: usize,
-    index: &mut [u16; INDEX],
-    literals: &[i32],
-) -> usize
+pub fn delete(store: &mut [i32], used: usize, index: &mut [u16; INDEX], literals: &[i32]) -> usize
     requires { ⌜ ((stored : List Stored) × Keeps (now store) (now index) used stored) ⌝ }
     ensures { λ r. ⌜ ((stored : List Stored) → Keeps (now (store .entry)) (now (index .entry)) used stored
         → Keeps (now (store .exit)) (now (index .exit)) r (killed (now (literals .entry)) stored)) ⌝ }

@@ -82,10 +82,10 @@ loop-again c =
     let k = i e in
     let v = l k .loop .inv in
     let next : (stored : List Stored) → Keeps (s k .args .store .now) (l k .loop .index) (s k .args .used) stored
-      → Indexed (set (c .enter .last .1 .1 .0) 1 (e .before .end-at .result)) stored
-      × (e .before .end-at .result ≡ covered (set (c .enter .last .1 .1 .0) 1 (e .before .end-at .result))) =
+    → Indexed (set (c .enter .last .1 .1 .0) 1 (e .before .end-at .result)) stored
+    × (e .before .end-at .result ≡ covered (set (c .enter .last .1 .1 .0) 1 (e .before .end-at .result))) =
     λ stored K. covered-more (K .indexed) (held-seg (K .holds)) (K .holds .origins) (l k .loop .r) _ _ (v .1) (e .before .end-at .ensures)
-      (k .loop-test .taken) (omega (arith, near e, e .before .end-at .ensures)) (c .enter .ensures) in
+    (k .loop-test .taken) (omega (arith, near e, e .before .end-at .ensures)) (c .enter .ensures) in
     (λ stored K. let K′ = v .0 stored K in record { holds = K′ .holds; indexed = next stored K′ .0 }, next (s k .pre .0) (kept k) .1)
 
 pub cover-spec : {M : Type 1} → statement M

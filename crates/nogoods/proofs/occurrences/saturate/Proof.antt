@@ -26,8 +26,7 @@ run-requires : tie.Need-run-requires
 run-requires c κs =
     let a = c .before .before .before .before .before .before in
     let e = a .before .before .before .before .before in
-    let p = e .before .before .before .pre in
-    (
+    let p = e .before .before .before .pre in (
       (p .0 .0, p .0 .1),
       (some e .1, (a .enter-all .ensures .0, (a .enter-all .ensures .1, (p .1, below-none entries places (omega arith))))),
     )
