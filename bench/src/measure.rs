@@ -10,7 +10,7 @@ use std::time::{Duration, Instant};
 /// What a checker says of an input.
 pub type Answer = Result<Verdict, UnknownAnswer>;
 
-/// A table and a store, lent to each check through the library. The check itself zeroes them.
+/// A table and a store, lent to each check through the library, of the store as many words as the input has. The check itself zeroes them.
 pub struct Buffers {
     table: Vec<i32>,
     store: Vec<i32>,
@@ -22,12 +22,13 @@ impl Buffers {
     }
 
     pub fn verified(&mut self, input: &Input) -> Answer {
-        aspdrupe::check_texts(black_box(&input.texts.program), black_box(&input.texts.proof), &mut self.table, &mut self.store)
+        let store = &mut self.store[..input.store];
+        aspdrupe::check_texts(black_box(&input.texts.program), black_box(&input.texts.proof), &mut self.table, store)
     }
 }
 
 fn unverified(input: &Input) -> Answer {
-    unverified::check(black_box(&input.texts.program), black_box(&input.texts.proof), ROOM, ROOM)
+    unverified::check(black_box(&input.texts.program), black_box(&input.texts.proof), ROOM, input.store)
 }
 
 /// What both checkers say of an input, and their times.

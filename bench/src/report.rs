@@ -10,11 +10,11 @@ use std::time::Duration;
 pub fn heading(repetitions: usize) {
     println!("The whole check, {repetitions} times on each input; ratio and times a step are of the medians.");
     println!(
-        "{:<12} {:>15} {:>29} {:>17} {:>17} {:>6} {:>19}",
+        "{:<21} {:>15} {:>29} {:>17} {:>17} {:>6} {:>19}",
         "", "bytes", "", "verified, ms", "unverified, ms", "", "microseconds a step"
     );
     println!(
-        "{:<12} {:>7} {:>7} {:>29} {:>8} {:>8} {:>8} {:>8} {:>6} {:>8} {:>10}",
+        "{:<21} {:>7} {:>7} {:>29} {:>8} {:>8} {:>8} {:>8} {:>6} {:>8} {:>10}",
         "input", "program", "proof", "verdict", "median", "least", "median", "least", "ratio", "verified", "unverified"
     );
 }
@@ -23,7 +23,7 @@ pub fn row(input: &Input, measured: &Measured) {
     let (verified, unverified) = (&measured.verified_times, &measured.unverified_times);
     let steps = steps_of(&measured.verified).unwrap_or(1);
     println!(
-        "{:<12} {:>7} {:>7} {:>29} {:>8.3} {:>8.3} {:>8.3} {:>8.3} {:>6.1} {:>8.2} {:>10.2}",
+        "{:<21} {:>7} {:>7} {:>29} {:>8.3} {:>8.3} {:>8.3} {:>8.3} {:>6.1} {:>8.2} {:>10.2}",
         input.name,
         input.texts.program.len(),
         input.texts.proof.len(),

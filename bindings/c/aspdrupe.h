@@ -25,7 +25,7 @@ extern "C" {
 
 /* A thread with a stack of so many bytes has enough for any call, with what the C library takes of a thread's stack for itself. What your
  * own code and its thread-local variables take comes on top. The need does not grow with the texts: the whole check was measured at
- * 426 KB, the other services at 13 KB or less (bindings/c/stack.c). Some C libraries give a thread less by default: musl 128 KB. */
+ * 443 KB, the other services at 13 KB or less (bindings/c/stack.c). Some C libraries give a thread less by default: musl 128 KB. */
 #define ASPDRUPE_STACK 524288
 
 /* The most numbers that an answer has. */
@@ -80,10 +80,11 @@ uint32_t aspdrupe_read_line(const uint8_t *text, size_t text_len, uint64_t posit
 
 /* Checks a proof text against a program text.
  * Returns ASPDRUPE_INCONSISTENT or ASPDRUPE_OPEN where both are good: answer[0] to answer[3] are N, the largest atom, the number of
- * rules, the number of steps, and the number of live nogoods after the last step; the table holds the rules' words and the store
- * the live nogoods, oldest first: the step that added it, the literal count, the literals ascending by variable. Both have 0 after these
- * words. A step's number is its place in the proof, counted from 1, deletions included. ASPDRUPE_INCONSISTENT means that the program has
- * no answer set.
+ * rules, the number of steps, and K, the number of live nogoods after the last step; the table holds the rules' words and the store
+ * nogoods, oldest first: the step that added it, the literal count, the literals ascending by variable. Both have 0 after these words. A
+ * nogood whose first word is negative was deleted; K counts the others. The deleted ones stay until a step would not fit otherwise; then
+ * all that are there go, and the others close up. A step's number is its place in the proof, counted from 1, deletions included.
+ * ASPDRUPE_INCONSISTENT means that the program has no answer set.
  * Returns ASPDRUPE_REFUSED_PROGRAM: answer[0] is the number of the question that the program fails, 1 to 11, 54 or 55, and answer[1] the
  * line.
  * Returns ASPDRUPE_REFUSED_PROOF: answer[0] is the number of the question that the proof fails, 21 to 34 or 56, and answer[1] the step.

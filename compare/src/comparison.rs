@@ -68,6 +68,7 @@ impl Comparison {
         let good = says(&answered, &expected.verdict) && table == expected.table && store == expected.store;
         self.settle(good, || told_check(pair, table_room, store_room));
         self.tally.verdict("check_texts", &expected.verdict);
+        self.tally.store(expected.dead_left, expected.closed_up);
         if matches!(answered, Ok(aspdrupe::Verdict::Inconsistent(_))) {
             self.count_letters(&pair.proof);
             self.no_answer_set(&pair.program, table_room);

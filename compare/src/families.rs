@@ -5,10 +5,10 @@ use inputs::rules::{program_text, Rule};
 use inputs::{programs, Pair, ROOM};
 
 use crate::cases::refutations::{go_on, refute, Author, Found};
-use crate::cases::{self, bytes, changes, deep, fixed, guided, limits, loops, noise, weights};
+use crate::cases::{self, bytes, changes, deep, deletions, fixed, guided, limits, loops, noise, weights};
 use crate::comparison::Comparison;
 use crate::packets;
-use crate::reference::check::{check, most_live_words, verdict_line};
+use crate::reference::check::{check, store_lengths, verdict_line};
 use crate::reference::models::{self, every_set};
 use crate::reference::program::{read, table_words, Program};
 use crate::reference::{filled, MARKS};
@@ -38,6 +38,7 @@ pub fn families() -> Vec<Family> {
         family("guided", 200, run_guided),
         family("loops", 150, run_loops),
         family("deep", 60, run_deep),
+        family("deletions", 40, run_deletions),
         family("noise", 300, run_noise),
         family("tables", 300, run_tables),
         family("lines", 200, run_lines),
@@ -53,7 +54,8 @@ pub fn families() -> Vec<Family> {
 /// A proof of so many bytes is tried with few lengths only.
 const HEAVY: usize = 25_000;
 
-/// The lengths of table and store that matter for the texts: none, one word too few, just enough, one more, many.
+/// The lengths of table and store that matter for the texts: none, one word too few, just enough, one more, many; and where the proof
+/// deletes, those around the store that is never closed up, and one between.
 fn rooms(pair: &Pair) -> Vec<(usize, usize)> {
     let many = ROOM;
     let Ok(program) = read(&pair.program, usize::MAX) else {
@@ -61,8 +63,11 @@ fn rooms(pair: &Pair) -> Vec<(usize, usize)> {
         return vec![(many, many), (60, 20), (0, 0), (5, 3), (4_095, 3), (4_096, 0), (4_100, 9)];
     };
     let table = table_words(&program.rules).len();
-    let store = most_live_words(&program, &pair.proof);
+    let (store, unclosed) = store_lengths(&program, &pair.proof);
     let mut rooms = vec![(many, many), (table, store), (table, store.saturating_sub(1))];
+    if unclosed > store {
+        rooms.extend([(table, unclosed), (table, unclosed - 1), (table, store.midpoint(unclosed))]);
+    }
     if pair.proof.len() < HEAVY {
         rooms.extend([
             (table.saturating_sub(1), store),
@@ -126,6 +131,23 @@ fn run_fixed(comparison: &mut Comparison, index: u64) {
         compare_store(comparison, case, words);
     }
     compare_all(comparison, &case.pair);
+    compare_store_lengths(comparison, &case.pair, usize::MAX);
+}
+
+/// The store lengths from the one that is too short by a word, over the least that fits, up to the one at which nothing is closed: all of
+/// them, or so many at random with both ends.
+fn compare_store_lengths(comparison: &mut Comparison, pair: &Pair, most: usize) {
+    let Ok(program) = read(&pair.program, ROOM) else { return };
+    let (least, unclosed) = store_lengths(&program, &pair.proof);
+    let lengths: Vec<usize> = if unclosed - least <= most {
+        (least.saturating_sub(1)..=unclosed + 1).collect()
+    } else {
+        let between = (0..most).map(|_| least + comparison.random.below(unclosed - least));
+        between.chain([least.saturating_sub(1), least, unclosed - 1, unclosed]).collect()
+    };
+    for length in lengths {
+        comparison.check_texts(pair, ROOM, length);
+    }
 }
 
 /// The words that the document lists, with 0 after them, against every word that the reference and the library leave in the store.
@@ -311,6 +333,15 @@ fn run_deep(comparison: &mut Comparison, _: u64) {
     let proof = deep::proof(&program, &mut comparison.random);
     let pair = Pair::of(text, proof);
     compare_some(comparison, &pair, 20);
+    compare_changed(comparison, &pair, 2);
+}
+
+/// As many deletions as additions, with every length of the store that makes a difference, or many of them.
+fn run_deletions(comparison: &mut Comparison, _: u64) {
+    let (text, program) = small_program(&mut comparison.random);
+    let pair = Pair::of(text, deletions::proof(&program, &mut comparison.random));
+    compare_some(comparison, &pair, 20);
+    compare_store_lengths(comparison, &pair, 40);
     compare_changed(comparison, &pair, 2);
 }
 

@@ -18,6 +18,15 @@ impl Tally {
         self.count(format!("{service}: {}", kind(verdict)));
     }
 
+    /// What became of dead nogoods in a check that went through.
+    pub fn store(&mut self, dead_left: bool, closed_up: bool) {
+        for (seen, what) in [(dead_left, DEAD_LEFT), (closed_up, CLOSED_UP), (dead_left && closed_up, BOTH)] {
+            if seen {
+                self.count(format!("check_texts: {what}"));
+            }
+        }
+    }
+
     /// What a service of packets comes to: the word where it is good, or a refusal's number.
     pub fn packet(&mut self, service: &str, good: &str, refusal: Option<u8>) {
         self.count(refusal.map_or(format!("{service}: {good}"), |number| format!("{service}: refused {number}")));
@@ -50,6 +59,10 @@ fn padded(word: &str) -> String {
     word.parse::<u8>().map_or(String::from(word), |number| format!("{number:02}"))
 }
 
+const DEAD_LEFT: &str = "dead nogoods are left";
+const CLOSED_UP: &str = "the store was closed up";
+const BOTH: &str = "the store was closed up, and dead nogoods are left";
+
 /// The questions that a program can fail.
 const PROGRAM_QUESTIONS: [u8; 13] = [1, 2, 3, 4, 5, 6, 7, 8, 9, 10, 11, 54, 55];
 
@@ -61,6 +74,7 @@ fn wanted(with_binary: bool) -> Vec<String> {
         wanted.extend(PROGRAM_QUESTIONS.map(|number| format!("{service}: refused program {number:02}")));
         wanted.extend((21..=34).chain([56]).map(|number| format!("{service}: refused proof {number}")));
     }
+    wanted.extend([DEAD_LEFT, CLOSED_UP, BOTH].map(|what| format!("check_texts: {what}")));
     wanted.push(String::from("read_program: read"));
     wanted.extend(PROGRAM_QUESTIONS.map(|number| format!("read_program: refused {number:02}")));
     wanted.extend("abcdels".chars().map(|letter| format!("read_line: {letter}")));

@@ -2,6 +2,7 @@
 
 mod chain;
 mod completion;
+mod deletions;
 mod pigeons;
 mod refutations;
 mod searched;
@@ -11,19 +12,21 @@ mod wide;
 
 use inputs::lines::{proof_text, Line};
 use inputs::rules::{program_text, Body, Rule};
-use inputs::Pair;
+use inputs::{Pair, ROOM};
 
-/// One input, and whether it has a packet, which holds no weights.
+/// One input, the words of its store, and whether it has a packet, which holds no weights.
+#[derive(Clone)]
 pub struct Input {
     pub name: String,
     pub texts: Pair,
+    pub store: usize,
     pub packs: bool,
 }
 
 impl Input {
     fn of(name: impl Into<String>, rules: &[Rule], lines: &[Line]) -> Input {
         let packs = rules.iter().all(|rule| matches!(rule.body, Body::Plain(_)));
-        Input { name: name.into(), texts: Pair::of(program_text(rules), proof_text(lines)), packs }
+        Input { name: name.into(), texts: Pair::of(program_text(rules), proof_text(lines)), store: ROOM, packs }
     }
 }
 
@@ -35,6 +38,7 @@ pub fn all() -> Vec<Input> {
     inputs.push(chain::input());
     inputs.push(wide::input());
     inputs.extend(weights::inputs());
+    inputs.extend(deletions::inputs());
     inputs
 }
 

@@ -101,18 +101,20 @@ pub fn read_line(text: &[u8], position: usize) -> Result<(LineAnswer, [i32; MOST
     Ok((codes::line_answer(code, answer)?, numbers))
 }
 
-/// Checks a proof text against a program text. The table then holds the program's rules and the store the live nogoods, oldest first,
+/// Checks a proof text against a program text. The table then holds the program's rules and the store nogoods, oldest first,
 /// each with 0 after them; both are 0 throughout where anything is refused.
 ///
-/// A nogood's words are the step that added it, counted from 1, the literal count, and the literals ascending by variable:
+/// A nogood's words are the step that added it, counted from 1, the literal count, and the literals ascending by variable. A nogood whose
+/// first word is negative was deleted; [`Counts::nogoods`] counts the others. Deleted nogoods stay until a step would not fit otherwise; then
+/// all that are there go, and the others close up:
 ///
 /// ```
 /// let program = b"asp 1 0 0\n1 0 1 1 0 0\n0\n";
 /// let proof = b"b 2 0\nc 2 1 0\nc 2 1 0\nd -1 2 0\n";
-/// let (mut table, mut store) = ([0; 5], [0; 11]);
+/// let (mut table, mut store) = ([0; 5], [0; 12]);
 /// aspdrupe::check_texts(program, proof, &mut table, &mut store)?;
-/// // -2 of step 1; -1 and 2 of step 3, since the deletion took the older of two equal ones
-/// assert_eq!(store, [1, 1, -2, 3, 2, -1, 2, 0, 0, 0, 0]);
+/// // -2 of step 1; -1 and 2 of step 3, and before it that of step 2: the deletion took the older of two equal ones
+/// assert_eq!(store, [1, 1, -2, -2, 2, -1, 2, 3, 2, -1, 2, 0]);
 /// # Ok::<(), aspdrupe::UnknownAnswer>(())
 /// ```
 pub fn check_texts(program: &[u8], proof: &[u8], table: &mut [i32], store: &mut [i32]) -> Result<Verdict, UnknownAnswer> {

@@ -41,7 +41,7 @@ fn starred_1() {
 #[test]
 fn starred_2() {
     let proof = [PROOF, b"d 0\n"].concat();
-    let left = [&STORE[..19], &[0, 0]].concat();
+    let left = [&STORE[..19], &[-5, 0]].concat();
     assert_eq!(checked(PROGRAM, &proof, 6, 21), (line("open 1 1 6 5"), RULES.to_vec(), left));
 }
 
@@ -50,12 +50,24 @@ fn steps_of_nogoods() {
     let fact = b"asp 1 0 0\n1 0 1 1 0 0\n0\n";
     for (proof, words) in [
         (&b"d 1 0\nb 2 0\n"[..], &[2, 1, -2][..]),
-        (b"b 2 0\nc 2 1 0\nc 2 1 0\nd -1 2 0\n", &[1, 1, -2, 3, 2, -1, 2, 0, 0, 0, 0]),
+        (b"b 2 0\nc 2 1 0\nc 2 1 0\nd -1 2 0\n", &[1, 1, -2, -2, 2, -1, 2, 3, 2, -1, 2]),
         (b"b 2 0\ne 3 1 2 0\n", &[1, 1, -2, 2, 3, 1, 2, -3, 2, 2, -1, 3, 2, 2, -2, 3]),
     ] {
         assert_eq!(checked(fact, proof, 5, words.len()).2, words);
     }
     assert_eq!(checked(fact, b"b 2 0\ne 3 1 2 0\n", 5, 15), (line("refused proof 34 2"), vec![0; 5], vec![0; 15]));
+}
+
+#[test]
+fn deleted_nogoods() {
+    let fact = b"asp 1 0 0\n1 0 1 1 0 0\n0\n";
+    let proof = b"b 2 0\nc 2 1 0\nd -2 0\nc 2 1 0\nc 2 1 0\n";
+    let left = |words| checked(fact, proof, 5, words);
+    let marked = vec![-1, 1, -2, 2, 2, -1, 2, 4, 2, -1, 2, 5, 2, -1, 2];
+    let closed = vec![2, 2, -1, 2, 4, 2, -1, 2, 5, 2, -1, 2, 0, 0];
+    assert_eq!(left(15), (line("open 1 1 5 3"), vec![0, 1, 0, 0, 1], marked));
+    assert_eq!(left(14), (line("open 1 1 5 3"), vec![0, 1, 0, 0, 1], closed));
+    assert_eq!(left(11), (line("refused proof 34 5"), vec![0; 5], vec![0; 11]));
 }
 
 #[test]

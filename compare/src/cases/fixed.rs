@@ -67,6 +67,8 @@ pub fn cases() -> Vec<Case> {
     cases.extend(loop_steps());
     cases.extend(weight_loops());
     cases.extend(origins());
+    cases.extend(marked_dead());
+    cases.extend(closed_up());
     cases.push(source());
     cases
 }
@@ -81,7 +83,7 @@ fn starred() -> Vec<Case> {
         store_case("starred 1", RULE_1, PROOF_1, ROOM, "inconsistent 1 1 5 6", &STORE_1),
         enough,
         store_case("starred 1, a store of 20", RULE_1, PROOF_1, 20, "refused proof 34 5", &[]),
-        store_case("starred 2", RULE_1, &second, 21, "open 1 1 6 5", &STORE_1[..19]),
+        store_case("starred 2", RULE_1, &second, 21, "open 1 1 6 5", &[&STORE_1[..19], &[-5, 0]].concat()),
         case("starred 3", RULE_1, &third, "refused proof 27 2"),
         case("starred 4", &[], &[], "open 0 0 0 0"),
         case("starred 4 with a proof", &[], &["a 0"], "refused proof 33 1"),
@@ -287,10 +289,11 @@ fn weight_loops() -> Vec<Case> {
     ]
 }
 
-/// The worked cases of Change 7, and a few more: which step each live nogood carries, and what a store must hold.
+const FACT: &[&str] = &["1 0 1 1 0 0"];
+
+/// The worked cases of Change 7, and a few more: which step each nogood carries, and what a store must hold.
 fn origins() -> Vec<Case> {
-    let fact = &["1 0 1 1 0 0"];
-    let deleted = &["b 2 -1 0", "c 2 1 0", "d -1 -2 0", "s 1 2 0"];
+    let fact = FACT;
     let twice = &["b 2 0", "c 2 1 0", "c 2 1 0", "d -1 2 0"];
     let anew = &["b 2 0", "c 2 1 0", "d -2 0", "c 2 1 0", "c 2 1 0"];
     let extended = &["b 2 0", "e 3 1 2 0"];
@@ -301,14 +304,20 @@ fn origins() -> Vec<Case> {
     let late = [&idle[..], &["e 2 -1 0"]].concat();
     let vast = ROOM;
     vec![
-        store_case("a definition in part deleted", RULE_1, deleted, vast, "open 1 1 4 3", &[1, 2, 1, 2, 2, 2, -1, 2, 4, 2, 1, -2]),
-        store_case("the older of two equal ones", fact, twice, vast, "open 1 1 4 2", &[1, 1, -2, 3, 2, -1, 2]),
+        store_case("the older of two equal ones", fact, twice, vast, "open 1 1 4 2", &[1, 1, -2, -2, 2, -1, 2, 3, 2, -1, 2]),
         store_case("an idle deletion counts", fact, &["d 1 0", "b 2 0"], vast, "open 1 1 2 1", &[2, 1, -2]),
         store_case("a store of 12", fact, anew, 12, "open 1 1 5 3", &[2, 2, -1, 2, 4, 2, -1, 2, 5, 2, -1, 2]),
         store_case("a store of 11", fact, anew, 11, "refused proof 34 5", &[]),
         store_case("a store of 16", fact, extended, 16, "open 1 1 2 4", &[1, 1, -2, 2, 3, 1, 2, -3, 2, 2, -1, 3, 2, 2, -2, 3]),
         store_case("a store of 15", fact, extended, 15, "refused proof 34 2", &[]),
-        store_case("the two older of three equal ones", fact, thrice, vast, "open 1 1 6 2", &[1, 1, -2, 4, 2, -1, 2]),
+        store_case(
+            "the two older of three equal ones",
+            fact,
+            thrice,
+            vast,
+            "open 1 1 6 2",
+            &[1, 1, -2, -2, 2, -1, 2, -3, 2, -1, 2, 4, 2, -1, 2],
+        ),
         store_case("deleted twice and added again", fact, &again, 7, "refused proof 34 3", &[]),
         store_case("deleted twice and added again", fact, &again, 11, "open 1 1 6 2", &[1, 1, -2, 6, 2, -1, 2]),
         store_case(
@@ -317,7 +326,7 @@ fn origins() -> Vec<Case> {
             &empty,
             25,
             "inconsistent 1 1 9 6",
-            &[1, 2, -1, -2, 2, 2, -1, 2, 3, 2, 1, -2, 4, 1, 1, 6, 0, 7, 0],
+            &[1, 2, -1, -2, -1, 2, 1, 2, 2, 2, -1, 2, 3, 2, 1, -2, 4, 1, 1, -5, 0, 6, 0, 7, 0],
         ),
         store_case("a store of 24 for three empty nogoods", RULE_1, &empty, 24, "refused proof 34 7", &[]),
         store_case("both nogoods of one step", RULE_1, &late, 8, "open 1 1 12 2", &[12, 2, -1, -2, 12, 2, 1, 2]),
@@ -327,6 +336,74 @@ fn origins() -> Vec<Case> {
         store_case("idle deletions, no store", fact, &idle, 0, "open 1 1 11 0", &[]),
         store_case("one nogood, no store", fact, &["b 2 0"], 0, "refused proof 34 1", &[]),
         store_case("one nogood, two words", fact, &["b 2 0"], 2, "refused proof 34 1", &[]),
+    ]
+}
+
+/// The worked cases of Change 8 without a closing up, and a few more: a deletion negates one word, and the dead are passed over.
+fn marked_dead() -> Vec<Case> {
+    let deleted = &["b 2 -1 0", "c 2 1 0", "d -1 -2 0", "s 1 2 0"];
+    let twice = &["b 2 0", "c 2 1 0", "c 2 1 0", "d 2 -1 0", "d -1 2 0"];
+    let thrice = [&twice[..], &["d -1 2 0"]].concat();
+    let with = |more: &[&'static str]| [PROOF_1, more].concat();
+    let left = [1, 1, -2, -2, 2, -1, 2, -3, 2, -1, 2];
+    let in_part = [-1, 2, -1, -2, 1, 2, 1, 2, 2, 2, -1, 2, 4, 2, 1, -2];
+    let last_dead = [&STORE_1[..19], &[-5, 0]].concat();
+    let again = [&last_dead[..], &[7, 0]].concat();
+    let both = [&STORE_1[..16], &[-4, 1, 1, 5, 0]].concat();
+    vec![
+        store_case("the empty nogood dead", RULE_1, &with(&["d 0"]), ROOM, "open 1 1 6 5", &last_dead),
+        store_case("the empty nogood dead, `d` again", RULE_1, &with(&["d 0", "d 0"]), 21, "open 1 1 7 5", &last_dead),
+        store_case("the empty nogood dead and added again", RULE_1, &with(&["d 0", "a 0"]), 23, "inconsistent 1 1 7 6", &again),
+        store_case("a dead unit below the empty nogood", RULE_1, &with(&["d 1 0"]), 21, "inconsistent 1 1 6 5", &both),
+        store_case("a definition in part dead", RULE_1, deleted, ROOM, "open 1 1 4 3", &in_part),
+        store_case("two equal ones dead", FACT, twice, ROOM, "open 1 1 5 1", &left),
+        store_case("none is left for a third `d`", FACT, &thrice, ROOM, "open 1 1 6 1", &left),
+        store_case("the dead refute nothing", RULE_1, &with(&["d 0", "d 1 0", "a 0"]), ROOM, "refused proof 33 8", &[]),
+        case("the dead empty nogood lets nothing follow", RULE_1, &with(&["d 0", "d 1 -2 0", "d 1 0", "a -2 0"]), "refused proof 33 9"),
+        store_case(
+            "a dead name is known",
+            FACT,
+            &["b 2 0", "d -2 0", "e 3 2 0"],
+            11,
+            "open 1 1 3 2",
+            &[-1, 1, -2, 3, 2, 2, -3, 3, 2, -2, 3],
+        ),
+        case("a dead name is not fresh", FACT, &["b 2 0", "d -2 0", "e 2 0"], "refused proof 27 3"),
+        case("a dead definition still names its body", FACT, &["b 2 0", "d -2 0", "b 3 0"], "refused proof 28 3"),
+        store_case("all are dead", FACT, &["b 2 0", "d -2 0"], 3, "open 1 1 2 0", &[-1, 1, -2]),
+    ]
+}
+
+/// The worked cases of Change 8 in which the store is closed up, or just not, and a few more.
+fn closed_up() -> Vec<Case> {
+    let anew = &["b 2 0", "c 2 1 0", "d -2 0", "c 2 1 0", "c 2 1 0"];
+    let extended = &["b 2 0", "d -2 0", "e 3 1 2 0"];
+    let often = &["b 2 0", "c 2 1 0", "d -2 0", "d -1 2 0", "c 2 1 0", "d -1 2 0", "c 2 1 0"];
+    let still = &often[..6];
+    let full = &["b 2 0", "d -2 0", "c 2 1 0", "d -1 2 0"];
+    let added = [2, 2, -1, 2, 4, 2, -1, 2, 5, 2, -1, 2];
+    let uncut = [&[-1, 1, -2], &added[..]].concat();
+    let names = [3, 3, 1, 2, -3, 3, 2, -1, 3, 3, 2, -2, 3];
+    let behind = [&[-1, 1, -2], &names[..]].concat();
+    let fact = FACT;
+    vec![
+        store_case("exactly full is not closed", fact, anew, 15, "open 1 1 5 3", &uncut),
+        store_case("a word short is closed", fact, anew, 14, "open 1 1 5 3", &added),
+        store_case("just enough for the live ones", fact, anew, 12, "open 1 1 5 3", &added),
+        store_case("too short for the live ones", fact, anew, 11, "refused proof 34 5", &[]),
+        store_case("a definition behind a dead nogood", fact, extended, 16, "open 1 1 3 3", &behind),
+        store_case("a definition is judged as a whole", fact, extended, 15, "open 1 1 3 3", &names),
+        store_case("a definition, the first of which fits", fact, extended, 14, "open 1 1 3 3", &names),
+        store_case("a definition that fills the store", fact, extended, 13, "open 1 1 3 3", &names),
+        store_case("a definition that does not fit", fact, extended, 12, "refused proof 34 3", &[]),
+        store_case("closed up once", fact, often, 8, "open 1 1 7 1", &[-5, 2, -1, 2, 7, 2, -1, 2]),
+        store_case("closed up twice", fact, often, 7, "open 1 1 7 1", &[7, 2, -1, 2]),
+        store_case("refused before anything is dead", fact, often, 6, "refused proof 34 2", &[]),
+        store_case("closed up once, later", fact, often, 11, "open 1 1 7 1", &[7, 2, -1, 2]),
+        store_case("closed up by the last step", fact, often, 14, "open 1 1 7 1", &[7, 2, -1, 2]),
+        store_case("never closed up", fact, often, 15, "open 1 1 7 1", &[-1, 1, -2, -2, 2, -1, 2, -5, 2, -1, 2, 7, 2, -1, 2]),
+        store_case("a deletion never closes up", fact, still, 7, "open 1 1 6 0", &[-5, 2, -1, 2]),
+        store_case("nor does it in a full store", fact, full, 7, "open 1 1 4 0", &[-1, 1, -2, -3, 2, -1, 2]),
     ]
 }
 

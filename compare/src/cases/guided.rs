@@ -41,7 +41,8 @@ pub fn write_or_end(author: &mut Author, letter: u8, numbers: &[i32], random: &m
     !ends
 }
 
-fn well_formed(letter: u8, numbers: &[i32]) -> bool {
+/// Whether the step's line passes questions 22 to 25.
+pub fn well_formed(letter: u8, numbers: &[i32]) -> bool {
     matches!(read_line(line_of(letter, numbers).as_bytes(), 0), Answer::Line(_))
 }
 
@@ -98,7 +99,7 @@ fn support_step(author: &Author, random: &mut Random) -> Vec<i32> {
 }
 
 /// Literals that contradict, often cut down to the fewest.
-fn derivation(author: &Author, random: &mut Random) -> Vec<i32> {
+pub fn derivation(author: &Author, random: &mut Random) -> Vec<i32> {
     let mut numbers = known_literals(author, random, 6);
     if !closure(&author.state.live(), &numbers).contradictory() {
         return numbers;
@@ -114,7 +115,7 @@ fn derivation(author: &Author, random: &mut Random) -> Vec<i32> {
 }
 
 fn deletion(author: &Author, random: &mut Random) -> Vec<i32> {
-    if author.state.stored.is_empty() || random.percent(20) {
+    if author.state.live().is_empty() || random.percent(20) {
         return known_literals(author, random, 3);
     }
     let mut numbers = random.pick(&author.state.live()).to_vec();
@@ -122,7 +123,7 @@ fn deletion(author: &Author, random: &mut Random) -> Vec<i32> {
     numbers
 }
 
-fn extension(author: &Author, random: &mut Random) -> Vec<i32> {
+pub fn extension(author: &Author, random: &mut Random) -> Vec<i32> {
     let mut numbers = vec![author.fresh(random)];
     numbers.extend(known_literals(author, random, 5));
     numbers

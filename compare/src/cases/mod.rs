@@ -3,6 +3,7 @@
 pub mod bytes;
 pub mod changes;
 pub mod deep;
+pub mod deletions;
 pub mod fixed;
 pub mod guided;
 pub mod limits;

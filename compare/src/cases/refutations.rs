@@ -202,7 +202,7 @@ fn sprinkle(author: &mut Author, random: &mut Random) {
 
 /// Steps after the empty nogood: deletions, additions that only it lets pass, and now and then its own deletion.
 pub fn go_on(author: &mut Author, random: &mut Random) {
-    let deletions = if random.percent(50) { author.state.stored.len() } else { random.below(6) };
+    let deletions = if random.percent(50) { author.state.live().len() } else { random.below(6) };
     let mut nogoods: Vec<Vec<i32>> = author.state.live().into_iter().filter(|nogood| !nogood.is_empty()).map(<[i32]>::to_vec).collect();
     random.shuffle(&mut nogoods);
     for nogood in nogoods.iter().take(deletions).filter(|nogood| nogood.len() <= LINE_LIMIT) {
@@ -245,7 +245,7 @@ fn extend(author: &mut Author, random: &mut Random) {
 
 /// Adds a live nogood once more and deletes the older of the two.
 fn repeat(author: &mut Author, random: &mut Random) {
-    if author.state.stored.is_empty() {
+    if author.state.live().is_empty() {
         return;
     }
     let mut nogood = random.pick(&author.state.live()).to_vec();

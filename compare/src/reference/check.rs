@@ -22,47 +22,63 @@ pub enum Verdict {
     RefusedProof { number: u8, step: usize },
 }
 
-/// The verdict with every word of the lent table and store.
+/// The verdict with every word of the lent table and store; and what became of the dead, for the tally.
 pub struct Ending {
     pub verdict: Verdict,
     pub table: Vec<i32>,
     pub store: Vec<i32>,
+    pub dead_left: bool,
+    pub closed_up: bool,
 }
 
 /// The whole check, lent a table and a store of so many words.
 pub fn check(program_text: &[u8], proof_text: &[u8], table_room: usize, store_room: usize) -> Ending {
     match course(program_text, proof_text, table_room, store_room) {
-        Ok((program, state)) => Ending {
+        Ok((program, Ran { state, closed_up })) => Ending {
             verdict: judged(&program, &state),
             table: filled(table_words(&program.rules), table_room),
             store: filled(state.store_words(), store_room),
+            dead_left: !state.dead().is_empty(),
+            closed_up,
         },
-        Err(verdict) => Ending { verdict, table: vec![0; table_room], store: vec![0; store_room] },
+        Err(verdict) => Ending { verdict, table: vec![0; table_room], store: vec![0; store_room], dead_left: false, closed_up: false },
     }
 }
 
-fn course(program_text: &[u8], proof_text: &[u8], table_room: usize, store_room: usize) -> Result<(Program, State), Verdict> {
-    let program = read(program_text, table_room).map_err(|(number, line)| Verdict::RefusedProgram { number, line })?;
-    let state = run(&program, proof_text, store_room).map_err(|(number, step)| Verdict::RefusedProof { number, step })?;
-    Ok((program, state))
+/// The state after the last step, and whether dead nogoods were taken out on the way.
+struct Ran {
+    state: State,
+    closed_up: bool,
 }
 
-/// All steps of the proof: the state after the last, or a refusal's number and step.
-fn run(program: &Program, text: &[u8], store_room: usize) -> Result<State, (u8, usize)> {
+fn course(program_text: &[u8], proof_text: &[u8], table_room: usize, store_room: usize) -> Result<(Program, Ran), Verdict> {
+    let program = read(program_text, table_room).map_err(|(number, line)| Verdict::RefusedProgram { number, line })?;
+    let ran = run(&program, proof_text, store_room).map_err(|(number, step)| Verdict::RefusedProof { number, step })?;
+    Ok((program, ran))
+}
+
+/// All steps of the proof: the state after the last, or a refusal's number and step. The store is closed up for a step that "would not fit
+/// otherwise", all of its nogoods taken together; since none of these is dead, it is the same to filter once they stand at the end.
+fn run(program: &Program, text: &[u8], store_room: usize) -> Result<Ran, (u8, usize)> {
     if text.len() > TEXT_LIMIT {
         return Err((21, 0));
     }
     let mut state = State::start(program);
+    let mut closed_up = false;
     let mut position = 0;
     loop {
         let place = state.steps + 1;
         match read_line(text, position) {
-            Answer::End => return Ok(state),
+            Answer::End => return Ok(Ran { state, closed_up }),
             Answer::Refused(number) => return Err((number, place)),
             Answer::Line(line) => {
                 step(program, &mut state, &line).map_err(|number| (number, place))?;
                 if state.live_words() > store_room {
                     return Err((34, place));
+                }
+                if state.used_words() > store_room {
+                    state.close_up();
+                    closed_up = true;
                 }
                 position = line.next;
             }
@@ -70,23 +86,24 @@ fn run(program: &Program, text: &[u8], store_room: usize) -> Result<State, (u8, 
     }
 }
 
-/// The most words that are live after a step, up to the first refusal other than 34.
-pub fn most_live_words(program: &Program, text: &[u8]) -> usize {
+/// The words of the shortest store that holds the live nogoods after every step, and of the shortest that is never closed up, up to the
+/// first refusal other than 34.
+pub fn store_lengths(program: &Program, text: &[u8]) -> (usize, usize) {
     let mut state = State::start(program);
     let mut position = 0;
-    let mut most = 0;
+    let mut least = 0;
     while let Answer::Line(line) = read_line(text, position) {
         if step(program, &mut state, &line).is_err() {
             break;
         }
-        most = most.max(state.live_words());
+        least = least.max(state.live_words());
         position = line.next;
     }
-    most
+    (least, state.used_words())
 }
 
 fn judged(program: &Program, state: &State) -> Verdict {
-    let counts = Counts { atoms: program.atoms as usize, rules: program.rules.len(), steps: state.steps, nogoods: state.stored.len() };
+    let counts = Counts { atoms: program.atoms as usize, rules: program.rules.len(), steps: state.steps, nogoods: state.live().len() };
     if state.has_empty() {
         Verdict::Inconsistent(counts)
     } else {
@@ -118,6 +135,18 @@ mod tests {
         assert_eq!(verdict_line(&ending.verdict), "inconsistent 1 1 5 6");
         assert_eq!(ending.store, [1, 2, -1, -2, 1, 2, 1, 2, 2, 2, -1, 2, 3, 2, 1, -2, 4, 1, 1, 5, 0]);
         assert_eq!(ending.table, [0, 1, 0, 1, 1, -1]);
+    }
+
+    #[test]
+    fn closed_up_late() {
+        let fact = b"asp 1 0 0\n1 0 1 1 0 0\n0\n";
+        let proof = b"b 2 0\nc 2 1 0\nd -2 0\nc 2 1 0\nc 2 1 0\n";
+        let left = |room| check(fact, proof, 5, room);
+        assert_eq!(left(15).store, [-1, 1, -2, 2, 2, -1, 2, 4, 2, -1, 2, 5, 2, -1, 2]);
+        assert_eq!(left(14).store, [2, 2, -1, 2, 4, 2, -1, 2, 5, 2, -1, 2, 0, 0]);
+        assert_eq!(left(11).verdict, Verdict::RefusedProof { number: 34, step: 5 });
+        assert!(left(15).dead_left && !left(15).closed_up && !left(14).dead_left && left(14).closed_up);
+        assert_eq!(store_lengths(&read(fact, 5).unwrap(), proof), (12, 15));
     }
 
     #[test]

@@ -23,6 +23,9 @@
 //! - A set of one atom is a loop where a rule has an edge from the atom to itself: an atom reaches itself "by one or more" edges.
 //! - Edges are of the expansion: a literal that stands in no minimal set gives none.
 //! - Change 6 moves no other limit than those that it names: bounds, weights and version 1 packets stay at 4,095, counts at 64.
+//! - A step "would not fit otherwise" where the used words, the dead included, and all words of the step together exceed the store; filling
+//!   it exactly is a fit. A `d` step adds nothing, so it never closes up; nor does the end of the check.
+//! - A second `d` of the same set passes over the dead one and takes the next live one.
 //! - A packet holds the words of the base, without the body kind; its reader's table is too short where it does not hold the new words.
 
 pub mod check;

@@ -9,21 +9,24 @@ use super::lines::Line;
 use super::loops::is_loop;
 use super::program::{Program, Rule};
 
-/// "Each live nogood carries the number of the step that added it"
+/// "Each live nogood carries the number of the step that added it", and "a deletion now only marks its nogood dead"
 #[derive(Clone, Debug, PartialEq, Eq)]
 pub struct Stored {
     pub origin: usize,
+    pub dead: bool,
     pub literals: Vec<i32>,
 }
 
 impl Stored {
-    /// "as a word before its count"; then "the literal count, then literals ascending by variable"
+    /// "as a word before its count", negated where it is dead; then "the literal count, then literals ascending by variable"
     fn words(&self) -> Vec<i32> {
-        [&[self.origin as i32, self.literals.len() as i32], &self.literals[..]].concat()
+        let origin = self.origin as i32;
+        [&[if self.dead { -origin } else { origin }, self.literals.len() as i32], &self.literals[..]].concat()
     }
 }
 
-/// "the live nogoods oldest first, the known variables, and which rule body has which name", and the number of steps done
+/// "the live nogoods oldest first, the known variables, and which rule body has which name", and the number of steps done. The dead nogoods
+/// stand among the live ones until the store is closed up.
 #[derive(Clone, Debug)]
 pub struct State {
     pub stored: Vec<Stored>,
@@ -48,16 +51,31 @@ impl State {
 
     /// The live nogoods, oldest first.
     pub fn live(&self) -> Vec<&[i32]> {
-        self.stored.iter().map(|stored| stored.literals.as_slice()).collect()
+        self.stored.iter().filter(|stored| !stored.dead).map(|stored| stored.literals.as_slice()).collect()
+    }
+
+    /// The dead nogoods that still stand in the store.
+    pub fn dead(&self) -> Vec<&[i32]> {
+        self.stored.iter().filter(|stored| stored.dead).map(|stored| stored.literals.as_slice()).collect()
     }
 
     pub fn has_empty(&self) -> bool {
-        self.stored.iter().any(|stored| stored.literals.is_empty())
+        self.live().iter().any(|literals| literals.is_empty())
     }
 
-    /// What question 34 counts: two words more than the literals for each live nogood.
+    /// What question 34 counts: two words more than the literals for each live nogood. It "still counts live words only".
     pub fn live_words(&self) -> usize {
+        self.live().iter().map(|literals| 2 + literals.len()).sum()
+    }
+
+    /// The words that are used, those of the dead included.
+    pub fn used_words(&self) -> usize {
         self.stored.iter().map(|stored| 2 + stored.literals.len()).sum()
+    }
+
+    /// "The store is closed up, live nogoods in their order and 0 after them"
+    pub fn close_up(&mut self) {
+        self.stored.retain(|stored| !stored.dead);
     }
 
     /// Every word of the store up to the last that is used.
@@ -67,7 +85,7 @@ impl State {
 
     /// A nogood of the step that is being taken.
     fn add(&mut self, literals: &[i32]) {
-        self.stored.push(Stored { origin: self.steps + 1, literals: by_variable(literals) });
+        self.stored.push(Stored { origin: self.steps + 1, dead: false, literals: by_variable(literals) });
     }
 }
 
@@ -191,11 +209,12 @@ fn derive(state: &mut State, literals: &[i32]) -> Result<(), u8> {
     Ok(())
 }
 
-/// "removes the oldest live nogood equal to L as a set; none equal, nothing changes"; "the oldest equal set, whatever its origin"
+/// "removes the oldest live nogood equal to L as a set; none equal, nothing changes"; "the oldest equal set, whatever its origin". It is
+/// marked dead, and a dead one is passed over.
 fn delete(state: &mut State, literals: &[i32]) -> Result<(), u8> {
     let wanted = by_variable(literals);
-    if let Some(place) = state.stored.iter().position(|stored| stored.literals == wanted) {
-        state.stored.remove(place);
+    if let Some(oldest) = state.stored.iter_mut().find(|stored| !stored.dead && stored.literals == wanted) {
+        oldest.dead = true;
     }
     Ok(())
 }

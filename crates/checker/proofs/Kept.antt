@@ -13,7 +13,7 @@ use Rattle.words.proofs.Parts.{tail-of, put-tail}
 use Rattle.words.proofs.Sorting.{length-ascending}
 use Rattle.derivation.specs.States.{State}
 use Rattle.derivation.specs.Steps.{add}
-use Rattle.nogoods.specs.Store.{Stored, addedIn, live}
+use Rattle.nogoods.specs.Store.{Stored, addedIn, live, keptWith}
 use Rattle.nogoods.specs.Keeps.{Literals, Fits}
 use Rattle.nogoods.specs.declared.store.Added.{Added}
 use Rattle.nogoods.specs.declared.store.Added.the-variants as Added
@@ -24,24 +24,26 @@ use Rattle.checker.specs.Held.{fitted, Fitted, HoldsState}
 use Rattle.checker.specs.declared.outcomes.Stepped.{Stepped}
 
 -- what is added fits, or the step is refused
-pub kept-fits : (stored : List Stored) (store : List ℤ) (a : Added) → Fits stored store a → Fitted stored store (fitted a)
-kept-fits stored store (Added.Uses n) h = h
-kept-fits stored store Added.Full h = (refl, h)
+pub kept-fits : (stored : List Stored) (store : List ℤ) (index : List ℕ) (a : Added) → Fits stored store index a
+    → Fitted stored store index (fitted a)
+kept-fits stored store index (Added.Uses n) h = h
+kept-fits stored store index Added.Full h = (refl, h)
 
 -- one nogood more, which is g
-pub kept-one : (stored : List Stored) (n : ℕ) (store : List ℤ) {l g : List ℤ} (a : Added) {r : Stepped} → r ≡ fitted a → l ≡ g
-    → Fits (stored ++ addedIn n (l ∷ [])) store a → Fitted (stored ++ addedIn n (g ∷ [])) store r
-kept-one stored n store {l} a e p h = rw (e, ← p) (kept-fits (stored ++ addedIn n (l ∷ [])) store a h)
+pub kept-one : (stored : List Stored) (n size : ℕ) (store : List ℤ) (index : List ℕ) {l g : List ℤ} (a : Added) {r : Stepped} → r ≡ fitted a → l ≡ g
+    → Fits (keptWith size (addedIn n (l ∷ [])) stored) store index a → Fitted (keptWith size (addedIn n (g ∷ [])) stored) store index r
+kept-one stored n size store index {l} a e p h = rw (e, ← p) (kept-fits (keptWith size (addedIn n (l ∷ [])) stored) store index a h)
 
 -- what the step added to the live nogoods
 pub new-only : (stored : List Stored) (l gs : List (List ℤ)) → live stored ≡ l → drop (length (live stored)) (l ++ gs) ≡ gs
 new-only stored l gs e = ap (λ (k : List (List ℤ)). drop (length k) (l ++ gs)) e ∙ drop-append-seam l gs
 
 -- nogoods that are added to those stored are added to the state that these are of
-pub kept-more : {store : List ℤ} {used : ℕ} {z : State} {stored : List Stored} → HoldsState store used z stored
-    → (n : ℕ) (gs : List (List ℤ)) (after : List ℤ) (r : Stepped) → Fitted (stored ++ addedIn n gs) after r → Fitted (withAdded n stored (add z gs)) after r
-kept-more {z = z} {stored = stored} K n gs after r f =
-    subst (λ (hs : List (List ℤ)). Fitted (stored ++ addedIn n hs) after r) (sym (new-only stored (z .live) gs (K .same))) f
+pub kept-more : {store : List ℤ} {index : List ℕ} {used : ℕ} {z : State} {stored : List Stored} → HoldsState store index used z stored
+    → (n size : ℕ) (gs : List (List ℤ)) (after : List ℤ) (index′ : List ℕ) (r : Stepped)
+    → Fitted (keptWith size (addedIn n gs) stored) after index′ r → Fitted (withAdded n size stored (add z gs)) after index′ r
+kept-more {z = z} {stored = stored} K n size gs after index′ r f =
+    subst (λ (hs : List (List ℤ)). Fitted (keptWith size (addedIn n hs) stored) after index′ r) (sym (new-only stored (z .live) gs (K .same))) f
 
 -- `join`: s is the first number with the complements of the others, sorted
 pub record Joined (numbers s : List ℤ) : Type 0 where

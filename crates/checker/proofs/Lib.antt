@@ -2,6 +2,7 @@
 -- its verdict.
 pub mod Whole
 pub mod Origins
+pub mod Late
 pub mod Names
 pub mod Loops
 pub mod Tracking
@@ -9,6 +10,7 @@ pub mod Kept
 pub mod Letters
 pub mod Gathering
 pub mod LoopSteps
+pub mod Arms
 pub mod Turns
 pub mod Courses
 pub mod Verdicts

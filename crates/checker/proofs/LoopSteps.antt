@@ -45,10 +45,10 @@ members U line = record {
 }
 
 module _ {N : ℕ} {ws : List InputRule} {known names : List ℕ} {bodies : List ℤ} (z : State) (tracks : Tracks N ws known names bodies (z .introduced) (z .named))
-    (origin : ℕ) (stored : List Stored) (store : List ℤ) where
+    (origin size : ℕ) (stored : List Stored) (store : List ℤ) (index : List ℕ) where
   -- what the step of this number leaves
   abbrev LoopLeaves : List ℤ → Stepped → Type 0
-  LoopLeaves U r = Leaves N ws (storedAfter origin Loop U stored) known names bodies store (byLetter N (expand ws) z Loop U) r
+  LoopLeaves U r = Leaves N ws (storedAfter origin size Loop U stored) known names bodies store index (byLetter N (expand ws) z Loop U) r
 
   module _ (U : List ℤ) (line : PassedLine Loop U) where
     atoms-not : N < top U → allAtoms N z U ≡ false
@@ -85,11 +85,11 @@ module _ {N : ℕ} {ws : List InputRule} {known names : List ℕ} {bodies : List
     pub loop-added : (U : List ℤ) → PassedLine Loop U → all (λ x. marked known (variable x)) U ≡ true → top U ≤ N
         → isLoop (expand ws) U ≡ true → Marks inside (map variable U)
         → marked m 0 ≡ false → N ≤ largest → (r : Stepped)
-        → Fitted (withAdded origin stored (add z (gathered (marked m) (getD U 0 (pos 0)) largest 1 ∷ []))) store r → LoopLeaves U r
+        → Fitted (withAdded origin size stored (add z (gathered (marked m) (getD U 0 (pos 0)) largest 1 ∷ []))) store index r → LoopLeaves U r
     loop-added [] line k a l set n high r q = absurd (true≢false (sym (line .signs)))
     loop-added (h ∷ hs) line k a l set n high r q =
         let U = h ∷ hs in
         let all-atoms = atoms-are U line a in
         let atom : T (isAtom N (variable h)) = passed (isAtom N (variable h)) .from (and-left _ _ all-atoms) in
         rw (cited z tracks Loop U line refl k, all-atoms, l, sym (named-is U line set) ∙ ap not n)
-        (subst (λ (g : List ℤ). Fitted (withAdded origin stored (add z (g ∷ []))) store r) (loop-nogood (expand ws) z (tracks .proper) h U atom high (external U line set)) q, tracks)
+        (subst (λ (g : List ℤ). Fitted (withAdded origin size stored (add z (g ∷ []))) store index r) (loop-nogood (expand ws) z (tracks .proper) h U atom high (external U line set)) q, tracks)

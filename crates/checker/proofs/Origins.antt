@@ -4,12 +4,13 @@ use mathlib.Core.Path.{_≡_, refl, sym, _∙_, ap, ap₂, subst}
 use mathlib.Core.Logic.{_⊎_, inl, inr}
 use mathlib.Core.Bool.{Bool, true, false, cond}
 use mathlib.Core.Option.{Option, none, some}
-use mathlib.Core.List.{List, [], _∷_, _++_, map, List·Memᴰ·head, List·Memᴰ·tail, List·Memᴰ·append-cases, Memᴰ·of-map}
+use mathlib.Core.List.{List, [], _∷_, _++_, map, List·Memᴰ·head, List·Memᴰ·tail, List·Memᴰ·append-cases, List·Memᴰ·cases-cons, Memᴰ·of-map}
 use Prim.Native.Nat.{ℕ, _+_, _≤_}
 use native.Mathlib.Omega.{arith}
+use lib.Dec.{leb}
 use lib.IntN.{ℤ, pos, negℤ}
 use lib.ListN.{length, drop}
-use Rattle.words.proofs.Lists.{zero-one, by-test, dropFirst→}
+use Rattle.words.proofs.Lists.{zero-one, by-test}
 use Rattle.words.specs.Lists.{_∈_, dropFirst}
 use Rattle.words.specs.Literals.{variable, complement, sameList, has, ascending}
 use Rattle.text.specs.declared.Letter.{Letter}
@@ -24,9 +25,10 @@ use Rattle.derivation.specs.Steps.{Outcome, next, add, define, definition, exte
 use Rattle.derivation.specs.Steps.{allKnown, allAtoms, allNamed, naming, citing, isUnnamedBody, isCompletion, isSupport}
 use Rattle.derivation.specs.Steps.{addition, body, completion, deletion, extension, loop, support}
 use Rattle.derivation.specs.Steps as Steps
-use Rattle.nogoods.specs.Store.{Stored, recordOf, addedIn, live, storeWords}
-use Rattle.nogoods.proofs.Live.{live-nil, live-append, live-added, live-dropped}
-use Rattle.checker.specs.Check.{withAdded, storedAfter, Course, stopped, through, thenStopped, runSteps, runRead, course}
+use Rattle.nogoods.specs.Store.{Stored, recordOf, addedIn, closed, live, killed, isTarget, keptFor, keptWith, wordsOf, storeWords}
+use Rattle.nogoods.proofs.Live.{live-nil, live-append, live-added, live-kept, live-killed, by-answer}
+use Rattle.nogoods.proofs.Live.{closed-nil, closed-cons, closed-past, closed-from, killed-nil, killed-here, killed-on}
+use Rattle.checker.specs.Check.{newIn, withAdded, storedAfter, Course, stopped, through, thenStopped, runSteps, runRead, course}
 use Rattle.checker.specs.Check.{saying, judged, check, Checked}
 use Rattle.checker.specs.Claims.{LiveStored, Bounded, OriginsBounded, Rising, OriginsRise, OriginsService}
 use Rattle.checker.specs.declared.Counts.{Counts}
@@ -36,19 +38,21 @@ use Rattle.checker.proofs.Whole.{storedNext, run-first, said, ended-cou
 
 -- One step
 
-module _ (N : ℕ) (P : List Rule) (n : ℕ) (z : State) (b : List Stored) (same : live b ≡ z .live) where
+module _ (N : ℕ) (P : List Rule) (n size : ℕ) (z : State) (b : List Stored) (same : live b ≡ z .live) where
   -- what is stored after a step is what is live after it
   abbrev Same : Letter → List ℤ → Outcome → Type 0
   Same x zs (Steps.refused k) = Unit
-  Same x zs (next z′) = live (storedAfter n x zs b z′) ≡ z′ .live
+  Same x zs (next z′) = live (storedAfter n size x zs b z′) ≡ z′ .live
 
-  more : (gs : List (List ℤ)) → live (withAdded n b (add z gs)) ≡ z .live ++ gs
+  more : (gs : List (List ℤ)) → live (withAdded n size b (add z gs)) ≡ z .live ++ gs
   more gs =
-      ap (λ (hs : List (List ℤ)). live (b ++ addedIn n hs)) (new-only b (z .live) gs same) ∙ live-append b (addedIn n gs)
-      ∙ ap₂ (λ k l. k ++ l) same (live-added n gs)
+      let new = addedIn n gs in
+      let old = keptFor size (length (wordsOf new)) b in
+      ap (λ (hs : List (List ℤ)). live (keptWith size (addedIn n hs) b)) (new-only b (z .live) gs same) ∙ live-append old new
+      ∙ ap₂ (λ k l. k ++ l) (live-kept size (length (wordsOf new)) b ∙ same) (live-added n gs)
 
-  less : (L : List ℤ) → live (dropFirst (λ e. sameList (e .literals) L) b) ≡ dropFirst (λ g. sameList g L) (z .live)
-  less L = live-dropped L b ∙ ap (dropFirst (λ g. sameList g L)) same
+  less : (L : List ℤ) → live (killed L b) ≡ dropFirst (λ g. sameList g L) (z .live)
+  less L = live-killed L b ∙ ap (dropFirst (λ g. sameList g L)) same
 
   -- questions that are asked before the step o: one, that of a step that introduces no name, and those of one that does
   asks : (x : Letter) (zs : List ℤ) (t : Bool) (o : Outcome) (k : ℕ) → Same x zs o → Same x zs (cond t o (Steps.refused k))
@@ -109,7 +113,7 @@ module _ (N : ℕ) (P : List Rule) (n : ℕ) (z : State) (b : List Stored) (same
       by (some k) = tt
       by none = letter-same (t .letter) (t .numbers)
 
-  pub step-live : (t : Step) (z′ : State) → step N P z t ≡ next z′ → live (storedAfter n (t .letter) (t .numbers) b z′) ≡ z′ .live
+  pub step-live : (t : Step) (z′ : State) → step N P z t ≡ next z′ → live (storedAfter n size (t .letter) (t .numbers) b z′) ≡ z′ .live
   step-live t z′ e = subst (Same (t .letter) (t .numbers)) e (step-same t)
 
 -- All steps
@@ -117,7 +121,7 @@ module _ (N : ℕ) (P : List Rule) (n : ℕ) (z : State) (b : List Stored) (same
 -- what every step keeps holds after all of them
 module _ (N : ℕ) (P : List Rule) (size : ℕ) (I : ℕ → State → List Stored → Type 0)
     (keeps : (n : ℕ) (z : State) (b : List Stored) (t : Step) (z′ : State) → I n z b → step N P z t ≡ next z′
-    → I (n + 1) z′ (storedNext n b t z′)) where
+    → I (n + 1) z′ (storedNext size n b t z′)) where
   run-keeps : (n m : ℕ) (z w : State) (b l : List Stored) (ts : List Step) → I n z b
       → runSteps N P size n z b ts ≡ through m w l → I m w l
   run-keeps n m z w b l [] i e =
@@ -127,12 +131,12 @@ module _ (N : ℕ) (P : List Rule) (size : ℕ) (I : ℕ → State → List Stor
       rw (p, q, r) at i
   run-keeps n m z w b l (t ∷ ts) i e =
       let r = run-first N P size n m z w b l t ts e in
-      let b′ = storedNext n b t (r .left) in
+      let b′ = storedNext size n b t (r .left) in
       run-keeps (n + 1) m (r .left) w b′ l ts (keeps n z b t (r .left) i (r .is)) (r .later)
 
 pub live-stored : LiveStored
 live-stored N P size ts n z stored e =
-    run-keeps N P size (λ m w b. live b ≡ w .live) (λ m w b t w′ i s. step-live N P (m + 1) w b i t w′ s)
+    run-keeps N P size (λ m w b. live b ≡ w .live) (λ m w b t w′ i s. step-live N P (m + 1) size w b i t w′ s)
     0 n start z [] stored ts live-nil e
 
 -- also after the steps of a text
@@ -166,11 +170,31 @@ rising-weaker : (m k : ℕ) (b : List Stored) → m ≤ k → Rising k b → Ris
 rising-weaker m k [] h r = tt
 rising-weaker m k (e ∷ b) h r = (omega (arith, r .0), r .1)
 
-rising-dropped : (f : Stored → Bool) (m : ℕ) (b : List Stored) → Rising m b → Rising m (dropFirst f b)
-rising-dropped f m [] r = tt
-rising-dropped f m (e ∷ b) r =
-    by-test (Rising m) (f e) (λ q. rising-weaker m (e .origin) b (r .0) (r .1))
-    (λ q. (r .0, rising-dropped f (e .origin) b (r .1)))
+rising-closed : (m : ℕ) (b : List Stored) → Rising m b → Rising m (closed b)
+rising-closed m [] r = rw closed-nil tt
+rising-closed m (e ∷ b) r =
+    by-answer (e .dead)
+    (λ d. rw (closed-past e b d) (rising-closed m b (rising-weaker m (e .origin) b (r .0) (r .1))))
+    (λ a. rw (closed-cons e b a) (r .0, rising-closed (e .origin) b (r .1)))
+
+rising-killed : (L : List ℤ) (m : ℕ) (b : List Stored) → Rising m b → Rising m (killed L b)
+rising-killed L m [] r = rw (killed-nil L) tt
+rising-killed L m (e ∷ b) r =
+    by-answer (isTarget L e) (λ q. rw (killed-here L e b q) r) (λ q. rw (killed-on L e b q) (r .0, rising-killed L (e .origin) b (r .1)))
+
+-- a nogood that is dead now has the origin that it had
+killed-from : (L : List ℤ) (b : List Stored) (e : Stored) → e ∈ killed L b → (x : Stored) × (x ∈ b) × (x .origin ≡ e .origin)
+killed-from L [] e u = absurd (elim (rw (killed-nil L) at u) [ ])
+killed-from L (x ∷ b) e u =
+    by-answer (isTarget L x)
+    (λ q. elim (List·Memᴰ·cases-cons (rw (killed-here L x b q) at u)) [
+      | inl p ↦ (x, List·Memᴰ·head refl, sym (ap (λ (s : Stored). s .origin) p))
+      | inr v ↦ (e, List·Memᴰ·tail v, refl)
+    ])
+    (λ q. elim (List·Memᴰ·cases-cons (rw (killed-on L x b q) at u)) [
+      | inl p ↦ (x, List·Memᴰ·head refl, sym (ap (λ (s : Stored). s .origin) p))
+      | inr v ↦ let r = killed-from L b e v in (r .0, List·Memᴰ·tail (r .1), r .2)
+    ])
 
 -- of the origins after n steps
 record Origins (n : ℕ) (b : List Stored) : Type 0 where
@@ -187,20 +211,31 @@ module _ (n : ℕ) (b : List Stored) (o : Origins n b) where
     rising = rising-append 1 (n + 1) b gs (omega arith) (o .rising) (λ e u. omega (arith, o .bounded e u .1));
   }
 
-  origins-dropped : (f : Stored → Bool) → Origins (n + 1) (dropFirst f b)
-  origins-dropped f = record {
-    bounded = λ e i. let u = o .bounded e (dropFirst→ f b i) in (u .0, omega (arith, u .1));
-    rising = rising-dropped f 1 b (o .rising);
+  origins-closed : Origins n (closed b)
+  origins-closed = record { bounded = λ e i. o .bounded e (closed-from b i .0); rising = rising-closed 1 b (o .rising) }
+
+  origins-killed : (L : List ℤ) → Origins (n + 1) (killed L b)
+  origins-killed L = record {
+    bounded = λ e i. let r = killed-from L b e i in let u = o .bounded (r .0) (r .1) in rw (← r .2) (u .0, omega (arith, u .1));
+    rising = rising-killed L 1 b (o .rising);
   }
 
-  origins-with : (z : State) → Origins (n + 1) (withAdded (n + 1) b z)
-  origins-with z = origins-added (drop (length (live b)) (z .live))
+module _ (size n : ℕ) (b : List Stored) (o : Origins n b) where
+  origins-with : (z : State) → Origins (n + 1) (withAdded (n + 1) size b z)
+  origins-with z = by (leb (length (wordsOf b) + length (wordsOf (newIn (n + 1) b z))) size)
+    where
+      gs : List (List ℤ)
+      gs = drop (length (live b)) (z .live)
 
-  origins-after : (x : Letter) (zs : List ℤ) (z : State) → Origins (n + 1) (storedAfter (n + 1) x zs b z)
+      by : (t : Bool) → Origins (n + 1) (cond t b (closed b) ++ newIn (n + 1) b z)
+      by true = origins-added n b o gs
+      by false = origins-added n (closed b) (origins-closed n b o) gs
+
+  origins-after : (x : Letter) (zs : List ℤ) (z : State) → Origins (n + 1) (storedAfter (n + 1) size x zs b z)
   origins-after Addition zs z = origins-with z
   origins-after Body zs z = origins-with z
   origins-after Completion zs z = origins-with z
-  origins-after Deletion zs z = origins-dropped (λ e. sameList (e .literals) (ascending zs))
+  origins-after Deletion zs z = origins-killed n b o (ascending zs)
   origins-after Extension zs z = origins-with z
   origins-after Loop zs z = origins-with z
   origins-after Support zs z = origins-with z
@@ -208,7 +243,7 @@ module _ (n : ℕ) (b : List Stored) (o : Origins n b) where
 origins : (N : ℕ) (P : List Rule) (size : ℕ) (ts : List Step) (n : ℕ) (z : State) (stored : List Stored)
     → runSteps N P size 0 start [] ts ≡ through n z stored → Origins n stored
 origins N P size ts n z stored e =
-    run-keeps N P size (λ m w b. Origins m b) (λ m w b t w′ o s. origins-after m b o (t .letter) (t .numbers) w′)
+    run-keeps N P size (λ m w b. Origins m b) (λ m w b t w′ o s. origins-after size m b o (t .letter) (t .numbers) w′)
     0 n start z [] stored ts (record { bounded = λ x i. elim i [ ]; rising = tt }) e
 
 pub origins-bounded : OriginsBounded

@@ -36,8 +36,8 @@ use Rattle.checker.specs.declared.ProofRefusal.{ProofRefusal}
 use Rattle.checker.specs.declared.Verdict.the-variants.{RefusedProof}
 
 -- what is stored once step t, the next after n, left the state z
-abbrev pub storedNext : ℕ → List Stored → Step → State → List Stored
-storedNext n b t z = storedAfter (n + 1) (t .letter) (t .numbers) b z
+abbrev pub storedNext : (size n : ℕ) → List Stored → Step → State → List Stored
+storedNext size n b t z = storedAfter (n + 1) size (t .letter) (t .numbers) b z
 
 module _ (N : ℕ) (P : List Rule) (size : ℕ) where
   -- what a step comes to; `on` goes on with the state that it left
@@ -47,13 +47,13 @@ module _ (N : ℕ) (P : List Rule) (size : ℕ) where
 
   -- the course of a step and of those that were read after it
   run-after : (n : ℕ) (z : State) (b : List Stored) (t : Step) (o : StepsRead)
-      → runRead N P size n z b (after t o) ≡ stepThen (λ z′. runRead N P size (n + 1) z′ (storedNext n b t z′) o) n (step N P z t)
+      → runRead N P size n z b (after t o) ≡ stepThen (λ z′. runRead N P size (n + 1) z′ (storedNext size n b t z′) o) n (step N P z t)
   run-after n z b t (steps ts) = by (step N P z t)
     where
       by : (o : Outcome) → elim o [
         | Steps.refused k ↦ stopped k (n + 1)
-        | next z′ ↦ cond (fitting size z′) (runSteps N P size (n + 1) z′ (storedNext n b t z′) ts) (stopped 34 (n + 1))
-      ] ≡ stepThen (λ z′. runSteps N P size (n + 1) z′ (storedNext n b t z′) ts) n o
+        | next z′ ↦ cond (fitting size z′) (runSteps N P size (n + 1) z′ (storedNext size n b t z′) ts) (stopped 34 (n + 1))
+      ] ≡ stepThen (λ z′. runSteps N P size (n + 1) z′ (storedNext size n b t z′) ts) n o
       by (Steps.refused k) = refl
       by (next z′) = refl
   run-after n z b t (refused ts k m) = by (step N P z t)
@@ -64,10 +64,10 @@ module _ (N : ℕ) (P : List Rule) (size : ℕ) where
 
       by : (o : Outcome) → thenStopped k m (elim o [
         | Steps.refused j ↦ stopped j (n + 1)
-        | next z′ ↦ cond (fitting size z′) (runSteps N P size (n + 1) z′ (storedNext n b t z′) ts) (stopped 34 (n + 1))
-      ]) ≡ stepThen (λ z′. thenStopped k m (runSteps N P size (n + 1) z′ (storedNext n b t z′) ts)) n o
+        | next z′ ↦ cond (fitting size z′) (runSteps N P size (n + 1) z′ (storedNext size n b t z′) ts) (stopped 34 (n + 1))
+      ]) ≡ stepThen (λ z′. thenStopped k m (runSteps N P size (n + 1) z′ (storedNext size n b t z′) ts)) n o
       by (Steps.refused j) = refl
-      by (next z′) = fits (fitting size z′) (runSteps N P size (n + 1) z′ (storedNext n b t z′) ts)
+      by (next z′) = fits (fitting size z′) (runSteps N P size (n + 1) z′ (storedNext size n b t z′) ts)
 
 module _ (N : ℕ) (P : List Rule) (size : ℕ) (text : List ℕ) where
   -- one turn more than there are bytes left is enough
@@ -95,16 +95,16 @@ module _ (N : ℕ) (P : List Rule) (size : ℕ) (text : List ℕ) where
         where
           outcome : (o : Outcome) → step N P z (record { letter = x; numbers = zs }) ≡ o
               → Runs N P size text at n z b
-              (stepThen N P size (λ z′. runRead N P size (n + 1) z′ (storedAfter (n + 1) x zs b z′) (left at′)) n o)
+              (stepThen N P size (λ z′. runRead N P size (n + 1) z′ (storedAfter (n + 1) size x zs b z′) (left at′)) n o)
           outcome (Steps.refused k) s = unaccepted e s
           outcome (next z′) s = fits (fitting size z′) refl
             where
               fits : (f : Bool) → fitting size z′ ≡ f
                   → Runs N P size text at n z b
-                  (cond f (runRead N P size (n + 1) z′ (storedAfter (n + 1) x zs b z′) (left at′)) (stopped 34 (n + 1)))
+                  (cond f (runRead N P size (n + 1) z′ (storedAfter (n + 1) size x zs b z′) (left at′)) (stopped 34 (n + 1)))
               fits true q =
                   let u = passed-line text at e in
-                  good e s (leb-true _ _ q) (later at′ z′ (storedAfter (n + 1) x zs b z′) (u .0, u .1))
+                  good e s (leb-true _ _ q) (later at′ z′ (storedAfter (n + 1) size x zs b z′) (u .0, u .1))
               fits false q = full e s (leb-false _ _ q)
 
   read-as : (turns at n : ℕ) {o : LineAt} → lineAt text at ≡ o → stepsAt text (suc turns) at n ≡ elim o [
@@ -123,11 +123,11 @@ module _ (N : ℕ) (P : List Rule) (size : ℕ) (text : List ℕ) where
   line-then : (turns at n at′ : ℕ) (z : State) (b : List Stored) (x : Letter) (zs : List ℤ) {o : Outcome}
       → lineAt text at ≡ line x zs at′ → step N P z (record { letter = x; numbers = zs }) ≡ o
       → runRead N P size n z b (stepsAt text (suc turns) at n)
-      ≡ stepThen N P size (λ z′. runRead N P size (n + 1) z′ (storedAfter (n + 1) x zs b z′) (stepsAt text turns at′ (n + 1))) n o
+      ≡ stepThen N P size (λ z′. runRead N P size (n + 1) z′ (storedAfter (n + 1) size x zs b z′) (stepsAt text turns at′ (n + 1))) n o
   line-then turns at n at′ z b x zs e s =
       let left = stepsAt text turns at′ (n + 1) in
       ap (runRead N P size n z b) (read-as turns at n e) ∙ run-after N P size n z b (record { letter = x; numbers = zs }) left
-      ∙ ap (stepThen N P size (λ z′. runRead N P size (n + 1) z′ (storedAfter (n + 1) x zs b z′) left) n) s
+      ∙ ap (stepThen N P size (λ z′. runRead N P size (n + 1) z′ (storedAfter (n + 1) size x zs b z′) left) n) s
 
   -- what `Runs` says that the lines come to is the course
   only : (turns : ℕ) {at n : ℕ} {z : State} {b : List Stored} {c : Course} → at ≤ length text → length text < turns + at
@@ -162,14 +162,14 @@ module _ (N : ℕ) (P : List Rule) (size n : ℕ) (z : State) (b : List Stored) 
     pub left : State
     pub is : step N P z t ≡ next left
     pub fits : fitting size left ≡ true
-    pub later : runSteps N P size (n + 1) left (storedNext n b t left) ts ≡ c
+    pub later : runSteps N P size (n + 1) left (storedNext size n b t left) ts ≡ c
 
 pub run-first : (N : ℕ) (P : List Rule) (size n m : ℕ) (z w : State) (b l : List Stored) (t : Step) (ts : List Step)
     → runSteps N P size n z b (t ∷ ts) ≡ through m w l → First N P size n z b t ts (through m w l)
 run-first N P size n m z w b l t ts e = by (step N P z t) refl e
   where
     on : State → Course
-    on z′ = runSteps N P size (n + 1) z′ (storedNext n b t z′) ts
+    on z′ = runSteps N P size (n + 1) z′ (storedNext size n b t z′) ts
 
     by : (o : Outcome) → step N P z t ≡ o → elim o [
       | Steps.refused k ↦ stopped k (n + 1)
@@ -189,7 +189,7 @@ pub run-through : (N : ℕ) (P : List Rule) (size n m : ℕ) (z w : State) (b l 
 run-through N P size n m z w b l [] e = let p : z ≡ w = cc in let q : n ≡ m = cc in (ap next p, omega arith)
 run-through N P size n m z w b l (t ∷ ts) e =
     let r = run-first N P size n m z w b l t ts e in
-    let q = run-through N P size (n + 1) m (r .left) w (storedNext n b t (r .left)) l ts (r .later) in
+    let q = run-through N P size (n + 1) m (r .left) w (storedNext size n b t (r .left)) l ts (r .later) in
     (rw (r .is, Steps.steps) (q .0), omega (arith, q .1))
 
 -- steps after steps that run through
@@ -202,9 +202,9 @@ run-append N P size n m z w b l [] us e =
     ap₂ (λ i x. runSteps N P size i x b us) q p ∙ ap (λ (k : List Stored). runSteps N P size m w k us) r
 run-append N P size n m z w b l (t ∷ ts) us e =
     let r = run-first N P size n m z w b l t ts e in
-    let b′ = storedNext n b t (r .left) in
+    let b′ = storedNext size n b t (r .left) in
     run-after N P size n z b t (steps (ts ++ us))
-    ∙ ap (stepThen N P size (λ z′. runSteps N P size (n + 1) z′ (storedNext n b t z′) (ts ++ us)) n) (r .is)
+    ∙ ap (stepThen N P size (λ z′. runSteps N P size (n + 1) z′ (storedNext size n b t z′) (ts ++ us)) n) (r .is)
     ∙ ap (λ f. cond f (runSteps N P size (n + 1) (r .left) b′ (ts ++ us)) (stopped 34 (n + 1))) (r .fits)
     ∙ run-append N P size (n + 1) m (r .left) w b′ l ts us (r .later)
 

@@ -2,13 +2,12 @@
 -- Assumes nothing.
 use mathlib.Core.Path.{_≡_}
 use mathlib.Core.Bool.{Bool, cond}
-use mathlib.Core.List.{List, [], _∷_, _++_}
+use mathlib.Core.List.{List, [], _∷_}
 use Prim.Native.Nat.{ℕ, _+_}
 use lib.Dec.{leb}
 use lib.IntN.{ℤ, pos}
 use lib.ListN.{length, drop, replicate}
-use Rattle.words.specs.Lists.{dropFirst}
-use Rattle.words.specs.Literals.{sameList, ascending}
+use Rattle.words.specs.Literals.{ascending}
 use Rattle.text.specs.declared.Letter.{Letter}
 use Rattle.text.specs.declared.Letter.the-variants.{Addition, Body, Completion, Deletion, Extension, Loop, Support}
 use Rattle.aspif.specs.Rules.{Rule, InputRule, expand, atoms, tableWords}
@@ -18,23 +17,28 @@ use Rattle.drupe.specs.Texts as Texts
 use Rattle.derivation.specs.States.{State, start}
 use Rattle.derivation.specs.Steps.{next, step, emptyLive}
 use Rattle.derivation.specs.Steps as Steps
-use Rattle.nogoods.specs.Store.{Stored, addedIn, live, storeWords, wordsFor}
+use Rattle.nogoods.specs.Store.{Stored, addedIn, live, killed, keptWith, storeWords, wordsFor}
 use Rattle.checker.specs.declared.Counts.{Counts}
 use Rattle.checker.specs.declared.Verdict.{Verdict}
 use Rattle.checker.specs.declared.Verdict.the-variants.{Inconsistent, Open, RefusedProgram, RefusedProof}
 
-module _ (n : ℕ) where
-  -- what was stored before step n, and after it, with its number, the nogoods that it added to those of the state that it left
-  abbrev pub withAdded : (before : List Stored) → State → List Stored
-  withAdded before z = before ++ addedIn n (drop (length (live before)) (z .live))
+-- the nogoods that step n added to those of the state that it left, with its number
+abbrev pub newIn : (n : ℕ) → (before : List Stored) → State → List Stored
+newIn n before z = addedIn n (drop (length (live before)) (z .live))
 
-  -- what is stored after step n, by its letter and numbers and the state that it left: "Deletion still takes the oldest equal set,
-  -- whatever its origin"
+module _ (n size : ℕ) where
+  -- what was stored before step n, and after it the nogoods that it added. "The store is closed up, live nogoods in their order and
+  -- 0 after them, only before a step that would not fit otherwise."
+  abbrev pub withAdded : (before : List Stored) → State → List Stored
+  withAdded before z = keptWith size (newIn n before z) before
+
+  -- what is stored after step n, by its letter and numbers and the state that it left: "A deletion now only marks its nogood dead",
+  -- "the oldest equal set, whatever its origin", of those that are live
   abbrev pub storedAfter : Letter → List ℤ → (before : List Stored) → State → List Stored
   storedAfter Addition zs before z = withAdded before z
   storedAfter Body zs before z = withAdded before z
   storedAfter Completion zs before z = withAdded before z
-  storedAfter Deletion zs before z = dropFirst (λ e. sameList (e .literals) (ascending zs)) before
+  storedAfter Deletion zs before z = killed (ascending zs) before
   storedAfter Extension zs before z = withAdded before z
   storedAfter Loop zs before z = withAdded before z
   storedAfter Support zs before z = withAdded before z
@@ -64,7 +68,7 @@ module _ (N : ℕ) (P : List Rule) (size : ℕ) where
         | Steps.refused k ↦ stopped k (n + 1)
         | next z′ ↦
             cond (fitting size z′)
-            (runSteps (n + 1) z′ (storedAfter (n + 1) (t .letter) (t .numbers) stored z′) ts)
+            (runSteps (n + 1) z′ (storedAfter (n + 1) size (t .letter) (t .numbers) stored z′) ts)
             (stopped 34 (n + 1))
       ]
 

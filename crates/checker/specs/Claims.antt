@@ -1,27 +1,32 @@
--- What the whole check says, as statements; proofs/Whole.antt and proofs/Origins.antt prove them: the steps line by line, demand 2
--- of the notice, demand 3, part two, and what is said of origins, also of the function `check_texts` by its contract.
+-- What the whole check says, as statements; proofs/Whole.antt, proofs/Origins.antt and proofs/Late.antt prove them: the steps line
+-- by line, demand 2 of the notice, demand 3, part two, what is said of origins, also of the function `check_texts` by its contract,
+-- and that marking first and closing up later changes no live nogood.
 -- Assumes nothing.
 use mathlib.Core.Path.{_≡_}
 use mathlib.Core.Logic.{_↔_, _⊎_}
-use mathlib.Core.Bool.{Bool, true, false}
-use mathlib.Core.List.{List, [], _∷_}
+use mathlib.Core.Bool.{Bool, true, false, cond}
+use mathlib.Core.List.{List, [], _∷_, _++_}
 use Prim.Native.Nat.{ℕ, _+_, _<_, _≤_}
-use lib.IntN.{ℤ}
-use lib.ListN.{length}
-use Rattle.words.specs.Lists.{_∈_}
+use lib.IntN.{ℤ, pos, negℤ}
+use lib.ListN.{length, take, getD, set}
+use Rattle.words.specs.Lists.{_∈_, dropFirst}
+use Rattle.words.specs.Literals.{sameList, ascending}
 use Rattle.words.specs.Limits.{longest}
 use Rattle.text.specs.declared.Letter.{Letter}
+use Rattle.text.specs.declared.Letter.the-variants.{Addition, Body, Completion, Deletion, Extension, Loop, Support}
 use Rattle.aspif.specs.Rules.{Rule, InputRule, expand, atoms}
 use Rattle.aspif.specs.Reading.{program, readText}
 use Rattle.drupe.specs.Lines.{end, line, lineAt}
 use Rattle.drupe.specs.Lines as Lines
-use Rattle.drupe.specs.Texts.{Step, textOf, steps, stepsOf}
+use Rattle.drupe.specs.Texts.{Step, StepsRead, textOf, steps, stepsOf}
+use Rattle.drupe.specs.Texts as Texts
 use Rattle.derivation.specs.States.{State, start}
 use Rattle.derivation.specs.Steps.{next, step, emptyLive}
 use Rattle.derivation.specs.Steps as Steps
 use Rattle.derivation.specs.Claims.{NoneAsWritten}
-use Rattle.nogoods.specs.Store.{Stored, live, storeWords, wordsFor}
-use Rattle.checker.specs.Check.{storedAfter, Course, stopped, through, runSteps, course, countsOf, check, CheckedTexts}
+use Rattle.nogoods.specs.Store.{Stored, closed, live, wordsOf, storeWords, wordsFor}
+use Rattle.checker.specs.Check.{newIn, storedAfter, Course, stopped, through, thenStopped, fitting, runSteps, course}
+use Rattle.checker.specs.Check.{countsOf, judged, check, CheckedTexts}
 use Rattle.checker.specs.declared.Counts.{Counts}
 use Rattle.checker.specs.declared.Verdict.{Verdict}
 use Rattle.checker.specs.declared.Verdict.the-variants.{Inconsistent, Open}
@@ -42,7 +47,7 @@ module _ (N : ℕ) (P : List Rule) (size : ℕ) (text : List ℕ) where
         → Runs at n z b (stopped 34 (n + 1))
     good : {at n after : ℕ} {z z′ : State} {b : List Stored} {x : Letter} {zs : List ℤ} {c : Course}
         → lineAt text at ≡ line x zs after → step N P z (record { letter = x; numbers = zs }) ≡ next z′ → wordsFor (z′ .live) ≤ size
-        → Runs after (n + 1) z′ (storedAfter (n + 1) x zs b z′) c → Runs at n z b c
+        → Runs after (n + 1) z′ (storedAfter (n + 1) size x zs b z′) c → Runs at n z b c
 
 -- The course of a proof text that passes 21 is what its lines come to from the start, and nothing else.
 abbrev pub StepByStep : Type 0
@@ -113,12 +118,12 @@ AfterSteps C =
     (N : ℕ) (P : List Rule) (size : ℕ) (ts : List Step) (n : ℕ) (z : State) (stored : List Stored)
     → runSteps N P size 0 start [] ts ≡ through n z stored → C n z stored
 
--- The literals of what is stored are the live nogoods, in their order. What is said of K, of the empty nogood and of `a` is said of
--- the store by this.
+-- The literals of what is stored and not dead are the live nogoods, in their order. What is said of K, of the empty nogood and of
+-- `a` is said of the store by this.
 abbrev pub LiveStored : Type 0
 LiveStored = AfterSteps (λ n z stored. live stored ≡ z .live)
 
--- "An origin is never 0 or above the steps done."
+-- "An origin is never 0 or above the steps done.", dead or live
 abbrev pub Bounded : (done : ℕ) → List Stored → Type 0
 Bounded n stored = (e : Stored) → e ∈ stored → (1 ≤ e .origin) × (e .origin ≤ n)
 
@@ -134,10 +139,72 @@ abbrev pub OriginsRise : Type 0
 OriginsRise = AfterSteps (λ n z stored. Rising 1 stored)
 
 -- The store that the function `check_texts` leaves, by its contract, where it answers "inconsistent" or "open": the words of stored
--- nogoods, as many as it tells, with origins that rise from 1 to no more than the steps that it tells.
+-- nogoods, of which as many are live as it tells, with origins that rise from 1 to no more than the steps that it tells.
 abbrev pub OriginsService : Type 0
 OriginsService =
     (text proof : List ℕ) (table store table′ store′ : List ℤ) (r : Verdict) → CheckedTexts text proof table store table′ store′ r
     → (c : Counts) → (r ≡ Inconsistent c) ⊎ (r ≡ Open c)
     → (stored : List Stored) × (store′ ≡ storeWords (length store) stored) × (length (live stored) ≡ c .nogoods)
     × Bounded (c .steps) stored × Rising 1 stored
+
+-- Mark first, close up later
+
+-- The earlier store: a deletion takes its nogood out at once, and nothing is ever dead. What it has after step n.
+abbrev pub promptAfter : (n : ℕ) → Letter → List ℤ → (before : List Stored) → State → List Stored
+promptAfter n Addition zs before z = before ++ newIn n before z
+promptAfter n Body zs before z = before ++ newIn n before z
+promptAfter n Completion zs before z = before ++ newIn n before z
+promptAfter n Deletion zs before z = dropFirst (λ e. sameList (e .literals) (ascending zs)) before
+promptAfter n Extension zs before z = before ++ newIn n before z
+promptAfter n Loop zs before z = before ++ newIn n before z
+promptAfter n Support zs before z = before ++ newIn n before z
+
+-- what the steps come to with it
+module _ (N : ℕ) (P : List Rule) (size : ℕ) where
+  abbrev pub promptSteps : (done : ℕ) → State → List Stored → List Step → Course
+  promptSteps n z stored [] = through n z stored
+  promptSteps n z stored (t ∷ ts) =
+      elim (step N P z t) [
+        | Steps.refused k ↦ stopped k (n + 1)
+        | next z′ ↦
+            cond (fitting size z′)
+            (promptSteps (n + 1) z′ (promptAfter (n + 1) (t .letter) (t .numbers) stored z′) ts)
+            (stopped 34 (n + 1))
+      ]
+
+  abbrev pub promptRead : StepsRead → Course
+  promptRead (steps ts) = promptSteps 0 start [] ts
+  promptRead (Texts.refused before k m) = thenStopped k m (promptSteps 0 start [] before)
+
+-- "The sequence of live nogoods, read past the dead, equals that of the earlier store after every list of steps": with origins, and
+-- whatever the store's length
+abbrev pub SameLive : Type 0
+SameLive =
+    (N : ℕ) (P : List Rule) (size : ℕ) (ts : List Step) (n : ℕ) (z : State) (stored : List Stored)
+    → runSteps N P size 0 start [] ts ≡ through n z stored → promptSteps N P size 0 start [] ts ≡ through n z (closed stored)
+
+-- Verdict, counts and refusals are those of the earlier store. "Question 34 still counts live words only."
+abbrev pub SameCourse : Type 0
+SameCourse =
+    (t size : ℕ) (ws : List InputRule) (proof : List ℕ)
+    → judged t size ws (course (atoms ws) (expand ws) size proof) .verdict
+    ≡ judged t size ws (promptRead (atoms ws) (expand ws) size (stepsOf proof)) .verdict
+
+-- j is the place of an origin word of what is stored
+abbrev pub OriginPlace : List Stored → (j : ℕ) → Type 0
+OriginPlace stored j =
+    (done : List Stored) × (it : Stored) × (rest : List Stored) × (stored ≡ done ++ (it ∷ rest)) × (length (wordsOf done) ≡ j)
+
+-- A deletion: "its origin word is negated and no other word changes"
+abbrev pub OneWord : Type 0
+OneWord =
+    (n size : ℕ) (zs : List ℤ) (before : List Stored) (z : State)
+    → let s = storeWords size before in let s′ = storeWords size (storedAfter n size Deletion zs before z) in
+    (s′ ≡ s) ⊎ ((j : ℕ) × OriginPlace before j × (s′ ≡ set s j (negℤ (getD s j (pos 0)))))
+
+-- where the words of a step that adds nogoods fit behind the used ones, the used words stay as they are
+abbrev pub ClosedLate : Type 0
+ClosedLate =
+    (n size : ℕ) (x : Letter) (zs : List ℤ) (before : List Stored) (z : State) → ¬ (x ≡ Deletion)
+    → length (wordsOf before) + length (wordsOf (newIn n before z)) ≤ size
+    → take (length (wordsOf before)) (storeWords size (storedAfter n size x zs before z)) ≡ wordsOf before

@@ -18,7 +18,7 @@ use Rattle.drupe.specs.Lines.{signsOf, signed, LineAt, end, line}
 use Rattle.drupe.specs.Lines as Lines
 use Rattle.derivation.specs.States.{Named, State, isAtom, isKnown}
 use Rattle.derivation.specs.Steps.{Outcome, refused, next, byLetter, step}
-use Rattle.nogoods.specs.Keeps.{Literals, Holds}
+use Rattle.nogoods.specs.Keeps.{Literals, Holds, Keeps}
 use Rattle.nogoods.specs.Store.{Stored, live, wordsFor}
 use Rattle.nogoods.specs.declared.store.Added.{Added}
 use Rattle.nogoods.specs.declared.store.Added.the-variants as Added
@@ -82,29 +82,29 @@ fitted (Added.Uses n) = Uses n
 fitted Added.Full = Fails 34
 
 -- the store holds what is stored, or it does not fit: "Do the live words after the step fit the store? 34."
-abbrev pub Fitted : List Stored → List ℤ → Stepped → Type 0
-Fitted stored store (Uses n) = Holds store n stored
-Fitted stored store (Fails k) = (k ≡ 34) × (length store < wordsFor (live stored))
+abbrev pub Fitted : List Stored → List ℤ → List ℕ → Stepped → Type 0
+Fitted stored store index (Uses n) = Keeps store index n stored
+Fitted stored store index (Fails k) = (k ≡ 34) × (length store < wordsFor (live stored))
 
--- the store holds what is stored in its first `used` words, and its literals are the state's live nogoods
-pub record HoldsState (store : List ℤ) (used : ℕ) (z : State) (stored : List Stored) : Type 0 where
-  pub holds : Holds store used stored
+-- store and index keep what is stored in the store's first `used` words, and what is live of it are the state's nogoods
+pub record HoldsState (store : List ℤ) (index : List ℕ) (used : ℕ) (z : State) (stored : List Stored) : Type 0 where
+  pub keeps : Keeps store index used stored
   pub same : live stored ≡ z .live
 
 -- what a step leaves, by what it comes to: the number of the question, or arrays and store that hold the next state, with what is
 -- `after` it in the store
-abbrev pub Leaves : ℕ → List InputRule → (after : State → List Stored) → List ℕ → List ℕ → List ℤ → List ℤ
+abbrev pub Leaves : ℕ → List InputRule → (after : State → List Stored) → List ℕ → List ℕ → List ℤ → List ℤ → List ℕ
     → Outcome → Stepped → Type 0
-Leaves N ws after known names bodies store (refused k) r = r ≡ Fails k
-Leaves N ws after known names bodies store (next z) r =
-    Fitted (after z) store r × Tracks N ws known names bodies (z .introduced) (z .named)
+Leaves N ws after known names bodies store index (refused k) r = r ≡ Fails k
+Leaves N ws after known names bodies store index (next z) r =
+    Fitted (after z) store index r × Tracks N ws known names bodies (z .introduced) (z .named)
 
 -- the contract of a letter's function: what step n leaves, of whatever state the arrays and the store held before
 abbrev pub Stepping : ℕ → List InputRule → Letter → List ℤ → (used n : ℕ)
-    → List ℕ → List ℕ → List ℤ → List ℤ → List ℕ → List ℕ → List ℤ → List ℤ → Stepped → Type 0
-Stepping N ws x zs used n known names bodies store known′ names′ bodies′ store′ r =
-    (z : State) (stored : List Stored) → Tracks N ws known names bodies (z .introduced) (z .named) → HoldsState store used z stored
-    → Leaves N ws (storedAfter n x zs stored) known′ names′ bodies′ store′ (byLetter N (expand ws) z x zs) r
+    → List ℕ → List ℕ → List ℤ → List ℤ → List ℕ → List ℕ → List ℕ → List ℤ → List ℤ → List ℕ → Stepped → Type 0
+Stepping N ws x zs used n known names bodies store index known′ names′ bodies′ store′ index′ r =
+    (z : State) (stored : List Stored) → Tracks N ws known names bodies (z .introduced) (z .named) → HoldsState store index used z stored
+    → Leaves N ws (storedAfter n (length store) x zs stored) known′ names′ bodies′ store′ index′ (byLetter N (expand ws) z x zs) r
 
 -- the nogood of an `l` step, ascending: of n numbers from v on, h itself and minus each one that passes
 abbrev pub gathered : (ℕ → Bool) → ℤ → ℕ → ℕ → List ℤ
@@ -119,17 +119,18 @@ abbrev pub proofTurn : ℕ → Stepped → ProofTurn
 proofTurn at (Uses n) = Turn.Goes at n
 proofTurn at (Fails k) = Turn.Fails k
 
-module _ (N : ℕ) (ws : List InputRule) (known names : List ℕ) (bodies store : List ℤ) where
+module _ (N : ℕ) (ws : List InputRule) (known names : List ℕ) (bodies store : List ℤ) (index : List ℕ) where
   -- what the step of a line leaves, with the position after the line
   abbrev pub StepLeaves : ℕ → (after : State → List Stored) → Outcome → ProofTurn → Type 0
-  StepLeaves at after o r = (s : Stepped) × (r ≡ proofTurn at s) × Leaves N ws after known names bodies store o s
+  StepLeaves at after o r = (s : Stepped) × (r ≡ proofTurn at s) × Leaves N ws after known names bodies store index o s
 
-  -- what one turn of the check leaves, by what stands at the position; so many words were used, and its step is step n
-  abbrev pub LineLeaves : (used n : ℕ) → State → List Stored → LineAt → ProofTurn → Type 0
-  LineLeaves used n z stored end r = (r ≡ Turn.Ends) × Holds store used stored
-  LineLeaves used n z stored (Lines.refused k) r = r ≡ Turn.Fails k
-  LineLeaves used n z stored (line x zs at) r =
-      StepLeaves at (storedAfter n x zs stored) (step N (expand ws) z (record { letter = x; numbers = zs })) r
+  -- what one turn of the check leaves, by what stands at the position; so many words were used, and its step is step n in a store
+  -- of the size given
+  abbrev pub LineLeaves : (used n size : ℕ) → State → List Stored → LineAt → ProofTurn → Type 0
+  LineLeaves used n size z stored end r = (r ≡ Turn.Ends) × Holds store used stored
+  LineLeaves used n size z stored (Lines.refused k) r = r ≡ Turn.Fails k
+  LineLeaves used n size z stored (line x zs at) r =
+      StepLeaves at (storedAfter n size x zs stored) (step N (expand ws) z (record { letter = x; numbers = zs })) r
 
 -- what the lines leave, by what they come to
 abbrev pub Ran : List ℤ → Course → Run → Type 0

@@ -37,8 +37,9 @@ pub enum Verdict {
     RefusedProof(ProofRefusal),
 }
 
-// Checks a proof text against a program text. The table then holds the program's rules and the store the live nogoods, each with the
-// number of its step, with 0 after them; both are 0 throughout where anything is refused.
+// Checks a proof text against a program text. The table then holds the program's rules and the store the nogoods, each with the
+// number of its step, which is negated where the nogood was deleted, with 0 after them; both are 0 throughout where anything is
+// refused.
 pub fn check_texts(program: &[u8], proof: &[u8], table: &mut [i32], store: &mut [i32]) -> Verdict
     ensures { λ r. ⌜ CheckedTexts (now (program .entry)) (now (proof .entry)) (now (table .entry)) (now (store .entry))
         (now (table .exit)) (now (store .exit)) r ⌝ }

@@ -1,7 +1,7 @@
 // `b` and `e`: the steps that introduce a name. Document 01, questions 26 to 28 and 34.
 ghost use mathlib.Core.Path.{_≡_};
 ghost use mathlib.Core.Bool.{true, false};
-ghost use mathlib.Core.List.{List, _∷_, _++_};
+ghost use mathlib.Core.List.{List, _∷_};
 ghost use Prim.Native.Nat.{ℕ, _≤_};
 ghost use lib.IntN.{ℤ, pos};
 ghost use lib.ListN.{length, drop, getD, set};
@@ -11,8 +11,8 @@ ghost use Rattle.aspif.specs.Rules.{InputRule, expand};
 ghost use Rattle.text.specs.declared.Letter.the-variants.{Body, Extension};
 ghost use Rattle.derivation.specs.States.{State, isKnown};
 ghost use Rattle.derivation.specs.Steps.{definition, isUnnamedBody};
-ghost use Rattle.nogoods.specs.Store.{Stored, addedIn};
-ghost use Rattle.nogoods.specs.Keeps.{Literals, Holds};
+ghost use Rattle.nogoods.specs.Store.{Stored, addedIn, keptWith};
+ghost use Rattle.nogoods.specs.Keeps.{Literals, Keeps};
 ghost use Rattle.names.specs.Queries.{HoldsRules, Kept};
 ghost use Rattle.checker.specs.Held.{PassedLine, nameOf, Tracks, Fitted, Stepping};
 use crate::outcomes;
@@ -20,6 +20,7 @@ use crate::outcomes::Stepped;
 use crate::states::CheckingState;
 use names::queries;
 use nogoods::definitions;
+use nogoods::index::INDEX;
 use nogoods::store;
 
 // The name is known from now on, and its definition live.
@@ -27,18 +28,20 @@ fn define(
     known: &mut [u8],
     store: &mut [i32],
     used: usize,
+    index: &mut [u16; INDEX],
     origin: usize,
     numbers: &mut [i32],
 ) -> Stepped
-    requires store { ⌜ ((stored : List Stored) × Holds (now store) used stored) × (origin ≤ longest) ⌝ }
+    requires store { ⌜ ((stored : List Stored) × Keeps (now store) (now index) used stored) × ((1 ≤ origin) × (origin ≤ longest)) ⌝ }
     requires line { ⌜ Literals (now numbers) × (1 ≤ length (now numbers)) × (length (now numbers) ≤ mostNumbers) ⌝ }
     ensures known { λ r. ⌜ now (known .exit) ≡ set (now (known .entry)) (variable (getD (now (numbers .entry)) 0 (pos 0))) 1 ⌝ }
-    ensures defined { λ r. ⌜ ((stored : List Stored) → Holds (now (store .entry)) used stored
+    ensures defined { λ r. ⌜ ((stored : List Stored) → Keeps (now (store .entry)) (now (index .entry)) used stored
         → (let added = definition (getD (now (numbers .entry)) 0 (pos 0)) (drop 1 (now (numbers .entry))) in
-        Fitted (stored ++ addedIn origin added) (now (store .exit)) r)) ⌝ }
+        Fitted (keptWith (length (now (store .entry))) (addedIn origin added) stored)
+        (now (store .exit)) (now (index .exit)) r)) ⌝ }
 {
     marks::mark(known, words::variable_of(numbers[0]));
-    outcomes::fitted(definitions::append(store, used, origin, numbers))
+    outcomes::fitted(definitions::append(store, used, index, origin, numbers))
 }
 
 // `e`: a fresh name n and any literals L. Adds -n with L, and n with the complement of each literal of L.
@@ -46,14 +49,15 @@ pub fn extension(
     known: &mut [u8],
     store: &mut [i32],
     used: usize,
+    index: &mut [u16; INDEX],
     origin: usize,
     numbers: &mut [i32],
 ) -> Stepped
-    requires store { ⌜ ((stored : List Stored) × Holds (now store) used stored) × (origin ≤ longest) ⌝ }
+    requires store { ⌜ ((stored : List Stored) × Keeps (now store) (now index) used stored) × ((1 ≤ origin) × (origin ≤ longest)) ⌝ }
     requires line { ⌜ PassedLine Extension (now numbers) ⌝ }
     ensures { λ r. ⌜ ((N : ℕ) (ws : List InputRule) (names : List ℕ) (bodies : List ℤ)
-        → Stepping N ws Extension (now (numbers .entry)) used origin (now (known .entry)) names bodies (now (store .entry))
-        (now (known .exit)) names bodies (now (store .exit)) r) ⌝ }
+        → Stepping N ws Extension (now (numbers .entry)) used origin (now (known .entry)) names bodies (now (store .entry)) (now (index .entry))
+        (now (known .exit)) names bodies (now (store .exit)) (now (index .exit)) r) ⌝ }
 {
     if !marks::all_marked(&numbers[1..], known) {
         return Stepped::Fails(26);
@@ -61,7 +65,7 @@ pub fn extension(
     if marks::is_marked(known, words::variable_of(numbers[0])) {
         return Stepped::Fails(27);
     }
-    define(known, store, used, origin, numbers)
+    define(known, store, used, index, origin, numbers)
 }
 
 // Question 28: the literals are the body of a rule, which has no name yet. It then gets the name, and the literals ascend.
@@ -102,16 +106,17 @@ pub fn body(
     bodies: &mut [i16],
     store: &mut [i32],
     used: usize,
+    index: &mut [u16; INDEX],
     origin: usize,
     numbers: &mut [i32],
 ) -> Stepped
     requires program { ⌜ ((ws : List InputRule) × HoldsRules (now table) rules ws) × (rules ≤ length (now names)) ⌝ }
-    requires store { ⌜ ((stored : List Stored) × Holds (now store) used stored) × (origin ≤ longest) ⌝ }
+    requires store { ⌜ ((stored : List Stored) × Keeps (now store) (now index) used stored) × ((1 ≤ origin) × (origin ≤ longest)) ⌝ }
     requires line { ⌜ PassedLine Body (now numbers) ⌝ }
     ensures { λ r. ⌜ ((N : ℕ) (ws : List InputRule) → HoldsRules (now (table .entry)) rules ws
         → Stepping N ws Body (now (numbers .entry)) used origin
-        (now (known .entry)) (now (names .entry)) (now (bodies .entry)) (now (store .entry))
-        (now (known .exit)) (now (names .exit)) (now (bodies .exit)) (now (store .exit)) r) ⌝ }
+        (now (known .entry)) (now (names .entry)) (now (bodies .entry)) (now (store .entry)) (now (index .entry))
+        (now (known .exit)) (now (names .exit)) (now (bodies .exit)) (now (store .exit)) (now (index .exit)) r) ⌝ }
 {
     if !marks::all_marked(&numbers[1..], known) {
         return Stepped::Fails(26);
@@ -126,5 +131,5 @@ pub fn body(
     if !name_body(table, rules, names, bodies, &mut row[1..count], name) {
         return Stepped::Fails(28);
     }
-    define(known, store, used, origin, numbers)
+    define(known, store, used, index, origin, numbers)
 }

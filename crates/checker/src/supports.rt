@@ -1,6 +1,6 @@
 // `c` and `s`: what the rules give and what supports an atom. Document 01, questions 26, 29, 30 and 34.
 ghost use mathlib.Core.Path.{_≡_};
-ghost use mathlib.Core.List.{List, [], _∷_, _++_, map};
+ghost use mathlib.Core.List.{List, [], _∷_, map};
 ghost use Prim.Native.Nat.{ℕ, _≤_};
 ghost use lib.IntN.{pos};
 ghost use lib.ListN.{length, drop, getD};
@@ -10,27 +10,35 @@ ghost use Rattle.aspif.specs.Rules.{InputRule, expand};
 ghost use Rattle.text.specs.declared.Letter.the-variants.{Completion, Support};
 ghost use Rattle.derivation.specs.States.{State};
 ghost use Rattle.derivation.specs.Steps.{isSupport};
-ghost use Rattle.nogoods.specs.Store.{Stored, addedIn};
-ghost use Rattle.nogoods.specs.Keeps.{Literals, Holds};
+ghost use Rattle.nogoods.specs.Store.{Stored, addedIn, keptWith};
+ghost use Rattle.nogoods.specs.Keeps.{Literals, Keeps};
 ghost use Rattle.names.specs.Queries.{HoldsRules};
 ghost use Rattle.checker.specs.Held.{PassedLine, Program, Tracks, Fitted, Stepping};
 use crate::outcomes;
 use crate::outcomes::Stepped;
 use names::queries;
 use names::queries::Query;
+use nogoods::index::INDEX;
 use nogoods::store;
 
 // The first number with the complements of the others is live, after the other nogoods.
-fn join(store: &mut [i32], used: usize, origin: usize, numbers: &mut [i32]) -> Stepped
-    requires store { ⌜ ((stored : List Stored) × Holds (now store) used stored) × (origin ≤ longest) ⌝ }
+fn join(
+    store: &mut [i32],
+    used: usize,
+    index: &mut [u16; INDEX],
+    origin: usize,
+    numbers: &mut [i32],
+) -> Stepped
+    requires store { ⌜ ((stored : List Stored) × Keeps (now store) (now index) used stored) × ((1 ≤ origin) × (origin ≤ longest)) ⌝ }
     requires line { ⌜ Literals (now numbers) × (1 ≤ length (now numbers)) × (length (now numbers) ≤ mostNumbers) ⌝ }
-    ensures { λ r. ⌜ ((stored : List Stored) → Holds (now (store .entry)) used stored
+    ensures { λ r. ⌜ ((stored : List Stored) → Keeps (now (store .entry)) (now (index .entry)) used stored
         → (let added = getD (now (numbers .entry)) 0 (pos 0) ∷ map complement (drop 1 (now (numbers .entry))) in
-        Fitted (stored ++ addedIn origin (ascending added ∷ [])) (now (store .exit)) r)) ⌝ }
+        Fitted (keptWith (length (now (store .entry))) (addedIn origin (ascending added ∷ [])) stored)
+        (now (store .exit)) (now (index .exit)) r)) ⌝ }
 {
     words::complement_all(&mut numbers[1..]);
     words::sort(numbers);
-    outcomes::fitted(store::append(store, used, origin, numbers))
+    outcomes::fitted(store::append(store, used, index, origin, numbers))
 }
 
 // `c`: the name n of the body of a normal rule, and the rule's head h where it has one. Adds n with -h, or n alone.
@@ -42,16 +50,17 @@ pub fn completion(
     bodies: &[i16],
     store: &mut [i32],
     used: usize,
+    index: &mut [u16; INDEX],
     origin: usize,
     numbers: &mut [i32],
 ) -> Stepped
     requires program { ⌜ ((ws : List InputRule) × HoldsRules (now table) rules ws) × (rules ≤ length (now names)) ⌝ }
-    requires store { ⌜ ((stored : List Stored) × Holds (now store) used stored) × (origin ≤ longest) ⌝ }
+    requires store { ⌜ ((stored : List Stored) × Keeps (now store) (now index) used stored) × ((1 ≤ origin) × (origin ≤ longest)) ⌝ }
     requires line { ⌜ PassedLine Completion (now numbers) ⌝ }
     ensures { λ r. ⌜ ((N : ℕ) (ws : List InputRule) → HoldsRules (now (table .entry)) rules ws
         → Stepping N ws Completion (now (numbers .entry)) used origin
-        (now (known .entry)) (now (names .entry)) (now (bodies .entry)) (now (store .entry))
-        (now (known .entry)) (now (names .entry)) (now (bodies .entry)) (now (store .exit)) r) ⌝ }
+        (now (known .entry)) (now (names .entry)) (now (bodies .entry)) (now (store .entry)) (now (index .entry))
+        (now (known .entry)) (now (names .entry)) (now (bodies .entry)) (now (store .exit)) (now (index .exit)) r) ⌝ }
 {
     if !marks::all_marked(numbers, known) {
         return Stepped::Fails(26);
@@ -60,7 +69,7 @@ pub fn completion(
     if !queries::is_completed(table, rules, names, bodies, &numbers[1..], name) {
         return Stepped::Fails(29);
     }
-    join(store, used, origin, numbers)
+    join(store, used, index, origin, numbers)
 }
 
 // Question 30: h, the first number, is an atom, and the others are the names of just the bodies of the rules with h in the head.
@@ -99,16 +108,17 @@ pub fn support(
     bodies: &[i16],
     store: &mut [i32],
     used: usize,
+    index: &mut [u16; INDEX],
     origin: usize,
     numbers: &mut [i32],
 ) -> Stepped
     requires program { ⌜ ((ws : List InputRule) × Program (now table) rules atoms ws) × (rules ≤ length (now names)) ⌝ }
-    requires store { ⌜ ((stored : List Stored) × Holds (now store) used stored) × (origin ≤ longest) ⌝ }
+    requires store { ⌜ ((stored : List Stored) × Keeps (now store) (now index) used stored) × ((1 ≤ origin) × (origin ≤ longest)) ⌝ }
     requires line { ⌜ PassedLine Support (now numbers) ⌝ }
     ensures { λ r. ⌜ ((ws : List InputRule) → Program (now (table .entry)) rules atoms ws
         → Stepping atoms ws Support (now (numbers .entry)) used origin
-        (now (known .entry)) (now (names .entry)) (now (bodies .entry)) (now (store .entry))
-        (now (known .entry)) (now (names .entry)) (now (bodies .entry)) (now (store .exit)) r) ⌝ }
+        (now (known .entry)) (now (names .entry)) (now (bodies .entry)) (now (store .entry)) (now (index .entry))
+        (now (known .entry)) (now (names .entry)) (now (bodies .entry)) (now (store .exit)) (now (index .exit)) r) ⌝ }
 {
     if !marks::all_marked(numbers, known) {
         return Stepped::Fails(26);
@@ -116,5 +126,5 @@ pub fn support(
     if !is_supported(table, rules, atoms, names, bodies, numbers) {
         return Stepped::Fails(30);
     }
-    join(store, used, origin, numbers)
+    join(store, used, index, origin, numbers)
 }

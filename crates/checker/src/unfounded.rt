@@ -10,7 +10,7 @@ ghost use Rattle.aspif.specs.Rules.{InputRule};
 ghost use Rattle.aspif.specs.Tables.{rulesAt};
 ghost use Rattle.text.specs.declared.Letter.the-variants.{Loop};
 ghost use Rattle.nogoods.specs.Store.{Stored};
-ghost use Rattle.nogoods.specs.Keeps.{Holds};
+ghost use Rattle.nogoods.specs.Keeps.{Keeps};
 ghost use Rattle.loops.specs.Relevance.{Relevant};
 ghost use Rattle.checker.specs.Held.{PassedLine, Program, gathered, Stepping};
 use crate::outcomes;
@@ -18,6 +18,7 @@ use crate::outcomes::Stepped;
 use crate::states::CheckingState;
 use names::queries;
 use names::queries::Query;
+use nogoods::index::INDEX;
 use nogoods::store;
 
 // One number of the nogood of an `l` step: h itself, or minus a name that is marked. How many literals there are then.
@@ -67,17 +68,18 @@ pub fn loops(
     bodies: &[i16],
     store: &mut [i32],
     used: usize,
+    index: &mut [u16; INDEX],
     origin: usize,
     numbers: &[i32],
 ) -> Stepped
     requires program { ⌜ ((ws : List InputRule) × Program (now table) rules atoms ws) × (rules ≤ length (now names)) ⌝ }
     requires relevant { ⌜ Relevant (now relevant) (rulesAt rules (now table)) ⌝ }
-    requires store { ⌜ ((stored : List Stored) × Holds (now store) used stored) × (origin ≤ longest) ⌝ }
+    requires store { ⌜ ((stored : List Stored) × Keeps (now store) (now index) used stored) × ((1 ≤ origin) × (origin ≤ longest)) ⌝ }
     requires line { ⌜ PassedLine Loop (now numbers) ⌝ }
     ensures { λ r. ⌜ ((ws : List InputRule) → Program (now (table .entry)) rules atoms ws
         → Stepping atoms ws Loop (now (numbers .entry)) used origin
-        (now (known .entry)) (now (names .entry)) (now (bodies .entry)) (now (store .entry))
-        (now (known .entry)) (now (names .entry)) (now (bodies .entry)) (now (store .exit)) r) ⌝ }
+        (now (known .entry)) (now (names .entry)) (now (bodies .entry)) (now (store .entry)) (now (index .entry))
+        (now (known .entry)) (now (names .entry)) (now (bodies .entry)) (now (store .exit)) (now (index .exit)) r) ⌝ }
 {
     if !marks::all_marked(numbers, known) {
         return Stepped::Fails(26);
@@ -95,5 +97,5 @@ pub fn loops(
     }
     let mut row = [0i32; words::ENTRIES];
     let count = gather(numbers[0], &found, &mut row);
-    outcomes::fitted(store::append(store, used, origin, &row[..count]))
+    outcomes::fitted(store::append(store, used, index, origin, &row[..count]))
 }

@@ -1,4 +1,4 @@
--- Laws of `lineAt` and its parts: which answer each test leads to, what the row keeps, and what an answered line passed.
+-- Laws of `lineAt` and its parts: which answer each test leads to, and what an answered line passed.
 -- Assumes nothing.
 use mathlib.Core.Path.{_≡_, refl, sym, ap, _∙_, subst}
 use mathlib.Core.Bool.{Bool, true, false, cond, not, _&&_, _||_, true≢false}
@@ -8,8 +8,7 @@ use Prim.Native.Nat.{ℕ, zero, suc, _+_, _-_, _<_, _≤_, max}
 use native.Mathlib.Omega.{arith}
 use lib.IntN.{ℤ, pos}
 use lib.Dec.{ltb, eqb}
-use lib.ListN.{length, take, drop, getD, replicate, length-replicate, length-drop, drop-of-length-le}
-use lib.Seq.{sets-eq, take-append-le}
+use lib.ListN.{length, take, drop, getD, replicate, length-drop, drop-of-length-le}
 use borrow.Author.Tests.{le-ltb, lt-ltb, ltb-true, ltb-false, eq-eqb, ne-eqb}
 use Rattle.words.specs.Limits.{largest, longest, mostNumbers}
 use Rattle.words.specs.Lists.{all}
@@ -18,12 +17,13 @@ use Rattle.words.proofs.Lists.{if-true, failed, not-decides, and-left, and-righ
 use Rattle.words.proofs.Literals.{same-decides}
 use Rattle.text.specs.Bytes.{classOf}
 use Rattle.text.specs.Line.{Line, broken, numbers, lineOf, outside, anyOutside, isClosed}
-use Rattle.text.proofs.Lines.{capped-all, Numbered, bounds-of}
+use Rattle.text.proofs.Lines.{bounds-of}
 use Rattle.text.specs.declared.Letter.{Letter}
 use Rattle.text.specs.declared.Class.{Class}
 use Rattle.text.specs.declared.Class.the-variants.{Newline, Space, Minus, Digit, Step, Other}
-use Rattle.drupe.specs.Lines.{signsOf, isPositive, signed, lineRefusal, allPassed, LineAt, end, refused, line, refusedOr, lineAsked, ofNumbers, isSpace, afterLetter, afterFirst, lineFrom, lineAt, lineAnswer, readingOf, AnswerBounds, ProofLineRead}
+use Rattle.drupe.specs.Lines.{signsOf, isPositive, signed, lineRefusal, allPassed, LineAt, end, refused, line, refusedOr, lineAsked, ofNumbers, isSpace, afterLetter, afterFirst, lineFrom, lineAt, lineAnswer, numbersOf, AnswerBounds, ProofLineRead}
 use Rattle.drupe.specs.declared.Signs.{Signs}
+use Rattle.drupe.specs.declared.LineAnswer.{LineAnswer}
 use Rattle.drupe.specs.declared.LineReading.{LineReading}
 
 -- Signs
@@ -99,15 +99,6 @@ zero-before (z ∷ y ∷ zs) e =
     let f = if-true (not-decides (same-decides z (pos 0))) (and-left (not (same z (pos 0))) (isClosed (y ∷ zs)) e) in
     let g : same (pos 0) z ≡ false = failed _ (not-decides (same-decides (pos 0) z) .from (λ p. f (sym p))) in
     rw (h, g) (zero-before (y ∷ zs) (and-right (not (same z (pos 0))) (isClosed (y ∷ zs)) e))
-
--- a row of m zeros that holds the whole line keeps the numbers themselves
-pub row-before : (m : ℕ) {s : List ℕ} {after : List ℤ} {count next : ℕ} {out closed : Bool} (f : Numbered s (replicate m (pos 0)) after count next out closed)
-    → anyOutside (f .list) ≡ false → count ≤ m → take (count - 1) after ≡ take (length (f .list) - 1) (f .list)
-row-before m {s} {after} {count} f o h =
-    let zs = f .list in
-    let row : List ℤ = replicate m (pos 0) in
-    let l : length zs ≤ m = omega (arith, f .long) in
-    rw (f .row, f .long, capped-all zs o, sets-eq zs row 0 (omega (arith, length-replicate m (pos 0)))) (take-append-le (length zs - 1) zs (drop (0 + length zs) row) (omega arith))
 
 -- The first two bytes
 
@@ -221,10 +212,8 @@ within at n end p = tt
 within at n (refused k) p = tt
 within at n (line x zs next) p = (p .0, p .1, few x zs (p .2))
 
-pub reads-of : {s : List ℕ} {at : ℕ} {r : LineReading} → r ≡ readingOf (lineAt s at) → ProofLineRead s at r
-reads-of {s} {at} {r} e =
-    record {
-      answer = ap (λ (x : LineReading). x .answer) e;
-      numbers = ap (λ (x : LineReading). x .numbers) e;
-      within = subst (λ (x : LineReading). AnswerBounds at (length s) (x .answer)) (sym e) (within at (length s) (lineAt s at) (passed s at));
-    }
+pub answer-within : (s : List ℕ) (at : ℕ) {r : LineAnswer} → r ≡ lineAnswer (lineAt s at) → AnswerBounds at (length s) r
+answer-within s at e = subst (AnswerBounds at (length s)) (sym e) (within at (length s) (lineAt s at) (passed s at))
+
+pub reads-of : {s : List ℕ} {at : ℕ} {r : LineReading} → r .answer ≡ lineAnswer (lineAt s at) → r .numbers ≡ numbersOf (lineAt s at) → ProofLineRead s at r
+reads-of {s} {at} e n = record { answer = e; numbers = n; within = answer-within s at e }

@@ -137,9 +137,6 @@ numbersOf end = replicate mostNumbers (pos 0)
 numbersOf (refused k) = replicate mostNumbers (pos 0)
 numbersOf (line x zs next) = zs ++ replicate (mostNumbers - length zs) (pos 0)
 
-abbrev pub readingOf : LineAt → LineReading
-readingOf l = record { answer = lineAnswer l; numbers = numbersOf l }
-
 -- an answered line ends past the position, within a text of n bytes, and has no more numbers than the array
 abbrev pub AnswerBounds : (at size : ℕ) → LineAnswer → Type 0
 AnswerBounds at n End = Unit {0}

@@ -1,5 +1,5 @@
 // The proof-line reader: document 01, 'The proof's seven letters' and questions 21 to 25.
-// The claim of `read_line` is `ProofLineRead` in specs/Lines.antt.
+// The claim of `read_line` is `ProofLineRead` in specs/Lines.antt, that of `read_into` is `ReadInto` in specs/Rows.antt.
 pub mod reader;
 pub mod writing;
 
@@ -10,12 +10,15 @@ use words::MOST_NUMBERS;
 ghost use mathlib.Core.Path.{_≡_};
 ghost use mathlib.Core.Bool.{false};
 ghost use Prim.Native.Nat.{_+_, _<_, _≤_};
-ghost use lib.ListN.{length};
+ghost use lib.IntN.{pos};
+ghost use lib.ListN.{length, replicate};
 ghost use Rattle.words.specs.Limits.{longest, mostNumbers};
 ghost use Rattle.text.specs.Bytes.{classOf};
 ghost use Rattle.text.specs.Classes.{byteClasses};
 ghost use Rattle.text.specs.Line.{anyOutside, lineOf};
-ghost use Rattle.drupe.specs.Lines.{ProofLineRead, afterLetter, allPassed, lineAsked, lineRefusal, isSpace, lineFrom, ofNumbers, placeOf, readingOf, refused, signed, signsOf};
+ghost use Rattle.words.specs.Literals.{ascending};
+ghost use Rattle.drupe.specs.Lines.{ProofLineRead, afterLetter, allPassed, isSpace, lineAnswer, lineAsked, lineFrom, lineRefusal, ofNumbers, placeOf, signed, signsOf};
+ghost use Rattle.drupe.specs.Rows.{LineInto, ReadInto};
 
 // What stands at a position: a line's letter, how many numbers it has and the position after its newline; the end; or the
 // number of the question that is answered no.
@@ -117,47 +120,54 @@ pub fn is_good(letter: Letter, numbers: &mut [i32]) -> bool
     words::sort_distinct(numbers)
 }
 
-fn refuse(number: u8) -> LineReading
-    ensures { λ r. ⌜ r ≡ readingOf (refused number) ⌝ }
+// An answer that has no numbers.
+fn unread(answer: LineAnswer) -> LineReading
+    ensures { λ r. ⌜ (r .answer ≡ answer) × (r .numbers ≡ replicate mostNumbers (pos 0)) ⌝ }
 {
     LineReading {
-        answer: LineAnswer::Refused(number),
+        answer,
         numbers: [0; MOST_NUMBERS],
     }
 }
 
-// Questions 24 and 25 of numbers that passed 23. They are left in another order.
-fn ask(letter: Letter, numbers: &mut [i32], next: usize) -> LineReading
+// Questions 24 and 25 of numbers that passed 23, and the numbers ascending in a row of as many words.
+fn ask(letter: Letter, numbers: &[i32], sorted: &mut [i32], next: usize) -> LineAnswer
     requires sizes { ⌜ (anyOutside (now numbers) ≡ false) × (length (now numbers) ≤ mostNumbers) ⌝ }
-    ensures { λ r. ⌜ r ≡ readingOf (lineAsked letter (now (numbers .entry)) next) ⌝ }
+    requires room { ⌜ length (now sorted) ≡ length (now numbers) ⌝ }
+    ensures answer { λ r. ⌜ r ≡ lineAnswer (lineAsked letter (now (numbers .entry)) next) ⌝ }
+    ensures sorted { λ r. ⌜ now (sorted .exit) ≡ ascending (now (numbers .entry)) ⌝ }
 {
+    words::copy(sorted, numbers);
+    let distinct = words::sort_distinct(sorted);
     if !is_signed(letter, numbers) {
-        return refuse(24);
+        return LineAnswer::Refused(24);
     }
-    let count = numbers.len();
-    let mut kept = [0; MOST_NUMBERS];
-    words::copy(&mut kept, numbers);
-    if !words::sort_distinct(numbers) {
-        return refuse(25);
+    if !distinct {
+        return LineAnswer::Refused(25);
     }
-    LineReading {
-        answer: LineAnswer::Line {
-            letter,
-            count,
-            next,
-        },
-        numbers: kept,
+    LineAnswer::Line {
+        letter,
+        count: numbers.len(),
+        next,
     }
 }
 
 // The numbers of a line, which begin at position `from`: the text is what is left there.
-fn read_numbers(letter: Letter, text: &[u8], from: usize, classes: &[u8; 256]) -> LineReading
+fn read_numbers(
+    letter: Letter,
+    text: &[u8],
+    from: usize,
+    classes: &[u8; 256],
+    numbers: &mut [i32],
+    sorted: &mut [i32],
+) -> LineAnswer
     requires { ⌜ from + length (now text) ≤ longest ⌝ }
     requires { ⌜ now classes ≡ byteClasses ⌝ }
-    ensures { λ r. ⌜ r ≡ readingOf (ofNumbers letter from (lineOf (now (text .entry)))) ⌝ }
+    requires rows { ⌜ (length (now numbers) ≡ mostNumbers) × (length (now sorted) ≡ mostNumbers) ⌝ }
+    ensures { λ r. ⌜ LineInto (ofNumbers letter from (lineOf (now (text .entry)))) (now (numbers .entry)) (now (numbers .exit))
+        (now (sorted .exit)) r ⌝ }
 {
-    let mut row = [0; MOST_NUMBERS + 1];
-    let read = text::read_line(text, &mut row, classes);
+    let read = text::read_line(text, numbers, classes);
     match read {
         LineRead::Numbers {
             count,
@@ -166,18 +176,23 @@ fn read_numbers(letter: Letter, text: &[u8], from: usize, classes: &[u8; 256]) -
             closed,
         } => {
             if !closed {
-                return refuse(22);
+                return LineAnswer::Refused(22);
             }
             if outside {
-                return refuse(23);
+                return LineAnswer::Refused(23);
             }
             let before = count - 1;
             if MOST_NUMBERS < before {
-                return refuse(23);
+                return LineAnswer::Refused(23);
             }
-            ask(letter, &mut row[..before], from + next)
+            ask(
+                letter,
+                &numbers[..before],
+                &mut sorted[..before],
+                from + next,
+            )
         }
-        LineRead::Broken => refuse(22),
+        LineRead::Broken => LineAnswer::Refused(22),
     }
 }
 
@@ -197,56 +212,95 @@ fn is_space(b: u8, classes: &[u8; 256]) -> bool
 }
 
 // The space after the letter, and what follows it.
-fn read_space(letter: Letter, text: &[u8], from: usize, classes: &[u8; 256]) -> LineReading
+fn read_space(
+    letter: Letter,
+    text: &[u8],
+    from: usize,
+    classes: &[u8; 256],
+    numbers: &mut [i32],
+    sorted: &mut [i32],
+) -> LineAnswer
     requires { ⌜ from + length (now text) ≤ longest ⌝ }
     requires { ⌜ now classes ≡ byteClasses ⌝ }
-    ensures { λ r. ⌜ r ≡ readingOf (afterLetter letter from (now (text .entry))) ⌝ }
+    requires rows { ⌜ (length (now numbers) ≡ mostNumbers) × (length (now sorted) ≡ mostNumbers) ⌝ }
+    ensures { λ r. ⌜ LineInto (afterLetter letter from (now (text .entry))) (now (numbers .entry)) (now (numbers .exit))
+        (now (sorted .exit)) r ⌝ }
 {
     if text.len() == 0 {
-        return refuse(22);
+        return LineAnswer::Refused(22);
     }
     if !is_space(text[0], classes) {
-        return refuse(22);
+        return LineAnswer::Refused(22);
     }
-    read_numbers(letter, &text[1..], from + 1, classes)
+    read_numbers(letter, &text[1..], from + 1, classes, numbers, sorted)
 }
 
 // The line that begins at position `from`: the text is what is left there.
-fn read_letter(text: &[u8], from: usize, classes: &[u8; 256]) -> LineReading
+fn read_letter(
+    text: &[u8],
+    from: usize,
+    classes: &[u8; 256],
+    numbers: &mut [i32],
+    sorted: &mut [i32],
+) -> LineAnswer
     requires { ⌜ from + length (now text) ≤ longest ⌝ }
     requires { ⌜ now classes ≡ byteClasses ⌝ }
-    ensures { λ r. ⌜ r ≡ readingOf (lineFrom from (now (text .entry))) ⌝ }
+    requires rows { ⌜ (length (now numbers) ≡ mostNumbers) × (length (now sorted) ≡ mostNumbers) ⌝ }
+    ensures { λ r. ⌜ LineInto (lineFrom from (now (text .entry))) (now (numbers .entry)) (now (numbers .exit))
+        (now (sorted .exit)) r ⌝ }
 {
     if text.len() == 0 {
-        return refuse(22);
+        return LineAnswer::Refused(22);
     }
     let class = text::class_of(classes, text[0]);
     match class {
-        Class::Step(letter) => read_space(letter, &text[1..], from + 1, classes),
-        Class::Newline => refuse(22),
-        Class::Space => refuse(22),
-        Class::Minus => refuse(22),
-        Class::Digit(_) => refuse(22),
-        Class::Other => refuse(22),
+        Class::Step(letter) => {
+            read_space(letter, &text[1..], from + 1, classes, numbers, sorted)
+        }
+        Class::Newline => LineAnswer::Refused(22),
+        Class::Space => LineAnswer::Refused(22),
+        Class::Minus => LineAnswer::Refused(22),
+        Class::Digit(_) => LineAnswer::Refused(22),
+        Class::Other => LineAnswer::Refused(22),
     }
+}
+
+// The line of the text that begins at the position, its numbers at the front of one row, and ascending at the front of the other. For a
+// caller that reads line after line: the rows need not be cleared, and the table of classes is made once.
+pub fn read_into(
+    text: &[u8],
+    position: usize,
+    classes: &[u8; 256],
+    numbers: &mut [i32],
+    sorted: &mut [i32],
+) -> LineAnswer
+    requires { ⌜ now classes ≡ byteClasses ⌝ }
+    requires rows { ⌜ (length (now numbers) ≡ mostNumbers) × (length (now sorted) ≡ mostNumbers) ⌝ }
+    ensures { λ r. ⌜ ReadInto (now (text .entry)) position (now (numbers .entry)) (now (numbers .exit)) (now (sorted .exit)) r ⌝ }
+{
+    if words::LONGEST < text.len() {
+        return LineAnswer::Refused(21);
+    }
+    if position == text.len() {
+        return LineAnswer::End;
+    }
+    if text.len() < position {
+        return LineAnswer::Refused(22);
+    }
+    read_letter(&text[position..], position, classes, numbers, sorted)
 }
 
 // The line of the text that begins at the position.
 pub fn read_line(text: &[u8], position: usize) -> LineReading
     ensures { λ r. ⌜ ProofLineRead (now (text .entry)) position r ⌝ }
 {
-    if words::LONGEST < text.len() {
-        return refuse(21);
-    }
-    if position == text.len() {
-        return LineReading {
-            answer: LineAnswer::End,
-            numbers: [0; MOST_NUMBERS],
-        };
-    }
-    if text.len() < position {
-        return refuse(22);
-    }
     let classes = text::CLASSES;
-    read_letter(&text[position..], position, &classes)
+    let mut numbers = [0; MOST_NUMBERS];
+    let mut sorted = [0; MOST_NUMBERS];
+    let answer = read_into(text, position, &classes, &mut numbers, &mut sorted);
+    match answer {
+        LineAnswer::Line { .. } => LineReading { answer, numbers },
+        LineAnswer::End => unread(answer),
+        LineAnswer::Refused(_) => unread(answer),
+    }
 }

@@ -16,7 +16,7 @@ use Rattle.words.proofs.Places.{same?}
 use Rattle.nogoods.specs.Store.{live}
 use Rattle.nogoods.specs.Keeps.{Literals}
 use Rattle.words.specs.Limits.{entries}
-use Rattle.nogoods.specs.Records.{nogoodAt, Stands}
+use Rattle.nogoods.specs.Records.{deadAt, nogoodAt, Stands}
 use Rattle.nogoods.specs.Propagate.{entry, Assigns, Valued, free, Settled, AllTrue, Derives, InClosure, Grows, Clashes, Ends}
 use Rattle.nogoods.specs.declared.units.Value.the-variants.{Free}
 use Rattle.nogoods.specs.declared.units.Derived.the-variants.{Assigned}
@@ -79,9 +79,9 @@ module _ (s : List ℤ) (a b : List ℕ) (g : Grows s a b) where
   ends-before c true k = clashes-before k
   ends-before c false k = (grows-on g (k .0), k .1)
 
-module _ (s : List ℤ) (r : ℕ) (stands : Stands s r) (lits : Literals (nogoodAt s r)) (m : List ℕ) (size : length m ≡ entries) where
+module _ (s : List ℤ) (r : ℕ) (stands : Stands s r) (alive : deadAt s r ≡ false) (lits : Literals (nogoodAt s r)) (m : List ℕ) (size : length m ≡ entries) where
   pub conflicting : AllTrue m (nogoodAt s r) → Clashes s m
-  conflicting f stored L h w = all-true (live stored) L m w (nogoodAt s r) (live-in (stands stored h .0)) f
+  conflicting f stored L h w = all-true (live stored) L m w (nogoodAt s r) (live-in stored alive (stands stored h .0)) f
 
   pub derived : (m′ : List ℕ) (v : ℕ) → Derives (nogoodAt s r) m m′ (Assigned v)
       → Grows s m m′ × (suc (free m′) ≡ free m) × (1 ≤ v) × (v < entries)
@@ -96,7 +96,7 @@ module _ (s : List ℤ) (r : ℕ) (stands : Stands s r) (lits : Literals (nogood
       let f : suc (free m′) ≡ free m = rw is (assigned-fewer m x hx lx open-x) in (
         record {
           sound = λ stored L h w y a. elim (assigned→ m x hx y lx (rw is at a)) [
-            | inl q ↦ rw q (unit-in (live stored) L m w (nogoodAt s r) (live-in (stands stored h .0)) z i (last .others))
+            | inl q ↦ rw q (unit-in (live stored) L m w (nogoodAt s r) (live-in stored alive (stands stored h .0)) z i (last .others))
             | inr b ↦ w y b
           ];
           kept = λ y a. rw is (assigned-kept m x hx (open-x .1) y a);

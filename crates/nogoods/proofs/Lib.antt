@@ -4,6 +4,8 @@ pub mod Looks
 pub mod Live
 pub mod Recorded
 pub mod Stored
+pub mod Closing
+pub mod Placed
 pub mod Literals
 pub mod Defined
 pub mod Closures

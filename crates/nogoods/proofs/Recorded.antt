@@ -1,20 +1,24 @@
 -- Nogoods' records one after another: the record at a place, and what a loop from record to record knows.
 -- Assumes nothing.
-use mathlib.Core.Path.{_≡_, refl, sym, ap, ap₂, _∙_}
-use mathlib.Core.List.{List, [], _∷_, _++_, append-nil, List·Memᴰ·head, List·Memᴰ·tail}
-use Prim.Native.Nat.{ℕ, _+_, _-_, _≤_, _<_}
+use mathlib.Core.Path.{_≡_, refl, sym, ap, ap₂, subst, _∙_}
+use mathlib.Core.Bool.{Bool, true, false, cond}
+use mathlib.Core.List.{List, [], _∷_, _++_, append-nil, append-assoc, List·Memᴰ·head, List·Memᴰ·tail, Memᴰ·append-right}
+use Prim.Native.Nat.{ℕ, zero, suc, _+_, _-_, _≤_, _<_}
 use native.Mathlib.Omega.{arith}
-use lib.IntN.{ℤ, pos, natAbs}
-use lib.ListN.{length, take, drop, getD, length-drop}
-use lib.Seq.{drop-drop, getD-drop, take-at, getD-take, length-take-le}
+use borrow.Author.Tests.{le-ltb}
+use lib.IntN.{ℤ, pos, natAbs, negℤ}
+use lib.Signed.{ltZ}
+use lib.ListN.{length, take, drop, getD, length-drop, length-append}
+use lib.Seq.{drop-drop, drop-append-seam, getD-drop, take-at, getD-take, length-take-le}
 use Rattle.words.specs.Lists.{_∈_}
 use Rattle.words.specs.Limits.{largest}
 use Rattle.words.specs.Literals.{variable}
+use Rattle.words.proofs.Lists.{concat-append}
 use Rattle.words.proofs.Places.{in-at}
 use Rattle.words.proofs.Segments.{Segment, at-front, next, none-left}
-use Rattle.nogoods.specs.Store.{Stored, recordOf, recordHeader, headerSize, storedWords, recordSize, wordsOf}
+use Rattle.nogoods.specs.Store.{Stored, recordOf, originWord, recordHeader, headerSize, storedWords, recordSize, wordsOf}
 use Rattle.nogoods.specs.Keeps.{Holds}
-use Rattle.nogoods.specs.Records.{Encodes, originAt, countAt, endAt, nogoodAt, storedAt, Readable, Stands}
+use Rattle.nogoods.specs.Records.{Encodes, EncodesFrom, HoldsFrom, originAt, deadAt, countAt, endAt, nogoodAt, storedAt, Readable, Stands}
 use Rattle.nogoods.proofs.Live.{stored-size}
 
 -- The header
@@ -26,8 +30,30 @@ header-size e = refl
 pub header-same : (n : ℕ) (g h : List ℤ) → length g ≡ length h → recordHeader (recordOf n g) ≡ recordHeader (recordOf n h)
 header-same n g h e = rw e
 
-some-words : (e : Stored) → 0 < length (storedWords e)
+pub some-words : (e : Stored) → 0 < length (storedWords e)
 some-words e = omega arith
+
+-- The origin's word
+
+-- its size and its sign
+word-size : (b : Bool) (n : ℕ) → natAbs (cond b (negℤ (pos n)) (pos n)) ≡ n
+word-size true zero = refl
+word-size true (suc n) = refl
+word-size false n = refl
+
+-- "0 is no origin", so that the sign says whether it is dead
+word-sign : (b : Bool) (n : ℕ) → 1 ≤ n → ltZ (cond b (negℤ (pos n)) (pos n)) (pos 0) ≡ b
+word-sign true zero h = absurd (omega arith)
+word-sign true (suc n) h = refl
+word-sign false n h = le-ltb n 0 (omega arith)
+
+stored-same : (x : Stored) {o : ℕ} {d : Bool} {l : List ℤ} → o ≡ x .origin → d ≡ x .dead → l ≡ x .literals
+    → record { origin = o; dead = d; literals = l } ≡ x
+stored-same x p q r = rw (p, q, r)
+
+-- each has an origin
+abbrev pub Originated : List Stored → Type 0
+Originated stored = (e : Stored) → e ∈ stored → 1 ≤ e .origin
 
 -- The record at a place
 
@@ -40,8 +66,8 @@ pub record AtRecord (s : List ℤ) (i e : ℕ) (left : List Stored) : Type 0 whe
   pub rest : Segment storedWords s (endAt s i) e others
   pub room : endAt s i ≤ e
 
-pub at-record : {s : List ℤ} {i e : ℕ} {left : List Stored} → Segment storedWords s i e left → i < e → AtRecord s i e left
-at-record {s} {i} {e} S h =
+pub at-record : {s : List ℤ} {i e : ℕ} {left : List Stored} → Segment storedWords s i e left → Originated left → i < e → AtRecord s i e left
+at-record {s} {i} {e} S some h =
     let t = next storedWords S h in
     let x = t .x in
     let g = x .literals in
@@ -49,19 +75,90 @@ at-record {s} {i} {e} S h =
     let word : (k : ℕ) → getD s (i + k) (pos 0) ≡ getD (storedWords x ++ drop (i + length (storedWords x)) s) k (pos 0) =
     λ k. sym (getD-drop i s k (pos 0)) ∙ ap (λ (l : List ℤ). getD l k (pos 0)) w in
     let z : i + 0 ≡ i = omega arith in
-    let origin : originAt s i ≡ x .origin = ap natAbs (rw z at (word 0)) in
+    let first : getD s i (pos 0) ≡ originWord x = rw z at (word 0) in
+    let has : 1 ≤ x .origin = some x (subst (λ (l : List Stored). x ∈ l) (sym (t .is)) (List·Memᴰ·head refl)) in
+    let origin : originAt s i ≡ x .origin = ap natAbs first ∙ word-size (x .dead) (x .origin) in
+    let dead : deadAt s i ≡ x .dead = ap (λ (w : ℤ). ltZ w (pos 0)) first ∙ word-sign (x .dead) (x .origin) has in
     let n : countAt s i ≡ length g = ap natAbs (word 1) in
     let m : i + length (storedWords x) ≡ endAt s i = omega (arith, stored-size x, n) in
     let after : drop (i + headerSize) s ≡ g ++ drop (i + length (storedWords x)) s = sym (drop-drop headerSize i s) ∙ ap (drop headerSize) w in
     let literals : nogoodAt s i ≡ g = ap (take (countAt s i)) after ∙ take-at g _ (countAt s i) (sym n) in
     record {
       others = t .xs;
-      is = t .is ∙ ap₂ (λ o (l : List ℤ). recordOf o l ∷ t .xs) (sym origin) (sym literals);
+      is = t .is ∙ ap (λ y. y ∷ t .xs) (sym (stored-same x origin dead literals));
       count = n ∙ ap length (sym literals);
       size = omega (arith, n, ap length literals);
       rest = rw m at (t .rest);
       room = rw m at (t .room);
     }
+
+-- the same of a list whose first is known
+pub record FirstAt (s : List ℤ) (i e : ℕ) (x : Stored) (xs : List Stored) : Type 0 where
+  pub is : storedAt s i ≡ x
+  pub end : endAt s i ≡ i + recordSize (x .literals)
+  pub rest : Segment storedWords s (i + recordSize (x .literals)) e xs
+  pub room : endAt s i ≤ e
+
+pub first-at : {s : List ℤ} {i e : ℕ} {x : Stored} {xs : List Stored} → Segment storedWords s i e (x ∷ xs) → Originated (x ∷ xs)
+    → FirstAt s i e x xs
+first-at {s} {i} {e} {x} {xs} S some =
+    let r = at-record S some (omega (arith, S .size, some-words x, length-append (storedWords x) (wordsOf xs))) in
+    let q : storedAt s i ≡ x = sym (ap (λ (l : List Stored). getD l 0 x) (r .is)) in
+    let n : endAt s i ≡ i + recordSize (x .literals) = r .size ∙ ap (λ (y : Stored). i + recordSize (y .literals)) q in
+    record {
+      is = q;
+      end = n;
+      rest = subst (λ k. Segment storedWords s k e xs) n
+          (subst (λ l. Segment storedWords s (endAt s i) e l) (sym (ap (drop 1) (r .is))) (r .rest));
+      room = r .room;
+    }
+
+-- Records in two parts
+
+module _ {s : List ℤ} {i e : ℕ} (a b : List Stored) (S : Segment storedWords s i e (a ++ b)) where
+  both : length (wordsOf (a ++ b)) ≡ length (wordsOf a) + length (wordsOf b)
+  both = ap length (concat-append storedWords a b) ∙ length-append (wordsOf a) (wordsOf b)
+
+  pub later : Segment storedWords s (i + length (wordsOf a)) e b
+  later = record {
+    words = sym (drop-drop (length (wordsOf a)) i s)
+        ∙ ap (drop (length (wordsOf a))) (S .words ∙ ap (λ (l : List ℤ). l ++ drop e s) (concat-append storedWords a b)
+        ∙ append-assoc (wordsOf a) (wordsOf b) (drop e s))
+        ∙ drop-append-seam (wordsOf a) (wordsOf b ++ drop e s);
+    size = omega (arith, S .size, both);
+    within = S .within;
+  }
+
+  pub earlier : Segment storedWords s i (i + length (wordsOf a)) a
+  earlier = record {
+    words = S .words ∙ ap (λ (l : List ℤ). l ++ drop e s) (concat-append storedWords a b)
+        ∙ append-assoc (wordsOf a) (wordsOf b) (drop e s) ∙ ap (λ (l : List ℤ). wordsOf a ++ l) (sym (later .words));
+    size = refl;
+    within = omega (arith, S .size, S .within, both);
+  }
+
+-- the words say what is stored
+same-records : {s : List ℤ} {i e : ℕ} (a b : List Stored) → Segment storedWords s i e a → Segment storedWords s i e b
+    → Originated a → Originated b → a ≡ b
+same-records [] b A B p q = sym (none-left storedWords some-words B (omega (arith, A .size)))
+same-records (x ∷ a) [] A B p q = none-left storedWords some-words A (omega (arith, B .size))
+same-records {s} {i} {e} (x ∷ a) (y ∷ b) A B p q =
+    let f = first-at A p in
+    let g = first-at B q in
+    let z : x ≡ y = sym (f .is) ∙ g .is in
+    ap₂ (λ u l. u ∷ l) z (same-records a b (f .rest)
+    (subst (λ (u : Stored). Segment storedWords s (i + recordSize (u .literals)) e b) (sym z) (g .rest))
+    (λ u m. p u (List·Memᴰ·tail m)) (λ u m. q u (List·Memᴰ·tail m)))
+
+pub held-seg : {store : List ℤ} {used : ℕ} {stored : List Stored} → Holds store used stored → Segment storedWords store 0 used stored
+held-seg {store} {used} {stored} H = at-front storedWords store _ used stored (H .words) (sym (H .extent))
+
+pub encoded-seg : {s : List ℤ} {stored : List Stored} → Encodes s stored → Segment storedWords s 0 (length s) stored
+encoded-seg {s} {stored} e =
+    at-front storedWords s [] (length s) stored (e .words ∙ sym (append-nil (wordsOf stored))) (sym (ap length (e .words)))
+
+pub encoded-once : {s : List ℤ} {a b : List Stored} → Encodes s a → Encodes s b → a ≡ b
+encoded-once {a = a} {b} p q = same-records a b (encoded-seg p) (encoded-seg q) (p .origins) (q .origins)
 
 -- A loop from record to record
 
@@ -69,20 +166,21 @@ at-record {s} {i} {e} S h =
 pub record Rest (Q : List Stored → List Stored → Type 0) (s : List ℤ) (e : ℕ) (stored : List Stored) (i : ℕ) : Type 0 where
   pub left : List Stored
   pub seg : Segment storedWords s i e left
+  pub origins : Originated left
   pub tied : Q stored left
 
 module _ {Q : List Stored → List Stored → Type 0} {s : List ℤ} {e : ℕ} {stored : List Stored} {i : ℕ} (w : Rest Q s e stored i) where
   module _ (h : i < e) where
     -- the record at i
     pub rest-at : AtRecord s i e (w .left)
-    rest-at = at-record (w .seg) h
+    rest-at = at-record (w .seg) (w .origins) h
 
     pub rest-first : Q stored (storedAt s i ∷ rest-at .others)
     rest-first = rw (rest-at .is) at (w .tied)
 
     -- the record at i is passed: Q of it and the others gives R of the others
     pub rest-next : {R : List Stored → List Stored → Type 0} → ((es : List Stored) → Q stored (storedAt s i ∷ es) → R stored es) → Rest R s e stored (endAt s i)
-    rest-next f = record { left = rest-at .others; seg = rest-at .rest; tied = f (rest-at .others) rest-first }
+    rest-next f = record { left = rest-at .others; seg = rest-at .rest; origins = λ x u. w .origins x (subst (λ (l : List Stored). x ∈ l) (sym (rest-at .is)) (List·Memᴰ·tail u)); tied = f (rest-at .others) rest-first }
 
   -- no record is left
   pub rest-over : e ≤ i → Q stored []
@@ -94,18 +192,30 @@ Ahead Q store used i = (stored : List Stored) → Holds store used stored → Re
 
 module _ {Q : List Stored → List Stored → Type 0} {store : List ℤ} {used : ℕ} where
   pub ahead : ((stored : List Stored) → Q stored stored) → Ahead Q store used 0
-  ahead q stored H = record { left = stored; seg = at-front storedWords store _ used stored (H .words) (sym (H .extent)); tied = q stored }
+  ahead q stored H = record { left = stored; seg = held-seg H; origins = H .origins; tied = q stored }
 
   -- the record at i can be read, in a store that holds some nogoods
   pub ahead-room : {i : ℕ} → Ahead Q store used i → i < used → (stored : List Stored) × Holds store used stored → endAt store i ≤ length store
   ahead-room A h some = omega (arith, rest-at (A (some .0) (some .1)) h .room, some .1 .fits)
+
+-- from the record at i on
+pub held-from : {Q : List Stored → List Stored → Type 0} {store : List ℤ} {used i : ℕ} {back : List Stored} → HoldsFrom store used i back → Q back back
+    → Rest Q store used back i
+held-from {store = store} {used} {i} {back} (front, H, e) q =
+    let z : 0 + length (wordsOf front) ≡ i = omega arith in
+    record {
+      left = back;
+      seg = subst (λ k. Segment storedWords store k used back) z (later front back (held-seg H));
+      origins = λ x u. H .origins x (Memᴰ·append-right front u);
+      tied = q;
+    }
 
 -- The words of nogoods alone, as propagation has them
 
 -- the first words of a store are those of its nogoods
 pub used-words : (s : List ℤ) (used : ℕ) (stored : List Stored) → Holds s used stored → Encodes (take used s) stored
 used-words s used stored h =
-    record { words = ap (take used) (h .words) ∙ take-at (wordsOf stored) _ used (sym (h .extent)); literals = h .literals }
+    record { words = ap (take used) (h .words) ∙ take-at (wordsOf stored) _ used (sym (h .extent)); literals = h .literals; origins = h .origins }
 
 -- those left are stored
 abbrev pub Inside : List Stored → List Stored → Type 0
@@ -118,9 +228,20 @@ module _ (s : List ℤ) where
   pub encoded : {Q : List Stored → List Stored → Type 0} {stored : List Stored} → Encodes s stored → Q stored stored → Rest Q s (length s) stored 0
   encoded {stored} e q = record {
     left = stored;
-    seg = at-front storedWords s [] (length s) stored (e .words ∙ sym (append-nil (wordsOf stored))) (sym (ap length (e .words)));
+    seg = encoded-seg e;
+    origins = e .origins;
     tied = q;
   }
+
+  pub encoded-from : {Q : List Stored → List Stored → Type 0} {i : ℕ} {back : List Stored} → EncodesFrom s i back → Q back back → Rest Q s (length s) back i
+  encoded-from {i = i} {back} (front, E, e) q =
+      let z : 0 + length (wordsOf front) ≡ i = omega arith in
+      record {
+        left = back;
+        seg = subst (λ k. Segment storedWords s k (length s) back) z (later front back (encoded-seg E));
+        origins = λ x u. E .origins x (Memᴰ·append-right front u);
+        tied = q;
+      }
 
   -- the record at i is a stored nogood's
   pub stands-at : {stored : List Stored} {i : ℕ} → Rest Inside s (length s) stored i → i < length s → (storedAt s i ∈ stored) × (endAt s i ≤ length s)

@@ -10,6 +10,7 @@ use Rattle.words.specs.Limits.{largest}
 use Rattle.words.specs.Lists.{_∈_}
 use Rattle.words.specs.Literals.{variable, distinct}
 use Rattle.nogoods.specs.Store.{Stored, live, wordsOf, storeWords, wordsFor}
+use Rattle.nogoods.specs.Index.{Indexed}
 use Rattle.nogoods.specs.declared.store.Added.{Added}
 use Rattle.nogoods.specs.declared.store.Added.the-variants.{Uses, Full}
 
@@ -23,14 +24,21 @@ pub record Literals (g : List ℤ) : Type 0 where
   pub high : (x : ℤ) → x ∈ g → variable x ≤ largest
   pub once : distinct g ≡ true
 
--- The store holds what is stored in its first `used` words, and 0 after them.
+-- The store holds what is stored, the dead included, in its first `used` words, and 0 after them. An origin is at least 1, so that
+-- the sign of its word says whether the nogood is dead.
 pub record Holds (store : List ℤ) (used : ℕ) (stored : List Stored) : Type 0 where
   pub words : store ≡ storeWords (length store) stored
   pub extent : used ≡ length (wordsOf stored)
   pub fits : used ≤ length store
   pub literals : (e : Stored) → e ∈ stored → Literals (e .literals)
+  pub origins : (e : Stored) → e ∈ stored → 1 ≤ e .origin
 
--- "Do the live words after the step fit the store?", with these stored then: the store holds them, or is too short
-abbrev pub Fits : List Stored → List ℤ → Added → Type 0
-Fits stored after (Uses n) = Holds after n stored
-Fits stored after Full = length after < wordsFor (live stored)
+-- the same, with an index beside the store
+pub record Keeps (store : List ℤ) (index : List ℕ) (used : ℕ) (stored : List Stored) : Type 0 where
+  pub holds : Holds store used stored
+  pub indexed : Indexed index stored
+
+-- "Do the live words after the step fit the store?", with these stored then: store and index keep them, or the store is too short
+abbrev pub Fits : List Stored → List ℤ → List ℕ → Added → Type 0
+Fits stored after index (Uses n) = Keeps after index n stored
+Fits stored after index Full = length after < wordsFor (live stored)

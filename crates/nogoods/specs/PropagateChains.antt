@@ -15,10 +15,6 @@ use Rattle.nogoods.specs.declared.occurrences.Walk.the-variants.{Clash, 
 abbrev pub places : ℕ
 places = entries + entries
 
--- as many words of nogoods the chains can hold
-abbrev pub reach : ℕ
-reach = 16384
-
 -- each owner is the start of a nogood, and each chain descends to 0
 pub record Links (s : List ℤ) (owner next : List ℕ) : Type 0 where
   pub stands : (p : ℕ) → Stands s (getD owner p 0)

@@ -1,15 +1,17 @@
 // The nogoods that define a name, for `b` and `e`: document 01, "Adds -n with L, then for each literal of L, ascending by
 // variable, n with its complement."
-ghost use mathlib.Core.List.{List, _∷_, _++_, map};
+ghost use mathlib.Core.List.{List, _∷_, map};
 ghost use Prim.Native.Nat.{_*_, _≤_};
 ghost use lib.IntN.{pos};
 ghost use lib.ListN.{length, drop, getD};
 ghost use Rattle.words.specs.Limits.{largest, longest, mostNumbers};
 ghost use Rattle.words.specs.Literals.{variable, complement, ascending};
 ghost use Rattle.derivation.specs.Steps.{definition};
-ghost use Rattle.nogoods.specs.Keeps.{Literals, Holds, Fits, WrittenFront};
-ghost use Rattle.nogoods.specs.Store.{Stored, recordOf, addedIn, storedWords, wordsOf, recordSize};
+ghost use Rattle.nogoods.specs.Keeps.{Literals, Keeps, Fits, WrittenFront};
+ghost use Rattle.nogoods.specs.Store.{Stored, recordOf, addedIn, keptWith, storedWords, wordsOf, recordSize};
 ghost use Rattle.nogoods.specs.Definitions.{pair, pairSize, defined, definedSize};
+use crate::index;
+use crate::index::INDEX;
 use crate::records::HEADER;
 use crate::store;
 use crate::store::Added;
@@ -77,18 +79,27 @@ fn write_definition(free: &mut [i32], origin: usize, numbers: &mut [i32])
 
 // The definition of a name is live, after the others. The numbers are the name and its literals; they may be left in another
 // order.
-pub fn append(store: &mut [i32], used: usize, origin: usize, numbers: &mut [i32]) -> Added
-    requires held { ⌜ ((stored : List Stored) × Holds (now store) used stored) ⌝ }
-    requires origin { ⌜ origin ≤ longest ⌝ }
+pub fn append(
+    store: &mut [i32],
+    used: usize,
+    index: &mut [u16; INDEX],
+    origin: usize,
+    numbers: &mut [i32],
+) -> Added
+    requires kept { ⌜ ((stored : List Stored) × Keeps (now store) (now index) used stored) ⌝ }
+    requires origin { ⌜ (1 ≤ origin) × (origin ≤ longest) ⌝ }
     requires numbers { ⌜ Literals (now numbers) × (1 ≤ length (now numbers)) × (length (now numbers) ≤ mostNumbers) ⌝ }
-    ensures { λ r. ⌜ ((stored : List Stored) → Holds (now (store .entry)) used stored
-        → Fits (stored ++ addedIn origin (definition (getD (now (numbers .entry)) 0 (pos 0)) (drop 1 (now (numbers .entry)))))
-        (now (store .exit)) r) ⌝ }
+    ensures { λ r. ⌜ ((stored : List Stored) → Keeps (now (store .entry)) (now (index .entry)) used stored
+        → Fits (keptWith (length (now (store .entry)))
+        (addedIn origin (definition (getD (now (numbers .entry)) 0 (pos 0)) (drop 1 (now (numbers .entry))))) stored)
+        (now (store .exit)) (now (index .exit)) r) ⌝ }
 {
     let size = HEADER + numbers.len() + PAIR * (numbers.len() - 1);
-    if store.len() - used < size {
+    let end = store::make_room(store, used, index, size);
+    if store.len() - end < size {
         return Added::Full;
     }
-    write_definition(&mut store[used..], origin, numbers);
-    Added::Uses(used + size)
+    write_definition(&mut store[end..], origin, numbers);
+    index::cover(store, end + size, index);
+    Added::Uses(end + size)
 }

@@ -13,8 +13,12 @@ ghost use Rattle.words.specs.Limits.{largest, entries};
 ghost use Rattle.words.specs.Literals.{variable};
 ghost use Rattle.nogoods.specs.Store.{Stored, headerSize};
 ghost use Rattle.nogoods.specs.Records.{Encodes, endAt, Readable, Stands};
+ghost use Rattle.nogoods.specs.Index.{reach, Indexed};
 ghost use Rattle.nogoods.specs.Propagate.{Saturates};
-ghost use Rattle.nogoods.specs.PropagateChains.{places, reach, Links, Below, Queue, Walks};
+ghost use Rattle.nogoods.specs.PropagateChains.{places, Links, Below, Queue, Walks};
+use crate::index;
+use crate::index::INDEX;
+use crate::index::REACH;
 use crate::records;
 use crate::records::HEADER;
 use crate::units;
@@ -23,9 +27,6 @@ use words::ENTRIES;
 
 // There is a place for each literal: that of v is v, and that of -v comes an assignment's length later.
 const PLACES: usize = 2 * ENTRIES;
-
-// As many words of nogoods the chains can hold.
-const REACH: usize = 16384;
 
 // What a walk along one chain gave: a conflict, or the queue's end.
 enum Walk {
@@ -76,26 +77,29 @@ fn enter(
     }
 }
 
-// The chains and counters of all nogoods.
+// The chains and counters of the nogoods whose places are in the index.
 fn enter_all(
     nogoods: &[i32],
+    index: &[u16; INDEX],
     owner: &mut [u16; REACH],
     next: &mut [u16; REACH],
     head: &mut [u16; PLACES],
     counts: &mut [u16; REACH],
 )
-    requires encoded { ⌜ ((stored : List Stored) × Encodes (now nogoods) stored) ⌝ }
+    requires encoded { ⌜ ((stored : List Stored) × Encodes (now nogoods) stored × Indexed (now index) stored) ⌝ }
     requires reach { ⌜ (0 < length (now nogoods)) × (length (now nogoods) ≤ reach) ⌝ }
     requires links { ⌜ Links (now nogoods) (now owner) (now next) ⌝ }
     requires heads { ⌜ Below 1 (now head) ⌝ }
     ensures links { λ _. ⌜ Links (now (nogoods .entry)) (now (owner .exit)) (now (next .exit)) ⌝ }
     ensures heads { λ _. ⌜ Below (length (now (nogoods .entry))) (now (head .exit)) ⌝ }
 {
-    let mut r = 0;
-    while r < nogoods.len() {
+    let n = index::listed(index);
+    let mut k = 0;
+    while k < n {
+        let r = index::place_at(index, k);
         enter(nogoods, r, owner, next, head);
         counts[r] = records::count_at(nogoods, r) as u16;
-        r = records::end_at(nogoods, r);
+        k += 1;
     }
 }
 
@@ -220,16 +224,16 @@ fn run(
     false
 }
 
-// The assignment grows by what follows from the nogoods, unless these are too long. Whether there is a conflict.
-pub fn saturate(nogoods: &[i32], assignment: &mut [u8; ENTRIES]) -> bool
-    requires encoded { ⌜ ((stored : List Stored) × Encodes (now nogoods) stored) ⌝ }
+// The assignment grows by what follows from the nogoods, unless the index does not cover them all. Whether there is a conflict.
+pub fn saturate(nogoods: &[i32], index: &[u16; INDEX], assignment: &mut [u8; ENTRIES]) -> bool
+    requires encoded { ⌜ ((stored : List Stored) × Encodes (now nogoods) stored × Indexed (now index) stored) ⌝ }
     requires size { ⌜ length (now assignment) ≡ entries ⌝ }
     ensures { λ r. ⌜ Saturates (now (nogoods .entry)) (now (assignment .entry)) (now (assignment .exit)) r ⌝ }
 {
     if nogoods.len() == 0 {
         return false;
     }
-    if REACH < nogoods.len() {
+    if index::covered(index) < nogoods.len() {
         return false;
     }
     let mut owner = [0u16; REACH];
@@ -237,7 +241,14 @@ pub fn saturate(nogoods: &[i32], assignment: &mut [u8; ENTRIES]) -> bool
     let mut head = [0u16; PLACES];
     let mut counts = [0u16; REACH];
     let mut queue = [0u16; ENTRIES];
-    enter_all(nogoods, &mut owner, &mut next, &mut head, &mut counts);
+    enter_all(
+        nogoods,
+        index,
+        &mut owner,
+        &mut next,
+        &mut head,
+        &mut counts,
+    );
     run(
         nogoods,
         &owner,

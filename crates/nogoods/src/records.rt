@@ -2,13 +2,21 @@
 ghost use mathlib.Core.Path.{_≡_};
 ghost use Prim.Native.Nat.{_≤_};
 ghost use lib.ListN.{length};
-ghost use Rattle.nogoods.specs.Records.{countAt, endAt, nogoodAt};
+ghost use Rattle.nogoods.specs.Records.{deadAt, countAt, endAt, nogoodAt};
 
 // As many words a header has: the origin, and the literal count.
 pub const HEADER: usize = 2;
 
 // Where the literal count stands in a record.
 pub const COUNT: usize = 1;
+
+// The record at r is that of a dead nogood.
+pub fn is_dead(store: &[i32], r: usize) -> bool
+    requires { ⌜ endAt (now store) r ≤ length (now store) ⌝ }
+    ensures { λ b. ⌜ b ≡ deadAt (now (store .entry)) r ⌝ }
+{
+    store[r] < 0
+}
 
 // The literal count of the record at r.
 pub fn count_at(store: &[i32], r: usize) -> usize

@@ -1,15 +1,21 @@
 // Nogoods in the store's words.
 ghost use mathlib.Core.Path.{_≡_};
-ghost use mathlib.Core.List.{List, [], _∷_, _++_};
-ghost use Prim.Native.Nat.{_≤_};
-ghost use lib.ListN.{length};
+ghost use mathlib.Core.Bool.{false, not, cond, _&&_};
+ghost use mathlib.Core.List.{List, [], _∷_};
+ghost use Prim.Native.Nat.{_+_, _≤_};
+ghost use lib.Dec.{eqb};
+ghost use lib.IntN.{pos, negℤ};
+ghost use lib.ListN.{length, getD, set};
 ghost use Rattle.words.specs.Limits.{largest, longest};
-ghost use Rattle.words.specs.Lists.{any, dropFirst};
-ghost use Rattle.words.specs.Literals.{sameList};
+ghost use Rattle.words.specs.Lists.{any};
 ghost use Rattle.aspif.specs.Rules.{isEmpty};
-ghost use Rattle.nogoods.specs.Keeps.{Literals, Holds, Fits, WrittenFront};
-ghost use Rattle.nogoods.specs.Store.{Stored, recordOf, addedIn, live, storedWords, recordSize};
-ghost use Rattle.nogoods.specs.Finds.{foundAt};
+ghost use Rattle.nogoods.specs.Keeps.{Literals, Holds, Keeps, Fits, WrittenFront};
+ghost use Rattle.nogoods.specs.Store.{Stored, recordOf, addedIn, closed, live, killed, keptFor, keptWith, isTarget, storedWords, recordSize};
+ghost use Rattle.nogoods.specs.Records.{HoldsFrom, endAt, deadAt, countAt, storedAt};
+ghost use Rattle.nogoods.specs.Moves.{MovedDown, Keeping};
+ghost use Rattle.nogoods.specs.Finds.{foundAt, FoundListed};
+use crate::index;
+use crate::index::INDEX;
 use crate::records;
 use crate::records::COUNT;
 use crate::records::HEADER;
@@ -38,31 +44,123 @@ pub fn write(free: &mut [i32], origin: usize, literals: &[i32])
     words::copy(&mut free[HEADER..], literals);
 }
 
-// One more live nogood, after the others, with the number of the step that adds it.
-pub fn append(store: &mut [i32], used: usize, origin: usize, literals: &[i32]) -> Added
-    requires held { ⌜ ((stored : List Stored) × Holds (now store) used stored) ⌝ }
-    requires origin { ⌜ origin ≤ longest ⌝ }
-    requires literals { ⌜ Literals (now literals) × (length (now literals) ≤ largest) ⌝ }
-    ensures { λ r. ⌜ ((stored : List Stored) → Holds (now (store .entry)) used stored
-        → Fits (stored ++ addedIn origin (now (literals .entry) ∷ [])) (now (store .exit)) r) ⌝ }
+// n words from `from` on are moved down to `to`.
+fn move_down(words: &mut [i32], to: usize, from: usize, n: usize)
+    requires { ⌜ (to ≤ from) × (from + n ≤ length (now words)) ⌝ }
+    ensures { λ _. ⌜ MovedDown to from n (now (words .entry)) (now (words .exit)) ⌝ }
 {
-    let size = HEADER + literals.len();
-    if store.len() - used < size {
-        return Added::Full;
+    let mut k = 0;
+    while k < n {
+        words[to + k] = words[from + k];
+        k += 1;
     }
-    write(&mut store[used..], origin, literals);
-    Added::Uses(used + size)
 }
 
-// The oldest live nogood that is the list of literals.
-fn find(store: &[i32], used: usize, literals: &[i32]) -> Found
+// The record at `from` is moved down to `to`, unless it is dead. Where what is kept ends then.
+fn keep(store: &mut [i32], to: usize, from: usize) -> usize
+    requires { ⌜ (to ≤ from) × (endAt (now store) from ≤ length (now store)) ⌝ }
+    ensures { λ r. ⌜ Keeping to from (now (store .entry)) (now (store .exit)) r ⌝ }
+{
+    if records::is_dead(store, from) {
+        return to;
+    }
+    let n = HEADER + records::count_at(store, from);
+    move_down(store, to, from, n);
+    to + n
+}
+
+// The store is closed up: the live nogoods in their order, and 0 after them. How many words are used then.
+pub fn close(store: &mut [i32], used: usize) -> usize
     requires { ⌜ ((stored : List Stored) × Holds (now store) used stored) ⌝ }
     ensures { λ r. ⌜ ((stored : List Stored) → Holds (now (store .entry)) used stored
-        → r ≡ foundAt 0 (now (literals .entry)) stored) ⌝ }
+        → Holds (now (store .exit)) r (closed stored)) ⌝ }
 {
-    let mut i = 0;
+    let mut to = 0;
+    let mut from = 0;
+    while from < used {
+        let end = records::end_at(store, from);
+        to = keep(store, to, from);
+        from = end;
+    }
+    words::zero_all(&mut store[to..used]);
+    to
+}
+
+// Room for so many words after those that are used: the store is closed up if they do not fit otherwise. How many words are used
+// then.
+pub fn make_room(store: &mut [i32], used: usize, index: &mut [u16; INDEX], size: usize) -> usize
+    requires { ⌜ ((stored : List Stored) × Keeps (now store) (now index) used stored) ⌝ }
+    ensures { λ r. ⌜ ((stored : List Stored) → Keeps (now (store .entry)) (now (index .entry)) used stored
+        → Keeps (now (store .exit)) (now (index .exit)) r (keptFor (length (now (store .entry))) size stored)) ⌝ }
+{
+    if size <= store.len() - used {
+        return used;
+    }
+    index::clear(index);
+    close(store, used)
+}
+
+// One more live nogood, after the others, with the number of the step that adds it.
+pub fn append(
+    store: &mut [i32],
+    used: usize,
+    index: &mut [u16; INDEX],
+    origin: usize,
+    literals: &[i32],
+) -> Added
+    requires kept { ⌜ ((stored : List Stored) × Keeps (now store) (now index) used stored) ⌝ }
+    requires origin { ⌜ (1 ≤ origin) × (origin ≤ longest) ⌝ }
+    requires literals { ⌜ Literals (now literals) × (length (now literals) ≤ largest) ⌝ }
+    ensures { λ r. ⌜ ((stored : List Stored) → Keeps (now (store .entry)) (now (index .entry)) used stored
+        → Fits (keptWith (length (now (store .entry))) (addedIn origin (now (literals .entry) ∷ [])) stored)
+        (now (store .exit)) (now (index .exit)) r) ⌝ }
+{
+    let size = HEADER + literals.len();
+    let end = make_room(store, used, index, size);
+    if store.len() - end < size {
+        return Added::Full;
+    }
+    write(&mut store[end..], origin, literals);
+    index::cover(store, end + size, index);
+    Added::Uses(end + size)
+}
+
+// The record at i is that of a live nogood that is the list of literals.
+fn is_target(store: &[i32], i: usize, literals: &[i32]) -> bool
+    requires { ⌜ endAt (now store) i ≤ length (now store) ⌝ }
+    ensures { λ r. ⌜ r ≡ isTarget (now (literals .entry)) (storedAt (now (store .entry)) i) ⌝ }
+{
+    if records::is_dead(store, i) {
+        return false;
+    }
+    words::is_same_list(records::nogood_at(store, i), literals)
+}
+
+// The number of the first place in the index at which the list of literals stands; that of all places where there is none.
+fn find_listed(store: &[i32], used: usize, index: &[u16; INDEX], literals: &[i32]) -> usize
+    requires { ⌜ ((stored : List Stored) × Keeps (now store) (now index) used stored) ⌝ }
+    ensures { λ k. ⌜ FoundListed (now (store .entry)) (now (index .entry)) (now (literals .entry)) k ⌝ }
+{
+    let n = index::listed(index);
+    let mut k = 0;
+    while k < n {
+        if is_target(store, index::place_at(index, k), literals) {
+            return k;
+        }
+        k += 1;
+    }
+    n
+}
+
+// The oldest live nogood that is the list of literals, of those from `from` on.
+fn find_from(store: &[i32], used: usize, from: usize, literals: &[i32]) -> Found
+    requires { ⌜ ((back : List Stored) × HoldsFrom (now store) used from back) ⌝ }
+    ensures { λ r. ⌜ ((back : List Stored) → HoldsFrom (now (store .entry)) used from back
+        → r ≡ foundAt from (now (literals .entry)) back) ⌝ }
+{
+    let mut i = from;
     while i < used {
-        if words::is_same_list(records::nogood_at(store, i), literals) {
+        if is_target(store, i, literals) {
             return Found::At(i);
         }
         i = records::end_at(store, i);
@@ -70,20 +168,41 @@ fn find(store: &[i32], used: usize, literals: &[i32]) -> Found
     Found::Nothing
 }
 
-// The oldest live nogood that is the list of literals goes out, and the words close up. How many words are used then.
-pub fn delete(store: &mut [i32], used: usize, literals: &[i32]) -> usize
-    requires { ⌜ ((stored : List Stored) × Holds (now store) used stored) ⌝ }
-    ensures { λ r. ⌜ ((stored : List Stored) → Holds (now (store .entry)) used stored
-        → Holds (now (store .exit)) r (dropFirst (λ e. sameList (e .literals) (now (literals .entry))) stored)) ⌝ }
+// The nogood at r is dead: its first word is negated.
+fn kill(store: &mut [i32], r: usize)
+    requires { ⌜ (endAt (now store) r ≤ length (now store)) × (deadAt (now store) r ≡ false) ⌝ }
+    ensures { λ _. ⌜ now (store .exit) ≡ set (now (store .entry)) r (negℤ (getD (now (store .entry)) r (pos 0))) ⌝ }
 {
-    match find(store, used, literals) {
+    store[r] = 0 - store[r];
+}
+
+// The oldest live nogood that is the list of literals is dead: one word changes at most. As many words are used as before.
+pub fn delete(store: &mut [i32], used: usize, index: &mut [u16; INDEX], literals: &[i32]) -> usize
+    requires { ⌜ ((stored : List Stored) × Keeps (now store) (now index) used stored) ⌝ }
+    ensures { λ r. ⌜ ((stored : List Stored) → Keeps (now (store .entry)) (now (index .entry)) used stored
+        → Keeps (now (store .exit)) (now (index .exit)) r (killed (now (literals .entry)) stored)) ⌝ }
+{
+    let k = find_listed(store, used, index, literals);
+    if k < index::listed(index) {
+        kill(store, index::place_at(index, k));
+        index::take_out(index, k);
+        return used;
+    }
+    match find_from(store, used, index::covered(index), literals) {
         Found::At(i) => {
-            let k = HEADER + literals.len();
-            words::close_up(&mut store[i..used], k);
-            used - k
+            kill(store, i);
+            used
         }
         Found::Nothing => used,
     }
+}
+
+// One if the record at i is that of a live nogood, and 0 if it is dead.
+fn live_at(store: &[i32], i: usize) -> usize
+    requires { ⌜ endAt (now store) i ≤ length (now store) ⌝ }
+    ensures { λ r. ⌜ r ≡ cond (deadAt (now (store .entry)) i) 0 1 ⌝ }
+{
+    if records::is_dead(store, i) { 0 } else { 1 }
 }
 
 // How many nogoods are live.
@@ -94,10 +213,21 @@ pub fn count(store: &[i32], used: usize) -> usize
     let mut n = 0;
     let mut i = 0;
     while i < used {
+        n += live_at(store, i);
         i = records::end_at(store, i);
-        n += 1;
     }
     n
+}
+
+// The record at i is that of the empty nogood, and live.
+fn is_empty_at(store: &[i32], i: usize) -> bool
+    requires { ⌜ endAt (now store) i ≤ length (now store) ⌝ }
+    ensures { λ r. ⌜ r ≡ (not (deadAt (now (store .entry)) i) && eqb (countAt (now (store .entry)) i) 0) ⌝ }
+{
+    if records::is_dead(store, i) {
+        return false;
+    }
+    records::count_at(store, i) == 0
 }
 
 // The empty nogood is live.
@@ -107,7 +237,7 @@ pub fn has_empty(store: &[i32], used: usize) -> bool
 {
     let mut i = 0;
     while i < used {
-        if records::count_at(store, i) == 0 {
+        if is_empty_at(store, i) {
             return true;
         }
         i = records::end_at(store, i);

@@ -32,6 +32,7 @@ use Rattle.drupe.specs.declared.LineAnswer.{LineAnswer}
 use Rattle.drupe.specs.declared.LineAnswer.the-variants as Answer
 use Rattle.drupe.specs.declared.LineReading.{LineReading}
 use Rattle.drupe.proofs.Lines.{drop-replicate, passed-line}
+use Rattle.drupe.proofs.Rows.{lineTold}
 use Rattle.drupe.proofs.Texts.{Walked, walked-start, walked-on, walked-end, walked-refused, refused-exact}
 use Rattle.packets.specs.Bytes.{little, flipIf, signedBytes, bytesOf}
 use Rattle.packets.specs.Packets as Packets
@@ -146,12 +147,6 @@ pub rule-on : {whole before now after : List ℕ} {at end next : ℕ} (r : Input
 rule-on r P Q e g p = going-on (rw (e, bytes-append 4 (packetRule r) (packetWords Q)) at g) p
 
 -- Steps
-
--- what a line's answer with its numbers says
-abbrev pub lineTold : LineAnswer → List ℤ → LineAt
-lineTold Answer.End zs = Lines.end
-lineTold (Answer.Refused k) zs = Lines.refused k
-lineTold (Answer.Line x count next) zs = line x (take count zs) next
 
 module _ {s : List ℕ} {at : ℕ} {r : LineReading} (R : ProofLineRead s at r) where
   pub line-told : {a : LineAnswer} → r .answer ≡ a → lineAt s at ≡ lineTold a (r .numbers)

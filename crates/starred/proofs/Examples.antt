@@ -22,10 +22,10 @@ use Rattle.answer_set.specs.declared.SetAnswer.the-variants.{Yes}
 use Rattle.answer_set.proofs.Answered.{yes-answer-set}
 use Rattle.drupe.specs.Texts.{stepsAt, stepsOf}
 use Rattle.derivation.specs.Loops.{isLoop}
-use Rattle.nogoods.specs.Store.{live}
+use Rattle.nogoods.specs.Store.{live, closed, killed}
 use Rattle.checker.specs.Report.{lent, printed}
 use Rattle.checker.specs.Check.{course, check}
-use Rattle.starred.specs.Examples.{SetPasses, SetFails, Starred, Source000, WeightBodies, LoopsOnly, OriginWords, LongLines}
+use Rattle.starred.specs.Examples.{SetPasses, SetFails, Starred, Source000, WeightBodies, LoopsOnly, OriginWords, DeadWords, LongLines}
 
 -- Which sets pass: the programs as they are read
 
@@ -53,7 +53,7 @@ fails text l P r e ready d a =
     not-yes p = let z : _≡_ {A = ℕ} 0 1 = cc in omega arith
 
 pub starred : Starred
-unfolding check course live stepsOf stepsAt readText readLines linesFrom shapeOf lineOf insert insertAll isLoop printed decimal decimals asked soundTable soundAt bodySound shapeSound sizeAt headsAt bodyWordsAt bodyAt expand expandRule bodiesOf verdictOf least giveRule giveHead
+unfolding check course live closed killed stepsOf stepsAt readText readLines linesFrom shapeOf lineOf insert insertAll isLoop printed decimal decimals asked soundTable soundAt bodySound shapeSound sizeAt headsAt bodyWordsAt bodyAt expand expandRule bodiesOf verdictOf least giveRule giveHead
 starred = record {
   onePrints = refl;
   one = refl;
@@ -82,19 +82,19 @@ starred = record {
 }
 
 pub source000 : Source000
-unfolding check course live stepsOf stepsAt readText readLines linesFrom shapeOf lineOf insert insertAll isLoop expand expandRule bodiesOf
+unfolding check course live closed killed stepsOf stepsAt readText readLines linesFrom shapeOf lineOf insert insertAll isLoop expand expandRule bodiesOf
 source000 = refl
 
 pub weight-bodies : WeightBodies
-unfolding check course live stepsOf stepsAt readText readLines linesFrom shapeOf ranged allWeights arranged lineOf insert insertAll expand expandRule bodiesOf bodies minimalSets sublists
+unfolding check course live closed killed stepsOf stepsAt readText readLines linesFrom shapeOf ranged allWeights arranged lineOf insert insertAll expand expandRule bodiesOf bodies minimalSets sublists
 weight-bodies = record { refuted = refl; wholeSet = refl; weightRange = refl; tooMany = refl }
 
 pub loops-only : LoopsOnly
-unfolding check course live stepsOf stepsAt readText readLines linesFrom shapeOf ranged allWeights arranged lineOf insert insertAll isLoop expand expandRule bodiesOf bodies minimalSets sublists
+unfolding check course live closed killed stepsOf stepsAt readText readLines linesFrom shapeOf ranged allWeights arranged lineOf insert insertAll isLoop expand expandRule bodiesOf bodies minimalSets sublists
 loops-only = record { sixNoLoop = refl; weightLoop = refl; weightNoLoop = refl }
 
 pub origin-words : OriginWords
-unfolding check course live stepsOf stepsAt readText readLines linesFrom shapeOf lineOf insert insertAll expand expandRule bodiesOf
+unfolding check course live closed killed stepsOf stepsAt readText readLines linesFrom shapeOf lineOf insert insertAll expand expandRule bodiesOf
 origin-words = record {
   deleted = (refl, refl);
   counted = (refl, refl);
@@ -104,6 +104,23 @@ origin-words = record {
   againShort = (refl, refl);
   together = (refl, refl);
   togetherShort = (refl, refl);
+}
+
+pub dead-words : DeadWords
+unfolding check course live closed killed stepsOf stepsAt readText readLines linesFrom shapeOf lineOf insert insertAll expand expandRule bodiesOf
+dead-words = record {
+  secondTakesNext = (refl, refl);
+  thirdTakesNone = (refl, refl);
+  exactlyFull = (refl, refl);
+  oneTooFew = (refl, refl);
+  extends = (refl, refl);
+  extendsClosed = (refl, refl);
+  extendsExactly = (refl, refl);
+  extendsShort = (refl, refl);
+  closedOnce = (refl, refl);
+  closedTwice = (refl, refl);
+  neverFits = (refl, refl);
+  deadRefuteNothing = refl;
 }
 
 pub long-lines : LongLines

@@ -201,16 +201,18 @@ abbrev pub fact : List ℕ
 fact = rules ("1 0 1 1 0 0" ∷ [])
 
 pub record OriginWords : Type 0 where
-  -- the empty nogood goes out, with its step
-  pub deleted : leaves program1 (proof1 ++ lines ("d 0" ∷ [])) 24 (undecided 1 1 6 5) store2
+  -- the empty nogood is dead
+  pub deleted : leaves program1 (proof1 ++ lines ("d 0" ∷ [])) 24 (undecided 1 1 6 5) (store2 ++ (neg 5 ∷ pos 0 ∷ []))
   -- a deletion counts as a step
   pub counted : leaves program1 (lines ("b 2 -1 0" ∷ "c 2 1 0" ∷ "d -1 -2 0" ∷ "s 1 2 0" ∷ [])) 16 (undecided 1 1 4 3)
-      (pos 1 ∷ pos 2 ∷ pos 1 ∷ pos 2
+      (neg 1 ∷ pos 2 ∷ neg 1 ∷ neg 2
+      ∷ pos 1 ∷ pos 2 ∷ pos 1 ∷ pos 2
       ∷ pos 2 ∷ pos 2 ∷ neg 1 ∷ pos 2
       ∷ pos 4 ∷ pos 2 ∷ pos 1 ∷ neg 2 ∷ [])
   -- "Deletion still takes the oldest equal set, whatever its origin"
   pub oldest : leaves fact (lines ("b 2 0" ∷ "c 2 1 0" ∷ "c 2 1 0" ∷ "d -1 2 0" ∷ [])) 16 (undecided 1 1 4 2)
       (pos 1 ∷ pos 1 ∷ neg 2
+      ∷ neg 2 ∷ pos 2 ∷ neg 1 ∷ pos 2
       ∷ pos 3 ∷ pos 2 ∷ neg 1 ∷ pos 2 ∷ [])
   -- a deletion that takes nothing away counts too
   pub idle : leaves fact (lines ("d 1 0" ∷ "b 2 0" ∷ [])) 16 (undecided 1 1 2 1) (pos 2 ∷ pos 1 ∷ neg 2 ∷ [])
@@ -227,6 +229,58 @@ pub record OriginWords : Type 0 where
       ∷ pos 2 ∷ pos 2 ∷ neg 1 ∷ pos 3
       ∷ pos 2 ∷ pos 2 ∷ neg 2 ∷ pos 3 ∷ [])
   pub togetherShort : leaves fact (lines ("b 2 0" ∷ "e 3 1 2 0" ∷ [])) 15 (refusedProof 34 2) []
+
+-- Marks and closing up (Change 8), no starred ones: the same rules, stores and lengths
+
+abbrev pub twoOfTwo : List String
+twoOfTwo = "b 2 0" ∷ "c 2 1 0" ∷ "c 2 1 0" ∷ "d 2 -1 0" ∷ "d -1 2 0" ∷ []
+
+abbrev pub thenTwice : List String
+thenTwice = "b 2 0" ∷ "c 2 1 0" ∷ "d -2 0" ∷ "c 2 1 0" ∷ "c 2 1 0" ∷ []
+
+abbrev pub thenExtended : List String
+thenExtended = "b 2 0" ∷ "d -2 0" ∷ "e 3 1 2 0" ∷ []
+
+-- the words of its `e`
+abbrev pub extended : List ℤ
+extended =
+    pos 3 ∷ pos 3 ∷ pos 1 ∷ pos 2 ∷ neg 3
+    ∷ pos 3 ∷ pos 2 ∷ neg 1 ∷ pos 3
+    ∷ pos 3 ∷ pos 2 ∷ neg 2 ∷ pos 3 ∷ []
+
+abbrev pub overAndOver : List String
+overAndOver = "b 2 0" ∷ "c 2 1 0" ∷ "d -2 0" ∷ "d -1 2 0" ∷ "c 2 1 0" ∷ "d -1 2 0" ∷ "c 2 1 0" ∷ []
+
+-- the words of a `c 2 1 0` that is step n
+abbrev pub completed : ℕ → List ℤ
+completed n = pos n ∷ pos 2 ∷ neg 1 ∷ pos 2 ∷ []
+
+pub record DeadWords : Type 0 where
+  -- a second deletion of the same set passes over the dead one and takes the next; a third takes none
+  pub secondTakesNext : leaves fact (lines twoOfTwo) 16 (undecided 1 1 5 1)
+      (pos 1 ∷ pos 1 ∷ neg 2
+      ∷ neg 2 ∷ pos 2 ∷ neg 1 ∷ pos 2
+      ∷ neg 3 ∷ pos 2 ∷ neg 1 ∷ pos 2 ∷ [])
+  pub thirdTakesNone : leaves fact (lines (twoOfTwo ++ ("d -1 2 0" ∷ []))) 16 (undecided 1 1 6 1)
+      (pos 1 ∷ pos 1 ∷ neg 2
+      ∷ neg 2 ∷ pos 2 ∷ neg 1 ∷ pos 2
+      ∷ neg 3 ∷ pos 2 ∷ neg 1 ∷ pos 2 ∷ [])
+  -- filling the store exactly is a fit: it is not closed up
+  pub exactlyFull : leaves fact (lines thenTwice) 15 (undecided 1 1 5 3)
+      (neg 1 ∷ pos 1 ∷ neg 2 ∷ completed 2 ++ (completed 4 ++ completed 5))
+  -- "The store is closed up .. only before a step that would not fit otherwise": before step 5
+  pub oneTooFew : leaves fact (lines thenTwice) 14 (undecided 1 1 5 3) (completed 2 ++ (completed 4 ++ completed 5))
+  -- judged for all nogoods of an `e` together
+  pub extends : leaves fact (lines thenExtended) 16 (undecided 1 1 3 3) (neg 1 ∷ pos 1 ∷ neg 2 ∷ extended)
+  pub extendsClosed : leaves fact (lines thenExtended) 15 (undecided 1 1 3 3) extended
+  pub extendsExactly : leaves fact (lines thenExtended) 13 (undecided 1 1 3 3) extended
+  pub extendsShort : leaves fact (lines thenExtended) 12 (refusedProof 34 3) []
+  -- closed up again and again
+  pub closedOnce : leaves fact (lines overAndOver) 8 (undecided 1 1 7 1) (neg 5 ∷ pos 2 ∷ neg 1 ∷ pos 2 ∷ completed 7)
+  pub closedTwice : leaves fact (lines overAndOver) 7 (undecided 1 1 7 1) (completed 7)
+  pub neverFits : leaves fact (lines overAndOver) 6 (refusedProof 34 2) []
+  -- the dead refute nothing
+  pub deadRefuteNothing : verdict program1 (proof1 ++ lines ("d 0" ∷ "d 1 0" ∷ "a 0" ∷ [])) ≡ refusedProof 33 8
 
 -- lines with numbers of several digits, of which the starred examples have none
 pub record LongLines : Type 0 where

@@ -61,29 +61,27 @@ variable-positive (negsuc n) f = omega arith
 insert→ : {x : ℤ} (y : ℤ) (l : List ℤ) → x ∈ insert y l → x ∈ y ∷ l
 unfolding insert
 insert→ y [] m = m
-insert→ {x} y (v ∷ l) m = go (λ n. insert→ v l n) (λ n. insert→ y l n) (ltb (variable y) (variable v)) m
+insert→ {x} y (v ∷ l) m = go (λ n. insert→ y l n) (ltb (variable y) (variable v)) m
   where
     past : x ∈ y ∷ l → x ∈ y ∷ v ∷ l
     past (List·Memᴰ·head p) = List·Memᴰ·head p
     past (List·Memᴰ·tail n) = List·Memᴰ·tail (List·Memᴰ·tail n)
 
-    go : (x ∈ insert v l → x ∈ v ∷ l) → (x ∈ insert y l → x ∈ y ∷ l) → (b : Bool) → x ∈ cond b (y ∷ insert v l) (v ∷ insert y l) → x ∈ y ∷ v ∷ l
-    go f g true (List·Memᴰ·head p) = List·Memᴰ·head p
-    go f g true (List·Memᴰ·tail n) = List·Memᴰ·tail (f n)
-    go f g false (List·Memᴰ·head p) = List·Memᴰ·tail (List·Memᴰ·head p)
-    go f g false (List·Memᴰ·tail n) = past (g n)
+    go : (x ∈ insert y l → x ∈ y ∷ l) → (b : Bool) → x ∈ cond b (y ∷ v ∷ l) (v ∷ insert y l) → x ∈ y ∷ v ∷ l
+    go g true n = n
+    go g false (List·Memᴰ·head p) = List·Memᴰ·tail (List·Memᴰ·head p)
+    go g false (List·Memᴰ·tail n) = past (g n)
 
 insert← : {x : ℤ} (y : ℤ) (l : List ℤ) → x ∈ y ∷ l → x ∈ insert y l
 unfolding insert
 insert← y [] m = m
-insert← {x} y (v ∷ l) m = go (λ n. insert← v l n) (λ n. insert← y l n) (ltb (variable y) (variable v)) m
+insert← {x} y (v ∷ l) m = go (λ n. insert← y l n) (ltb (variable y) (variable v)) m
   where
-    go : (x ∈ v ∷ l → x ∈ insert v l) → (x ∈ y ∷ l → x ∈ insert y l) → (b : Bool) → x ∈ y ∷ v ∷ l → x ∈ cond b (y ∷ insert v l) (v ∷ insert y l)
-    go f g true (List·Memᴰ·head p) = List·Memᴰ·head p
-    go f g true (List·Memᴰ·tail n) = List·Memᴰ·tail (f n)
-    go f g false (List·Memᴰ·head p) = List·Memᴰ·tail (g (List·Memᴰ·head p))
-    go f g false (List·Memᴰ·tail (List·Memᴰ·head p)) = List·Memᴰ·head p
-    go f g false (List·Memᴰ·tail (List·Memᴰ·tail n)) = List·Memᴰ·tail (g (List·Memᴰ·tail n))
+    go : (x ∈ y ∷ l → x ∈ insert y l) → (b : Bool) → x ∈ y ∷ v ∷ l → x ∈ cond b (y ∷ v ∷ l) (v ∷ insert y l)
+    go g true n = n
+    go g false (List·Memᴰ·head p) = List·Memᴰ·tail (g (List·Memᴰ·head p))
+    go g false (List·Memᴰ·tail (List·Memᴰ·head p)) = List·Memᴰ·head p
+    go g false (List·Memᴰ·tail (List·Memᴰ·tail n)) = List·Memᴰ·tail (g (List·Memᴰ·tail n))
 
 insertAll→ : {x : ℤ} (k l : List ℤ) → x ∈ insertAll k l → (x ∈ k) ⊎ (x ∈ l)
 unfolding insertAll

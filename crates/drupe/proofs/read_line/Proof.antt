@@ -1,51 +1,50 @@
--- `drupe::read_line` meets its contract. Question 21, the end, past it, or the line that begins there.
+-- `drupe::read_line` meets its contract. The row is zeros before the line is read into it.
 -- Assumes nothing.
-use mathlib.Core.Path.{sym, ap, _∙_}
-use borrow.Rule.Slice.PartAt.{part-to-end}
+use mathlib.Core.Path.{sym, _∙_}
 use Rattle.text.specs.Classes.{byteClasses}
-use Rattle.drupe.specs.Lines.{readingOf}
-use Rattle.drupe.proofs.Lines.{at-long, at-end, at-past, at-line, reads-of}
+use Rattle.drupe.proofs.Lines.{reads-of}
+use Rattle.drupe.proofs.Rows.{numbers-read, none-read}
 use borrow.Author.Needs.{needs}
 use Rattle.drupe.proofs.read_line.Statement.{statement}
 use Rattle.drupe.proofs.read_line.Tie as tie
 
+read-into-requires : tie.Need-read-into-requires
+unfolding byteClasses
+read-into-requires c κs = search needs
+
 returns : tie.Need-returns
 returns c =
-    let a = c .before .before .before .args in
-    reads-of (c .refuse .ensures ∙ ap readingOf (sym (at-long (a .text .now) (a .position) (c .before .if1 .taken))))
+    let b = c .before .before .before .before in
+    let a = b .before .before .before .before .before .args in
+    let i = b .read-into .ensures in
+    reads-of (i .answer) (numbers-read (a .text .now) (a .position) i (c .enum-told .given .1))
 
 returns-2 : tie.Need-returns-2
 returns-2 c =
-    let a = c .before .before .before .args in
-    reads-of (ap readingOf (sym (at-end (a .text .now) (a .position) (c .before .if1 .left) (c .if2 .taken))))
+    let b = c .before .before .before .before .before in
+    let a = b .before .before .before .before .before .args in
+    let e = b .read-into .ensures .answer in
+    reads-of (c .unread .ensures .0 ∙ e) (c .unread .ensures .1 ∙ sym (none-read (a .text .now) (a .position) e _ (c .before .enum-told2 .given .1) tt))
 
 returns-3 : tie.Need-returns-3
 returns-3 c =
-    let b = c .before .before .before in
-    let a = b .before .before .args in
-    reads-of (c .refuse2 .ensures ∙ ap readingOf (sym (at-past (a .text .now) (a .position) (b .if1 .left) (c .before .if3 .taken))))
-
-read-letter-requires : tie.Need-read-letter-requires
-unfolding byteClasses
-read-letter-requires c κs = search needs
-
-returns-4 : tie.Need-returns-4
-returns-4 c =
-    let b = c .before .before .before .before in
-    let a = b .before .before .before .args in
-    reads-of (rw (part-to-end (a .text .now) (a .position)) at (c .read-letter .ensures) ∙ ap readingOf (sym (at-line (a .text .now) (a .position) (b .before .if1 .left) (b .if2 .left))))
+    let b = c .before .before .before .before .before in
+    let a = b .before .before .before .before .before .args in
+    let e = b .read-into .ensures .answer in
+    reads-of (c .unread2 .ensures .0 ∙ e) (c .unread2 .ensures .1 ∙ sym (none-read (a .text .now) (a .position) e _ (c .before .enum-told3 .given .1) tt))
 
 pub read-line-spec : {M : Type 1} → statement M
 read-line-spec =
     tie.close
     (tie.spec
+    (λ c. search needs)
+    (λ c. search needs)
+    read-into-requires
+    (λ c. search needs)
+    (λ c. search needs)
+    (λ c κs. search needs)
+    (λ c. search needs)
     (λ c κs. search needs)
     returns
     returns-2
-    (λ c κs. search needs)
-    returns-3
-    (λ c. search needs)
-    (λ c. search needs)
-    (λ c. search needs)
-    read-letter-requires
-    returns-4)
+    returns-3)

@@ -104,7 +104,7 @@ returns-3 c =
 
 define-requires : tie.Need-define-requires
 define-requires c κs =
-    let s = c .before .before .before .before .before .before .before .before .before .before .before .before .before .before .before .before .before .before .before .before .before .before .before .before .before .before .before .before in
+    let s = c .before .before .before .before .before .before .before .before .before .before .before .before .before .before .before .before .before .before .before .before .before .before .before .before .before .before .before .before .before in
     let l = s .pre .1 .1 in
     (s .pre .1 .0, (l .literals, some-number Body refl l, l .few))
 
@@ -112,7 +112,7 @@ returns-4 : tie.Need-returns-4
 returns-4 c =
     λ N ws p z stored T K.
     let d = c .before .before .before .before in
-    let e = d .before .before .before .before in
+    let e = d .before .before .before .before .before in
     let b = e .before .before .before .before .before in
     let m = b .before .before .before .before .before .before .before .before in
     let k = m .before .before .before .before .before in
@@ -121,7 +121,7 @@ returns-4 c =
     let u = not-false _ (e .if3 .left) in
     let q = sym (answer b N ws p z T) ∙ u in
     rw (introduced z T Body _ (s .pre .1 .1) refl refl (sym (k .before .all-marked .ensures) ∙ not-false _ (k .if1 .left)) f, q)
-    (kept-more K (s .args .origin) _ _ (d .define .result) (d .define .ensures .1 stored (K .holds)), rw (d .define .ensures .0) (body-tracks z T Body _ (s .pre .1 .1) refl f q (entered b N ws p z T u (unknown z T Body _ (s .pre .1 .1) refl f))))
+    (kept-more K (s .args .origin) _ _ _ _ (d .define .result) (d .define .ensures .1 stored (K .keeps)), rw (d .define .ensures .0) (body-tracks z T Body _ (s .pre .1 .1) refl f q (entered b N ws p z T u (unknown z T Body _ (s .pre .1 .1) refl f))))
 
 pub body-spec : {M : Type 1} → statement M
 body-spec =

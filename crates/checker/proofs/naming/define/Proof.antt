@@ -9,11 +9,11 @@ use Rattle.checker.proofs.naming.define.Tie as tie
 returns : tie.Need-returns
 returns c =
     let a = c .before .before .before in
-    let m = a .before .before .before .before .before in
+    let m = a .before .before .before .before .before .before in
     let v = m .before in
     let x = getD (v .before .before .before .before .args .numbers .now) 0 (pos 0) in (
       rw (v .variable-of .ensures, back x (v .before .variable-of-arg .given)) at (m .mark .ensures .marks),
-      λ b H. rw (c .fitted .ensures) (kept-fits _ _ (a .append .result) (a .append .ensures b H)),
+      λ b H. rw (c .fitted .ensures) (kept-fits _ _ _ (a .append .result) (a .append .ensures b H)),
     )
 
 pub define-spec : {M : Type 1} → statement M

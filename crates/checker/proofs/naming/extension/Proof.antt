@@ -39,7 +39,7 @@ returns-2 c =
 
 define-requires : tie.Need-define-requires
 define-requires c κs =
-    let s = c .before .before .before .before .before .before .before .before .before .before .before .before .before .before in
+    let s = c .before .before .before .before .before .before .before .before .before .before .before .before .before .before .before in
     let l = s .pre .1 in
     (s .pre .0, (l .literals, some-number Extension refl l, l .few))
 
@@ -47,12 +47,12 @@ returns-3 : tie.Need-returns-3
 returns-3 c =
     λ N ws names bodies z b T K.
     let d = c .before .before .before .before in
-    let m = d .before .before .before .before in
+    let m = d .before .before .before .before .before in
     let k = m .before .before .before .before .before in
     let s = k .before .before .before .before .before .before in
     let f = sym (named (m .before)) ∙ m .if2 .left in
     rw (introduced z T Extension _ (s .pre .1) refl refl (sym (k .before .all-marked .ensures) ∙ not-false _ (k .if1 .left)) f)
-    (kept-more K (s .args .origin) _ _ (d .define .result) (d .define .ensures .1 b (K .holds)), rw (d .define .ensures .0) (extension-tracks z T Extension _ (s .pre .1) refl f))
+    (kept-more K (s .args .origin) _ _ _ _ (d .define .result) (d .define .ensures .1 b (K .keeps)), rw (d .define .ensures .0) (extension-tracks z T Extension _ (s .pre .1) refl f))
 
 pub extension-spec : {M : Type 1} → statement M
 extension-spec =

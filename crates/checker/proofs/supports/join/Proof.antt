@@ -28,14 +28,14 @@ module _ (c : tie.After-sort) where
 
 append-requires : tie.Need-append-requires
 append-requires c κs =
-    let o = c .before .before .before in
+    let o = c .before .before .before .before in
     (s o .pre .0 .0, (s o .pre .0 .1, (added o .literals, omega (arith, added o .size, s o .pre .1 .2))))
 
 returns : tie.Need-returns
 returns c =
     let a = c .before .before in
-    let o = a .before .before .before .before in
-    λ b H. kept-one b (s o .args .origin) _ (a .append .result) (c .fitted .ensures) (added o .is) (a .append .ensures b H)
+    let o = a .before .before .before .before .before in
+    λ b H. kept-one b (s o .args .origin) _ _ _ (a .append .result) (c .fitted .ensures) (added o .is) (a .append .ensures b H)
 
 pub join-spec : {M : Type 1} → statement M
 join-spec =

@@ -22,18 +22,18 @@ returns-2 c =
 
 join-requires : tie.Need-join-requires
 join-requires c κs =
-    let s = c .before .before .before .before .before .before .before .before .before .before in
+    let s = c .before .before .before .before .before .before .before .before .before .before .before in
     let l = s .pre .1 .1 in
     (s .pre .1 .0, (l .literals, some-number Support refl l, l .few))
 
 returns-3 : tie.Need-returns-3
 returns-3 c =
     λ ws p z b T K.
-    let m = c .before .before .before .before .before in
+    let m = c .before .before .before .before .before .before in
     let k = m .before .before .before in
     let s = k .before .before .before .before .before in
     rw (cited z T Support _ (s .pre .1 .1) refl (sym (k .before .all-marked .ensures) ∙ not-false _ (k .if1 .left)), sym (m .before .is-supported .ensures ws p (s .args .known .now) z T) ∙ not-false _ (m .if2 .left))
-    (kept-more K (s .args .origin) _ _ (c .before .before .join .result) (c .before .before .join .ensures b (K .holds)), T)
+    (kept-more K (s .args .origin) _ _ _ _ (c .before .before .join .result) (c .before .before .join .ensures b (K .keeps)), T)
 
 pub support-spec : {M : Type 1} → statement M
 support-spec =

@@ -53,7 +53,7 @@ returns-2 c =
     let d = c .before .before in
     let s = d .before .before .before .before .before in
     λ ws p z b tracks K.
-    loop-atoms z tracks (s .args .origin) b _ (s .args .numbers .now) (s .pre .1 .1 .1) (sym (d .before .all-marked .ensures) ∙ not-false _ (d .if1 .left))
+    loop-atoms z tracks (s .args .origin) _ b _ _ (s .args .numbers .now) (s .pre .1 .1 .1) (sym (d .before .all-marked .ensures) ∙ not-false _ (d .if1 .left))
     (omega (arith, c .if2 .taken, c .before .largest-variable .ensures))
 
 is-loop-requires : tie.Need-is-loop-requires
@@ -68,7 +68,7 @@ returns-3 : tie.Need-returns-3
 returns-3 c =
     let e = c .before .before in
     λ ws p z b tracks K.
-    loop-not z tracks (s e .args .origin) b _ (U e) (line e) (known e) (low e) (rw (← p .holds .are) (looped (c .before) ∙ not-true _ (c .if3 .taken)))
+    loop-not z tracks (s e .args .origin) _ b _ _ (U e) (line e) (known e) (low e) (rw (← p .holds .are) (looped (c .before) ∙ not-true _ (c .if3 .taken)))
 
 returns-4 : tie.Need-returns-4
 returns-4 c =
@@ -77,7 +77,7 @@ returns-4 c =
     let f = m .before in
     let e = f .before .before in
     λ ws p z b tracks K.
-    loop-named z tracks (s e .args .origin) b _ (n .names-of .ensures ws (p .holds) _ (tracks .kept)) (U e) (line e) (known e) (low e)
+    loop-named z tracks (s e .args .origin) _ b _ _ (n .names-of .ensures ws (p .holds) _ (tracks .kept)) (U e) (line e) (known e) (low e)
     (rw (← p .holds .are) (looped (f .before) ∙ not-false _ (f .if3 .left))) (m .marks-of .ensures)
     (sym (c .before .is-marked .ensures) ∙ c .if4 .taken)
 
@@ -109,11 +109,11 @@ gives : (c : tie.After-gather)
 gives c = c .gather .ensures .1 ∙ ap (λ x. gathered (marked (names c .names-of .result)) x largest 1) (back (getD (U (tests c)) 0 (pos 0)) (c .before .before .before .gather-arg .given))
 
 slice-aggregate-append : tie.Need-slice-aggregate-append
-slice-aggregate-append c = sym (size (c .before .before .before))
+slice-aggregate-append c = sym (size (c .before .before .before .before))
 
 append-requires : tie.Need-append-requires
 append-requires c κs =
-    let d = c .before .before .before in
+    let d = c .before .before .before .before in
     let g = d .gather in
     let e = tests d in
     (s e .pre .1 .1 .0 .0, (s e .pre .1 .1 .0 .1, (subst Literals (sym (gives d)) (gathered-literals (marked (names d .names-of .result)) (getD (U e) 0 (pos 0)) largest 1 (omega arith) (omega arith)), omega (arith, size d, g .ensures .0))))
@@ -121,17 +121,17 @@ append-requires c κs =
 returns-5 : tie.Need-returns-5
 returns-5 c =
     let a = c .before .before in
-    let g = a .before .before .before .before in
+    let g = a .before .before .before .before .before in
     let d = g .before .before .before .before in
     let n = names g in
     let e = tests g in
     λ ws p z b tracks K.
-    loop-added z tracks (s e .args .origin) b _ (n .names-of .ensures ws (p .holds) _ (tracks .kept)) (U e) (line e) (known e) (low e)
+    loop-added z tracks (s e .args .origin) _ b _ _ (n .names-of .ensures ws (p .holds) _ (tracks .kept)) (U e) (line e) (known e) (low e)
     (rw (← p .holds .are) (looped (asked g .before) ∙ not-false _ (asked g .if3 .left))) (n .before .before .marks-of .ensures)
     (sym (d .before .is-marked .ensures) ∙ d .if4 .left)
     (p .high) (c .fitted .result)
-    (kept-more K (s e .args .origin) _ _ (c .fitted .result)
-    (kept-one b (s e .args .origin) _ (a .append .result) (c .fitted .ensures) (gives g) (a .append .ensures b (K .holds))))
+    (kept-more K (s e .args .origin) _ _ _ _ (c .fitted .result)
+    (kept-one b (s e .args .origin) _ _ _ (a .append .result) (c .fitted .ensures) (gives g) (a .append .ensures b (K .keeps))))
 
 pub loops-spec : {M : Type 1} → statement M
 loops-spec =

@@ -6,7 +6,8 @@ use lib.IntN.{ℤ, pos}
 use lib.ListN.{length, getD}
 use Rattle.words.proofs.Words.{back}
 use Rattle.nogoods.specs.Store.{headerSize}
-use Rattle.nogoods.specs.PropagateChains.{reach, Links, Below}
+use Rattle.nogoods.specs.Index.{reach}
+use Rattle.nogoods.specs.PropagateChains.{Links, Below}
 use Rattle.nogoods.proofs.Recorded.{literal-at}
 use Rattle.nogoods.proofs.Chains.{below-set, below-weaker, linked}
 use Rattle.nogoods.proofs.occurrences.enter.Statement.{statement}

@@ -6,7 +6,8 @@ use borrow.Author.Needs.{needs}
 use lib.ListN.{length, getD}
 use Rattle.words.specs.Limits.{entries}
 use Rattle.nogoods.specs.Propagate.{Grows}
-use Rattle.nogoods.specs.PropagateChains.{places, reach, Queue, Walks}
+use Rattle.nogoods.specs.Index.{reach}
+use Rattle.nogoods.specs.PropagateChains.{places, Queue, Walks}
 use Rattle.nogoods.specs.declared.occurrences.Walk.{Walk}
 use Rattle.nogoods.proofs.Closures.{grows-not, grows-on, clashes-before}
 use Rattle.nogoods.proofs.occurrences.run.Statement.{statement}

@@ -7,9 +7,10 @@ use borrow.Author.Needs.{needs}
 use lib.IntN.{ℤ}
 use lib.ListN.{length, getD}
 use Rattle.words.specs.Limits.{entries}
-use Rattle.nogoods.specs.Records.{nogoodAt, Stands, Readable}
-use Rattle.nogoods.specs.Propagate.{free, Derives, Grows}
-use Rattle.nogoods.specs.PropagateChains.{reach, Queue}
+use Rattle.nogoods.specs.Records.{Stands, Readable}
+use Rattle.nogoods.specs.Propagate.{free, DerivesAt, Grows}
+use Rattle.nogoods.specs.Index.{reach}
+use Rattle.nogoods.specs.PropagateChains.{Queue}
 use Rattle.nogoods.specs.declared.units.Derived.{Derived}
 use Rattle.nogoods.proofs.Recorded.{readable}
 use Rattle.nogoods.proofs.Closures.{grows-not, grows-on, clashes-before, conflicting, derived}
@@ -87,15 +88,16 @@ module _ (c : tie.After-derive-at Inv-loop μ-loop) where
   in-loop = c .before .before .before .before .before .before .before
 
   told : (x : Derived) → c .derive-at .result ≡ x
-      → Derives (nogoodAt (words in-loop) (r in-loop)) (in-loop .before .loop .assignment) (c .derive-at .last .1 .1 .0) x
+      → DerivesAt (words in-loop) (r in-loop) (in-loop .before .loop .assignment) (c .derive-at .last .1 .1 .0) x
   told x e = rw e at (c .derive-at .ensures)
 
 returns : tie.Need-returns Inv-loop μ-loop
 returns c =
     let o = c .before .before in
     let i = in-loop o in
+    let t = told o _ (c .enum-told .given .1) in
     clashes-before _ _ _ (i .before .loop .inv .1)
-    (conflicting _ (r i) (stands i) (read i .literals) (i .before .loop .assignment) (size i) (told o _ (c .enum-told .given .1)))
+    (conflicting _ (r i) (stands i) (t .0) (read i .literals) (i .before .loop .assignment) (size i) (t .1))
 
 -- the variable that became assigned
 module _ (c : tie.After-known-told Inv-loop μ-loop) where
@@ -109,7 +111,8 @@ module _ (c : tie.After-known-told Inv-loop μ-loop) where
       Grows (words i) m m′ × (suc (free m′) ≡ free m) × (1 ≤ v) × (v < entries)
   gave =
       let i = in-loop after in
-      derived _ (r i) (stands i) (read i .literals) (i .before .loop .assignment) (size i) _ v (told after _ (c .before .given .given .1))
+      let t = told after _ (c .before .given .given .1) in
+      derived _ (r i) (stands i) (t .0) (read i .literals) (i .before .loop .assignment) (size i) _ v (t .1)
 
   few : in-loop after .before .loop .t < entries
   few = omega (arith, gave .1, in-loop after .before .loop .inv .2 .room)

@@ -16,7 +16,7 @@ returns : tie.Need-returns
 returns c = rw (c .if1 .taken) at (c .before .saturate .ensures)
 
 -- what the counters gave
-grew : (c : tie.Else1) → let s = c .before .before .before in Grows (s .args .nogoods .now) (s .args .assignment .now) (c .before .saturate .last .1 .0)
+grew : (c : tie.Else1) → let s = c .before .before .before in Grows (s .args .nogoods .now) (s .args .assignment .now) (c .before .saturate .last .1 .1 .0)
 grew c = rw (c .if1 .left) at (c .before .saturate .ensures)
 
 settle-requires : tie.Need-settle-requires
@@ -24,7 +24,7 @@ settle-requires c κs = let s = c .before .before .before .before in (s .pre .0,
 
 -- what the sweeps gave
 told : (c : tie.After-settle) (x : Swept) → c .settle .result ≡ x → let a = c .before .before .before in
-    Settles (a .before .before .args .nogoods .now) (entries + 1) (a .saturate .last .1 .0) (c .settle .last .1 .1 .0) x
+    Settles (a .before .before .args .nogoods .now) (entries + 1) (a .saturate .last .1 .1 .0) (c .settle .last .1 .1 .1 .0) x
 told c x e = rw e at (c .settle .ensures)
 
 returns-2 : tie.Need-returns-2
@@ -38,7 +38,7 @@ returns-4 c =
     let o = c .before .before in
     let e = o .before .before in
     let s = e .before .before .before in
-    absurd (omega (arith, told o _ (c .enum-told3 .given .1) .1, free-most (e .before .saturate .last .1 .0), grew e .size, s .pre .1))
+    absurd (omega (arith, told o _ (c .enum-told3 .given .1) .1, free-most (e .before .saturate .last .1 .1 .0), grew e .size, s .pre .1))
 
 pub finish-spec : {M : Type 1} → statement M
 finish-spec =

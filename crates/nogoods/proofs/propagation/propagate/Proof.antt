@@ -8,7 +8,7 @@ use Rattle.nogoods.proofs.propagation.propagate.Statement.{statement}
 use Rattle.nogoods.proofs.propagation.propagate.Tie as tie
 
 told : (c : tie.After-settle) (x : Swept) → c .settle .result ≡ x → let s = c .before .before in
-    Settles (s .args .nogoods .now) 2 (s .args .assignment .now) (c .settle .last .1 .1 .0) x
+    Settles (s .args .nogoods .now) 2 (s .args .assignment .now) (c .settle .last .1 .1 .1 .0) x
 told c x e = rw e at (c .settle .ensures)
 
 finish-requires : tie.Need-finish-requires

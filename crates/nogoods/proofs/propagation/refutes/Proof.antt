@@ -33,21 +33,21 @@ module _ (s : List ℤ) (stored : List Stored) (enc : Encodes s stored) (L : Lis
 
 slice-aggregate-propagate : tie.Need-slice-aggregate-propagate
 slice-aggregate-propagate c =
-    let s = c .before .before in
-    sym (length-take-le (s .args .used) (s .args .store .now) (s .pre .0 .1 .fits))
+    let s = c .before .before .before in
+    sym (length-take-le (s .args .used) (s .args .store .now) (s .pre .0 .1 .holds .fits))
 
 propagate-requires : tie.Need-propagate-requires
 propagate-requires c κs =
     let a = c .before .before in
-    let p = a .before .pre .0 in
-    ((p .0, used-words _ _ (p .0) (p .1)), a .assigned .ensures .0)
+    let p = a .before .before .pre .0 in
+    ((p .0, used-words _ _ (p .0) (p .1 .holds), p .1 .indexed), a .assign .ensures .0)
 
 returns : tie.Need-returns
 returns c stored h =
     let a = c .before .before .before in
-    let s = a .before in
-    let e = a .assigned .ensures .1 in
-    answer _ stored (used-words (s .args .store .now) (s .args .used) stored h) (s .args .literals .now) (s .pre .1) _ _
+    let s = a .before .before in
+    let e = a .assign .ensures .1 in
+    answer _ stored (used-words (s .args .store .now) (s .args .used) stored (h .holds)) (s .args .literals .now) (s .pre .1) _ _
     (λ z. e z .0) (λ z. e z .1) (c .propagate .result) (c .propagate .ensures)
 
 pub refutes-spec : {M : Type 1} → statement M

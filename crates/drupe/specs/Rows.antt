@@ -1,0 +1,37 @@
+-- A line that is read into two lent rows: its numbers as written, and ascending by variable. What is read is `lineAt` of Lines.antt.
+-- Assumes nothing.
+use mathlib.Core.Path.{_≡_}
+use mathlib.Core.List.{List, [], _∷_, _++_}
+use Prim.Native.Nat.{ℕ}
+use lib.IntN.{ℤ, pos}
+use lib.ListN.{length, take}
+use lib.Seq.{sets}
+use Rattle.words.specs.Literals.{ascending}
+use Rattle.drupe.specs.Lines.{LineAt, end, refused, line, lineAt, lineAnswer, AnswerBounds}
+use Rattle.drupe.specs.declared.LineAnswer.{LineAnswer}
+
+-- "the numbers as written without the closing 0" at the front of the one row, and "ascending by variable" at that of the other. Where no
+-- line is answered nothing is said of the rows: what reads them is the check, which then ends.
+abbrev pub InRows : LineAt → (numbers sorted : List ℤ) → Type 0
+InRows end numbers sorted = Unit {0}
+InRows (refused k) numbers sorted = Unit {0}
+InRows (line x zs next) numbers sorted = (take (length zs) numbers ≡ zs) × (take (length zs) sorted ≡ ascending zs)
+
+-- The first row, all of it: the line's numbers and its closing 0 are written from the front on, as far as they fit, and nothing else is.
+abbrev pub Written : LineAt → (before numbers : List ℤ) → Type 0
+Written end before numbers = Unit {0}
+Written (refused k) before numbers = Unit {0}
+Written (line x zs next) before numbers = numbers ≡ sets before 0 (zs ++ (pos 0 ∷ []))
+
+-- What `read_into` answers of the position `at` of the text s, and leaves in the rows
+pub record ReadInto (s : List ℕ) (at : ℕ) (before numbers sorted : List ℤ) (r : LineAnswer) : Type 0 where
+  pub answer : r ≡ lineAnswer (lineAt s at)
+  pub rows : InRows (lineAt s at) numbers sorted
+  pub row : Written (lineAt s at) before numbers
+  pub within : AnswerBounds at (length s) r
+
+-- The same of what is read, for the functions of its parts
+pub record LineInto (l : LineAt) (before numbers sorted : List ℤ) (r : LineAnswer) : Type 0 where
+  pub answer : r ≡ lineAnswer l
+  pub rows : InRows l numbers sorted
+  pub row : Written l before numbers
