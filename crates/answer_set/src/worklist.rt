@@ -8,9 +8,9 @@ ghost use mathlib.Core.Path.{_≡_};
 ghost use mathlib.Core.Bool.{true};
 ghost use Prim.Native.Nat.{_<_, _≤_};
 ghost use lib.ListN.{length, replicate};
-ghost use Rattle.words.specs.Limits.{entries};
+ghost use Rattle.words.specs.Limits.{entries, mostRules};
 ghost use Rattle.aspif.specs.Rules.{atoms};
-ghost use Rattle.aspif.specs.Tables.{soundAt, rulesAt, soundRules, soundTable};
+ghost use Rattle.aspif.specs.Tables.{soundAt, rulesAt, soundTable};
 ghost use Rattle.marks.specs.Marks.{marked};
 ghost use Rattle.answer_set.specs.SetTest.{least};
 ghost use Rattle.answer_set.specs.Private.{RuleStarts, Given};
@@ -40,6 +40,7 @@ fn get(cells: &[u16; CELLS], i: usize) -> usize
     if i < CELLS { wide(cells[i]) } else { 0 }
 }
 
+// A cell's number.
 fn wide(x: u16) -> usize
     ensures { λ r. ⌜ r ≤ 65535 ⌝ }
 {
@@ -67,7 +68,7 @@ fn wait(word: i32, entry: usize, marks: &[u8], cells: &mut [u16; CELLS])
     }
 }
 
-// The place of the first literal from i on that does not hold.
+// The place of the first literal, from a place on, that does not hold; the body's length or more where all hold.
 fn open_from(body: &[i32], from: usize, inside: &[u8], marks: &[u8]) -> usize {
     let mut i = from;
     while i < body.len() {
@@ -87,7 +88,7 @@ fn plain_holds(
     marks: &[u8],
     cells: &mut [u16; CELLS],
 ) -> bool
-    requires { ⌜ rule < 1025 ⌝ }
+    requires { ⌜ rule ≤ mostRules ⌝ }
 {
     let i = open_from(body, get(cells, SEEN + rule), inside, marks);
     if i < body.len() {
@@ -100,7 +101,7 @@ fn plain_holds(
 
 // A rule with a weight body waits for each of its literals, once.
 fn wait_once(pairs: &[i32], rule: usize, marks: &[u8], cells: &mut [u16; CELLS])
-    requires { ⌜ rule < 1025 ⌝ }
+    requires { ⌜ rule ≤ mostRules ⌝ }
 {
     if get(cells, SEEN + rule) != 0 {
         return;
@@ -127,7 +128,7 @@ fn weights_hold(
     cells: &mut [u16; CELLS],
 ) -> bool
     requires { ⌜ soundAt (now words) ≡ true ⌝ }
-    requires { ⌜ rule < 1025 ⌝ }
+    requires { ⌜ rule ≤ mostRules ⌝ }
 {
     wait_once(tables::body_of(words), rule, marks, cells);
     if get(cells, SEEN + rule) == 2 {
@@ -149,7 +150,7 @@ fn is_ready(
     cells: &mut [u16; CELLS],
 ) -> bool
     requires { ⌜ soundAt (now words) ≡ true ⌝ }
-    requires { ⌜ rule < 1025 ⌝ }
+    requires { ⌜ rule ≤ mostRules ⌝ }
 {
     if tables::is_weighted(words) {
         return weights_hold(words, rule, inside, marks, cells);
@@ -250,7 +251,7 @@ fn starts_of(table: &[i32], rules: usize) -> [usize; STRIDE]
 
 // The rules, each once, as the work to begin with.
 fn link_all(rules: usize, cells: &mut [u16; CELLS])
-    requires { ⌜ rules ≤ 1024 ⌝ }
+    requires { ⌜ rules ≤ mostRules ⌝ }
 {
     let mut left = rules;
     while 0 < left {
@@ -269,7 +270,7 @@ fn work_off(
     cells: &mut [u16; CELLS],
 )
     requires { ⌜ RuleStarts (now table) rules (now starts) ⌝ }
-    requires { ⌜ rules ≤ 1024 ⌝ }
+    requires { ⌜ rules ≤ mostRules ⌝ }
     ensures { λ _. ⌜ Given (marked (now (inside .entry))) (rulesAt rules (now (table .entry))) (now (marks .entry)) (now (marks .exit)) ⌝ }
 {
     let mut entry = rules;
