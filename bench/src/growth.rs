@@ -120,9 +120,10 @@ fn drawn(rows: Vec<Row>) -> Result<Vec<Row>, String> {
         let point = |row: &Row| Some((row.live as f64, time(row)?));
         Series { class, label, points: rows.iter().filter_map(point).collect() }
     };
+    let compared = rows.iter().any(|row| row.before.is_some());
     let lines = [
         series("before", "verified, before", |row| row.before),
-        series("after", "verified, after", |row| Some(row.after)),
+        series("after", if compared { "verified, after" } else { "verified" }, |row| Some(row.after)),
         series("unverified", "unverified", |row| Some(row.unverified)),
     ];
     std::fs::write(PICTURE, picture::draw(&lines)).map_err(|error| format!("{PICTURE}: {error}"))?;
