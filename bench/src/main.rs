@@ -45,6 +45,7 @@ fn main() -> ExitCode {
     };
     let Some(failed) = failed else {
         eprintln!("usage: bench [--once | --slow | REPETITIONS | --beside OTHER [REPETITIONS] | --growth [OTHER [REPETITIONS]]]");
+        eprintln!("       bench --round | --growth-round");
         return ExitCode::from(2);
     };
     ExitCode::from(u8::from(failed > 0))

@@ -244,12 +244,14 @@ fn equals() -> Writing {
     Writing::completed(1).freely(|writing| while writing.refutes(&[1]) {})
 }
 
-/// The store full but for a few words, so that an addition takes what the deletion before it has left: the store is closed up at each.
+/// The store full but for a few words, so that an addition takes what the deletion before it has left: the store is closed up at each. It
+/// is filled with definitions of the same 61 atoms, which take few bytes.
 fn closing() -> Input {
-    let mut writing = Writing::completed(ATOMS);
-    defined_apart(&mut writing, 0);
-    writing.defines((ATOMS + 100..LARGEST).map(|name| Line::of(b'e', &[name])), nogood_words(1));
-    refuted("closing-up", ATOMS, &writing.pairs(&[1]))
+    let atoms = FIRST + MOST - 1;
+    let mut writing = Writing::completed(atoms);
+    let last = writing.defines((atoms + 2..).map(|name| Line::with(b'e', name, &(FIRST..=atoms).collect::<Vec<_>>())), SPARE);
+    writing.defines((last + 1..).map(|name| Line::of(b'e', &[name])), nogood_words(1));
+    refuted("closing-up", atoms, &writing.pairs(&[1]))
 }
 
 /// The store full of equal nogoods, and pairs of a deletion of the oldest and an addition: all words move at each.
