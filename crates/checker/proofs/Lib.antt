@@ -10,6 +10,7 @@ pub mod Kept
 pub mod Letters
 pub mod Gathering
 pub mod LoopSteps
+pub mod Arms
 pub mod Turns
 pub mod Courses
 pub mod Verdicts

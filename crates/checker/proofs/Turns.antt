@@ -1,15 +1,13 @@
--- One turn of the check: what the line at a position is.
+-- One turn of the check: a line that passed questions 22 to 25, and its step.
 -- Assumes nothing.
-use mathlib.Core.Path.{_≡_, refl, sym, _∙_, ap, subst}
+use mathlib.Core.Path.{_≡_, refl, _∙_, subst}
 use mathlib.Core.Bool.{Bool, true, false, cond, _||_, or-comm}
 use mathlib.Core.Option.{Option, none, some}
 use mathlib.Core.List.{List}
-use Prim.Native.Nat.{ℕ, _-_, _≤_}
-use native.Mathlib.Omega.{arith}
+use Prim.Native.Nat.{ℕ}
 use lib.Dec.{T, ltb}
 use lib.IntN.{ℤ, pos}
-use lib.ListN.{length, take, replicate, length-append}
-use lib.Seq.{take-append-seam}
+use lib.ListN.{length}
 use Rattle.words.proofs.Lists.{zero-one, or-false-right}
 use Rattle.words.specs.Lists.{_∈_}
 use Rattle.words.specs.Literals.{has, distinct}
@@ -19,10 +17,7 @@ use Rattle.text.specs.Line.{anyOutside}
 use Rattle.aspif.specs.Rules.{Rule}
 use Rattle.aspif.proofs.Readable.{inside}
 use Rattle.words.specs.Limits.{mostNumbers}
-use Rattle.drupe.specs.Lines.{signsOf, signed, lineRefusal, LineAt, end, line, lineAt, lineAnswer, numbersOf, ProofLineRead}
-use Rattle.drupe.specs.Lines as Lines
-use Rattle.drupe.specs.declared.LineAnswer.the-variants.{Line as Answered, End, Refused}
-use Rattle.drupe.specs.declared.LineReading.{LineReading}
+use Rattle.drupe.specs.Lines.{signsOf, signed, lineRefusal}
 use Rattle.drupe.proofs.Lines.{few}
 use Rattle.derivation.specs.States.{State}
 use Rattle.derivation.specs.Steps.{step, byLetter}
@@ -54,42 +49,3 @@ module _ (x : Letter) (zs : List ℤ) (asked : lineRefusal x zs ≡ none) (zero-
 
   pub step-is : (N : ℕ) (P : List Rule) (z : State) → step N P z (record { letter = x; numbers = zs }) ≡ byLetter N P z x zs
   step-is N P z = rw (zero-free, asked)
-
--- What was read
-
-module _ {s : List ℕ} {at : ℕ} {r : LineReading} (R : ProofLineRead s at r) where
-  pub read-end : r .answer ≡ End → lineAt s at ≡ end
-  read-end e = by (lineAt s at) refl (sym (R .answer) ∙ e)
-    where
-      by : (l : LineAt) → lineAt s at ≡ l → lineAnswer l ≡ End → lineAt s at ≡ end
-      by end q e = q
-      by (Lines.refused k) q e = absurd (zero-one (cc))
-      by (line x zs n) q e = absurd (zero-one (cc))
-
-  pub read-refused : (k : ℕ) → r .answer ≡ Refused k → lineAt s at ≡ Lines.refused k
-  read-refused k e = by (lineAt s at) refl (sym (R .answer) ∙ e)
-    where
-      by : (l : LineAt) → lineAt s at ≡ l → lineAnswer l ≡ Refused k → lineAt s at ≡ Lines.refused k
-      by end q e = absurd (zero-one (cc))
-      by (Lines.refused j) q e = q ∙ ap Lines.refused (cc)
-      by (line x zs n) q e = absurd (zero-one (cc))
-
-  pub read-line : (x : Letter) (count after : ℕ) → r .answer ≡ Answered x count after → lineAt s at ≡ line x (take count (r .numbers)) after
-  read-line x count after e = by (lineAt s at) refl (sym (R .answer) ∙ e) (R .numbers)
-    where
-      by : (l : LineAt) → lineAt s at ≡ l → lineAnswer l ≡ Answered x count after → r .numbers ≡ numbersOf l → lineAt s at ≡ line x (take count (r .numbers)) after
-      by end q e n = absurd (zero-one (cc))
-      by (Lines.refused j) q e n = absurd (zero-one (cc))
-      by (line y zs k) q e n =
-          let c : length zs ≡ count = cc in
-          let t : take count (r .numbers) ≡ zs = rw (n, ← c) (take-append-seam zs _) in
-          q ∙ rw t (cc)
-
-  -- the numbers are within the array
-  pub read-count : (x : Letter) (count after : ℕ) → r .answer ≡ Answered x count after → count ≤ length (r .numbers)
-  read-count x count after e = by (lineAt s at) (sym (R .answer) ∙ e) (R .numbers)
-    where
-      by : (l : LineAt) → lineAnswer l ≡ Answered x count after → r .numbers ≡ numbersOf l → count ≤ length (r .numbers)
-      by end e n = absurd (zero-one (cc))
-      by (Lines.refused j) e n = absurd (zero-one (cc))
-      by (line y zs k) e n = let c : length zs ≡ count = cc in rw n (omega (arith, length-append zs (replicate (mostNumbers - length zs) (pos 0))))

@@ -1,9 +1,11 @@
-// `a` and `d`: nogoods as a line gives them. Document 01, questions 26, 33 and 34. The origin is the number of the step, here and in
-// the functions of the other letters.
+// `a` and `d`: nogoods as a line gives them, which is lent as written and ascending. Document 01, questions 26, 33 and 34. The origin
+// is the number of the step, here and in the functions of the other letters.
+ghost use mathlib.Core.Path.{_≡_};
 ghost use mathlib.Core.List.{List};
 ghost use Prim.Native.Nat.{ℕ, _≤_};
 ghost use lib.IntN.{ℤ};
 ghost use Rattle.words.specs.Limits.{longest};
+ghost use Rattle.words.specs.Literals.{ascending};
 ghost use Rattle.aspif.specs.Rules.{InputRule};
 ghost use Rattle.text.specs.declared.Letter.the-variants.{Addition, Deletion};
 ghost use Rattle.nogoods.specs.Store.{Stored};
@@ -22,10 +24,12 @@ pub fn addition(
     used: usize,
     index: &mut [u16; INDEX],
     origin: usize,
-    numbers: &mut [i32],
+    numbers: &[i32],
+    sorted: &[i32],
 ) -> Stepped
     requires store { ⌜ ((stored : List Stored) × Keeps (now store) (now index) used stored) × ((1 ≤ origin) × (origin ≤ longest)) ⌝ }
     requires line { ⌜ PassedLine Addition (now numbers) ⌝ }
+    requires sorted { ⌜ now sorted ≡ ascending (now numbers) ⌝ }
     ensures { λ r. ⌜ ((N : ℕ) (ws : List InputRule) (names : List ℕ) (bodies : List ℤ)
         → Stepping N ws Addition (now (numbers .entry)) used origin (now (known .entry)) names bodies (now (store .entry)) (now (index .entry))
         (now (known .entry)) names bodies (now (store .exit)) (now (index .exit)) r) ⌝ }
@@ -36,8 +40,7 @@ pub fn addition(
     if !propagation::refutes(store, used, index, numbers) {
         return Stepped::Fails(33);
     }
-    words::sort(numbers);
-    outcomes::fitted(store::append(store, used, index, origin, numbers))
+    outcomes::fitted(store::append(store, used, index, origin, sorted))
 }
 
 // `d`: literals. The oldest live nogood that has just them is dead; where there is none, nothing changes.
@@ -46,10 +49,12 @@ pub fn deletion(
     store: &mut [i32],
     used: usize,
     index: &mut [u16; INDEX],
-    numbers: &mut [i32],
+    numbers: &[i32],
+    sorted: &[i32],
 ) -> Stepped
     requires store { ⌜ ((stored : List Stored) × Keeps (now store) (now index) used stored) ⌝ }
     requires line { ⌜ PassedLine Deletion (now numbers) ⌝ }
+    requires sorted { ⌜ now sorted ≡ ascending (now numbers) ⌝ }
     ensures { λ r. ⌜ ((N origin : ℕ) (ws : List InputRule) (names : List ℕ) (bodies : List ℤ)
         → Stepping N ws Deletion (now (numbers .entry)) used origin (now (known .entry)) names bodies (now (store .entry)) (now (index .entry))
         (now (known .entry)) names bodies (now (store .exit)) (now (index .exit)) r) ⌝ }
@@ -57,6 +62,5 @@ pub fn deletion(
     if !marks::all_marked(numbers, known) {
         return Stepped::Fails(26);
     }
-    words::sort(numbers);
-    Stepped::Uses(store::delete(store, used, index, numbers))
+    Stepped::Uses(store::delete(store, used, index, sorted))
 }

@@ -4,7 +4,8 @@ ghost use mathlib.Core.List.{List};
 ghost use Prim.Native.Nat.{_+_, _≤_};
 ghost use lib.IntN.{pos};
 ghost use lib.ListN.{length, replicate};
-ghost use Rattle.words.specs.Limits.{longest, mostRules};
+ghost use Rattle.words.specs.Limits.{longest, mostNumbers, mostRules};
+ghost use Rattle.text.specs.Classes.{byteClasses};
 ghost use Rattle.aspif.specs.Rules.{InputRule, expand};
 ghost use Rattle.aspif.specs.Tables.{rulesAt};
 ghost use Rattle.drupe.specs.Lines.{lineAt};
@@ -20,11 +21,11 @@ use crate::states::CheckingState;
 use crate::steps;
 use aspif::tables;
 use drupe::LineAnswer;
-use drupe::reader;
 use loops::relevance;
 use names::by_name;
 use nogoods::index::INDEX;
 use weights::MOST_WEIGHTED;
+use words::MOST_NUMBERS;
 use words::MOST_RULES;
 
 // An entry for each pair of the weight bodies of all rules.
@@ -53,10 +54,14 @@ fn turn_of(next: usize, stepped: Stepped) -> ProofTurn
     }
 }
 
-// The line at the position, and its step. The origin is the step's number, which is at most that of the bytes read.
+// The line at the position, read into the two rows, and its step. The origin is the step's number, which is at most that of the bytes
+// read.
 fn turn_at(
     proof: &[u8],
     at: usize,
+    classes: &[u8; 256],
+    numbers: &mut [i32],
+    sorted: &mut [i32],
     table: &[i32],
     rules: usize,
     relevant: &[u8],
@@ -73,6 +78,8 @@ fn turn_at(
     requires relevant { ⌜ Relevant (now relevant) (rulesAt rules (now table)) ⌝ }
     requires store { ⌜ ((stored : List Stored) × Keeps (now store) (now index) used stored) × ((1 ≤ origin) × (origin ≤ at + 1)) ⌝ }
     requires short { ⌜ length (now proof) ≤ longest ⌝ }
+    requires classes { ⌜ now classes ≡ byteClasses ⌝ }
+    requires rows { ⌜ (length (now numbers) ≡ mostNumbers) × (length (now sorted) ≡ mostNumbers) ⌝ }
     ensures { λ r. ⌜ ((ws : List InputRule) → Program (now (table .entry)) rules atoms ws
         → (z : State) (stored : List Stored)
         → Tracks atoms ws (now (known .entry)) (now (names .entry)) (now (bodies .entry)) (z .introduced) (z .named)
@@ -80,9 +87,7 @@ fn turn_at(
         → LineLeaves atoms ws (now (known .exit)) (now (names .exit)) (now (bodies .exit)) (now (store .exit)) (now (index .exit))
         used origin (length (now (store .entry))) z stored (lineAt (now (proof .entry)) at) r) ⌝ }
 {
-    let reading = reader::step_at(proof, at);
-    let answer = reading.answer;
-    let mut numbers = reading.numbers;
+    let answer = drupe::read_into(proof, at, classes, numbers, sorted);
     match answer {
         LineAnswer::End => ProofTurn::Ends,
         LineAnswer::Refused(number) => ProofTurn::Fails(number),
@@ -91,14 +96,14 @@ fn turn_at(
             count,
             next,
         } => {
-            let line = &mut numbers[..count];
             let stepped = steps::step(
                 table,
                 rules,
                 relevant,
                 atoms,
                 letter,
-                line,
+                &mut numbers[..count],
+                &sorted[..count],
                 known,
                 names,
                 bodies,
@@ -130,6 +135,9 @@ fn run_lines(
     ensures { λ r. ⌜ ((ws : List InputRule) → Program (now (table .entry)) rules atoms ws
         → Ran (now (store .exit)) (course atoms (expand ws) (length (now (store .entry))) (now (proof .entry))) r) ⌝ }
 {
+    let classes = text::CLASSES;
+    let mut numbers = [0; MOST_NUMBERS];
+    let mut sorted = [0; MOST_NUMBERS];
     let start = CheckingState::start(atoms);
     let mut known = start.known;
     let mut names = start.names;
@@ -142,6 +150,9 @@ fn run_lines(
         let turned = turn_at(
             proof,
             at,
+            &classes,
+            &mut numbers,
+            &mut sorted,
             table,
             rules,
             relevant,

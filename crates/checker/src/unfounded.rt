@@ -97,11 +97,5 @@ pub fn loops(
     }
     let mut row = [0i32; words::ENTRIES];
     let count = gather(numbers[0], &found, &mut row);
-    outcomes::fitted(store::append(
-        store,
-        used,
-        index,
-        origin,
-        &row[..count],
-    ))
+    outcomes::fitted(store::append(store, used, index, origin, &row[..count]))
 }

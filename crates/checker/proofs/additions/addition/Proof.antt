@@ -26,33 +26,31 @@ refutes-live K L e f = sym (e ∙ ap (λ l. refuted l L) (K .same)) ∙ f
 returns : tie.Need-returns
 returns c =
     λ N ws names bodies z b T K.
-    let s = c .before .before .before .before in
-    rw (cited z T Addition _ (s .pre .1) refl (sym (c .before .all-marked .ensures) ∙ not-true _ (c .if1 .taken))) refl
+    let s = c .before .before .before in
+    rw (cited z T Addition _ (s .pre .1 .0) refl (sym (c .before .all-marked .ensures) ∙ not-true _ (c .if1 .taken))) refl
 
 returns-2 : tie.Need-returns-2
 returns-2 c =
     λ N ws names bodies z b T K.
-    let k = c .before .before .before .before .before in
-    let s = k .before .before .before .before in
-    rw (cited z T Addition _ (s .pre .1) refl (sym (k .before .all-marked .ensures) ∙ not-false _ (k .if1 .left)), refutes-live K (s .args .numbers .now) (c .before .refutes .ensures b (K .keeps)) (not-true _ (c .if2 .taken))) refl
+    let k = c .before .before .before .before in
+    let s = k .before .before .before in
+    rw (cited z T Addition _ (s .pre .1 .0) refl (sym (k .before .all-marked .ensures) ∙ not-false _ (k .if1 .left)), refutes-live K (s .args .numbers .now) (c .before .refutes .ensures b (K .keeps)) (not-true _ (c .if2 .taken))) refl
 
 append-requires : tie.Need-append-requires
 append-requires c κs =
-    let o = c .before .before .before .before in
-    let s = o .before .before .before .before .before .before .before .before .before .before .before in
-    let l = s .pre .1 in
-    (s .pre .0 .0, (s .pre .0 .1, rw (o .sort .ensures, length-ascending) (literals-ascending _ (l .literals), omega (arith, l .few))))
+    let s = c .before .before .before .before .before .before .before .before .before in
+    let l = s .pre .1 .0 in
+    (s .pre .0 .0, (s .pre .0 .1, rw (s .pre .1 .1, length-ascending) (literals-ascending _ (l .literals), omega (arith, l .few))))
 
 returns-3 : tie.Need-returns-3
 returns-3 c =
     λ N ws names bodies z b T K.
-    let o = c .before .before .before .before .before .before .before in
-    let m = o .before .before in
-    let k = m .before .before .before .before .before in
-    let s = k .before .before .before .before in
-    rw (cited z T Addition _ (s .pre .1) refl (sym (k .before .all-marked .ensures) ∙ not-false _ (k .if1 .left)), refutes-live K (s .args .numbers .now) (m .before .refutes .ensures b (K .keeps)) (not-false _ (m .if2 .left))) (
+    let m = c .before .before .before .before .before in
+    let k = m .before .before .before .before in
+    let s = k .before .before .before in
+    rw (cited z T Addition _ (s .pre .1 .0) refl (sym (k .before .all-marked .ensures) ∙ not-false _ (k .if1 .left)), refutes-live K (s .args .numbers .now) (m .before .refutes .ensures b (K .keeps)) (not-false _ (m .if2 .left))) (
       kept-more K (s .args .origin) _ _ _ _ (c .fitted .result)
-          (kept-one b (s .args .origin) _ _ _ (c .before .before .append .result) (c .fitted .ensures) (o .sort .ensures) (c .before .before .append .ensures b (K .keeps))),
+          (kept-one b (s .args .origin) _ _ _ (c .before .before .append .result) (c .fitted .ensures) (s .pre .1 .1) (c .before .before .append .ensures b (K .keeps))),
       T,
     )
 
@@ -61,15 +59,11 @@ addition-spec =
     tie.close
     (tie.spec
     (λ c κs. search needs)
-    (λ c. search needs)
     returns
     (λ c κs. search needs)
     (λ c. search needs)
-    (λ c. search needs)
     returns-2
-    (λ c κs. search needs)
     append-requires
     (λ c κs. search needs)
-    (λ c. search needs)
     (λ c. search needs)
     returns-3)

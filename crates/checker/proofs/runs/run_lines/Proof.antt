@@ -2,10 +2,11 @@ use mathlib.Core.Path.{_≡_, refl, subst, _∙_}
 use mathlib.Core.List.{List, []}
 use Prim.Native.Nat.{ℕ, _+_, _-_, _<_}
 use native.Mathlib.Omega.{arith}
-use lib.IntN.{ℤ}
+use lib.IntN.{ℤ, pos}
 use lib.ListN.{length, length-replicate}
 use Rattle.aspif.specs.Rules.{InputRule}
-use Rattle.words.specs.Limits.{mostRules}
+use Rattle.words.specs.Limits.{mostNumbers, mostRules}
+use Rattle.text.specs.Classes.{byteClasses}
 use Rattle.drupe.specs.Lines.{lineAt}
 use Rattle.checker.specs.Held.{Program, LineLeaves}
 use Rattle.checker.proofs.Tracking.{same-rules, rules-held, start-tracks}
@@ -16,16 +17,17 @@ use Rattle.checker.proofs.runs.run_lines.Statement.{statement}
 use Rattle.checker.proofs.runs.run_lines.Tie as tie
 
 abbrev Inv-loop : tie.InvT-loop
-Inv-loop proof table rules relevant atoms bodies₀ store₀ known₀ names₀ index₀ used₀ at₀ steps₀ bodies store known names index used at steps =
+Inv-loop proof table rules relevant atoms bodies₀ store₀ classes numbers₀ sorted₀ known₀ names₀ index₀ used₀ at₀ steps₀ bodies store numbers sorted known names index used at steps =
     (ws : List InputRule) × Program table rules atoms ws × Going atoms ws (length store₀) proof store index known names bodies used at steps × (length bodies ≡ length bodies₀)
+    × (length numbers ≡ mostNumbers) × (length sorted ≡ mostNumbers)
 
 abbrev μ-loop : tie.MeasureT-loop
-μ-loop proof table rules relevant atoms bodies₀ store₀ known₀ names₀ index₀ used₀ at₀ steps₀ bodies store known names index used at steps = length proof - at
+μ-loop proof table rules relevant atoms bodies₀ store₀ classes numbers₀ sorted₀ known₀ names₀ index₀ used₀ at₀ steps₀ bodies store numbers sorted known names index used at steps = length proof - at
 
 -- where the loop stands, and what the turn there left
 module _ (c : tie.After-turn-at Inv-loop μ-loop) where
   abbrev l : tie.At-loop Inv-loop μ-loop
-  l = c .before .before .before .before .before .before
+  l = c .before .before .before .before .before .before .before .before .before
 
   abbrev start : tie.Start Inv-loop μ-loop
   start = l .before .before .before .before .before .before
@@ -34,19 +36,19 @@ module _ (c : tie.After-turn-at Inv-loop μ-loop) where
   ws = l .loop .inv .0
 
   abbrev store′ : List ℤ
-  store′ = c .turn-at .last .1 .1 .1 .1 .1 .1 .1 .1 .1 .0
+  store′ = c .turn-at .last .1 .1 .1 .1 .1 .1 .1 .1 .1 .1 .1 .1 .0
 
   abbrev index′ : List ℕ
-  index′ = c .turn-at .last .1 .1 .1 .1 .1 .1 .1 .1 .1 .1 .1 .0
+  index′ = c .turn-at .last .1 .1 .1 .1 .1 .1 .1 .1 .1 .1 .1 .1 .1 .1 .0
 
   abbrev known′ : List ℕ
-  known′ = c .turn-at .last .1 .1 .1 .1 .1 .1 .0
+  known′ = c .turn-at .last .1 .1 .1 .1 .1 .1 .1 .1 .1 .0
 
   abbrev names′ : List ℕ
-  names′ = c .turn-at .last .1 .1 .1 .1 .1 .1 .1 .0
+  names′ = c .turn-at .last .1 .1 .1 .1 .1 .1 .1 .1 .1 .1 .0
 
   abbrev bodies′ : List ℤ
-  bodies′ = c .turn-at .last .1 .1 .1 .1 .1 .1 .1 .1 .0
+  bodies′ = c .turn-at .last .1 .1 .1 .1 .1 .1 .1 .1 .1 .1 .1 .0
 
   G : Going (start .args .atoms) ws (length (start .args .store .now)) (start .args .proof .now) (l .loop .store) (l .loop .index) (l .loop .known) (l .loop .names) (l .loop .bodies) (l .loop .used) (l .loop .at) (l .loop .steps)
   G = l .loop .inv .2
@@ -58,7 +60,13 @@ module _ (c : tie.After-turn-at Inv-loop μ-loop) where
 
   -- as many words as were lent
   same-bodies : length bodies′ ≡ length (start .args .bodies .now)
-  same-bodies = c .turn-at .kept .1 .1 .1 .1 .1 .1 .1 .1 .0 ∙ l .loop .inv .3
+  same-bodies = c .turn-at .kept .1 .1 .1 .1 .1 .1 .1 .1 .1 .1 .1 .0 ∙ l .loop .inv .3
+
+  same-numbers : length (c .turn-at .last .1 .1 .1 .0) ≡ mostNumbers
+  same-numbers = c .turn-at .kept .1 .1 .1 .0 ∙ l .loop .inv .4
+
+  same-sorted : length (c .turn-at .last .1 .1 .1 .1 .0) ≡ mostNumbers
+  same-sorted = c .turn-at .kept .1 .1 .1 .1 .0 ∙ l .loop .inv .5
 
   -- every program that the table holds is the same
   same : {us : List InputRule} → Program (start .args .table .now) (start .args .rules) (start .args .atoms) us → us ≡ ws
@@ -72,7 +80,7 @@ loop-holds c =
     let s = c .before .before .start .ensures in
     let q = c .before .before .before .before .before .pre in
     let p = q .0 .0 .1 in
-    rw (s .1, s .2) (q .0 .0 .0, p, going-start _ _ _ _ (start-tracks (s .0) (omega (arith, q .0 .1, rules-held (p .holds))) (rw (← p .holds .are) (q .1 .1 .0))) (q .1 .1 .1 .1) refl (length-replicate {A = ℕ} mostRules 0) (indexed-zero []), refl)
+    rw (s .1, s .2) (q .0 .0 .0, p, going-start _ _ _ _ (start-tracks (s .0) (omega (arith, q .0 .1, rules-held (p .holds))) (rw (← p .holds .are) (q .1 .1 .0))) (q .1 .1 .1 .1) refl (length-replicate {A = ℕ} mostRules 0) (indexed-zero []), refl, length-replicate {A = ℤ} mostNumbers (pos 0), length-replicate {A = ℤ} mostNumbers (pos 0))
 
 -- the number of the next step
 add-step : tie.Need-add-step Inv-loop μ-loop
@@ -81,33 +89,40 @@ add-step c =
     let p = c .before .before .before .before .before .before .pre .1 .1 .1 .0 in
     search (needs, g .count, g .within, p)
 
+slice-aggregate-turn-at : tie.Need-slice-aggregate-turn-at Inv-loop μ-loop
+slice-aggregate-turn-at c = let p = c .before .before .loop .inv .4 in search needs
+
 slice-aggregate-turn-at-2 : tie.Need-slice-aggregate-turn-at-2 Inv-loop μ-loop
-slice-aggregate-turn-at-2 c = let p = c .before .before .loop .inv .2 .places in search needs
+slice-aggregate-turn-at-2 c = let p = c .before .before .before .loop .inv .5 in search needs
+
+slice-aggregate-turn-at-4 : tie.Need-slice-aggregate-turn-at-4 Inv-loop μ-loop
+slice-aggregate-turn-at-4 c = let p = c .before .before .before .before .before .loop .inv .2 .places in search needs
 
 turn-at-requires : tie.Need-turn-at-requires Inv-loop μ-loop
+unfolding byteClasses
 turn-at-requires c κs =
-    let i = c .before .before .before .before .before .loop .inv in
-    let p = c .before .before .before .before .before .before .before .before .before .before .before .pre in
-    ((p .0 .0, omega (arith, p .0 .1, i .2 .places)), (p .1 .0, (((i .2 .stored, i .2 .keeps .keeps), omega (arith, i .2 .count)), p .1 .1 .1 .0)))
+    let i = c .before .before .before .before .before .before .before .before .loop .inv in
+    let p = c .before .before .before .before .before .before .before .before .before .before .before .before .before .before .pre in
+    ((p .0 .0, omega (arith, p .0 .1, i .2 .places)), (p .1 .0, (((i .2 .stored, i .2 .keeps .keeps), omega (arith, i .2 .count)), (p .1 .1 .1 .0, (refl, (i .4, i .5))))))
 
 enum-told : tie.Need-enum-told Inv-loop μ-loop
 enum-told c = search needs
 
 returns : tie.Need-returns Inv-loop μ-loop
 returns c =
-    let t = c .before .before .before .before .before .before in
+    let t = c .before .before .before .before .before .before .before .before in
     λ Q q. rw (same t q) (going-ends _ _ _ _ (start t .pre .1 .1 .1 .0) (G t) (store′ t) (index′ t) (known′ t) (names′ t) (bodies′ t) (search needs) (search needs) (c .enum-told .given .1) (turned t))
 
 returns-2 : tie.Need-returns-2 Inv-loop μ-loop
 returns-2 c =
-    let t = c .before .before .before .before .before .before .before in
+    let t = c .before .before .before .before .before .before .before .before .before in
     λ Q q. rw (same t q) (going-fails _ _ _ _ (start t .pre .1 .1 .1 .0) (G t) (store′ t) (index′ t) (known′ t) (names′ t) (bodies′ t) (search needs) (search needs) _ (c .before .turned .given .1) (turned t))
 
 onward : (c : tie.After-known-told2 Inv-loop μ-loop)
-    → (let t = c .before .before .before .before .before .before .before in let g = c .before .turned2 .given .0 in
+    → (let t = c .before .before .before .before .before .before .before .before .before in let g = c .before .turned2 .given .0 in
     Going (start t .args .atoms) (ws t) (length (start t .args .store .now)) (start t .args .proof .now) (store′ t) (index′ t) (known′ t) (names′ t) (bodies′ t) (g .1 .0) (g .0) (l t .loop .steps + 1) × (l t .loop .at < g .0))
 onward c =
-    let t = c .before .before .before .before .before .before .before in
+    let t = c .before .before .before .before .before .before .before .before .before in
     going-on _ _ _ _ (start t .pre .1 .1 .1 .0) (G t) (store′ t) (index′ t) (known′ t) (names′ t) (bodies′ t) (search needs) (search needs) _ _ (c .before .turned2 .given .1) (turned t)
 
 loop-less : tie.Need-loop-less Inv-loop μ-loop
@@ -115,9 +130,9 @@ loop-less c = let o = onward c in omega (arith, o .0 .within, o .1)
 
 loop-again : tie.Need-loop-again Inv-loop μ-loop
 loop-again c =
-    let t = c .before .before .before .before .before .before .before in
+    let t = c .before .before .before .before .before .before .before .before .before in
     let i = l t .loop .inv in
-    (i .0, i .1, onward c .0, same-bodies t)
+    (i .0, i .1, onward c .0, same-bodies t, same-numbers t, same-sorted t)
 
 pub run-lines-spec : {M : Type 1} → statement M
 run-lines-spec =
@@ -128,15 +143,17 @@ run-lines-spec =
     start-requires
     loop-holds
     add-step
-    (λ c. search needs)
+    slice-aggregate-turn-at
     slice-aggregate-turn-at-2
+    (λ c. search needs)
+    slice-aggregate-turn-at-4
     turn-at-requires
     enum-told
-    (λ c. same-bodies (c .before .before .before .before .before .before))
+    (λ c. same-bodies (c .before .before .before .before .before .before .before .before))
     (λ c. search needs)
     returns
     (λ c. search needs)
-    (λ c. same-bodies (c .before .before .before .before .before .before .before))
+    (λ c. same-bodies (c .before .before .before .before .before .before .before .before .before))
     (λ c. search needs)
     returns-2
     (λ c. search needs)
