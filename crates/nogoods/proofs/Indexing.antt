@@ -7,12 +7,13 @@ use mathlib.Core.List.{List, [], _∷_, _++_, append-assoc, append-nil, List·Me
 use Prim.Native.Nat.{ℕ, zero, suc, _+_, _-_, _≤_, _<_}
 use native.Mathlib.Omega.{arith}
 use lib.IntN.{ℤ}
-use lib.ListN.{length, take, drop, getD, set, length-append, length-set, length-drop}
+use lib.ListN.{length, take, drop, getD, set, length-append, length-set, length-drop, replicate}
 use lib.Seq.{getD-set-same, getD-set-other, getD-take}
 use borrow.Rule.Slice.PartMut.{putMid}
 use Rattle.words.specs.Lists.{_∈_}
 use Rattle.words.specs.Descending.{Descends, Leads, Changed}
 use Rattle.words.proofs.Descending.{fewer, same-places, same-entries, entered, unlinked-first, unlinked-next, changed, unchanged}
+use Rattle.words.proofs.Laws.{padded}
 use Rattle.words.proofs.Lists.{if-true, concat-append}
 use Rattle.words.proofs.Literals.{sameList-decides}
 use Rattle.words.proofs.Parts.{tail-of, before-put, length-put}
@@ -201,10 +202,7 @@ key-changed index h v b k c = elim (equal? k h) [
 
 -- An index of zeros, and more that is stored
 
-none-placed : (x : ℕ) (e : Stored) → Placed 0 [] x e → ⊥
-none-placed x e p = p
-
-pub covers-none : {index : List ℕ} → Blank index → (r : ℕ) → r ≡ 0 → (stored : List Stored) → Covers index r stored
+covers-none : {index : List ℕ} → Blank index → (r : ℕ) → r ≡ 0 → (stored : List Stored) → Covers index r stored
 covers-none {index} b r z stored = record {
   front = [];
   back = stored;
@@ -221,6 +219,14 @@ covers-none {index} b r z stored = record {
     next = λ y k p (e, q, h) n. absurd q;
   };
 }
+
+-- so that they go with any store
+pub keeps-blank : {store : List ℤ} {index : List ℕ} {used : ℕ} {stored : List Stored} → Holds store used stored → length index ≡ indexSize → Blank index
+    → Keeps store index used stored
+keeps-blank {stored = stored} H n b = record { holds = H; size = n; covers = covers-none b _ (b coveredAt) stored }
+
+pub blank-zeros : (n : ℕ) → Blank (replicate n 0)
+blank-zeros n j = padded 0 [] n j
 
 pub covers-more : {index : List ℕ} {r : ℕ} {stored : List Stored} (new : List Stored) → Covers index r stored → Covers index r (stored ++ new)
 covers-more new C = record {

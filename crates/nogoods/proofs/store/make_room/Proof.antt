@@ -1,9 +1,7 @@
 -- All is kept; or the index is blank, and the store closed up.
 use mathlib.Core.Path.{_∙_}
-use Rattle.nogoods.specs.Store.{closed}
-use Rattle.nogoods.specs.Index.{coveredAt}
 use Rattle.nogoods.proofs.Stored.{kept-all, kept-live}
-use Rattle.nogoods.proofs.Indexing.{covers-none}
+use Rattle.nogoods.proofs.Indexing.{keeps-blank}
 use native.Mathlib.Omega.{arith}
 use borrow.Author.Needs.{needs}
 use Rattle.nogoods.proofs.store.make_room.Statement.{statement}
@@ -18,11 +16,7 @@ returns-2 c =
     let k = c .before .before .before .before .before in
     let e = k .before .before in
     rw (kept-live (K .holds) (e .before .before .args .size) (omega (arith, e .if1 .left)))
-    (record {
-      holds = c .before .close .ensures stored (K .holds);
-      size = k .clear .kept .0 ∙ K .size;
-      covers = covers-none (k .clear .ensures) _ (k .clear .ensures coveredAt) (closed stored);
-    })
+    (keeps-blank (c .before .close .ensures stored (K .holds)) (k .clear .kept .0 ∙ K .size) (k .clear .ensures))
 
 pub make-room-spec : {M : Type 1} → statement M
 make-room-spec =
