@@ -147,7 +147,7 @@ fn run_lines(
     let mut steps = 0;
     loop {
         let step = steps + 1;
-        let turned = turn_at(
+        match turn_at(
             proof,
             at,
             &classes,
@@ -164,8 +164,7 @@ fn run_lines(
             used,
             &mut index,
             step,
-        );
-        match turned {
+        ) {
             ProofTurn::Ends => return Run::Through { steps, used },
             ProofTurn::Fails(number) => return Run::Stopped(ProofRefusal { number, step }),
             ProofTurn::Goes { next, used: n } => {
