@@ -209,13 +209,13 @@ covers-none {index} b r z stored = record {
   parts = refl;
   extent = z;
   near = omega arith;
-  marks = λ x h m. absurd (omega (arith, b (keys + x)));
+  marks = λ x h m. absurd (omega (arith, b (keys + x) (omega arith)));
   chains = record {
     member = λ x k (e, p, h, a). absurd p;
     within = λ x k (e, p, h). absurd p;
     top = λ x k (e, p, h, a). absurd p;
     down = λ x y k (e, p, h, a) s l. absurd p;
-    first = λ k p h e. absurd (omega (arith, b k));
+    first = λ k p h e. absurd (omega (arith, b k (omega arith)));
     next = λ y k p (e, q, h) n. absurd q;
   };
 }
@@ -223,10 +223,10 @@ covers-none {index} b r z stored = record {
 -- so that they go with any store
 pub keeps-blank : {store : List ℤ} {index : List ℕ} {used : ℕ} {stored : List Stored} → Holds store used stored → length index ≡ indexSize → Blank index
     → Keeps store index used stored
-keeps-blank {stored = stored} H n b = record { holds = H; size = n; covers = covers-none b _ (b coveredAt) stored }
+keeps-blank {stored = stored} H n b = record { holds = H; size = n; covers = covers-none b _ (b coveredAt (omega arith)) stored }
 
 pub blank-zeros : (n : ℕ) → Blank (replicate n 0)
-blank-zeros n j = padded 0 [] n j
+blank-zeros n j h = padded 0 [] n j
 
 pub covers-more : {index : List ℕ} {r : ℕ} {stored : List Stored} (new : List Stored) → Covers index r stored → Covers index r (stored ++ new)
 covers-more new C = record {

@@ -100,9 +100,9 @@ pub record Unlinked (index index′ : List ℕ) (h x over : ℕ) : Type 0 where
   pub atStart : over ≡ 0 → index′ ≡ set index h (beforeOf index x)
   pub atPlace : (y : ℕ) → over ≡ suc y → index′ ≡ set index (keys + y) (getD index (keys + x) 0)
 
--- all cells are 0
+-- all cells before the search's are 0
 abbrev pub Blank : List ℕ → Type 0
-Blank index = (j : ℕ) → getD index j 0 ≡ 0
+Blank index = (j : ℕ) → j < provedCells → getD index j 0 ≡ 0
 
 -- a live nogood with the literals starts at x
 abbrev pub Target : List Stored → List ℤ → ℕ → Type 0

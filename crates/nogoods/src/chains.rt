@@ -156,12 +156,13 @@ pub fn unlink(index: &mut [u16], h: usize, x: usize, over: usize)
     }
 }
 
-// Every cell becomes 0.
+// Every cell before the search's becomes 0.
 pub fn clear(index: &mut [u16])
+    requires { ⌜ length (now index) ≡ indexSize ⌝ }
     ensures { λ _. ⌜ Blank (now (index .exit)) ⌝ }
 {
     let mut i = 0;
-    while i < index.len() {
+    while i < PROVED {
         index[i] = 0;
         i += 1;
     }

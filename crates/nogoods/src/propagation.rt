@@ -4,7 +4,7 @@ ghost use mathlib.Core.Path.{_≡_};
 ghost use mathlib.Core.Logic.{_↔_};
 ghost use mathlib.Core.List.{List};
 ghost use lib.IntN.{ℤ};
-ghost use lib.ListN.{length};
+ghost use lib.ListN.{length, replicate};
 ghost use Rattle.words.specs.Lists.{_∈_};
 ghost use Rattle.derivation.specs.Propagation.{refuted};
 ghost use Rattle.nogoods.specs.Keeps.{Literals};
@@ -56,19 +56,18 @@ fn sweep(nogoods: &[i32], assignment: &mut [u8; ENTRIES]) -> Swept
     Swept::Same
 }
 
-// The assignment that makes just the literals true.
-fn assigned(literals: &[i32]) -> [u8; ENTRIES]
-    requires { ⌜ Literals (now literals) ⌝ }
-    ensures size { λ m. ⌜ length m ≡ entries ⌝ }
-    ensures literals { λ m. ⌜ ((z : ℤ) → (Assigns m z) ↔ (z ∈ now (literals .entry))) ⌝ }
+// Of variables that are all free, just the literals become true.
+fn assign(literals: &[i32], assignment: &mut [u8; ENTRIES])
+    requires literals { ⌜ Literals (now literals) ⌝ }
+    requires free { ⌜ now assignment ≡ replicate entries 0 ⌝ }
+    ensures size { λ _. ⌜ length (now (assignment .exit)) ≡ entries ⌝ }
+    ensures literals { λ _. ⌜ ((z : ℤ) → (Assigns (now (assignment .exit)) z) ↔ (z ∈ now (literals .entry))) ⌝ }
 {
-    let mut assignment = [0u8; ENTRIES];
     let mut i = 0;
     while i < literals.len() {
-        units::make_true(literals[i], &mut assignment);
+        units::make_true(literals[i], assignment);
         i += 1;
     }
-    assignment
 }
 
 // Sweeps until nothing changes, at most so many.
@@ -123,7 +122,8 @@ fn decide(store: &[i32], used: usize, index: &mut [u16], literals: &[i32]) -> bo
 {
     chains::cover(store, used, index);
     search::run(store, literals, &mut index[PROVED..]);
-    let mut assignment = assigned(literals);
+    let mut assignment = [0u8; ENTRIES];
+    assign(literals, &mut assignment);
     propagate(&store[..used], index, &mut assignment)
 }
 

@@ -101,6 +101,7 @@ pub fn make_room(store: &mut [i32], used: usize, index: &mut [u16], size: usize)
         return used;
     }
     chains::clear(index);
+    search::reset(&mut index[PROVED..]);
     close(store, used)
 }
 

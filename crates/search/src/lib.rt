@@ -29,7 +29,7 @@ const REASON: usize = 73728;
 
 const BLOCKS: usize = 81920;
 
-// How many are true; how many of them were propagated; a nogood that the root violates; where the path begins.
+// How many are true; how many of them were propagated; a nogood that the root violates, and whether the path leads to it; where the path begins.
 const COUNT: usize = 82048;
 
 const DONE: usize = 82049;
@@ -46,6 +46,15 @@ const NEEDED: usize = 32768;
 
 // As many literals in their order are counted together.
 const BLOCK: usize = 64;
+
+// A nogood of so many literals is looked through from its front.
+const SHORT: usize = 64;
+
+// So many literals that are true without any assumption are few.
+const FEW: usize = 64;
+
+// What is added to the nogood that the root violates where the path leads to it.
+const LED: usize = 32768;
 
 // What a walk along one chain gave: a nogood that is violated, and how many literals are true; or only that.
 enum Visited {
@@ -163,9 +172,68 @@ fn open_from(store: &[i32], cells: &[u16], j: usize, end: usize, other: usize) -
     end
 }
 
-// What becomes of the watch w of the nogood at x.
-fn look(store: &[i32], cells: &[u16], x: usize, w: usize) -> Turn
-    requires { ⌜ (x ≤ 65535) × (w ≤ 1) ⌝ }
+// The variable of a code.
+fn variable(c: usize) -> usize {
+    if c < 8192 { c } else { c - 8192 }
+}
+
+// The place of a variable among literals from one place to another, which ascend by variable; else the place of the next one.
+fn place_of(store: &[i32], from: usize, end: usize, v: usize) -> usize
+    requires { ⌜ end ≤ 200000 ⌝ }
+    ensures { λ r. ⌜ r ≤ end ⌝ }
+{
+    let mut low = from;
+    let mut high = end;
+    while low < high {
+        let middle = low + (high - low) / 2;
+        if words::variable_of(words::word_at(store, middle)) < v {
+            low = middle + 1;
+        } else {
+            high = middle;
+        }
+    }
+    high
+}
+
+// The same in a long nogood, from the literal c on and round to the front: what was passed over before is not read again.
+fn open_around(
+    store: &[i32],
+    cells: &[u16],
+    from: usize,
+    end: usize,
+    c: usize,
+    other: usize,
+) -> usize
+    requires { ⌜ end ≤ 200000 ⌝ }
+    ensures { λ r. ⌜ r ≤ end ⌝ }
+{
+    let middle = place_of(store, from, end, variable(c));
+    let later = open_from(store, cells, middle, end, other);
+    if later < end {
+        return later;
+    }
+    let earlier = open_from(store, cells, from, middle, other);
+    if earlier < middle { earlier } else { end }
+}
+
+// The place of a literal of a nogood that is not true, other than one given; else the end. Of two literals both are watched.
+fn open_in(store: &[i32], cells: &[u16], from: usize, end: usize, c: usize, other: usize) -> usize
+    requires { ⌜ (from ≤ 65537) × (end ≤ 200000) ⌝ }
+    ensures { λ r. ⌜ r ≤ end ⌝ }
+{
+    if end == from + 2 {
+        return end;
+    }
+    if end <= from + SHORT {
+        open_from(store, cells, from, end, other)
+    } else {
+        open_around(store, cells, from, end, c, other)
+    }
+}
+
+// What becomes of the watch w of the nogood at x, which is on the literal c.
+fn look(store: &[i32], cells: &[u16], x: usize, w: usize, c: usize) -> Turn
+    requires { ⌜ (x ≤ 65535) × (w ≤ 1) × (c ≤ 65535) ⌝ }
     ensures { λ r. ⌜ SmallTurn r ⌝ }
 {
     let other = get(cells, WATCHED + x + 1 - w);
@@ -176,7 +244,7 @@ fn look(store: &[i32], cells: &[u16], x: usize, w: usize) -> Turn
         return Turn::Goes;
     }
     let end = end_of(store, x);
-    let j = open_from(store, cells, x + 2, end, other);
+    let j = open_in(store, cells, x + 2, end, c, other);
     if j < end {
         return Turn::Moves(code_of(words::word_at(store, j)));
     }
@@ -215,7 +283,7 @@ fn visit(store: &[i32], cells: &mut [u16], c: usize, start: usize) -> Visited
         let x = (here - 1) / 2;
         let w = (here - 1) % 2;
         node = get(cells, LINK + x + w);
-        let turn = look(store, cells, x, w);
+        let turn = look(store, cells, x, w, c);
         match turn {
             Turn::Stays => {
                 last = here;
@@ -398,8 +466,10 @@ fn gather(store: &[i32], cells: &mut [u16], start: usize) -> usize
 }
 
 // All nogoods that gave a literal go to the front of the path.
-fn gather_all(cells: &mut [u16]) -> usize {
-    let mut first = MOST;
+fn gather_all(cells: &mut [u16], start: usize) -> usize
+    requires { ⌜ start ≤ 8192 ⌝ }
+{
+    let mut first = start;
     let mut i = count(cells);
     while 0 < i {
         i -= 1;
@@ -411,13 +481,41 @@ fn gather_all(cells: &mut [u16]) -> usize {
     first
 }
 
-// The path to a nogood that is violated. Where it begins.
-fn lead(store: &[i32], cells: &mut [u16], last: usize) -> usize
-    requires { ⌜ (1 ≤ last) × (last ≤ 65535) ⌝ }
+// So few literals of all are true without any assumption that it costs less to replay all than to tell which are needed; and all have room.
+fn is_small(cells: &[u16], mark: usize) -> bool
+    requires { ⌜ mark ≤ 8192 ⌝ }
 {
-    need_all(store, cells, last - 1);
+    let n = count(cells);
+    if MOST <= 2 * n {
+        return false;
+    }
+    if mark <= FEW {
+        return true;
+    }
+    4 * mark <= n
+}
+
+// The path to a nogood that is violated. Where it begins.
+fn lead(store: &[i32], cells: &mut [u16], mark: usize, last: usize) -> usize
+    requires { ⌜ (mark ≤ 8192) × (1 ≤ last) × (last ≤ 65535) ⌝ }
+{
     let first = prepend(cells, MOST, last - 1);
+    if is_small(cells, mark) {
+        return gather_all(cells, first);
+    }
+    need_all(store, cells, last - 1);
     gather(store, cells, first)
+}
+
+// The path to a literal that is true and was to be false. Where it begins.
+fn contradict(store: &[i32], cells: &mut [u16], mark: usize, c: usize) -> usize
+    requires { ⌜ (mark ≤ 8192) × (c ≤ 65535) ⌝ }
+{
+    if is_small(cells, mark) {
+        return gather_all(cells, MOST);
+    }
+    need(cells, c);
+    gather(store, cells, MOST)
 }
 
 // The literal of code 0 is true.
@@ -428,11 +526,27 @@ fn ready(cells: &mut [u16]) {
     }
 }
 
+// The nogood that the root violates, one more than its place, or 0.
+fn hint_of(cells: &[u16]) -> usize
+    ensures { λ r. ⌜ r ≤ 65535 ⌝ }
+{
+    let hint = get(cells, HINT);
+    if hint < LED { hint } else { hint - LED }
+}
+
+// The path leads to the nogood that the root violates, and no literal was written over it.
+fn is_led(cells: &[u16]) -> bool {
+    if get(cells, HINT) < LED {
+        return false;
+    }
+    count(cells) <= get(cells, FIRST)
+}
+
 // A nogood that is violated without any assumption.
 fn root(store: &[i32], cells: &mut [u16]) -> usize
     ensures { λ r. ⌜ r ≤ 65535 ⌝ }
 {
-    let hint = get(cells, HINT);
+    let hint = hint_of(cells);
     if 0 < hint {
         return hint;
     }
@@ -442,36 +556,41 @@ fn root(store: &[i32], cells: &mut [u16]) -> usize
 }
 
 // The literals are true, and what follows. The path to a nogood that is violated, or to a literal that is true and false; else all that was found.
-fn pursue(store: &[i32], literals: &[i32], cells: &mut [u16]) -> usize {
+fn pursue(store: &[i32], literals: &[i32], cells: &mut [u16], mark: usize) -> usize
+    requires { ⌜ mark ≤ 8192 ⌝ }
+{
     let against = assume(literals, cells);
     if 0 < against {
-        need(cells, against);
-        return gather(store, cells, MOST);
+        return contradict(store, cells, mark, against);
     }
     let last = propagate(store, cells);
     if 0 < last {
-        return lead(store, cells, last);
+        return lead(store, cells, mark, last);
     }
-    gather_all(cells)
+    gather_all(cells, MOST)
 }
 
 // A path: to a nogood that is violated without any assumption, if there is one.
-fn find(store: &[i32], literals: &[i32], cells: &mut [u16], last: usize) -> usize
-    requires { ⌜ last ≤ 65535 ⌝ }
+fn find(store: &[i32], literals: &[i32], cells: &mut [u16], mark: usize, last: usize) -> usize
+    requires { ⌜ (mark ≤ 8192) × (last ≤ 65535) ⌝ }
 {
     if 0 < last {
-        lead(store, cells, last)
+        put(cells, HINT, last + LED);
+        lead(store, cells, mark, last)
     } else {
-        pursue(store, literals, cells)
+        pursue(store, literals, cells, mark)
     }
 }
 
-// One search for a conflict that the literals lead to. It leaves a path.
+// One search for a conflict that the literals lead to. It leaves a path; one that leads to a conflict without any assumption stays.
 pub fn run(store: &[i32], literals: &[i32], cells: &mut [u16]) {
     ready(cells);
+    if is_led(cells) {
+        return;
+    }
     let last = root(store, cells);
     let mark = count(cells);
-    let first = find(store, literals, cells, last);
+    let first = find(store, literals, cells, mark, last);
     put(cells, FIRST, first);
     undo(cells, mark);
 }
@@ -548,7 +667,7 @@ fn withdraw(cells: &mut [u16], x: usize, c: usize) -> bool
 fn unhint(cells: &mut [u16], x: usize)
     requires { ⌜ x ≤ 65535 ⌝ }
 {
-    if get(cells, HINT) == x + 1 {
+    if hint_of(cells) == x + 1 {
         put(cells, HINT, 0);
         put(cells, DONE, 0);
     }
@@ -560,6 +679,9 @@ pub fn forget(store: &[i32], x: usize, cells: &mut [u16]) {
         return;
     }
     unhint(cells, x);
+    if count(cells) <= 1 {
+        return;
+    }
     let end = end_of(store, x);
     let mut j = x + 2;
     while j < end {
@@ -568,5 +690,23 @@ pub fn forget(store: &[i32], x: usize, cells: &mut [u16]) {
         if withdraw(cells, x, c) {
             return;
         }
+    }
+}
+
+// The cells become 0.
+fn clear(cells: &mut [u16]) {
+    let mut i = 0;
+    while i < cells.len() {
+        cells[i] = 0;
+        i += 1;
+    }
+}
+
+// A new start: no literal is true and none is watched. The other cells are written before they are read.
+pub fn reset(cells: &mut [u16]) {
+    undo(cells, 0);
+    put(cells, HINT, 0);
+    if LINK <= cells.len() {
+        clear(&mut cells[..LINK]);
     }
 }

@@ -6,10 +6,10 @@ use Rattle.search.proofs.gather_all.Statement.{statement}
 use Rattle.search.proofs.gather_all.Tie as tie
 
 abbrev Inv-loop : tie.InvT-loop
-Inv-loop cells₀ first₀ i₀ cells first i = (first ≤ 8192) × (i ≤ 8192) × (length cells ≡ length cells₀)
+Inv-loop cells₀ start first₀ i₀ cells first i = (first ≤ 8192) × (i ≤ 8192) × (length cells ≡ length cells₀)
 
 abbrev μ-loop : tie.MeasureT-loop
-μ-loop cells₀ first₀ i₀ cells first i = i
+μ-loop cells₀ start first₀ i₀ cells first i = i
 
 same-length : tie.Need-same-length Inv-loop μ-loop
 same-length c = search needs

@@ -64,25 +64,25 @@ part-run-start c = room c
 
 slice-aggregate-propagate : tie.Need-slice-aggregate-propagate
 slice-aggregate-propagate c =
-    let s = c .before .before .before .before .before .before .before .before .before .before .before in
+    let s = c .before .before .before .before .before .before .before .before .before .before .before .before in
     sym (length-take-le (s .args .used) (s .args .store .now) (s .pre .0 .1 .holds .fits))
 
 propagate-requires : tie.Need-propagate-requires
 propagate-requires c κs =
-    let r = c .before .before .before .before .before .before in
+    let r = c .before .before .before .before .before .before .before in
     let p = s r .pre .0 in
     let K = searched r (p .0) (p .1) in
-    ((p .0, used-words _ _ (p .0) (p .1 .holds)), ((K .size, marked K), c .before .before .before .assigned .ensures .0))
+    ((p .0, used-words _ _ (p .0) (p .1 .holds)), ((K .size, marked K), c .before .before .before .assign .ensures .0))
 
 same-length : tie.Need-same-length
 same-length c =
-    let r = c .before .before .before .before .before .before .before in
+    let r = c .before .before .before .before .before .before .before .before in
     length-part (index r) (r .run .last .1 .1 .0) (long r) (r .run .kept .1 .1 .0) ∙ r .before .before .before .before .cover .kept .1 .1 .0
 
 returns : tie.Need-returns
 returns c =
-    let r = c .before .before .before .before .before .before .before in
-    let a = c .before .before .before .before .assigned in
+    let r = c .before .before .before .before .before .before .before .before in
+    let a = c .before .before .before .before .assign in
     let e = a .ensures .1 in (
       λ stored K. answer _ stored (used-words (s r .args .store .now) (s r .args .used) stored (K .holds)) (s r .args .literals .now) (s r .pre .1) _ _
           (λ z. e z .0) (λ z. e z .1) (c .propagate .result) (c .propagate .ensures),

@@ -1,7 +1,7 @@
--- All is kept; or the index is blank, and the store closed up.
+-- All is kept; or the index is blank, the search has its own cells, and the store is closed up.
 use mathlib.Core.Path.{_∙_}
 use Rattle.nogoods.proofs.Stored.{kept-all, kept-live}
-use Rattle.nogoods.proofs.Indexing.{keeps-blank}
+use Rattle.nogoods.proofs.Indexing.{keeps-blank, keeps-part}
 use native.Mathlib.Omega.{arith}
 use borrow.Author.Needs.{needs}
 use Rattle.nogoods.proofs.store.make_room.Statement.{statement}
@@ -11,12 +11,13 @@ returns : tie.Need-returns
 returns c = λ stored K. rw (kept-all (K .holds) (c .before .before .args .size) (omega (arith, c .if1 .taken))) K
 
 returns-2 : tie.Need-returns-2
-returns-2 c =
-    λ stored K.
-    let k = c .before .before .before .before .before in
+returns-2 c stored K =
+    let r = c .before .before .before .before .before .reset in
+    let k = c .before .before .before .before .before .before .before .before .before in
     let e = k .before .before in
+    let n = k .clear .kept .0 ∙ K .size in
     rw (kept-live (K .holds) (e .before .before .args .size) (omega (arith, e .if1 .left)))
-    (keeps-blank (c .before .close .ensures stored (K .holds)) (k .clear .kept .0 ∙ K .size) (k .clear .ensures))
+    (keeps-part (k .clear .last .0) (r .last .0) n (r .kept .0) (keeps-blank (c .before .close .ensures stored (K .holds)) n (k .clear .ensures)))
 
 pub make-room-spec : {M : Type 1} → statement M
 make-room-spec =
@@ -24,6 +25,10 @@ make-room-spec =
     (tie.spec
     (λ c. search needs)
     returns
+    (λ c κs. search needs)
+    (λ c. search needs)
+    (λ c. search needs)
+    (λ c. search needs)
     (λ c κs. search needs)
     (λ c κs. search needs)
     (λ c. search needs)

@@ -6,7 +6,7 @@ use native.Mathlib.Omega.{arith}
 use borrow.Author.Count.{below-more}
 use borrow.Author.Needs.{needs}
 use lib.IntN.{ℤ, pos}
-use lib.ListN.{length, getD, set, length-set}
+use lib.ListN.{length, getD, set, length-set, length-replicate}
 use Rattle.words.specs.Lists.{_∈_}
 use Rattle.words.specs.Literals.{variable, complement}
 use Rattle.words.proofs.Words.{back}
@@ -14,8 +14,8 @@ use Rattle.words.proofs.Places.{in-at, place-of}
 use Rattle.words.specs.Limits.{entries}
 use Rattle.nogoods.specs.Propagate.{entry, Assigns}
 use Rattle.nogoods.proofs.Assignments.{none-true, alone, assigned, assigned→, assigned-kept}
-use Rattle.nogoods.proofs.propagation.assigned.Statement.{statement}
-use Rattle.nogoods.proofs.propagation.assigned.Tie as tie
+use Rattle.nogoods.proofs.propagation.assign.Statement.{statement}
+use Rattle.nogoods.proofs.propagation.assign.Tie as tie
 
 abbrev Inv-loop : tie.InvT-loop
 Inv-loop literals assignment₀ i₀ assignment i =
@@ -26,7 +26,8 @@ abbrev μ-loop : tie.MeasureT-loop
 μ-loop literals assignment₀ i₀ assignment i = length literals - i
 
 loop-holds : tie.Need-loop-holds Inv-loop μ-loop
-loop-holds c = (omega arith, search needs, λ j h. absurd (omega arith), λ z a. absurd (none-true entries z a))
+loop-holds c =
+    rw (c .pre .1) (omega arith, length-replicate {A = ℕ} entries 0, λ j h. absurd (omega arith), λ z a. absurd (none-true entries z a))
 
 -- the literal at i
 module _ (c : tie.In-loop Inv-loop μ-loop) where
@@ -39,7 +40,7 @@ module _ (c : tie.In-loop Inv-loop μ-loop) where
 make-true-requires : tie.Need-make-true-requires Inv-loop μ-loop
 make-true-requires c κs =
     let k = c .before .before in
-    (rw (back (word k) (c .before .make-true-arg .given)) (k .before .before .pre .high (word k) (inside k)), k .before .loop .inv .1)
+    (rw (back (word k) (c .before .make-true-arg .given)) (k .before .before .pre .0 .high (word k) (inside k)), k .before .loop .inv .1)
 
 loop-again : tie.Need-loop-again Inv-loop μ-loop
 loop-again c =
@@ -48,8 +49,8 @@ loop-again c =
     let l = k .before .loop in
     let v = l .inv in
     let x = word k in
-    let single : ¬ Assigns (l .assignment) (complement x) = λ a. alone (s .args .literals .now) (s .pre) (l .i) (k .loop-test .taken) (v .3 _ a) in
-    let hx : variable x < length (l .assignment) = omega (arith, v .1, s .pre .high x (inside k)) in
+    let single : ¬ Assigns (l .assignment) (complement x) = λ a. alone (s .args .literals .now) (s .pre .0) (l .i) (k .loop-test .taken) (v .3 _ a) in
+    let hx : variable x < length (l .assignment) = omega (arith, v .1, s .pre .0 .high x (inside k)) in
     let is : c .make-true .last .1 .0 ≡ set (l .assignment) (variable x) (entry x) =
     rw (back x (c .before .before .make-true-arg .given)) at (c .make-true .ensures .1) in (
       omega arith,
@@ -57,7 +58,7 @@ loop-again c =
       rw is (below-more _ (l .i)
           (λ j h. assigned-kept (l .assignment) x hx single (getD (s .args .literals .now) j (pos 0)) (v .2 j h))
           (assigned (l .assignment) x hx)),
-      λ z a. elim (assigned→ (l .assignment) x hx z (s .pre .low x (inside k)) (rw is at a)) [ inl q ↦ rw q (inside k) | inr b ↦ v .3 z b ],
+      λ z a. elim (assigned→ (l .assignment) x hx z (s .pre .0 .low x (inside k)) (rw is at a)) [ inl q ↦ rw q (inside k) | inr b ↦ v .3 z b ],
     )
 
 returns : tie.Need-returns Inv-loop μ-loop
@@ -65,8 +66,8 @@ returns c =
     let l = c .before .loop in
     (l .inv .1, λ z. (l .inv .3 z, λ u. let r = place-of (pos 0) u in rw (r .2) at (l .inv .2 (r .0) (omega (arith, r .1)))))
 
-pub assigned-spec : {M : Type 1} → statement M
-assigned-spec =
+pub assign-spec : {M : Type 1} → statement M
+assign-spec =
     tie.close
     (tie.spec
     Inv-loop
