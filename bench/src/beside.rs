@@ -87,13 +87,18 @@ fn rounds(other: &str, repetitions: usize) -> Result<Vec<Row>, String> {
     Ok(rows)
 }
 
+/// What the program at the path prints when it is run with the word.
+pub fn printed_by(path: &str, word: &str) -> Result<String, String> {
+    let output = Command::new(path).arg(word).output().map_err(|error| format!("{path}: {error}"))?;
+    if !output.status.success() {
+        return Err(format!("{path} {word}: {}", output.status));
+    }
+    String::from_utf8(output.stdout).map_err(|error| error.to_string())
+}
+
 /// What a round of the program at the path prints.
 fn round_of(path: &str) -> Result<Vec<Timed>, String> {
-    let output = Command::new(path).arg("--round").output().map_err(|error| format!("{path}: {error}"))?;
-    if !output.status.success() {
-        return Err(format!("{path}: a text is refused that should be read"));
-    }
-    let printed = String::from_utf8(output.stdout).map_err(|error| error.to_string())?;
+    let printed = printed_by(path, "--round")?;
     printed.lines().map(|line| timed_line(line).ok_or(format!("{path} printed {line:?}"))).collect()
 }
 

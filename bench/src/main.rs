@@ -5,14 +5,17 @@
 //! With `--once` each input is run once by each checker. Without arguments the times are medians of 31 repetitions; a number as
 //! the argument says how many others there are to be. With `--slow` the inputs that were made to be slow are run once in place of the others.
 //! With `--beside OTHER`, and a number where it is not to be 31, this program and OTHER, a build of it over another library, are run in turn;
-//! each does a `--round`.
+//! each does a `--round`. With `--growth`, and OTHER where there is one, both run refutations of growing size, each in a `--growth-round`; the
+//! picture goes to docs/growth.svg.
 
 #![forbid(unsafe_code)]
 
 mod beside;
 mod cases;
+mod growth;
 mod measure;
 mod packets;
+mod picture;
 mod reading;
 mod report;
 mod unverified;
@@ -31,13 +34,18 @@ fn main() -> ExitCode {
         ["--once"] => Some(run_all(1)),
         ["--slow"] => Some(run_slow()),
         ["--round"] => Some(beside::round()),
+        ["--growth-round"] => Some(growth::round()),
+        ["--growth"] => Some(growth::run(None, REPETITIONS)),
+        ["--growth", other] => Some(growth::run(Some(other), REPETITIONS)),
+        ["--growth", other, count] => repetitions(count).map(|count| growth::run(Some(other), count)),
         ["--beside", other] => Some(beside::run(other, REPETITIONS)),
         ["--beside", other, count] => repetitions(count).map(|count| beside::run(other, count)),
         [count] => repetitions(count).map(run_all),
         _ => None,
     };
     let Some(failed) = failed else {
-        eprintln!("usage: bench [--once | --slow | REPETITIONS | --beside OTHER [REPETITIONS] | --round]");
+        eprintln!("usage: bench [--once | --slow | REPETITIONS | --beside OTHER [REPETITIONS] | --growth [OTHER [REPETITIONS]]]");
+        eprintln!("       bench --round | --growth-round");
         return ExitCode::from(2);
     };
     ExitCode::from(u8::from(failed > 0))

@@ -1,29 +1,42 @@
-//! What is printed: a row for each input, lines on the packet and on reading, and the rows of two programs side by side.
+//! What is printed: a row for each input, lines on the packet and on reading, the rows of two programs side by side, and those on growth.
 
-use crate::cases::Input;
+use crate::cases::{Goal, Input};
+use crate::growth::Row;
 use crate::measure::{Answer, Measured, Times};
 use crate::packets::Packed;
 use crate::reading::{Amount, Reading};
-use aspdrupe::Verdict;
+use aspdrupe::{Counts, Verdict};
 use std::time::Duration;
 
 pub fn heading(repetitions: usize) {
-    println!("The whole check, {repetitions} times on each input; ratio and times a step are of the medians.");
+    println!("The whole check, {repetitions} times on each input; times a step are of the medians.");
     println!(
-        "{:<21} {:>15} {:>29} {:>17} {:>17} {:>6} {:>19}",
-        "", "bytes", "", "verified, ms", "unverified, ms", "", "microseconds a step"
+        "{:<21} {:>15} {:>29} {:>17} {:>17} {:>26} {:>19}",
+        "", "bytes", "", "verified, ms", "unverified, ms", "ratio", "microseconds a step"
     );
     println!(
-        "{:<21} {:>7} {:>7} {:>29} {:>8} {:>8} {:>8} {:>8} {:>6} {:>8} {:>10}",
-        "input", "program", "proof", "verdict", "median", "least", "median", "least", "ratio", "verified", "unverified"
+        "{:<21} {:>7} {:>7} {:>29} {:>8} {:>8} {:>8} {:>8} {:>6} {:>6} {:>12} {:>8} {:>10}",
+        "input",
+        "program",
+        "proof",
+        "verdict",
+        "median",
+        "least",
+        "median",
+        "least",
+        "median",
+        "least",
+        "to reach",
+        "verified",
+        "unverified"
     );
 }
 
 pub fn row(input: &Input, measured: &Measured) {
     let (verified, unverified) = (&measured.verified_times, &measured.unverified_times);
-    let steps = steps_of(&measured.verified).unwrap_or(1);
+    let steps = counts_of(&measured.verified).map_or(1, |counts| counts.steps);
     println!(
-        "{:<21} {:>7} {:>7} {:>29} {:>8.3} {:>8.3} {:>8.3} {:>8.3} {:>6.1} {:>8.2} {:>10.2}",
+        "{:<21} {:>7} {:>7} {:>29} {:>8.3} {:>8.3} {:>8.3} {:>8.3} {:>6.1} {:>6.1} {:>12} {:>8.2} {:>10.2}",
         input.name,
         input.texts.program.len(),
         input.texts.proof.len(),
@@ -33,9 +46,20 @@ pub fn row(input: &Input, measured: &Measured) {
         milliseconds(unverified.median),
         milliseconds(unverified.least),
         milliseconds(verified.median) / milliseconds(unverified.median),
+        milliseconds(verified.least) / milliseconds(unverified.least),
+        goal_of(input),
         microseconds_each(verified.median, steps),
         microseconds_each(unverified.median, steps),
     );
+}
+
+/// What the input's time is to reach, in words.
+fn goal_of(input: &Input) -> String {
+    match input.goal {
+        Some(Goal::Ratio(most)) => format!("at most {most:.1}"),
+        Some(Goal::Milliseconds(bound)) => format!("under {bound} ms"),
+        None => String::from("-"),
+    }
 }
 
 pub fn difference(input: &Input, measured: &Measured) {
@@ -102,10 +126,21 @@ pub fn beside(name: &str, other: &Times, own: &Times) {
     );
 }
 
-/// The steps of a proof that was gone through.
-fn steps_of(answer: &Answer) -> Option<usize> {
+pub fn growth_heading(repetitions: usize) {
+    println!("Time a step against live nogoods, the least of {repetitions} times; microseconds.");
+    println!("{:<12} {:>6} {:>6} {:>9} {:>9} {:>11}", "input", "steps", "live", "before", "after", "unverified");
+}
+
+/// A row on growth; without another program there is nothing before.
+pub fn growth(row: &Row) {
+    let before = row.before.map_or(String::from("-"), |time| format!("{time:.2}"));
+    println!("{:<12} {:>6} {:>6} {before:>9} {:>9.2} {:>11.2}", row.name, row.steps, row.live, row.after, row.unverified);
+}
+
+/// The counts of a proof that was gone through.
+pub fn counts_of(answer: &Answer) -> Option<&Counts> {
     match answer {
-        Ok(Verdict::Inconsistent(counts) | Verdict::Open(counts)) => Some(counts.steps),
+        Ok(Verdict::Inconsistent(counts) | Verdict::Open(counts)) => Some(counts),
         _ => None,
     }
 }
@@ -122,6 +157,6 @@ fn milliseconds(time: Duration) -> f64 {
     time.as_secs_f64() * 1e3
 }
 
-fn microseconds_each(time: Duration, steps: usize) -> f64 {
+pub fn microseconds_each(time: Duration, steps: usize) -> f64 {
     time.as_secs_f64() * 1e6 / steps.max(1) as f64
 }

@@ -1,7 +1,7 @@
 //! A hard case for propagation: a long chain of names, each the one before, and additions and deletions at its far end. Each
 //! addition is refuted only once propagation has gone down the whole chain.
 
-use super::Input;
+use super::{Goal, Input};
 use inputs::lines::{self, Line};
 use inputs::rules::normal;
 
@@ -16,5 +16,5 @@ pub fn input() -> Input {
         lines.push(Line::of(b'a', &[2 + LINKS]));
         lines.push(Line::of(b'd', &[2 + LINKS]));
     }
-    Input::of("chain-2000", &[normal(1, &[-1])], &lines)
+    Input::of("chain-2000", &[normal(1, &[-1])], &lines).with_goal(Goal::Ratio(3.0))
 }

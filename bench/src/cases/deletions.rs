@@ -4,7 +4,7 @@
 //! refutation with as many deletions as additions, in random order, with the store of all inputs and with one that is just large enough.
 
 use super::completion::{definition_words, nogood_words};
-use super::{refutations, Input};
+use super::{refutations, Goal, Input};
 use inputs::lines::{self, Line};
 use inputs::programs;
 use inputs::random::Random;
@@ -14,7 +14,7 @@ use inputs::TEXT_LIMIT;
 pub fn inputs() -> Vec<Input> {
     let mixed = mixed();
     let tight = Input { name: String::from("deletions-mixed-tight"), store: most_live_words(&mixed.1), ..mixed.0.clone() };
-    vec![front(), wide(), mixed.0, tight]
+    [front(), wide(), mixed.0, tight].map(|input| input.with_goal(Goal::Ratio(2.0))).into()
 }
 
 /// The names of the chain; each takes two nogoods of two literals.

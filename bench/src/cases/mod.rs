@@ -14,19 +14,33 @@ use inputs::lines::{proof_text, Line};
 use inputs::rules::{program_text, Body, Rule};
 use inputs::{Pair, ROOM};
 
-/// One input, the words of its store, and whether it has a packet, which holds no weights.
+/// One input, the words of its store, whether it has a packet, which holds no weights, and what its time is to reach.
 #[derive(Clone)]
 pub struct Input {
     pub name: String,
     pub texts: Pair,
     pub store: usize,
     pub packs: bool,
+    pub goal: Option<Goal>,
+}
+
+/// What the time of the verified check is to reach.
+#[derive(Clone, Copy)]
+pub enum Goal {
+    /// At most so many times that of the unverified one.
+    Ratio(f64),
+    /// Under so many milliseconds.
+    Milliseconds(u32),
 }
 
 impl Input {
     fn of(name: impl Into<String>, rules: &[Rule], lines: &[Line]) -> Input {
         let packs = rules.iter().all(|rule| matches!(rule.body, Body::Plain(_)));
-        Input { name: name.into(), texts: Pair::of(program_text(rules), proof_text(lines)), store: ROOM, packs }
+        Input { name: name.into(), texts: Pair::of(program_text(rules), proof_text(lines)), store: ROOM, packs, goal: None }
+    }
+
+    fn with_goal(self, goal: Goal) -> Input {
+        Input { goal: Some(goal), ..self }
     }
 }
 
@@ -45,4 +59,9 @@ pub fn all() -> Vec<Input> {
 /// The inputs that were made to be slow.
 pub fn slow() -> Vec<Input> {
     slow::inputs()
+}
+
+/// Refutations of growing size.
+pub fn growing() -> Vec<Input> {
+    searched::growing()
 }

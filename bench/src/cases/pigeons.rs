@@ -1,6 +1,6 @@
 //! Pigeonhole programs: one pigeon more than holes.
 
-use super::{refutations, Input};
+use super::{refutations, Goal, Input};
 use inputs::{programs, TEXT_LIMIT};
 
 /// So many holes: the refutation that is found for six does not fit the limit of a proof's text.
@@ -13,5 +13,5 @@ pub fn inputs() -> Vec<Input> {
 fn input(holes: i32) -> Input {
     let rules = programs::pigeons(holes);
     let lines = refutations::refute(&rules, TEXT_LIMIT, holes as u64).expect("one pigeon has no hole");
-    Input::of(format!("pigeons-{}-{holes}", holes + 1), &rules, &lines)
+    Input::of(format!("pigeons-{}-{holes}", holes + 1), &rules, &lines).with_goal(Goal::Ratio(2.5))
 }

@@ -1,20 +1,29 @@
 //! Refutations of random programs, of growing length up to the limit of a proof's text.
 
-use super::{refutations, Input};
+use super::{refutations, Goal, Input};
 use inputs::random::Random;
 use inputs::rules::{choice, constraint, normal, Rule};
 
 /// About so many steps, and the seed that gives a program with such a refutation.
 const CASES: [(usize, u64); 6] = [(100, 179), (200, 109), (400, 136), (800, 160), (1_600, 77), (2_300, 6_638)];
 
+/// Others between these, for the growth.
+const BETWEEN: [(usize, u64); 8] =
+    [(250, 3_639), (670, 7_251), (820, 8_659), (1_400, 2_861), (1_570, 515), (1_760, 7_442), (1_970, 5_312), (2_130, 7_725)];
+
 pub fn inputs() -> Vec<Input> {
     CASES.iter().map(|&(length, seed)| input(length, seed)).collect()
+}
+
+/// These and the others between them.
+pub fn growing() -> Vec<Input> {
+    CASES.iter().chain(&BETWEEN).map(|&(length, seed)| input(length, seed)).collect()
 }
 
 fn input(length: usize, seed: u64) -> Input {
     let rules = rules(&mut Random::from_seed(seed + 1));
     let lines = refutations::refute(&rules, 2 * length, seed).expect("the seed gives a refutation");
-    Input::of(format!("random-{length}"), &rules, &lines)
+    Input::of(format!("random-{length}"), &rules, &lines).with_goal(Goal::Ratio(2.5))
 }
 
 /// Atoms of which half may be chosen, and the others have two rules each; constraints of three literals.

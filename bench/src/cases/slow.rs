@@ -1,9 +1,11 @@
 //! Texts that were made to be slow; they are run with `--slow` only, and once. Those with weight bodies have as many rules of one head,
 //! with twelve literals each, as the table holds beside a few plain rules that make a loop of it, and steps that go through all of them.
-//! Those without have as many edges as the table holds, and `l` lines over all of them.
+//! Some without have as many edges as the table holds, and `l` lines over all of them; the others are about the store.
+
+mod propagation;
 
 use super::completion::{bodies_of, definition_words, definitions, nogood_words};
-use super::Input;
+use super::{Goal, Input};
 use inputs::lines::{line_of, proof_text, Line};
 use inputs::rules::{choice, largest_atom, normal, weighted, Rule};
 use inputs::{ROOM, TEXT_LIMIT};
@@ -12,7 +14,7 @@ const MOST: i32 = 12;
 const HEAD: i32 = MOST + 1;
 
 pub fn inputs() -> Vec<Input> {
-    vec![
+    let with_rules = [
         one_heavy(true),
         one_heavy(false),
         shared_bodies(5),
@@ -24,7 +26,8 @@ pub fn inputs() -> Vec<Input> {
         many_edges(6),
         one_ring("ring-65", false),
         one_ring("ring-65-back", true),
-    ]
+    ];
+    [propagation::inputs(), with_rules.map(|input| input.with_goal(Goal::Milliseconds(500))).into()].concat()
 }
 
 /// As many rules as the table holds, with these weights in the order of the atoms, and one by which the head is a loop.

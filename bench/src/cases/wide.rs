@@ -2,7 +2,7 @@
 //! question about the whole program. The `l` lines are over loops of one to three atoms.
 
 use super::completion::{bodies_of, definition_words, definitions, edges, externals, nogood_words, supports};
-use super::Input;
+use super::{Goal, Input};
 use inputs::lines::{line_of, proof_text, Line};
 use inputs::random::Random;
 use inputs::rules::{largest_atom, normal, Rule};
@@ -19,7 +19,7 @@ const INNER: i32 = 96;
 pub fn input() -> Input {
     let rules = rules(&mut Random::from_seed(3));
     assert_eq!(rules.iter().map(Rule::words).sum::<usize>(), ROOM);
-    Input::of("wide-1024", &rules, &proof(&rules, &mut Random::from_seed(4)))
+    Input::of("wide-1024", &rules, &proof(&rules, &mut Random::from_seed(4))).with_goal(Goal::Ratio(2.0))
 }
 
 /// A rule for each head and a second one for the inner atoms, each with one of a few bodies.

@@ -35,13 +35,13 @@ use Rattle.aspif.proofs.RuleTests.{normal-decides, in-greatest, empty-decides}
 -- Heads of the rules of a table
 
 -- every rule of sound words has such heads
-sound-heads : (n : ℕ) (ws : List ℤ) → soundRules n ws ≡ true → {r : InputRule} → r ∈ rulesAt n ws → headsSound (r .heads) ≡ true
+pub sound-heads : (n : ℕ) (ws : List ℤ) → soundRules n ws ≡ true → {r : InputRule} → r ∈ rulesAt n ws → headsSound (r .heads) ≡ true
 unfolding soundAt
 sound-heads zero ws e i = elim i [ ]
 sound-heads (suc n) ws e (List·Memᴰ·head p) = rw p (and-left (headsSound (headsAt ws)) _ (and-right (shapeSound ws) _ (and-left (soundAt ws) _ e)))
 sound-heads (suc n) ws e (List·Memᴰ·tail i) = sound-heads n (drop (sizeAt ws) ws) (and-right (soundAt ws) _ e) i
 
-head-of : (rs : List InputRule) (r : InputRule) → r ∈ rs → headsSound (r .heads) ≡ true → (z : ℤ) → z ∈ r .heads → Head (atoms rs) z
+pub head-of : (rs : List InputRule) (r : InputRule) → r ∈ rs → headsSound (r .heads) ≡ true → (z : ℤ) → z ∈ r .heads → Head (atoms rs) z
 head-of rs r i e z j =
     let p = positive z (all-decides (λ h. itself (ltZ (pos 0) h)) (r .heads) .to (passed _ .from (and-left (all (λ h. ltZ (pos 0) h) (r .heads)) _ e)) z j) in
     record { is = p .0; low = p .1; high = omega (arith, in-greatest ruleTop i, top-le j) }
@@ -51,7 +51,7 @@ head-of rs r i e z j =
 pub listed-decides : (l : List ℕ) (v : ℕ) → Decides (listed l v) (Listed l v)
 listed-decides l v = reworded (λ r. Memᴰ·cast (r .2) (r .1)) (λ m. (v, m, refl)) (any-decides (eqb-decides v) l)
 
-no-bits : (n : ℕ) → Bits (replicate n 0)
+pub no-bits : (n : ℕ) → Bits (replicate n 0)
 no-bits zero v = inl refl
 no-bits (suc n) zero = inl refl
 no-bits (suc n) (suc v) = no-bits n v

@@ -2,7 +2,7 @@
 -- for: what they mark is in it, and once as many rounds are over as there are atoms nothing is left to derive. Assumes nothing.
 use mathlib.Core.Path.{_≡_, refl, sym, _∙_, ap, subst}
 use mathlib.Core.Logic.{_⊎_, inl, inr}
-use mathlib.Core.Bool.{Bool, true, false, cond, not, or-false}
+use mathlib.Core.Bool.{Bool, true, false, cond, not, or-false, true≢false}
 use mathlib.Core.List.{List, [], _∷_, List·Memᴰ·head, List·Memᴰ·tail, Memᴰ·cast}
 use Prim.Native.Nat.{ℕ, zero, suc, _≤_, _<_}
 use native.Mathlib.Omega.{arith}
@@ -10,10 +10,10 @@ use borrow.Author.Tests.{ltb-true, ltb-false, leb-true, leb-false, eqb-true, eqb
 use lib.Dec.{T, eqb, ltb, leb}
 use lib.IntN.{ℤ, pos, negsuc}
 use lib.ListN.{length, getD, set, length-set}
-use lib.Seq.{getD-set-same, getD-set-other, set-out, set-getD}
+use lib.Seq.{getD-set-same, getD-set-other, set-out, set-getD, ext-getD}
 use Rattle.words.specs.Lists.{_∈_, any, all, filter}
 use Rattle.words.specs.Literals.{variable}
-use Rattle.words.proofs.Lists.{Decides, itself, passed, answered, reworded, not-decides, any-decides, all-decides, keep←, length-keep, keep-lt, none-in}
+use Rattle.words.proofs.Lists.{Decides, itself, passed, answered, reworded, same-test, not-decides, any-decides, all-decides, keep←, length-keep, keep-lt, none-in}
 use Rattle.weights.proofs.Reached.{reached}
 use Rattle.aspif.specs.Rules.{Rule, Body, plain, weights, InputRule, bodiesOf, withBody, expand}
 use Rattle.aspif.specs.declared.Kind.{Kind}
@@ -22,6 +22,7 @@ use Rattle.aspif.specs.AnswerSets.{Taken, Chosen, Gives, LeastModel, derive}
 use Rattle.aspif.proofs.Expansion.{Expanded, expand→, expand←}
 use Rattle.marks.specs.Marks.{marked}
 use Rattle.answer_set.specs.SetTest.{literalHolds, bodyHolds, gives, giveHead, giveHeads, giveRule, round, rounds}
+use Rattle.answer_set.specs.Private.{Given, nothing, more}
 use Rattle.answer_set.proofs.Marking.{rounds-still}
 
 -- Marks only grow
@@ -52,6 +53,16 @@ set-bits m x h v = by (eqb v x) refl (ltb x (length m)) refl
     by true e true f = inr (rw (eqb-true v x e) (getD-set-same m x 1 0 (ltb-true x (length m) f)))
     by true e false f = rw (set-out m x 1 (ltb-false x (length m) f)) (h v)
     by false e c f = rw (getD-set-other m x v 1 0 (eqb-false v x e)) (h v)
+
+-- such bytes are known by what is marked
+marks-equal : (a b : List ℕ) → length a ≡ length b → Bits a → Bits b → ((v : ℕ) → marked a v ≡ marked b v) → a ≡ b
+marks-equal a b l p q same = ext-getD 0 a b l (λ v h. by (getD a v 0) (getD b v 0) (p v) (q v) (same v))
+  where
+    by : (x y : ℕ) → (x ≡ 0) ⊎ (x ≡ 1) → (y ≡ 0) ⊎ (y ≡ 1) → eqb x 1 ≡ eqb y 1 → x ≡ y
+    by x y (inl e) (inl f) s = e ∙ sym f
+    by x y (inr e) (inr f) s = e ∙ sym f
+    by x y (inl e) (inr f) s = absurd (true≢false (sym (rw (e, f) at s)))
+    by x y (inr e) (inl f) s = absurd (true≢false (rw (e, f) at s))
 
 -- marks after some steps
 record Later (m n : List ℕ) : Type 0 where
@@ -327,14 +338,19 @@ module _ (M : ℕ → Bool) (W : ℕ → Type 0) (dec : (v : ℕ) → Decides (M
           let v = body-decides M W dec m (x .rule .body) .from (x .body, x .one, (b, subst (Taken W) e taken)) in
           c (x .rule) (x .among) v (pos h) (u .0) (gives-decides M W dec (x .rule .kind) h .from (u .1))
 
-  -- from no marks, N rounds mark the least model
-  pub rounds-decide : (m : List ℕ) → N < length m → ((v : ℕ) → ¬ T (marked m v)) → (v : ℕ) → Decides (marked (rounds M N P m) v) (LeastModel W (expand P) v)
+  -- from marks of the least model, N rounds mark the whole of it
+  rounds-complete : (m : List ℕ) → N < length m → BelowModel m → (v : ℕ) → Decides (marked (rounds M N P m) v) (LeastModel W (expand P) v)
   unfolding BelowModel lacks missing
-  rounds-decide m l none v =
+  rounds-complete m l w v =
       record {
-        to = rounds-within N m (λ u t. absurd (none u t)) v;
+        to = rounds-within N m w v;
         from = least-in (rounds M N P m) (closed N m l (omega (arith, length-keep (lacks m) (upTo N), length-upTo N)));
       }
+
+  -- and so from no marks
+  pub rounds-decide : (m : List ℕ) → N < length m → ((v : ℕ) → ¬ T (marked m v)) → (v : ℕ) → Decides (marked (rounds M N P m) v) (LeastModel W (expand P) v)
+  unfolding BelowModel
+  rounds-decide m l none = rounds-complete m l (λ u t. absurd (none u t))
 
   -- and each byte is 0 or 1, with as many bytes as before
   pub rounds-bits : (n : ℕ) (m : List ℕ) → Bits m → Bits (rounds M n P m)
@@ -342,3 +358,22 @@ module _ (M : ℕ → Bool) (W : ℕ → Type 0) (dec : (v : ℕ) → Decides (M
 
   pub rounds-length : (n : ℕ) (m : List ℕ) → length (rounds M n P m) ≡ length m
   rounds-length n m = rounds-later M W dec n P m .size
+
+  -- Rules given in any order
+
+  given-later : {m n : List ℕ} → Given M P m n → Later m n
+  given-later {m} nothing = later-refl m
+  given-later (more {n} r i g) = later-trans (given-later g) (rule-later M W dec r n)
+
+  given-within : {m n : List ℕ} → Given M P m n → BelowModel m → BelowModel n
+  given-within nothing w = w
+  given-within (more {n} r i g) w = rule-within r i n (given-within g w)
+
+  -- the rounds come to the same marks from there
+  pub rounds-given : {m n : List ℕ} → N < length m → Bits m → ((v : ℕ) → ¬ T (marked m v)) → Given M P m n → rounds M N P n ≡ rounds M N P m
+  unfolding BelowModel
+  rounds-given {m} {n} l b none g =
+      let later = given-later g in
+      let below : BelowModel m = λ u t. absurd (none u t) in
+      marks-equal (rounds M N P n) (rounds M N P m) (rounds-length N n ∙ later .size ∙ sym (rounds-length N m)) (rounds-bits N n (later .bits b)) (rounds-bits N m b) (λ v.
+      same-test (rounds-complete n (rw (later .size) l) (given-within g below) v) (rounds-complete m l below v) (λ x. x) (λ x. x))

@@ -5,3 +5,4 @@ pub mod LeastModels
 pub mod Answered
 pub mod Service
 pub mod Shown
+pub mod Giving

@@ -12,7 +12,7 @@ use Rattle.words.specs.Lists.{ascends}
 use Rattle.aspif.specs.Rules.{InputRule, atoms}
 use Rattle.aspif.specs.Tables.{rulesAt, soundTable}
 use Rattle.marks.specs.Marks.{listed}
-use Rattle.answer_set.specs.SetTest.{rounds, least, lowestFrom, brokenFrom, differsAt, verdictOf, Asked, refused, passed, asked, saidOf, setAnswer, marksOf, SetTested, shown}
+use Rattle.answer_set.specs.SetTest.{least, lowestFrom, brokenFrom, differsAt, verdictOf, Asked, refused, passed, asked, saidOf, setAnswer, marksOf, SetTested, shown}
 use Rattle.answer_set.specs.declared.SetAnswer.{SetAnswer}
 use Rattle.answer_set.specs.declared.SetAnswer.the-variants.{Refused}
 
@@ -41,11 +41,10 @@ module _ (table : List ℤ) (rules : ℕ) (l before after : List ℕ) where
     refused-43 s a n = settle (refused 43) (Refused 43) (rw (s, a, ne-eqb (length before) entries n)) refl z
 
   pub tested : soundTable table rules ≡ true → ascends 0 (atoms rs) l ≡ true → length before ≡ entries
-      → {M : ℕ → Bool} {N : ℕ} {zeros : List ℕ} {r : SetAnswer} → M ≡ listed l → N ≡ atoms rs → zeros ≡ replicate (length before) 0
-      → after ≡ rounds M N rs zeros
+      → {M : ℕ → Bool} {N : ℕ} {r : SetAnswer} → M ≡ listed l → N ≡ atoms rs → after ≡ least M rs
       → r ≡ saidOf (shown (lowestFrom (differsAt M after) (N + 1) 0) (brokenFrom M 1 rs))
       → SetTested table rules l before after r
-  unfolding asked least verdictOf
-  tested s a n {r} e i z m t =
-      let k : after ≡ least (listed l) rs = rw (z, n, e, i) at m in
+  unfolding asked verdictOf
+  tested s a n {r} e i m t =
+      let k : after ≡ least (listed l) rs = rw e at m in
       settle (passed rs) r (rw (s, a, eq-eqb (length before) entries n)) (rw (e, i, k) at t) k

@@ -2,6 +2,7 @@
 // specs/SetTest.antt.
 mod answers;
 mod models;
+mod worklist;
 
 ghost use Rattle.answer_set.specs.SetTest.{SetTested};
 use aspif::tables;
@@ -35,6 +36,6 @@ pub fn test_set(table: &[i32], rules: usize, set: &[u16], marks: &mut [u8]) -> S
     }
     let mut inside = [0u8; words::ENTRIES];
     marks::mark_all(set, &mut inside);
-    models::close(table, rules, atoms, &inside, marks);
+    worklist::mark_least(table, rules, atoms, &inside, marks);
     answers::judge(table, rules, atoms, &inside, marks)
 }

@@ -12,7 +12,7 @@ use aspif::Kind;
 use aspif::tables;
 
 // A positive literal's atom is marked; a negated one's is outside M.
-fn literal_holds(word: i32, inside: &[u8], marks: &[u8]) -> bool
+pub fn literal_holds(word: i32, inside: &[u8], marks: &[u8]) -> bool
     ensures { λ r. ⌜ r ≡ literalHolds (marked (now (inside .entry))) (marked (now (marks .entry))) word ⌝ }
 {
     let v = words::variable_of(word);
@@ -112,7 +112,7 @@ fn give_heads(heads: &[i32], kind: Kind, inside: &[u8], marks: &mut [u8]) -> boo
 }
 
 // The rule at the front marks what it gives; whether a mark is new.
-fn give_rule(words: &[i32], inside: &[u8], marks: &mut [u8]) -> bool
+pub fn give_rule(words: &[i32], inside: &[u8], marks: &mut [u8]) -> bool
     requires { ⌜ soundAt (now words) ≡ true ⌝ }
     ensures { λ r. ⌜ Marking (giveRule (marked (now (inside .entry))) (ruleAt (now (words .entry))) (now (marks .entry)))
         (now (marks .entry)) (now (marks .exit)) r ⌝ }

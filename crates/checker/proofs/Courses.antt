@@ -16,8 +16,9 @@ use Rattle.derivation.specs.States.{State, start}
 use Rattle.derivation.specs.Steps.{Outcome, refused, next, step}
 use Rattle.nogoods.specs.Store.{Stored, live, wordsFor}
 use Rattle.nogoods.specs.Keeps.{Holds}
-use Rattle.nogoods.specs.Index.{Indexed}
+use Rattle.nogoods.specs.Index.{Blank, indexSize}
 use Rattle.nogoods.proofs.Live.{live-nil, live-few}
+use Rattle.nogoods.proofs.Indexing.{keeps-blank}
 use Rattle.checker.specs.Check.{storedAfter, Course, stopped, course}
 use Rattle.checker.specs.Claims.{Runs, ends, unread, unaccepted, full, good}
 use Rattle.checker.specs.Held.{Tracks, HoldsState, Leaves, proofTurn, LineLeaves, Ran}
@@ -53,13 +54,13 @@ module _ (N : ℕ) (ws : List InputRule) (size : ℕ) (text : List ℕ) where
     pub places : length names ≡ mostRules
 
   pub going-start : {store : List ℤ} {index known names : List ℕ} {bodies : List ℤ} → Tracks N ws known names bodies [] [] → store ≡ replicate (length store) (pos 0) → length store ≡ size
-      → length names ≡ mostRules → Indexed index [] → Going store index known names bodies 0 0 0
-  going-start {store} T e l p x =
+      → length names ≡ mostRules → length index ≡ indexSize → Blank index → Going store index known names bodies 0 0 0
+  going-start {store} T e l p n b =
       record {
         z = start;
         tracks = T;
         stored = [];
-        keeps = record { keeps = record { holds = holds-none store e; indexed = x }; same = live-nil };
+        keeps = record { keeps = keeps-blank (holds-none store e) n b; same = live-nil };
         onward = λ c r. r;
         within = omega arith;
         count = omega arith;

@@ -14,7 +14,8 @@ use Rattle.words.proofs.Sorting.{length-ascending}
 use Rattle.derivation.specs.States.{State}
 use Rattle.derivation.specs.Steps.{add}
 use Rattle.nogoods.specs.Store.{Stored, addedIn, live, keptWith}
-use Rattle.nogoods.specs.Keeps.{Literals, Fits}
+use Rattle.nogoods.specs.Keeps.{Literals}
+use Rattle.nogoods.specs.Index.{Fits}
 use Rattle.nogoods.specs.declared.store.Added.{Added}
 use Rattle.nogoods.specs.declared.store.Added.the-variants as Added
 use Rattle.nogoods.proofs.Literals.{literals-ascending, literals-complement-others}

@@ -18,7 +18,8 @@ use Rattle.drupe.specs.Lines.{signsOf, signed, LineAt, end, line}
 use Rattle.drupe.specs.Lines as Lines
 use Rattle.derivation.specs.States.{Named, State, isAtom, isKnown}
 use Rattle.derivation.specs.Steps.{Outcome, refused, next, byLetter, step}
-use Rattle.nogoods.specs.Keeps.{Literals, Holds, Keeps}
+use Rattle.nogoods.specs.Keeps.{Literals, Holds}
+use Rattle.nogoods.specs.Index.{Keeps}
 use Rattle.nogoods.specs.Store.{Stored, live, wordsFor}
 use Rattle.nogoods.specs.declared.store.Added.{Added}
 use Rattle.nogoods.specs.declared.store.Added.the-variants as Added

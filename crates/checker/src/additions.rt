@@ -9,11 +9,11 @@ ghost use Rattle.words.specs.Literals.{ascending};
 ghost use Rattle.aspif.specs.Rules.{InputRule};
 ghost use Rattle.text.specs.declared.Letter.the-variants.{Addition, Deletion};
 ghost use Rattle.nogoods.specs.Store.{Stored};
-ghost use Rattle.nogoods.specs.Keeps.{Keeps};
+ghost use Rattle.nogoods.specs.Index.{Keeps};
 ghost use Rattle.checker.specs.Held.{PassedLine, Stepping};
 use crate::outcomes;
 use crate::outcomes::Stepped;
-use nogoods::index::INDEX;
+use nogoods::INDEX;
 use nogoods::propagation;
 use nogoods::store;
 

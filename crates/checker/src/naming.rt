@@ -12,15 +12,16 @@ ghost use Rattle.text.specs.declared.Letter.the-variants.{Body, Extension};
 ghost use Rattle.derivation.specs.States.{State, isKnown};
 ghost use Rattle.derivation.specs.Steps.{definition, isUnnamedBody};
 ghost use Rattle.nogoods.specs.Store.{Stored, addedIn, keptWith};
-ghost use Rattle.nogoods.specs.Keeps.{Literals, Keeps};
+ghost use Rattle.nogoods.specs.Index.{Keeps};
+ghost use Rattle.nogoods.specs.Keeps.{Literals};
 ghost use Rattle.names.specs.Queries.{HoldsRules, Kept};
 ghost use Rattle.checker.specs.Held.{PassedLine, nameOf, Tracks, Fitted, Stepping};
 use crate::outcomes;
 use crate::outcomes::Stepped;
 use crate::states::CheckingState;
 use names::queries;
+use nogoods::INDEX;
 use nogoods::definitions;
-use nogoods::index::INDEX;
 use nogoods::store;
 
 // The name is known from now on, and its definition live.

@@ -11,7 +11,7 @@ ghost use Rattle.text.specs.declared.Letter.the-variants.{Body, Completion, Loo
 ghost use Rattle.aspif.specs.Rules.{InputRule};
 ghost use Rattle.aspif.specs.Tables.{rulesAt};
 ghost use Rattle.nogoods.specs.Store.{Stored};
-ghost use Rattle.nogoods.specs.Keeps.{Keeps};
+ghost use Rattle.nogoods.specs.Index.{Keeps};
 ghost use Rattle.names.specs.Queries.{HoldsRules};
 ghost use Rattle.loops.specs.Relevance.{Relevant};
 ghost use Rattle.checker.specs.Held.{PassedLine, Program, Stepping};
@@ -20,7 +20,7 @@ use crate::naming;
 use crate::outcomes::Stepped;
 use crate::supports;
 use crate::unfounded;
-use nogoods::index::INDEX;
+use nogoods::INDEX;
 use text::Letter;
 
 // `b` and `c`: a body of the rules, and what it gives.

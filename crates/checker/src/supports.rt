@@ -11,14 +11,15 @@ ghost use Rattle.text.specs.declared.Letter.the-variants.{Completion, Support};
 ghost use Rattle.derivation.specs.States.{State};
 ghost use Rattle.derivation.specs.Steps.{isSupport};
 ghost use Rattle.nogoods.specs.Store.{Stored, addedIn, keptWith};
-ghost use Rattle.nogoods.specs.Keeps.{Literals, Keeps};
+ghost use Rattle.nogoods.specs.Index.{Keeps};
+ghost use Rattle.nogoods.specs.Keeps.{Literals};
 ghost use Rattle.names.specs.Queries.{HoldsRules};
 ghost use Rattle.checker.specs.Held.{PassedLine, Program, Tracks, Fitted, Stepping};
 use crate::outcomes;
 use crate::outcomes::Stepped;
 use names::queries;
 use names::queries::Query;
-use nogoods::index::INDEX;
+use nogoods::INDEX;
 use nogoods::store;
 
 // The first number with the complements of the others is live, after the other nogoods.

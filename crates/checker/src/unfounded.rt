@@ -10,7 +10,7 @@ ghost use Rattle.aspif.specs.Rules.{InputRule};
 ghost use Rattle.aspif.specs.Tables.{rulesAt};
 ghost use Rattle.text.specs.declared.Letter.the-variants.{Loop};
 ghost use Rattle.nogoods.specs.Store.{Stored};
-ghost use Rattle.nogoods.specs.Keeps.{Keeps};
+ghost use Rattle.nogoods.specs.Index.{Keeps};
 ghost use Rattle.loops.specs.Relevance.{Relevant};
 ghost use Rattle.checker.specs.Held.{PassedLine, Program, gathered, Stepping};
 use crate::outcomes;
@@ -18,7 +18,7 @@ use crate::outcomes::Stepped;
 use crate::states::CheckingState;
 use names::queries;
 use names::queries::Query;
-use nogoods::index::INDEX;
+use nogoods::INDEX;
 use nogoods::store;
 
 // One number of the nogood of an `l` step: h itself, or minus a name that is marked. How many literals there are then.

@@ -12,53 +12,53 @@ use lib.Seq.{take-suc, take-suc-set, drop-set-lt, take-at, drop-at, getD-drop, d
 use borrow.Rule.Slice.PartMut.{putMid}
 use Rattle.words.specs.Lists.{_∈_}
 use Rattle.words.proofs.Lists.{concat-append}
-use Rattle.words.proofs.Segments.{Segment, none-left}
+use Rattle.words.proofs.Segments.{Segment, at-front, none-left}
 use Rattle.nogoods.specs.Store.{Stored, closed, headerSize, storedWords, wordsOf}
 use Rattle.nogoods.specs.Keeps.{Holds}
 use Rattle.nogoods.specs.Records.{deadAt, countAt, endAt, storedAt}
 use Rattle.nogoods.specs.Moves.{MovedDown, Keeping}
 use Rattle.nogoods.proofs.Live.{by-answer, closed-nil, closed-cons, closed-past, closed-from, stored-size}
-use Rattle.nogoods.proofs.Recorded.{Originated, AtRecord, at-record, held-seg, some-words}
+use Rattle.nogoods.proofs.Recorded.{Originated, AtRecord, at-record, some-words}
 use Rattle.nogoods.proofs.Stored.{holds→, holds←}
 
 -- Words
 
-module _ {X : Type 0} (d : X) (to from : ℕ) (before : List X) where
+module _ (to from : ℕ) (before : List ℤ) where
   pub moved-none : MovedDown to from 0 before before
   moved-none = record { front = rw (plus-zero to) (sym (append-nil (take to before))); back = refl; size = refl }
     where
       plus-zero : (n : ℕ) → n + 0 ≡ n
       plus-zero n = omega arith
 
-  pub moved-more : (k : ℕ) (s : List X) → to ≤ from → from + k < length before → MovedDown to from k before s
-      → MovedDown to from (k + 1) before (set s (to + k) (getD s (from + k) d))
+  pub moved-more : (k : ℕ) (s : List ℤ) → to ≤ from → from + k < length before → MovedDown to from k before s
+      → MovedDown to from (k + 1) before (set s (to + k) (getD s (from + k) (pos 0)))
   moved-more k s h r m =
-      let v = getD s (from + k) d in
+      let v = getD s (from + k) (pos 0) in
       let n = from + k in
       let z : n + 0 ≡ n = omega arith in
-      let word : v ≡ getD before n d =
-      ap (λ i. getD s i d) (sym z) ∙ sym (getD-drop n s 0 d) ∙ ap (λ (l : List X). getD l 0 d) (m .back)
-      ∙ getD-drop n before 0 d ∙ ap (λ i. getD before i d) z in
+      let word : v ≡ getD before n (pos 0) =
+      ap (λ i. getD s i (pos 0)) (sym z) ∙ sym (getD-drop n s 0 (pos 0)) ∙ ap (λ (l : List ℤ). getD l 0 (pos 0)) (m .back)
+      ∙ getD-drop n before 0 (pos 0) ∙ ap (λ i. getD before i (pos 0)) z in
       let a : to + (k + 1) ≡ suc (to + k) = omega arith in
       let b : from + (k + 1) ≡ n + 1 = omega arith in
       record {
         front = rw a (take-suc-set s (to + k) v (omega (arith, m .size))
-            ∙ ap₂ (λ (x : List X) (w : X). x ++ (w ∷ [])) (m .front) word
-            ∙ append-assoc (take to before) (take k (drop from before)) (getD before n d ∷ [])
-            ∙ ap (λ (x : List X). take to before ++ x) (sym (next)));
+            ∙ ap₂ (λ (x : List ℤ) (w : ℤ). x ++ (w ∷ [])) (m .front) word
+            ∙ append-assoc (take to before) (take k (drop from before)) (getD before n (pos 0) ∷ [])
+            ∙ ap (λ (x : List ℤ). take to before ++ x) (sym (next)));
         back = rw b (drop-set-lt (n + 1) s (to + k) v (omega arith) ∙ sym (drop-drop 1 n s)
             ∙ ap (drop 1) (m .back) ∙ drop-drop 1 n before);
         size = length-set s (to + k) v ∙ m .size;
       }
     where
-      next : take (k + 1) (drop from before) ≡ take k (drop from before) ++ (getD before (from + k) d ∷ [])
+      next : take (k + 1) (drop from before) ≡ take k (drop from before) ++ (getD before (from + k) (pos 0) ∷ [])
       next =
-          rw add-one (take-suc (drop from before) k d (simp length-drop (omega arith))
-          ∙ ap (λ (w : X). take k (drop from before) ++ (w ∷ [])) (getD-drop from before k d))
+          rw add-one (take-suc (drop from before) k (pos 0) (simp length-drop (omega arith))
+          ∙ ap (λ (w : ℤ). take k (drop from before) ++ (w ∷ [])) (getD-drop from before k (pos 0)))
 
 -- what stood after the words that were moved stays
-moved-after : {X : Type 0} {to from n : ℕ} {s t : List X} → MovedDown to from n s t → (k : ℕ) → from + n ≤ k → drop k t ≡ drop k s
-moved-after {to = to} {from} {n} {s} {t} m k h =
+moved-after : {to from n : ℕ} {s t : List ℤ} → MovedDown to from n s t → (k : ℕ) → from + n ≤ k → drop k t ≡ drop k s
+moved-after {to} {from} {n} {s} {t} m k h =
     let e : k ≡ from + n + (k - (from + n)) = omega arith in
     let i = k - (from + n) in
     rw e (sym (drop-drop i (from + n) t) ∙ ap (drop i) (m .back) ∙ drop-drop i (from + n) s)
@@ -90,7 +90,7 @@ closing-start s used = record {
   each = λ stored H. record {
     kept = [];
     left = stored;
-    seg = held-seg H;
+    seg = at-front storedWords s _ used stored (H .words) (sym (H .extent));
     origins = H .origins;
     front = refl;
     size = refl;

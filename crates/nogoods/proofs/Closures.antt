@@ -2,7 +2,7 @@
 -- Assumes nothing.
 use mathlib.Core.Path.{_≡_, refl, sym, ap, _∙_}
 use mathlib.Core.Logic.{inl, inr}
-use mathlib.Core.Bool.{Bool, true, false}
+use mathlib.Core.Bool.{true, false}
 use mathlib.Core.List.{List, [], _∷_, List·Memᴰ·head, List·Memᴰ·not-nil, Memᴰ·cast}
 use Prim.Native.Nat.{ℕ, suc, _≤_, _<_}
 use native.Mathlib.Omega.{arith}
@@ -17,7 +17,7 @@ use Rattle.nogoods.specs.Store.{live}
 use Rattle.nogoods.specs.Keeps.{Literals}
 use Rattle.words.specs.Limits.{entries}
 use Rattle.nogoods.specs.Records.{deadAt, nogoodAt, Stands}
-use Rattle.nogoods.specs.Propagate.{entry, Assigns, Valued, free, Settled, AllTrue, Derives, InClosure, Grows, Clashes, Ends}
+use Rattle.nogoods.specs.Propagate.{entry, Assigns, Valued, free, Settled, AllTrue, Derives, InClosure, Grows, Clashes}
 use Rattle.nogoods.specs.declared.units.Value.the-variants.{Free}
 use Rattle.nogoods.specs.declared.units.Derived.the-variants.{Assigned}
 use Rattle.nogoods.proofs.Live.{live-in}
@@ -74,10 +74,6 @@ module _ {s : List ℤ} where
 module _ (s : List ℤ) (a b : List ℕ) (g : Grows s a b) where
   pub clashes-before : Clashes s b → Clashes s a
   clashes-before k stored L h w = k stored L h (g .sound stored L h w)
-
-  pub ends-before : (c : List ℕ) (r : Bool) → Ends s b c r → Ends s a c r
-  ends-before c true k = clashes-before k
-  ends-before c false k = (grows-on g (k .0), k .1)
 
 module _ (s : List ℤ) (r : ℕ) (stands : Stands s r) (alive : deadAt s r ≡ false) (lits : Literals (nogoodAt s r)) (m : List ℕ) (size : length m ≡ entries) where
   pub conflicting : AllTrue m (nogoodAt s r) → Clashes s m

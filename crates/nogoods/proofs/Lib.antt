@@ -5,9 +5,8 @@ pub mod Live
 pub mod Recorded
 pub mod Stored
 pub mod Closing
-pub mod Placed
 pub mod Literals
 pub mod Defined
 pub mod Closures
 pub mod Sweeps
-pub mod Chains
+pub mod Indexing

@@ -167,10 +167,10 @@ module _ (L : List ℤ) where
   abbrev ofList : Stored → Bool
   ofList e = sameList (e .literals) L
 
-  pub alive-target : (e : Stored) → e .dead ≡ false → isTarget L e ≡ ofList e
+  alive-target : (e : Stored) → e .dead ≡ false → isTarget L e ≡ ofList e
   alive-target e h = rw h
 
-  pub dead-target : (e : Stored) → e .dead ≡ true → isTarget L e ≡ false
+  dead-target : (e : Stored) → e .dead ≡ true → isTarget L e ≡ false
   dead-target e h = rw h
 
   -- "Deletion still takes the oldest equal set", of those that are live

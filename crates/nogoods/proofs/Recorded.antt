@@ -1,24 +1,20 @@
 -- Nogoods' records one after another: the record at a place, and what a loop from record to record knows.
 -- Assumes nothing.
-use mathlib.Core.Path.{_≡_, refl, sym, ap, ap₂, subst, _∙_}
+use mathlib.Core.Path.{_≡_, refl, sym, ap, subst, _∙_}
 use mathlib.Core.Bool.{Bool, true, false, cond}
-use mathlib.Core.List.{List, [], _∷_, _++_, append-nil, append-assoc, List·Memᴰ·head, List·Memᴰ·tail, Memᴰ·append-right}
-use Prim.Native.Nat.{ℕ, zero, suc, _+_, _-_, _≤_, _<_}
+use mathlib.Core.List.{List, [], _∷_, _++_, append-nil, List·Memᴰ·head, List·Memᴰ·tail}
+use Prim.Native.Nat.{ℕ, zero, suc, _+_, _≤_, _<_}
 use native.Mathlib.Omega.{arith}
 use borrow.Author.Tests.{le-ltb}
 use lib.IntN.{ℤ, pos, natAbs, negℤ}
 use lib.Signed.{ltZ}
-use lib.ListN.{length, take, drop, getD, length-drop, length-append}
-use lib.Seq.{drop-drop, drop-append-seam, getD-drop, take-at, getD-take, length-take-le}
+use lib.ListN.{length, take, drop, getD}
+use lib.Seq.{drop-drop, getD-drop, take-at}
 use Rattle.words.specs.Lists.{_∈_}
-use Rattle.words.specs.Limits.{largest}
-use Rattle.words.specs.Literals.{variable}
-use Rattle.words.proofs.Lists.{concat-append}
-use Rattle.words.proofs.Places.{in-at}
 use Rattle.words.proofs.Segments.{Segment, at-front, next, none-left}
 use Rattle.nogoods.specs.Store.{Stored, recordOf, originWord, recordHeader, headerSize, storedWords, recordSize, wordsOf}
 use Rattle.nogoods.specs.Keeps.{Holds}
-use Rattle.nogoods.specs.Records.{Encodes, EncodesFrom, HoldsFrom, originAt, deadAt, countAt, endAt, nogoodAt, storedAt, Readable, Stands}
+use Rattle.nogoods.specs.Records.{Encodes, originAt, deadAt, countAt, endAt, nogoodAt, storedAt, Readable, Stands}
 use Rattle.nogoods.proofs.Live.{stored-size}
 
 -- The header
@@ -92,74 +88,6 @@ at-record {s} {i} {e} S some h =
       room = rw m at (t .room);
     }
 
--- the same of a list whose first is known
-pub record FirstAt (s : List ℤ) (i e : ℕ) (x : Stored) (xs : List Stored) : Type 0 where
-  pub is : storedAt s i ≡ x
-  pub end : endAt s i ≡ i + recordSize (x .literals)
-  pub rest : Segment storedWords s (i + recordSize (x .literals)) e xs
-  pub room : endAt s i ≤ e
-
-pub first-at : {s : List ℤ} {i e : ℕ} {x : Stored} {xs : List Stored} → Segment storedWords s i e (x ∷ xs) → Originated (x ∷ xs)
-    → FirstAt s i e x xs
-first-at {s} {i} {e} {x} {xs} S some =
-    let r = at-record S some (omega (arith, S .size, some-words x, length-append (storedWords x) (wordsOf xs))) in
-    let q : storedAt s i ≡ x = sym (ap (λ (l : List Stored). getD l 0 x) (r .is)) in
-    let n : endAt s i ≡ i + recordSize (x .literals) = r .size ∙ ap (λ (y : Stored). i + recordSize (y .literals)) q in
-    record {
-      is = q;
-      end = n;
-      rest = subst (λ k. Segment storedWords s k e xs) n
-          (subst (λ l. Segment storedWords s (endAt s i) e l) (sym (ap (drop 1) (r .is))) (r .rest));
-      room = r .room;
-    }
-
--- Records in two parts
-
-module _ {s : List ℤ} {i e : ℕ} (a b : List Stored) (S : Segment storedWords s i e (a ++ b)) where
-  both : length (wordsOf (a ++ b)) ≡ length (wordsOf a) + length (wordsOf b)
-  both = ap length (concat-append storedWords a b) ∙ length-append (wordsOf a) (wordsOf b)
-
-  pub later : Segment storedWords s (i + length (wordsOf a)) e b
-  later = record {
-    words = sym (drop-drop (length (wordsOf a)) i s)
-        ∙ ap (drop (length (wordsOf a))) (S .words ∙ ap (λ (l : List ℤ). l ++ drop e s) (concat-append storedWords a b)
-        ∙ append-assoc (wordsOf a) (wordsOf b) (drop e s))
-        ∙ drop-append-seam (wordsOf a) (wordsOf b ++ drop e s);
-    size = omega (arith, S .size, both);
-    within = S .within;
-  }
-
-  pub earlier : Segment storedWords s i (i + length (wordsOf a)) a
-  earlier = record {
-    words = S .words ∙ ap (λ (l : List ℤ). l ++ drop e s) (concat-append storedWords a b)
-        ∙ append-assoc (wordsOf a) (wordsOf b) (drop e s) ∙ ap (λ (l : List ℤ). wordsOf a ++ l) (sym (later .words));
-    size = refl;
-    within = omega (arith, S .size, S .within, both);
-  }
-
--- the words say what is stored
-same-records : {s : List ℤ} {i e : ℕ} (a b : List Stored) → Segment storedWords s i e a → Segment storedWords s i e b
-    → Originated a → Originated b → a ≡ b
-same-records [] b A B p q = sym (none-left storedWords some-words B (omega (arith, A .size)))
-same-records (x ∷ a) [] A B p q = none-left storedWords some-words A (omega (arith, B .size))
-same-records {s} {i} {e} (x ∷ a) (y ∷ b) A B p q =
-    let f = first-at A p in
-    let g = first-at B q in
-    let z : x ≡ y = sym (f .is) ∙ g .is in
-    ap₂ (λ u l. u ∷ l) z (same-records a b (f .rest)
-    (subst (λ (u : Stored). Segment storedWords s (i + recordSize (u .literals)) e b) (sym z) (g .rest))
-    (λ u m. p u (List·Memᴰ·tail m)) (λ u m. q u (List·Memᴰ·tail m)))
-
-pub held-seg : {store : List ℤ} {used : ℕ} {stored : List Stored} → Holds store used stored → Segment storedWords store 0 used stored
-held-seg {store} {used} {stored} H = at-front storedWords store _ used stored (H .words) (sym (H .extent))
-
-pub encoded-seg : {s : List ℤ} {stored : List Stored} → Encodes s stored → Segment storedWords s 0 (length s) stored
-encoded-seg {s} {stored} e =
-    at-front storedWords s [] (length s) stored (e .words ∙ sym (append-nil (wordsOf stored))) (sym (ap length (e .words)))
-
-pub encoded-once : {s : List ℤ} {a b : List Stored} → Encodes s a → Encodes s b → a ≡ b
-encoded-once {a = a} {b} p q = same-records a b (encoded-seg p) (encoded-seg q) (p .origins) (q .origins)
-
 -- A loop from record to record
 
 -- the records from i up to e are those left of what is stored, and Q ties the two
@@ -192,23 +120,11 @@ Ahead Q store used i = (stored : List Stored) → Holds store used stored → Re
 
 module _ {Q : List Stored → List Stored → Type 0} {store : List ℤ} {used : ℕ} where
   pub ahead : ((stored : List Stored) → Q stored stored) → Ahead Q store used 0
-  ahead q stored H = record { left = stored; seg = held-seg H; origins = H .origins; tied = q stored }
+  ahead q stored H = record { left = stored; seg = at-front storedWords store _ used stored (H .words) (sym (H .extent)); origins = H .origins; tied = q stored }
 
   -- the record at i can be read, in a store that holds some nogoods
   pub ahead-room : {i : ℕ} → Ahead Q store used i → i < used → (stored : List Stored) × Holds store used stored → endAt store i ≤ length store
   ahead-room A h some = omega (arith, rest-at (A (some .0) (some .1)) h .room, some .1 .fits)
-
--- from the record at i on
-pub held-from : {Q : List Stored → List Stored → Type 0} {store : List ℤ} {used i : ℕ} {back : List Stored} → HoldsFrom store used i back → Q back back
-    → Rest Q store used back i
-held-from {store = store} {used} {i} {back} (front, H, e) q =
-    let z : 0 + length (wordsOf front) ≡ i = omega arith in
-    record {
-      left = back;
-      seg = subst (λ k. Segment storedWords store k used back) z (later front back (held-seg H));
-      origins = λ x u. H .origins x (Memᴰ·append-right front u);
-      tied = q;
-    }
 
 -- The words of nogoods alone, as propagation has them
 
@@ -228,38 +144,12 @@ module _ (s : List ℤ) where
   pub encoded : {Q : List Stored → List Stored → Type 0} {stored : List Stored} → Encodes s stored → Q stored stored → Rest Q s (length s) stored 0
   encoded {stored} e q = record {
     left = stored;
-    seg = encoded-seg e;
+    seg = at-front storedWords s [] (length s) stored (e .words ∙ sym (append-nil (wordsOf stored))) (sym (ap length (e .words)));
     origins = e .origins;
     tied = q;
   }
-
-  pub encoded-from : {Q : List Stored → List Stored → Type 0} {i : ℕ} {back : List Stored} → EncodesFrom s i back → Q back back → Rest Q s (length s) back i
-  encoded-from {i = i} {back} (front, E, e) q =
-      let z : 0 + length (wordsOf front) ≡ i = omega arith in
-      record {
-        left = back;
-        seg = subst (λ k. Segment storedWords s k (length s) back) z (later front back (encoded-seg E));
-        origins = λ x u. E .origins x (Memᴰ·append-right front u);
-        tied = q;
-      }
-
-  -- the record at i is a stored nogood's
-  pub stands-at : {stored : List Stored} {i : ℕ} → Rest Inside s (length s) stored i → i < length s → (storedAt s i ∈ stored) × (endAt s i ≤ length s)
-  stands-at w h = (rest-first w h _ (List·Memᴰ·head refl), rest-at w h .room)
 
   pub readable : (r : ℕ) → (stored : List Stored) × Encodes s stored → Stands s r → Readable s r
   readable r p f =
       let w = f (p .0) (p .1) in
       record { room = w .1; literals = p .1 .literals _ (w .0) }
-
-  -- a word after the header is a literal
-  pub literal-at : (r p : ℕ) → Readable s r → r + headerSize ≤ p → p < endAt s r → variable (getD s p (pos 0)) ≤ largest
-  literal-at r p k h l =
-      let a = r + headerSize in
-      let j = p - a in
-      let n = countAt s r in
-      let room = k .room in
-      let long : length (nogoodAt s r) ≡ n = length-take-le n (drop a s) (simp length-drop (omega arith)) in
-      let is : getD (nogoodAt s r) j (pos 0) ≡ getD s p (pos 0) =
-      getD-take n (drop a s) j (pos 0) (omega arith) ∙ getD-drop a s j (pos 0) ∙ ap (λ (q : ℕ). getD s q (pos 0)) (omega arith) in
-      rw (← is) (k .literals .high _ (in-at (pos 0) (nogoodAt s r) j (omega arith)))

@@ -100,13 +100,6 @@ module _ {s t : List ℤ} {used end : ℕ} {stored : List Stored} (H : Holds s u
 
 -- Deleting
 
-pub found-here : (i : ℕ) (L : List ℤ) (e : Stored) (es : List Stored) → isTarget L e ≡ true → foundAt i L (e ∷ es) ≡ At i
-found-here i L e es h = rw h
-
-pub found-on : (i : ℕ) (L : List ℤ) (e : Stored) (es : List Stored) → isTarget L e ≡ false
-    → foundAt i L (e ∷ es) ≡ foundAt (i + recordSize (e .literals)) L es
-found-on i L e es h = rw h
-
 -- where the list was found, from i on
 pub record Hit (i j : ℕ) (L : List ℤ) (stored : List Stored) : Type 0 where
   pub done : List Stored

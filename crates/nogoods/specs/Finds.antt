@@ -1,13 +1,12 @@
--- Where a nogood stands in the store. It serves private functions; no reader of a public contract needs it.
+-- Where a nogood stands in the store. It serves the private `find`; no reader of a public contract needs it.
 -- Assumes nothing.
 use mathlib.Core.Path.{_≡_}
-use mathlib.Core.Bool.{true, false, cond}
-use mathlib.Core.List.{List, [], _∷_}
-use Prim.Native.Nat.{ℕ, _+_, _≤_, _<_}
+use mathlib.Core.Bool.{cond}
+use mathlib.Core.List.{List, [], _∷_, _++_}
+use Prim.Native.Nat.{ℕ, _+_}
 use lib.IntN.{ℤ}
-use Rattle.nogoods.specs.Store.{Stored, isTarget, recordSize}
-use Rattle.nogoods.specs.Index.{listed, placeAt}
-use Rattle.nogoods.specs.Records.{storedAt}
+use lib.ListN.{length}
+use Rattle.nogoods.specs.Store.{Stored, isTarget, recordSize, wordsOf}
 use Rattle.nogoods.specs.declared.store.Found.{Found}
 use Rattle.nogoods.specs.declared.store.Found.the-variants.{At, Nothing}
 
@@ -17,8 +16,10 @@ foundAt i literals [] = Nothing
 foundAt i literals (e ∷ stored) =
     cond (isTarget literals e) (At i) (foundAt (i + recordSize (e .literals)) literals stored)
 
--- k is the number of the first place in the index at which the list stands; that of all places where it stands at none
-pub record FoundListed (s : List ℤ) (index : List ℕ) (literals : List ℤ) (k : ℕ) : Type 0 where
-  pub within : k ≤ listed index
-  pub before : (j : ℕ) → j < k → isTarget literals (storedAt s (placeAt index j)) ≡ false
-  pub here : k < listed index → isTarget literals (storedAt s (placeAt index k)) ≡ true
+-- a record begins at `from`, or none is left, and none of those before is such
+pub record Skips (from : ℕ) (L : List ℤ) (stored : List Stored) : Type 0 where
+  pub older : List Stored
+  pub newer : List Stored
+  pub is : stored ≡ older ++ newer
+  pub size : from ≡ length (wordsOf older)
+  pub none : foundAt 0 L older ≡ Nothing

@@ -3,16 +3,13 @@
 use mathlib.Core.Path.{_≡_}
 use mathlib.Core.Bool.{true}
 use mathlib.Core.List.{List, _++_}
-use Prim.Native.Nat.{ℕ, _≤_, _<_}
+use Prim.Native.Nat.{ℕ, _≤_}
 use lib.IntN.{ℤ}
 use lib.ListN.{length, drop}
 use Rattle.words.specs.Limits.{largest}
 use Rattle.words.specs.Lists.{_∈_}
 use Rattle.words.specs.Literals.{variable, distinct}
-use Rattle.nogoods.specs.Store.{Stored, live, wordsOf, storeWords, wordsFor}
-use Rattle.nogoods.specs.Index.{Indexed}
-use Rattle.nogoods.specs.declared.store.Added.{Added}
-use Rattle.nogoods.specs.declared.store.Added.the-variants.{Uses, Full}
+use Rattle.nogoods.specs.Store.{Stored, wordsOf, storeWords}
 
 -- from before to after the words were written at the front, and the rest is as it was
 abbrev pub WrittenFront : List ℤ → List ℤ → List ℤ → Type 0
@@ -32,13 +29,3 @@ pub record Holds (store : List ℤ) (used : ℕ) (stored : List Stored) : Type 0
   pub fits : used ≤ length store
   pub literals : (e : Stored) → e ∈ stored → Literals (e .literals)
   pub origins : (e : Stored) → e ∈ stored → 1 ≤ e .origin
-
--- the same, with an index beside the store
-pub record Keeps (store : List ℤ) (index : List ℕ) (used : ℕ) (stored : List Stored) : Type 0 where
-  pub holds : Holds store used stored
-  pub indexed : Indexed index stored
-
--- "Do the live words after the step fit the store?", with these stored then: store and index keep them, or the store is too short
-abbrev pub Fits : List Stored → List ℤ → List ℕ → Added → Type 0
-Fits stored after index (Uses n) = Keeps after index n stored
-Fits stored after index Full = length after < wordsFor (live stored)

@@ -1,10 +1,9 @@
 -- The store: the words that hold the nogoods, live and dead; and what the private functions of propagation and of the store cite.
 pub mod Store
-pub mod Index
 pub mod Keeps
 pub mod Records
 pub mod Moves
 pub mod Propagate
-pub mod PropagateChains
 pub mod Finds
+pub mod Index
 pub mod Definitions

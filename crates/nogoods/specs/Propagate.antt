@@ -1,4 +1,4 @@
--- What the functions of src/propagation.rt, src/units.rt and src/occurrences.rt promise of the assignment. Only private
+-- What the functions of src/propagation.rt, src/units.rt and src/replay.rt promise of the assignment. Only private
 -- functions cite this file; the contract of `refutes` names the derivation's `refuted` alone.
 -- Assumes nothing.
 use mathlib.Core.Path.{_≡_}
@@ -12,8 +12,7 @@ use Rattle.words.specs.Lists.{_∈_}
 use Rattle.words.specs.Literals.{variable, complement}
 use Rattle.derivation.specs.Propagation.{Closure, Conflict}
 use Rattle.nogoods.specs.Store.{Stored, live}
-use Rattle.nogoods.specs.Records.{Encodes, EncodesFrom, deadAt, nogoodAt}
-use Rattle.nogoods.specs.Index.{listed, placeAt}
+use Rattle.nogoods.specs.Records.{Encodes, deadAt, nogoodAt}
 use Rattle.nogoods.specs.declared.units.Value.{Value}
 use Rattle.nogoods.specs.declared.units.Value.the-variants.{True, False, Free}
 use Rattle.nogoods.specs.declared.units.Look.{Look}
@@ -105,29 +104,11 @@ Clashes s m = (stored : List Stored) (L : List ℤ) → Encodes s stored → InC
 abbrev pub AllSettled : List ℤ → List ℕ → Type 0
 AllSettled s m = (stored : List Stored) → Encodes s stored → (g : List ℤ) → g ∈ live stored → Settled m g
 
--- nothing follows from those whose places are in the index
-abbrev pub ListedSettled : List ℤ → List ℕ → List ℕ → Type 0
-ListedSettled s index m = (k : ℕ) → k < listed index → Settled m (nogoodAt s (placeAt index k))
-
--- nothing follows from any live nogood from i on
-abbrev pub SettledFrom : List ℤ → ℕ → List ℕ → Type 0
-SettledFrom s i m = (back : List Stored) → EncodesFrom s i back → (g : List ℤ) → g ∈ live back → Settled m g
-
--- what one pass over some of the nogoods says, and the assignment afterwards; where it is the same, `Done` holds of it
-abbrev pub Passes : (Done : List ℕ → Type 0) → List ℤ → List ℕ → List ℕ → Swept → Type 0
-Passes Done s m m′ Refuted = Clashes s m
-Passes Done s m m′ Changed = Grows s m m′ × (free m′ < free m)
-Passes Done s m m′ Same = (m′ ≡ m) × Done m
-
--- what two passes give, one after the other
-abbrev pub joined : Swept → Swept → Swept
-joined first Refuted = Refuted
-joined first Changed = Changed
-joined first Same = first
-
--- one pass over all of them
+-- what one pass over the nogoods says, and the assignment afterwards
 abbrev pub Sweeps : List ℤ → List ℕ → List ℕ → Swept → Type 0
-Sweeps s m m′ r = Passes (AllSettled s) s m m′ r
+Sweeps s m m′ Refuted = Clashes s m
+Sweeps s m m′ Changed = Grows s m m′ × (free m′ < free m)
+Sweeps s m m′ Same = (m′ ≡ m) × AllSettled s m
 
 -- after at most so many sweeps
 abbrev pub Settles : List ℤ → ℕ → List ℕ → List ℕ → Swept → Type 0

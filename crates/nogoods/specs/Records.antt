@@ -2,28 +2,20 @@
 -- Assumes nothing.
 use mathlib.Core.Path.{_≡_}
 use mathlib.Core.Bool.{Bool}
-use mathlib.Core.List.{List, _++_}
+use mathlib.Core.List.{List}
 use Prim.Native.Nat.{ℕ, _+_, _≤_}
 use lib.IntN.{ℤ, pos, natAbs}
 use lib.Signed.{ltZ}
 use lib.ListN.{length, take, drop, getD}
 use Rattle.words.specs.Lists.{_∈_}
 use Rattle.nogoods.specs.Store.{Stored, headerSize, wordsOf}
-use Rattle.nogoods.specs.Keeps.{Literals, Holds}
+use Rattle.nogoods.specs.Keeps.{Literals}
 
 -- the words are those of what is stored
 pub record Encodes (s : List ℤ) (stored : List Stored) : Type 0 where
   pub words : s ≡ wordsOf stored
   pub literals : (e : Stored) → e ∈ stored → Literals (e .literals)
   pub origins : (e : Stored) → e ∈ stored → 1 ≤ e .origin
-
--- what is stored ends with `back`, and its words begin at i
-abbrev pub EncodesFrom : List ℤ → ℕ → List Stored → Type 0
-EncodesFrom s i back = (front : List Stored) × Encodes s (front ++ back) × (i ≡ length (wordsOf front))
-
--- the same of a store
-abbrev pub HoldsFrom : List ℤ → (used i : ℕ) → List Stored → Type 0
-HoldsFrom store used i back = (front : List Stored) × Holds store used (front ++ back) × (i ≡ length (wordsOf front))
 
 -- the origin, which stands first
 abbrev pub originAt : List ℤ → ℕ → ℕ

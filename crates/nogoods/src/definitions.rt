@@ -7,11 +7,11 @@ ghost use lib.ListN.{length, drop, getD};
 ghost use Rattle.words.specs.Limits.{largest, longest, mostNumbers};
 ghost use Rattle.words.specs.Literals.{variable, complement, ascending};
 ghost use Rattle.derivation.specs.Steps.{definition};
-ghost use Rattle.nogoods.specs.Keeps.{Literals, Keeps, Fits, WrittenFront};
+ghost use Rattle.nogoods.specs.Keeps.{Literals, WrittenFront};
+ghost use Rattle.nogoods.specs.Index.{Keeps, Fits};
 ghost use Rattle.nogoods.specs.Store.{Stored, recordOf, addedIn, keptWith, storedWords, wordsOf, recordSize};
 ghost use Rattle.nogoods.specs.Definitions.{pair, pairSize, defined, definedSize};
-use crate::index;
-use crate::index::INDEX;
+use crate::INDEX;
 use crate::records::HEADER;
 use crate::store;
 use crate::store::Added;
@@ -86,7 +86,7 @@ pub fn append(
     origin: usize,
     numbers: &mut [i32],
 ) -> Added
-    requires kept { ⌜ ((stored : List Stored) × Keeps (now store) (now index) used stored) ⌝ }
+    requires held { ⌜ ((stored : List Stored) × Keeps (now store) (now index) used stored) ⌝ }
     requires origin { ⌜ (1 ≤ origin) × (origin ≤ longest) ⌝ }
     requires numbers { ⌜ Literals (now numbers) × (1 ≤ length (now numbers)) × (length (now numbers) ≤ mostNumbers) ⌝ }
     ensures { λ r. ⌜ ((stored : List Stored) → Keeps (now (store .entry)) (now (index .entry)) used stored
@@ -100,6 +100,5 @@ pub fn append(
         return Added::Full;
     }
     write_definition(&mut store[end..], origin, numbers);
-    index::cover(store, end + size, index);
     Added::Uses(end + size)
 }

@@ -9,13 +9,17 @@ ghost use lib.ListN.{length, getD, set};
 ghost use Rattle.words.specs.Limits.{largest, longest};
 ghost use Rattle.words.specs.Lists.{any};
 ghost use Rattle.aspif.specs.Rules.{isEmpty};
-ghost use Rattle.nogoods.specs.Keeps.{Literals, Holds, Keeps, Fits, WrittenFront};
-ghost use Rattle.nogoods.specs.Store.{Stored, recordOf, addedIn, closed, live, killed, keptFor, keptWith, isTarget, storedWords, recordSize};
-ghost use Rattle.nogoods.specs.Records.{HoldsFrom, endAt, deadAt, countAt, storedAt};
+ghost use Rattle.nogoods.specs.Keeps.{Literals, Holds, WrittenFront};
+ghost use Rattle.nogoods.specs.Store.{Stored, recordOf, addedIn, closed, live, killed, keptFor, keptWith, storedWords, recordSize};
+ghost use Rattle.nogoods.specs.Records.{endAt, deadAt, countAt};
 ghost use Rattle.nogoods.specs.Moves.{MovedDown, Keeping};
-ghost use Rattle.nogoods.specs.Finds.{foundAt, FoundListed};
-use crate::index;
-use crate::index::INDEX;
+ghost use Rattle.nogoods.specs.Finds.{foundAt, Skips};
+ghost use Rattle.nogoods.specs.Index.{Keeps, Fits, Spotted};
+ghost use Rattle.nogoods.specs.declared.chains.Spot.the-variants.{Here};
+use crate::INDEX;
+use crate::chains;
+use crate::chains::PROVED;
+use crate::chains::Spot;
 use crate::records;
 use crate::records::COUNT;
 use crate::records::HEADER;
@@ -88,7 +92,7 @@ pub fn close(store: &mut [i32], used: usize) -> usize
 
 // Room for so many words after those that are used: the store is closed up if they do not fit otherwise. How many words are used
 // then.
-pub fn make_room(store: &mut [i32], used: usize, index: &mut [u16; INDEX], size: usize) -> usize
+pub fn make_room(store: &mut [i32], used: usize, index: &mut [u16], size: usize) -> usize
     requires { ⌜ ((stored : List Stored) × Keeps (now store) (now index) used stored) ⌝ }
     ensures { λ r. ⌜ ((stored : List Stored) → Keeps (now (store .entry)) (now (index .entry)) used stored
         → Keeps (now (store .exit)) (now (index .exit)) r (keptFor (length (now (store .entry))) size stored)) ⌝ }
@@ -96,7 +100,8 @@ pub fn make_room(store: &mut [i32], used: usize, index: &mut [u16; INDEX], size:
     if size <= store.len() - used {
         return used;
     }
-    index::clear(index);
+    chains::clear(index);
+    search::reset(&mut index[PROVED..]);
     close(store, used)
 }
 
@@ -108,7 +113,7 @@ pub fn append(
     origin: usize,
     literals: &[i32],
 ) -> Added
-    requires kept { ⌜ ((stored : List Stored) × Keeps (now store) (now index) used stored) ⌝ }
+    requires held { ⌜ ((stored : List Stored) × Keeps (now store) (now index) used stored) ⌝ }
     requires origin { ⌜ (1 ≤ origin) × (origin ≤ longest) ⌝ }
     requires literals { ⌜ Literals (now literals) × (length (now literals) ≤ largest) ⌝ }
     ensures { λ r. ⌜ ((stored : List Stored) → Keeps (now (store .entry)) (now (index .entry)) used stored
@@ -121,46 +126,18 @@ pub fn append(
         return Added::Full;
     }
     write(&mut store[end..], origin, literals);
-    index::cover(store, end + size, index);
     Added::Uses(end + size)
 }
 
-// The record at i is that of a live nogood that is the list of literals.
-fn is_target(store: &[i32], i: usize, literals: &[i32]) -> bool
-    requires { ⌜ endAt (now store) i ≤ length (now store) ⌝ }
-    ensures { λ r. ⌜ r ≡ isTarget (now (literals .entry)) (storedAt (now (store .entry)) i) ⌝ }
-{
-    if records::is_dead(store, i) {
-        return false;
-    }
-    words::is_same_list(records::nogood_at(store, i), literals)
-}
-
-// The number of the first place in the index at which the list of literals stands; that of all places where there is none.
-fn find_listed(store: &[i32], used: usize, index: &[u16; INDEX], literals: &[i32]) -> usize
-    requires { ⌜ ((stored : List Stored) × Keeps (now store) (now index) used stored) ⌝ }
-    ensures { λ k. ⌜ FoundListed (now (store .entry)) (now (index .entry)) (now (literals .entry)) k ⌝ }
-{
-    let n = index::listed(index);
-    let mut k = 0;
-    while k < n {
-        if is_target(store, index::place_at(index, k), literals) {
-            return k;
-        }
-        k += 1;
-    }
-    n
-}
-
-// The oldest live nogood that is the list of literals, of those from `from` on.
-fn find_from(store: &[i32], used: usize, from: usize, literals: &[i32]) -> Found
-    requires { ⌜ ((back : List Stored) × HoldsFrom (now store) used from back) ⌝ }
-    ensures { λ r. ⌜ ((back : List Stored) → HoldsFrom (now (store .entry)) used from back
-        → r ≡ foundAt from (now (literals .entry)) back) ⌝ }
+// The oldest live nogood that is the list of literals, where none before a place is.
+fn find(store: &[i32], used: usize, from: usize, literals: &[i32]) -> Found
+    requires { ⌜ ((stored : List Stored) × Holds (now store) used stored × Skips from (now literals) stored) ⌝ }
+    ensures { λ r. ⌜ ((stored : List Stored) → Holds (now (store .entry)) used stored → Skips from (now (literals .entry)) stored
+        → r ≡ foundAt 0 (now (literals .entry)) stored) ⌝ }
 {
     let mut i = from;
     while i < used {
-        if is_target(store, i, literals) {
+        if chains::is_target(store, i, literals) {
             return Found::At(i);
         }
         i = records::end_at(store, i);
@@ -176,25 +153,67 @@ fn kill(store: &mut [i32], r: usize)
     store[r] = 0 - store[r];
 }
 
+// The oldest live nogood that is the list of literals is dead, where none before a place is.
+fn delete_far(store: &mut [i32], used: usize, from: usize, literals: &[i32])
+    requires { ⌜ ((stored : List Stored) × Holds (now store) used stored × Skips from (now literals) stored) ⌝ }
+    ensures { λ _. ⌜ ((stored : List Stored) → Holds (now (store .entry)) used stored → Skips from (now (literals .entry)) stored
+        → Holds (now (store .exit)) used (killed (now (literals .entry)) stored)) ⌝ }
+{
+    match find(store, used, from, literals) {
+        Found::At(i) => {
+            kill(store, i);
+        }
+        Found::Nothing => {}
+    }
+}
+
+// The nogood at x is dead, and out of its chain.
+fn delete_near(
+    store: &mut [i32],
+    used: usize,
+    index: &mut [u16],
+    literals: &[i32],
+    x: usize,
+    over: usize,
+)
+    requires { ⌜ ((stored : List Stored) × (K : Keeps (now store) (now index) used stored)
+        × Spotted (K .covers .front) (now literals) (now index) (Here x over)) ⌝ }
+    ensures { λ _. ⌜ ((stored : List Stored) (K : Keeps (now (store .entry)) (now (index .entry)) used stored)
+        → Spotted (K .covers .front) (now (literals .entry)) (now (index .entry)) (Here x over)
+        → Keeps (now (store .exit)) (now (index .exit)) used (killed (now (literals .entry)) stored)) ⌝ }
+{
+    chains::unlink(index, chains::hash_of(literals), x, over);
+    kill(store, x);
+    search::forget(store, x, &mut index[PROVED..]);
+}
+
+// The oldest live nogood that is the list of literals is dead.
+fn discard(store: &mut [i32], used: usize, index: &mut [u16], literals: &[i32])
+    requires { ⌜ ((stored : List Stored) × Keeps (now store) (now index) used stored) ⌝ }
+    ensures { λ _. ⌜ ((stored : List Stored) → Keeps (now (store .entry)) (now (index .entry)) used stored
+        → Keeps (now (store .exit)) (now (index .exit)) used (killed (now (literals .entry)) stored)) ⌝ }
+{
+    chains::cover(store, used, index);
+    let spot = chains::walk(store, used, index, literals);
+    match spot {
+        Spot::Here(x, over) => {
+            delete_near(store, used, index, literals, x, over);
+        }
+        Spot::Nowhere => {
+            let from = chains::covered(index);
+            delete_far(store, used, from, literals);
+        }
+    }
+}
+
 // The oldest live nogood that is the list of literals is dead: one word changes at most. As many words are used as before.
 pub fn delete(store: &mut [i32], used: usize, index: &mut [u16; INDEX], literals: &[i32]) -> usize
     requires { ⌜ ((stored : List Stored) × Keeps (now store) (now index) used stored) ⌝ }
     ensures { λ r. ⌜ ((stored : List Stored) → Keeps (now (store .entry)) (now (index .entry)) used stored
         → Keeps (now (store .exit)) (now (index .exit)) r (killed (now (literals .entry)) stored)) ⌝ }
 {
-    let k = find_listed(store, used, index, literals);
-    if k < index::listed(index) {
-        kill(store, index::place_at(index, k));
-        index::take_out(index, k);
-        return used;
-    }
-    match find_from(store, used, index::covered(index), literals) {
-        Found::At(i) => {
-            kill(store, i);
-            used
-        }
-        Found::Nothing => used,
-    }
+    discard(store, used, index, literals);
+    used
 }
 
 // One if the record at i is that of a live nogood, and 0 if it is dead.

@@ -5,7 +5,7 @@ ghost use lib.ListN.{length, set};
 ghost use Rattle.words.specs.Limits.{largest, entries};
 ghost use Rattle.words.specs.Literals.{variable};
 ghost use Rattle.nogoods.specs.Keeps.{Literals};
-ghost use Rattle.nogoods.specs.Records.{Readable, nogoodAt};
+ghost use Rattle.nogoods.specs.Records.{Readable};
 ghost use Rattle.nogoods.specs.Propagate.{entry, Valued, Looked, Derives, DerivesAt};
 use crate::records;
 use words::ENTRIES;
@@ -114,16 +114,7 @@ fn derive(literals: &[i32], assignment: &mut [u8; ENTRIES]) -> Derived
     }
 }
 
-// The record at r's part, which is not dead: where all its literals but one are true and that one is free, its complement becomes true.
-pub fn derive_live(nogoods: &[i32], r: usize, assignment: &mut [u8; ENTRIES]) -> Derived
-    requires record { ⌜ Readable (now nogoods) r ⌝ }
-    requires size { ⌜ length (now assignment) ≡ entries ⌝ }
-    ensures { λ d. ⌜ Derives (nogoodAt (now (nogoods .entry)) r) (now (assignment .entry)) (now (assignment .exit)) d ⌝ }
-{
-    derive(records::nogood_at(nogoods, r), assignment)
-}
-
-// The same, and nothing where it is dead.
+// The record at r's part, unless it is dead: where all its literals but one are true and that one is free, its complement becomes true.
 pub fn derive_at(nogoods: &[i32], r: usize, assignment: &mut [u8; ENTRIES]) -> Derived
     requires record { ⌜ Readable (now nogoods) r ⌝ }
     requires size { ⌜ length (now assignment) ≡ entries ⌝ }
@@ -132,5 +123,5 @@ pub fn derive_at(nogoods: &[i32], r: usize, assignment: &mut [u8; ENTRIES]) -> D
     if records::is_dead(nogoods, r) {
         return Derived::Nothing;
     }
-    derive_live(nogoods, r, assignment)
+    derive(records::nogood_at(nogoods, r), assignment)
 }

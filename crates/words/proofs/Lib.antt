@@ -10,3 +10,4 @@ pub mod Tops
 pub mod Words
 pub mod Ascending
 pub mod Blanks
+pub mod Descending

@@ -2,6 +2,7 @@ use mathlib.Core.Path.{_≡_, sym, _∙_, ap}
 use mathlib.Core.Bool.{true}
 use native.Mathlib.Omega.{arith}
 use borrow.Author.Tests.{not-true, not-false}
+use lib.ListN.{replicate}
 use Rattle.words.specs.Limits.{entries}
 use Rattle.aspif.specs.Rules.{atoms}
 use Rattle.words.specs.Lists.{ascends}
@@ -41,8 +42,12 @@ returns-3 c =
     let z = d .before .before .before .before .before in
     refused-43 _ _ _ _ _ (z .before .zero-marks .ensures) (sound (d .before .before)) (sym (told d) ∙ not-false _ (c .before .if2 .left)) (λ e. c .if3 .taken (z .marks .given ∙ e))
 
-close-requires : tie.Need-close-requires
-close-requires c κs = sound-rules _ _ (sound (c .before .before .before .before .before .before .before .before .before))
+mark-least-requires : tie.Need-mark-least-requires
+mark-least-requires c κs =
+    let g = c .before .before .before .before .before in
+    let d = g .before .before in
+    let z = d .before .before .before .before .before in
+    (sound (d .before .before), (d .before .largest-atom .ensures, (g .if3 .left, z .before .zero-marks .ensures ∙ ap (λ k. replicate k 0) (sym (z .marks .given)))))
 
 judge-requires : tie.Need-judge-requires
 judge-requires c κs =
@@ -62,7 +67,7 @@ returns-4 c =
     let w = sym (told d) ∙ not-false _ (g .if2 .left) in
     let h = atoms-small (a .rules) (a .table .now) (sound-rules _ _ s) in
     let e : marked (m .mark-all .last .1 .0) ≡ listed (a .set .now) = ap marked (m .mark-all .ensures) ∙ marks-listed (atoms (rulesAt (a .rules) (a .table .now))) entries (a .set .now) w (omega arith) in
-    tested (a .table .now) (a .rules) (a .set .now) (a .marks .now) (k .close .last .1 .1 .1 .1 .0) s w (sym (z .marks .given) ∙ m .before .before .if3 .left) e (d .before .largest-atom .ensures) (z .before .zero-marks .ensures) (k .close .ensures) (c .judge .ensures)
+    tested (a .table .now) (a .rules) (a .set .now) (a .marks .now) (k .mark-least .last .1 .1 .1 .1 .0) s w (sym (z .marks .given) ∙ m .before .before .if3 .left) e (d .before .largest-atom .ensures) (k .mark-least .ensures) (c .judge .ensures)
 
 pub test-set-spec : {M : Type 1} → statement M
 test-set-spec =
@@ -81,7 +86,7 @@ test-set-spec =
     (λ c. search needs)
     (λ c κs. search needs)
     (λ c. search needs)
-    close-requires
+    mark-least-requires
     (λ c. search needs)
     judge-requires
     (λ c. search needs)

@@ -11,7 +11,8 @@ use Rattle.drupe.specs.Lines.{lineAt}
 use Rattle.checker.specs.Held.{Program, LineLeaves}
 use Rattle.checker.proofs.Tracking.{same-rules, rules-held, start-tracks}
 use Rattle.checker.proofs.Courses.{Going, going-start, going-ends, going-fails, going-on}
-use Rattle.nogoods.proofs.Placed.{indexed-zero}
+use Rattle.nogoods.specs.Index.{indexSize}
+use Rattle.nogoods.proofs.Indexing.{blank-zeros}
 use borrow.Author.Needs.{needs}
 use Rattle.checker.proofs.runs.run_lines.Statement.{statement}
 use Rattle.checker.proofs.runs.run_lines.Tie as tie
@@ -80,7 +81,7 @@ loop-holds c =
     let s = c .before .before .start .ensures in
     let q = c .before .before .before .before .before .pre in
     let p = q .0 .0 .1 in
-    rw (s .1, s .2) (q .0 .0 .0, p, going-start _ _ _ _ (start-tracks (s .0) (omega (arith, q .0 .1, rules-held (p .holds))) (rw (← p .holds .are) (q .1 .1 .0))) (q .1 .1 .1 .1) refl (length-replicate {A = ℕ} mostRules 0) (indexed-zero []), refl, length-replicate {A = ℤ} mostNumbers (pos 0), length-replicate {A = ℤ} mostNumbers (pos 0))
+    rw (s .1, s .2) (q .0 .0 .0, p, going-start _ _ _ _ (start-tracks (s .0) (omega (arith, q .0 .1, rules-held (p .holds))) (rw (← p .holds .are) (q .1 .1 .0))) (q .1 .1 .1 .1) refl (length-replicate {A = ℕ} mostRules 0) (length-replicate {A = ℕ} indexSize 0) (blank-zeros indexSize), refl, length-replicate {A = ℤ} mostNumbers (pos 0), length-replicate {A = ℤ} mostNumbers (pos 0))
 
 -- the number of the next step
 add-step : tie.Need-add-step Inv-loop μ-loop

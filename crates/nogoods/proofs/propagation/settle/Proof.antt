@@ -10,11 +10,11 @@ use Rattle.nogoods.proofs.propagation.settle.Statement.{statement}
 use Rattle.nogoods.proofs.propagation.settle.Tie as tie
 
 abbrev Inv-loop : tie.InvT-loop
-Inv-loop nogoods index rounds assignment₀ left₀ assignment left =
+Inv-loop nogoods rounds assignment₀ left₀ assignment left =
     (left ≤ rounds) × Grows nogoods assignment₀ assignment × (rounds + free assignment ≤ left + free assignment₀)
 
 abbrev μ-loop : tie.MeasureT-loop
-μ-loop nogoods index rounds assignment₀ left₀ assignment left = left
+μ-loop nogoods rounds assignment₀ left₀ assignment left = left
 
 loop-holds : tie.Need-loop-holds Inv-loop μ-loop
 loop-holds c = (omega arith, grows-not, omega arith)
@@ -27,7 +27,7 @@ module _ (c : tie.After-sweep Inv-loop μ-loop) where
   abbrev l : tie.At-loop Inv-loop μ-loop
   l = c .before .before .before
 
-  told : (x : Swept) → c .sweep .result ≡ x → Sweeps (l .before .args .nogoods .now) (l .loop .assignment) (c .sweep .last .1 .1 .0) x
+  told : (x : Swept) → c .sweep .result ≡ x → Sweeps (l .before .args .nogoods .now) (l .loop .assignment) (c .sweep .last .1 .0) x
   told x e = rw e at (c .sweep .ensures)
 
 returns : tie.Need-returns Inv-loop μ-loop

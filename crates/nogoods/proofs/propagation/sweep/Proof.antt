@@ -1,85 +1,105 @@
--- What the places gave and what the nogoods behind those that are covered gave, together.
-use mathlib.Core.Path.{_≡_, sym, subst, _∙_}
-use mathlib.Core.List.{List, _++_}
-use Prim.Native.Nat.{ℕ}
+-- The loop keeps `Sweeping`: what the nogoods before i have given.
+use mathlib.Core.Path.{_≡_}
+use mathlib.Core.List.{List}
+use Prim.Native.Nat.{_-_}
+use native.Mathlib.Omega.{arith}
+use borrow.Author.Needs.{needs}
 use lib.IntN.{ℤ}
 use lib.ListN.{length}
-use borrow.Author.Needs.{needs}
-use Rattle.nogoods.specs.Store.{Stored}
-use Rattle.nogoods.specs.Records.{Encodes, EncodesFrom}
-use Rattle.nogoods.specs.Index.{covered, Indexed}
-use Rattle.nogoods.specs.Propagate.{ListedSettled, SettledFrom, AllSettled, Passes, joined}
-use Rattle.nogoods.specs.declared.propagation.Swept.{Swept}
-use Rattle.nogoods.specs.declared.propagation.Swept.the-variants.{Refuted, Changed, Same}
-use Rattle.nogoods.proofs.Sweeps.{passes-on, all-settled}
+use Rattle.nogoods.specs.Records.{Readable, Stands}
+use Rattle.nogoods.specs.Propagate.{DerivesAt}
+use Rattle.nogoods.specs.declared.units.Derived.{Derived}
+use Rattle.nogoods.proofs.Recorded.{readable}
+use Rattle.nogoods.proofs.Closures.{clashes-before, conflicting}
+use Rattle.nogoods.proofs.Sweeps.{Sweeping, sweep-start, sweep-at, sweep-settled, sweep-assigned, sweep-over}
 use Rattle.nogoods.proofs.propagation.sweep.Statement.{statement}
 use Rattle.nogoods.proofs.propagation.sweep.Tie as tie
 
--- what is behind those that are covered
-behind : {s : List ℤ} {index : List ℕ} {n : ℕ} → (stored : List Stored) × Encodes s stored × Indexed index stored → n ≡ covered index
-    → (back : List Stored) × EncodesFrom s n back
-behind {s} p e = let x = p .2 in (x .back, (x .front, subst (Encodes s) (x .whole) (p .1), e ∙ x .extent))
+abbrev Inv-loop : tie.InvT-loop
+Inv-loop nogoods assignment₀ changed₀ i₀ assignment changed i = Sweeping nogoods assignment₀ assignment changed i
 
--- what the places gave
-module _ (c : tie.After-sweep-listed) where
-  abbrev s : tie.Start
-  s = c .before .before
+abbrev μ-loop : tie.MeasureT-loop
+μ-loop nogoods assignment₀ changed₀ i₀ assignment changed i = length nogoods - i
 
-  told : (x : Swept) → c .sweep-listed .result ≡ x
-      → Passes (ListedSettled (s .args .nogoods .now) (s .args .index .now)) (s .args .nogoods .now) (s .args .assignment .now)
-      (c .sweep-listed .last .1 .1 .0) x
-  told x e = rw e at (c .sweep-listed .ensures)
+loop-holds : tie.Need-loop-holds Inv-loop μ-loop
+loop-holds c = sweep-start _ _ (c .pre .1)
 
-sweep-from-requires : tie.Need-sweep-from-requires
-sweep-from-requires c κs =
-    let e = c .before .before in
-    let o = e .before .before in
-    (behind (s o .pre .0) (c .before .covered .ensures), told o _ (e .enum-told2 .given .1) .0 .size ∙ s o .pre .1)
+-- the nogood at i
+module _ (c : tie.In-loop Inv-loop μ-loop) where
+  abbrev words : List ℤ
+  words = c .before .before .args .nogoods .now
 
-sweep-from-requires-2 : tie.Need-sweep-from-requires-2
-sweep-from-requires-2 c κs =
-    let e = c .before .before in
-    let o = e .before .before in
-    (behind (s o .pre .0) (c .before .covered2 .ensures), subst (λ m. length m ≡ _) (sym (told o _ (e .enum-told3 .given .1) .0)) (s o .pre .1))
+  abbrev going : Sweeping words (c .before .before .args .assignment .now) (c .before .loop .assignment) (c .before .loop .changed) (c .before .loop .i)
+  going = c .before .loop .inv
 
-returns : tie.Need-returns
-returns c = told (c .before .before) _ (c .enum-told .given .1)
+  stands : Stands words (c .before .loop .i)
+  stands = sweep-at _ _ _ _ _ going (c .loop-test .taken)
 
-returns-2 : tie.Need-returns-2
-returns-2 c =
-    let f = c .before in
-    let e = f .before .before .before in
-    let o = e .before .before in
-    rw (c .joined .ensures)
-    (passes-on _ _ (AllSettled (s o .args .nogoods .now)) _ _ _ (f .sweep-from .result) (told o _ (e .enum-told2 .given .1)) (f .sweep-from .ensures))
+  read : Readable words (c .before .loop .i)
+  read = readable _ _ (c .before .before .pre .0) stands
 
--- where the places gave nothing
-after-same : {s : List ℤ} {index : List ℕ} (m m′ m″ : List ℕ) {n : ℕ} (r : Swept) → (stored : List Stored) × Encodes s stored × Indexed index stored
-    → n ≡ covered index → Passes (ListedSettled s index) s m m′ Same → Passes (SettledFrom s n) s m′ m″ r → Passes (AllSettled s) s m m″ r
-after-same m m′ m″ Refuted p e t q = rw (t .0) at q
-after-same m m′ m″ Changed p e t q = rw (t .0) at q
-after-same m m′ m″ Same p e t q = (q .0 ∙ t .0, all-settled _ m (p .1) (p .2) (t .1) (rw (t .0, e) at (q .1)))
+derive-at-requires : tie.Need-derive-at-requires Inv-loop μ-loop
+derive-at-requires c κs = (read (c .before), c .before .before .loop .inv .size)
 
-returns-3 : tie.Need-returns-3
-returns-3 c =
-    let v = c .before .before in
-    let e = v .before in
-    let o = e .before .before in
-    after-same _ _ _ (c .sweep-from2 .result) (s o .pre .0) (v .covered2 .ensures) (told o _ (e .enum-told3 .given .1)) (c .sweep-from2 .ensures)
+end-at-requires : tie.Need-end-at-requires Inv-loop μ-loop
+end-at-requires c κs = read (c .before .before) .room
+
+-- what the nogood gave
+told : (c : tie.After-derive-at Inv-loop μ-loop) (x : Derived) → c .derive-at .result ≡ x
+    → let l = c .before .before .before .loop in DerivesAt (words (c .before .before)) (l .i) (l .assignment) (c .derive-at .last .1 .1 .0) x
+told c x e = rw e at (c .derive-at .ensures)
+
+returns : tie.Need-returns Inv-loop μ-loop
+returns c =
+    let o = c .before .before .before in
+    let k = o .before .before in
+    let t = told o _ (c .enum-told .given .1) in
+    clashes-before _ _ _ (going k .grows)
+    (conflicting _ _ (stands k) (t .0) (read k .literals) (k .before .loop .assignment) (going k .size) (t .1))
+
+loop-less : tie.Need-loop-less Inv-loop μ-loop
+loop-less c = omega (arith, c .before .before .before .before .before .loop-test .taken)
+
+loop-again : tie.Need-loop-again Inv-loop μ-loop
+loop-again c =
+    let o = c .before .before .before in
+    let k = o .before .before in
+    let t = told o _ (c .enum-told2 .given .1) in
+    rw (c .before .before .end-at .ensures)
+    (sweep-assigned _ _ _ _ _ (going k) (k .loop-test .taken) (t .0) (read k .literals) _ _ (t .1))
+
+loop-less-2 : tie.Need-loop-less-2 Inv-loop μ-loop
+loop-less-2 c = omega (arith, c .before .before .before .before .before .loop-test .taken)
+
+loop-again-2 : tie.Need-loop-again-2 Inv-loop μ-loop
+loop-again-2 c =
+    let o = c .before .before .before in
+    let k = o .before .before in
+    let t = told o _ (c .enum-told3 .given .1) in
+    rw (c .before .before .end-at .ensures, t .0) (sweep-settled _ _ _ _ _ (going k) (k .loop-test .taken) (t .1))
+
+returns-2 : tie.Need-returns-2 Inv-loop μ-loop
+returns-2 c = let l = c .before .before .loop in (l .inv .grows, l .inv .more (c .if1 .taken))
+
+returns-3 : tie.Need-returns-3 Inv-loop μ-loop
+returns-3 c = let l = c .before .before .loop in (l .inv .same (c .if1 .left), sweep-over _ _ _ _ _ (l .inv) (c .before .loop-test .left) (c .if1 .left))
 
 pub sweep-spec : {M : Type 1} → statement M
 sweep-spec =
     tie.close
     (tie.spec
-    (λ c κs. search needs)
+    Inv-loop
+    μ-loop
+    loop-holds
+    derive-at-requires
+    end-at-requires
     (λ c. search needs)
-    (λ c. search needs)
-    (λ c κs. search needs)
-    sweep-from-requires
-    (λ c κs. search needs)
-    (λ c. search needs)
-    (λ c κs. search needs)
-    sweep-from-requires-2
     returns
+    (λ c. search needs)
+    loop-less
+    loop-again
+    (λ c. search needs)
+    loop-less-2
+    loop-again-2
     returns-2
     returns-3)

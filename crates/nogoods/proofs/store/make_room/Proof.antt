@@ -1,31 +1,36 @@
-use native.Mathlib.Omega.{arith}
-use Rattle.nogoods.specs.Store.{closed}
+-- All is kept; or the index is blank, the search has its own cells, and the store is closed up.
+use mathlib.Core.Path.{_∙_}
 use Rattle.nogoods.proofs.Stored.{kept-all, kept-live}
+use Rattle.nogoods.proofs.Indexing.{keeps-blank, keeps-part}
+use native.Mathlib.Omega.{arith}
 use borrow.Author.Needs.{needs}
 use Rattle.nogoods.proofs.store.make_room.Statement.{statement}
 use Rattle.nogoods.proofs.store.make_room.Tie as tie
 
-sub-if1 : tie.Need-sub-if1
-sub-if1 c = c .pre .1 .holds .fits
-
 returns : tie.Need-returns
-returns c = λ stored K. rw (kept-all (K .holds) (c .before .args .size) (omega (arith, c .if1 .taken))) K
-
-clear-requires : tie.Need-clear-requires
-clear-requires c κs = c .before .before .pre .1 .indexed .size
-
-close-requires : tie.Need-close-requires
-close-requires c κs = let p = c .before .before .before .before .pre in (p .0, p .1 .holds)
+returns c = λ stored K. rw (kept-all (K .holds) (c .before .before .args .size) (omega (arith, c .if1 .taken))) K
 
 returns-2 : tie.Need-returns-2
-returns-2 c =
-    λ stored K.
-    let d = c .before .before .before in
-    let e = d .before .before in
-    rw (kept-live (K .holds) (e .before .args .size) (omega (arith, e .if1 .left))) (record {
-      holds = c .before .close .ensures stored (K .holds);
-      indexed = d .clear .ensures (closed stored);
-    })
+returns-2 c stored K =
+    let r = c .before .before .before .before .before .reset in
+    let k = c .before .before .before .before .before .before .before .before .before in
+    let e = k .before .before in
+    let n = k .clear .kept .0 ∙ K .size in
+    rw (kept-live (K .holds) (e .before .before .args .size) (omega (arith, e .if1 .left)))
+    (keeps-part (k .clear .last .0) (r .last .0) n (r .kept .0) (keeps-blank (c .before .close .ensures stored (K .holds)) n (k .clear .ensures)))
 
 pub make-room-spec : {M : Type 1} → statement M
-make-room-spec = tie.close (tie.spec sub-if1 returns clear-requires close-requires (λ c. search needs) returns-2)
+make-room-spec =
+    tie.close
+    (tie.spec
+    (λ c. search needs)
+    returns
+    (λ c κs. search needs)
+    (λ c. search needs)
+    (λ c. search needs)
+    (λ c. search needs)
+    (λ c κs. search needs)
+    (λ c κs. search needs)
+    (λ c. search needs)
+    (λ c. search needs)
+    returns-2)

@@ -18,7 +18,7 @@ abbrev μ-loop : tie.MeasureT-loop
 μ-loop words₀ to from n k₀ words k = n - k
 
 loop-holds : tie.Need-loop-holds Inv-loop μ-loop
-loop-holds c = (omega arith, moved-none (pos 0) _ _ _)
+loop-holds c = (omega arith, moved-none _ _ _)
 
 module _ (c : tie.In-loop Inv-loop μ-loop) where
   abbrev a : tie.Start Inv-loop μ-loop
@@ -38,7 +38,7 @@ loop-again c =
     let b = s .args in
     rw (back (getD (l .words) (b .from + l .k) (pos 0)) (c .words .given)) (
       omega (arith, i .loop-test .taken),
-      moved-more (pos 0) (b .to) (b .from) (b .words .now) (l .k) (l .words) (s .pre .0) (omega (arith, s .pre .1, i .loop-test .taken))
+      moved-more (b .to) (b .from) (b .words .now) (l .k) (l .words) (s .pre .0) (omega (arith, s .pre .1, i .loop-test .taken))
           (l .inv .1),
     )
 

@@ -1,4 +1,4 @@
--- As `derive_live`, unless it is dead.
+-- The literals of the record are handed on, unless it is dead.
 use mathlib.Core.Path.{_≡_, refl, sym, _∙_}
 use mathlib.Core.Bool.{true, false, true≢false}
 use mathlib.Core.List.{List}
@@ -21,10 +21,17 @@ derives-live s r m m′ Nothing a k = (k .0, λ e. k .1)
 returns : tie.Need-returns
 returns c = (refl, λ a. absurd (true≢false (sym (c .if1 .taken) ∙ c .before .is-dead .ensures ∙ a)))
 
+derive-requires : tie.Need-derive-requires
+derive-requires c κs =
+    let o = c .before in
+    let p = o .before .before .before .pre in
+    (rw (o .nogood-at .ensures) (p .0 .literals), p .1)
+
 returns-2 : tie.Need-returns-2
 returns-2 c =
-    let e = c .before .before in
-    derives-live _ _ _ _ (c .derive-live .result) (sym (e .before .is-dead .ensures) ∙ e .if1 .left) (c .derive-live .ensures)
+    let o = c .before .before in
+    let e = o .before in
+    derives-live _ _ _ _ (c .derive .result) (sym (e .before .is-dead .ensures) ∙ e .if1 .left) (rw (o .nogood-at .ensures) at (c .derive .ensures))
 
 pub derive-at-spec : {M : Type 1} → statement M
-derive-at-spec = tie.close (tie.spec (λ c κs. search needs) returns (λ c κs. search needs) returns-2)
+derive-at-spec = tie.close (tie.spec (λ c κs. search needs) returns (λ c κs. search needs) derive-requires returns-2)

@@ -1,0 +1,57 @@
+// A derivation that is handed in as the places of the nogoods that it goes by, read one after another. What it derives follows, whatever the places are:
+// those that are not marked are passed over, and nothing follows from the dead.
+ghost use mathlib.Core.Path.{_≡_};
+ghost use mathlib.Core.Bool.{true};
+ghost use mathlib.Core.List.{List};
+ghost use Prim.Native.Nat.{_+_, _<_};
+ghost use lib.ListN.{length, getD};
+ghost use Rattle.words.specs.Limits.{entries};
+ghost use Rattle.nogoods.specs.Store.{Stored};
+ghost use Rattle.nogoods.specs.Records.{Encodes};
+ghost use Rattle.nogoods.specs.Index.{keys, reach, indexSize, Marked};
+ghost use Rattle.nogoods.specs.Propagate.{Saturates};
+use crate::chains::KEYS;
+use crate::chains::PROVED;
+use crate::units;
+use crate::units::Derived;
+use search::FIRST;
+use search::MOST;
+use search::REACH;
+use search::TRAIL;
+use words::ENTRIES;
+
+// A record starts at x, by its mark.
+fn is_start(index: &[u16], x: usize) -> bool
+    requires { ⌜ length (now index) ≡ indexSize ⌝ }
+    ensures { λ b. ⌜ (b ≡ true → (x < reach) × (0 < getD (now (index .entry)) (keys + x) 0)) ⌝ }
+{
+    if REACH <= x {
+        return false;
+    }
+    0 < index[KEYS + x]
+}
+
+// The nogoods at the places of the path, one after another. Whether that comes to a conflict.
+pub fn replay(nogoods: &[i32], index: &[u16], assignment: &mut [u8; ENTRIES]) -> bool
+    requires encoded { ⌜ ((stored : List Stored) × Encodes (now nogoods) stored) ⌝ }
+    requires index { ⌜ (length (now index) ≡ indexSize) × Marked (now nogoods) (now index) ⌝ }
+    requires size { ⌜ length (now assignment) ≡ entries ⌝ }
+    ensures { λ r. ⌜ Saturates (now (nogoods .entry)) (now (assignment .entry)) (now (assignment .exit)) r ⌝ }
+{
+    let mut k = index[PROVED + FIRST] as usize;
+    while k < MOST {
+        let x = index[PROVED + TRAIL + k] as usize;
+        k += 1;
+        if is_start(index, x) {
+            let given = units::derive_at(nogoods, x, assignment);
+            match given {
+                Derived::Conflicting => {
+                    return true;
+                }
+                Derived::Assigned(_) => {}
+                Derived::Nothing => {}
+            }
+        }
+    }
+    false
+}

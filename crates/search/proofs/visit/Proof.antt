@@ -1,0 +1,74 @@
+use mathlib.Core.Path.{_≡_}
+use Prim.Native.Nat.{_≤_}
+use Rattle.search.specs.declared.Turn.{Turn}
+use Rattle.search.specs.Search.{SmallTurn}
+use borrow.Author.Needs.{needs}
+use lib.ListN.{length}
+use Rattle.search.proofs.visit.Statement.{statement}
+use Rattle.search.proofs.visit.Tie as tie
+
+abbrev Inv-loop : tie.InvT-loop
+Inv-loop store cells₀ c start n₀ last₀ node₀ fuel₀ cells n last node fuel = (n ≤ 8192) × (last ≤ 65535) × (node ≤ 65535) × (length cells ≡ length cells₀)
+
+abbrev μ-loop : tie.MeasureT-loop
+μ-loop store cells₀ c start n₀ last₀ node₀ fuel₀ cells n last node fuel = fuel
+
+same-length : tie.Need-same-length Inv-loop μ-loop
+same-length c = search needs
+
+same-length-2 : tie.Need-same-length-2 Inv-loop μ-loop
+same-length-2 c = search needs
+
+same-length-3 : tie.Need-same-length-3 Inv-loop μ-loop
+same-length-3 c = search needs
+
+small : (c : tie.After-look Inv-loop μ-loop) (t : Turn) → c .look .result ≡ t → SmallTurn t
+small c t e = rw e at (c .look .ensures)
+
+watch-requires : tie.Need-watch-requires Inv-loop μ-loop
+watch-requires c κs = let f = c .before .before .before .before .before .before in let d = small (f .before .before) _ (f .turn .given .1) in search needs
+
+push-requires : tie.Need-push-requires Inv-loop μ-loop
+push-requires c κs = let f = c .before .before in let d = small (f .before .before) _ (f .turn2 .given .1) in search needs
+
+pub visit-spec : {M : Type 1} → statement M
+visit-spec =
+    tie.close
+    (tie.spec
+    Inv-loop
+    μ-loop
+    (λ c. search needs)
+    (λ c κs. search needs)
+    (λ c. search needs)
+    same-length
+    (λ c. search needs)
+    (λ c. search needs)
+    (λ c. search needs)
+    (λ c. search needs)
+    (λ c. search needs)
+    (λ c. search needs)
+    (λ c κs. search needs)
+    (λ c κs. search needs)
+    (λ c. search needs)
+    (λ c. search needs)
+    (λ c. search needs)
+    (λ c. search needs)
+    (λ c κs. search needs)
+    watch-requires
+    (λ c. search needs)
+    (λ c. search needs)
+    (λ c. search needs)
+    (λ c κs. search needs)
+    (λ c. search needs)
+    (λ c. search needs)
+    (λ c. search needs)
+    (λ c. search needs)
+    push-requires
+    (λ c. search needs)
+    (λ c. search needs)
+    (λ c. search needs)
+    (λ c. search needs)
+    same-length-2
+    (λ c. search needs)
+    same-length-3
+    (λ c. search needs))

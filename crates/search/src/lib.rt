@@ -1,0 +1,712 @@
+// A search for a conflict with two watched literals, of which nothing is promised but bounds and an end: what it leaves is a path, the places of the
+// nogoods that it went by, and `replay` decides. All that it keeps from step to step stands in the cells that it is lent, read and written by total
+// functions, so that no function here asks for anything but small numbers. Cells of zeros are a right start.
+//
+// A literal's code is its variable, and 8,192 more where it is negative; 0 stands for a literal that is true in every nogood. A node is
+// 1 + 2 · place + (0 or 1), for the first and the second watch of the nogood at a place; 0 ends a chain. A place that may be none is one more, or 0.
+ghost use Prim.Native.Nat.{_≤_};
+ghost use Rattle.search.specs.Search.{SmallTurn, SmallVisit};
+// As many words of the store are watched at most.
+pub const REACH: usize = 16384;
+
+// As many literals as can be true, with the one of code 0.
+pub const MOST: usize = 8192;
+
+// The regions: by code, the first node of its chain; by place and watch, the next node, and the code that is watched; by code, one more than where it
+// stands among those that are true, or 0; the codes that are true, in their order, and at the end the path; by that order, the places that gave them;
+// how many of 64 in that order are needed.
+const HEAD: usize = 0;
+
+const LINK: usize = 16384;
+
+const WATCHED: usize = 32768;
+
+const ORDER: usize = 49152;
+
+pub const TRAIL: usize = 65536;
+
+const REASON: usize = 73728;
+
+const BLOCKS: usize = 81920;
+
+// How many are true; how many of them were propagated; a nogood that the root violates, and whether the path leads to it; where the path begins.
+const COUNT: usize = 82048;
+
+const DONE: usize = 82049;
+
+const HINT: usize = 82050;
+
+pub const FIRST: usize = 82051;
+
+// All cells.
+pub const CELLS: usize = 82052;
+
+// What is added to a literal's order where the path needs it.
+const NEEDED: usize = 32768;
+
+// As many literals in their order are counted together.
+const BLOCK: usize = 64;
+
+// A nogood of so many literals is looked through from its front.
+const SHORT: usize = 64;
+
+// So many literals that are true without any assumption are few.
+const FEW: usize = 64;
+
+// What is added to the nogood that the root violates where the path leads to it.
+const LED: usize = 32768;
+
+// What a walk along one chain gave: a nogood that is violated, and how many literals are true; or only that.
+enum Visited {
+    Clash(usize, usize),
+    Queued(usize),
+}
+
+// What becomes of a watch on a literal that is true: it stays, since the other literal is false; it moves to another literal; it goes, since the
+// nogood is dead; it stays, and a literal follows; the nogood is violated.
+enum Turn {
+    Stays,
+    Moves(usize),
+    Goes,
+    Gives(usize),
+    Violated,
+}
+
+// The cell at i; 0 past the end.
+fn get(cells: &[u16], i: usize) -> usize
+    ensures { λ r. ⌜ r ≤ 65535 ⌝ }
+{
+    if i < cells.len() { wide(cells[i]) } else { 0 }
+}
+
+// A cell's number.
+pub fn wide(x: u16) -> usize
+    ensures { λ r. ⌜ r ≤ 65535 ⌝ }
+{
+    x as usize
+}
+
+// The cell at i becomes v, where both fit.
+fn put(cells: &mut [u16], i: usize, v: usize) {
+    if i < cells.len() {
+        if v <= 65535 {
+            cells[i] = v as u16;
+        }
+    }
+}
+
+// A literal's code.
+fn code_of(word: i32) -> usize
+    ensures { λ r. ⌜ r ≤ 16383 ⌝ }
+{
+    let v = words::variable_of(word);
+    if 8191 < v {
+        return 0;
+    }
+    if word < 0 { v + 8192 } else { v }
+}
+
+// The code of the complement.
+fn opposite(c: usize) -> usize
+    requires { ⌜ c ≤ 65535 ⌝ }
+    ensures { λ r. ⌜ r ≤ 65535 ⌝ }
+{
+    if c < 8192 { c + 8192 } else { c - 8192 }
+}
+
+// The literal is true.
+fn is_true(cells: &[u16], c: usize) -> bool
+    requires { ⌜ c ≤ 65535 ⌝ }
+{
+    get(cells, ORDER + c) != 0
+}
+
+// Where the literals of the nogood at x end, as far as that is a small number.
+fn end_of(store: &[i32], x: usize) -> usize
+    requires { ⌜ x ≤ 65535 ⌝ }
+    ensures { λ r. ⌜ r ≤ 131072 ⌝ }
+{
+    let n = words::variable_of(words::word_at(store, x + 1));
+    if n <= 65535 { x + 2 + n } else { x + 2 }
+}
+
+// A literal is true now, by a nogood or by none. How many are.
+fn push(cells: &mut [u16], n: usize, c: usize, reason: usize) -> usize
+    requires { ⌜ (n ≤ 8192) × (c ≤ 65535) ⌝ }
+    ensures { λ r. ⌜ r ≤ 8192 ⌝ }
+{
+    if MOST <= n {
+        return n;
+    }
+    put(cells, ORDER + c, n + 1);
+    put(cells, TRAIL + n, c);
+    put(cells, REASON + n, reason);
+    n + 1
+}
+
+// The watch w of the nogood at x is on a literal.
+fn watch(cells: &mut [u16], x: usize, w: usize, c: usize)
+    requires { ⌜ (x ≤ 65535) × (w ≤ 1) × (c ≤ 65535) ⌝ }
+{
+    let first = get(cells, HEAD + c);
+    put(cells, WATCHED + x + w, c);
+    put(cells, LINK + x + w, first);
+    put(cells, HEAD + c, 2 * x + w + 1);
+}
+
+// From j on, the place of a literal that is not true, other than one given; else the end.
+fn open_from(store: &[i32], cells: &[u16], j: usize, end: usize, other: usize) -> usize
+    requires { ⌜ end ≤ 200000 ⌝ }
+    ensures { λ r. ⌜ r ≤ end ⌝ }
+{
+    let mut i = j;
+    while i < end {
+        let c = code_of(words::word_at(store, i));
+        if c != other {
+            if !is_true(cells, c) {
+                return i;
+            }
+        }
+        i += 1;
+    }
+    end
+}
+
+// The variable of a code.
+fn variable(c: usize) -> usize {
+    if c < 8192 { c } else { c - 8192 }
+}
+
+// The place of a variable among literals from one place to another, which ascend by variable; else the place of the next one.
+fn place_of(store: &[i32], from: usize, end: usize, v: usize) -> usize
+    requires { ⌜ end ≤ 200000 ⌝ }
+    ensures { λ r. ⌜ r ≤ end ⌝ }
+{
+    let mut low = from;
+    let mut high = end;
+    while low < high {
+        let middle = low + (high - low) / 2;
+        if words::variable_of(words::word_at(store, middle)) < v {
+            low = middle + 1;
+        } else {
+            high = middle;
+        }
+    }
+    high
+}
+
+// The same in a long nogood, from the literal c on and round to the front: what was passed over before is not read again.
+fn open_around(
+    store: &[i32],
+    cells: &[u16],
+    from: usize,
+    end: usize,
+    c: usize,
+    other: usize,
+) -> usize
+    requires { ⌜ end ≤ 200000 ⌝ }
+    ensures { λ r. ⌜ r ≤ end ⌝ }
+{
+    let middle = place_of(store, from, end, variable(c));
+    let later = open_from(store, cells, middle, end, other);
+    if later < end {
+        return later;
+    }
+    let earlier = open_from(store, cells, from, middle, other);
+    if earlier < middle { earlier } else { end }
+}
+
+// The place of a literal of a nogood that is not true, other than one given; else the end. Of two literals both are watched.
+fn open_in(store: &[i32], cells: &[u16], from: usize, end: usize, c: usize, other: usize) -> usize
+    requires { ⌜ (from ≤ 65537) × (end ≤ 200000) ⌝ }
+    ensures { λ r. ⌜ r ≤ end ⌝ }
+{
+    if end == from + 2 {
+        return end;
+    }
+    if end <= from + SHORT {
+        open_from(store, cells, from, end, other)
+    } else {
+        open_around(store, cells, from, end, c, other)
+    }
+}
+
+// What becomes of the watch w of the nogood at x, which is on the literal c.
+fn look(store: &[i32], cells: &[u16], x: usize, w: usize, c: usize) -> Turn
+    requires { ⌜ (x ≤ 65535) × (w ≤ 1) × (c ≤ 65535) ⌝ }
+    ensures { λ r. ⌜ SmallTurn r ⌝ }
+{
+    let other = get(cells, WATCHED + x + 1 - w);
+    if is_true(cells, opposite(other)) {
+        return Turn::Stays;
+    }
+    if !words::is_positive(words::word_at(store, x)) {
+        return Turn::Goes;
+    }
+    let end = end_of(store, x);
+    let j = open_in(store, cells, x + 2, end, c, other);
+    if j < end {
+        return Turn::Moves(code_of(words::word_at(store, j)));
+    }
+    if is_true(cells, other) {
+        return Turn::Violated;
+    }
+    Turn::Gives(opposite(other))
+}
+
+// What led to a node leads to the next one: the node before it, or the chain's start.
+fn skip(cells: &mut [u16], c: usize, last: usize, next: usize)
+    requires { ⌜ (c ≤ 65535) × (last ≤ 65535) ⌝ }
+{
+    if last == 0 {
+        put(cells, HEAD + c, next);
+    } else {
+        put(cells, LINK + (last - 1) / 2 + (last - 1) % 2, next);
+    }
+}
+
+// The nogoods that watch a literal that is true now.
+fn visit(store: &[i32], cells: &mut [u16], c: usize, start: usize) -> Visited
+    requires { ⌜ (c ≤ 65535) × (start ≤ 8192) ⌝ }
+    ensures { λ r. ⌜ SmallVisit r ⌝ }
+{
+    let mut n = start;
+    let mut last = 0;
+    let mut node = get(cells, HEAD + c);
+    let mut fuel: usize = 65535;
+    while 0 < fuel {
+        if node == 0 {
+            return Visited::Queued(n);
+        }
+        fuel -= 1;
+        let here = node;
+        let x = (here - 1) / 2;
+        let w = (here - 1) % 2;
+        node = get(cells, LINK + x + w);
+        let turn = look(store, cells, x, w, c);
+        match turn {
+            Turn::Stays => {
+                last = here;
+            }
+            Turn::Moves(d) => {
+                skip(cells, c, last, node);
+                watch(cells, x, w, d);
+            }
+            Turn::Goes => {
+                skip(cells, c, last, node);
+            }
+            Turn::Gives(d) => {
+                n = push(cells, n, d, x + 1);
+                last = here;
+            }
+            Turn::Violated => {
+                return Visited::Clash(x + 1, n);
+            }
+        }
+    }
+    Visited::Queued(n)
+}
+
+// How many literals are true.
+fn count(cells: &[u16]) -> usize
+    ensures { λ r. ⌜ r ≤ 8192 ⌝ }
+{
+    let n = get(cells, COUNT);
+    if n <= MOST { n } else { MOST }
+}
+
+// To the end, or to a nogood that is violated.
+fn propagate(store: &[i32], cells: &mut [u16]) -> usize
+    ensures { λ r. ⌜ r ≤ 65535 ⌝ }
+{
+    let mut n = count(cells);
+    let mut done = get(cells, DONE);
+    while done < n {
+        let c = get(cells, TRAIL + done);
+        done += 1;
+        let given = visit(store, cells, c, n);
+        match given {
+            Visited::Clash(x, end) => {
+                put(cells, COUNT, end);
+                put(cells, DONE, done);
+                return x;
+            }
+            Visited::Queued(end) => {
+                n = end;
+            }
+        }
+    }
+    put(cells, COUNT, n);
+    put(cells, DONE, done);
+    0
+}
+
+// Only the first literals are true.
+fn undo(cells: &mut [u16], to: usize) {
+    let n = count(cells);
+    let mut i = to;
+    while i < n {
+        let c = get(cells, TRAIL + i);
+        put(cells, ORDER + c, 0);
+        i += 1;
+    }
+    put(cells, COUNT, to);
+    if to < get(cells, DONE) {
+        put(cells, DONE, to);
+    }
+}
+
+// The literals are true. The code of the complement of one that was false before, else 0.
+fn assume(literals: &[i32], cells: &mut [u16]) -> usize
+    ensures { λ r. ⌜ r ≤ 65535 ⌝ }
+{
+    let mut n = count(cells);
+    let mut i = 0;
+    while i < literals.len() {
+        let c = code_of(literals[i]);
+        let against = opposite(c);
+        i += 1;
+        if is_true(cells, against) {
+            put(cells, COUNT, n);
+            return against;
+        }
+        if !is_true(cells, c) {
+            n = push(cells, n, c, 0);
+        }
+    }
+    put(cells, COUNT, n);
+    0
+}
+
+// The path needs a literal, if it is true.
+fn need(cells: &mut [u16], c: usize)
+    requires { ⌜ c ≤ 65535 ⌝ }
+{
+    let at = get(cells, ORDER + c);
+    if at == 0 {
+        return;
+    }
+    if at < NEEDED {
+        let block = BLOCKS + (at - 1) / BLOCK;
+        put(cells, block, get(cells, block) + 1);
+        put(cells, ORDER + c, at + NEEDED);
+    }
+}
+
+// The path needs the literals of the nogood at x that are true.
+fn need_all(store: &[i32], cells: &mut [u16], x: usize)
+    requires { ⌜ x ≤ 65535 ⌝ }
+{
+    let end = end_of(store, x);
+    let mut j = x + 2;
+    while j < end {
+        need(cells, code_of(words::word_at(store, j)));
+        j += 1;
+    }
+}
+
+// A place goes to the front of the path, if there is room. Where the path begins then.
+fn prepend(cells: &mut [u16], first: usize, x: usize) -> usize
+    requires { ⌜ first ≤ 8192 ⌝ }
+    ensures { λ r. ⌜ r ≤ 8192 ⌝ }
+{
+    if first <= count(cells) {
+        return first;
+    }
+    put(cells, TRAIL + first - 1, x);
+    first - 1
+}
+
+// One less is needed of a block.
+fn met(cells: &mut [u16], block: usize)
+    requires { ⌜ block ≤ 65535 ⌝ }
+{
+    let left = get(cells, BLOCKS + block);
+    if 0 < left {
+        put(cells, BLOCKS + block, left - 1);
+    }
+}
+
+// One of the literals in their order: if the path needs it, the nogood that gave it goes to the front, and its literals are needed.
+fn follow(store: &[i32], cells: &mut [u16], i: usize, first: usize) -> usize
+    requires { ⌜ (i ≤ 8192) × (first ≤ 8192) ⌝ }
+    ensures { λ r. ⌜ r ≤ 8192 ⌝ }
+{
+    let code = get(cells, TRAIL + i);
+    let at = get(cells, ORDER + code);
+    if at < NEEDED {
+        return first;
+    }
+    put(cells, ORDER + code, at - NEEDED);
+    met(cells, i / BLOCK);
+    let x = get(cells, REASON + i);
+    if x == 0 {
+        return first;
+    }
+    need_all(store, cells, x - 1);
+    prepend(cells, first, x - 1)
+}
+
+// The nogoods that gave what is needed, latest first, go to the front of the path.
+fn gather(store: &[i32], cells: &mut [u16], start: usize) -> usize
+    requires { ⌜ start ≤ 8192 ⌝ }
+    ensures { λ r. ⌜ r ≤ 8192 ⌝ }
+{
+    let mut first = start;
+    let mut i = count(cells);
+    while 0 < i {
+        i -= 1;
+        if get(cells, BLOCKS + i / BLOCK) == 0 {
+            i -= i % BLOCK;
+        } else {
+            first = follow(store, cells, i, first);
+        }
+    }
+    first
+}
+
+// All nogoods that gave a literal go to the front of the path.
+fn gather_all(cells: &mut [u16], start: usize) -> usize
+    requires { ⌜ start ≤ 8192 ⌝ }
+{
+    let mut first = start;
+    let mut i = count(cells);
+    while 0 < i {
+        i -= 1;
+        let x = get(cells, REASON + i);
+        if 0 < x {
+            first = prepend(cells, first, x - 1);
+        }
+    }
+    first
+}
+
+// So few literals of all are true without any assumption that it costs less to replay all than to tell which are needed; and all have room.
+fn is_small(cells: &[u16], mark: usize) -> bool
+    requires { ⌜ mark ≤ 8192 ⌝ }
+{
+    let n = count(cells);
+    if MOST <= 2 * n {
+        return false;
+    }
+    if mark <= FEW {
+        return true;
+    }
+    4 * mark <= n
+}
+
+// The path to a nogood that is violated. Where it begins.
+fn lead(store: &[i32], cells: &mut [u16], mark: usize, last: usize) -> usize
+    requires { ⌜ (mark ≤ 8192) × (1 ≤ last) × (last ≤ 65535) ⌝ }
+{
+    let first = prepend(cells, MOST, last - 1);
+    if is_small(cells, mark) {
+        return gather_all(cells, first);
+    }
+    need_all(store, cells, last - 1);
+    gather(store, cells, first)
+}
+
+// The path to a literal that is true and was to be false. Where it begins.
+fn contradict(store: &[i32], cells: &mut [u16], mark: usize, c: usize) -> usize
+    requires { ⌜ (mark ≤ 8192) × (c ≤ 65535) ⌝ }
+{
+    if is_small(cells, mark) {
+        return gather_all(cells, MOST);
+    }
+    need(cells, c);
+    gather(store, cells, MOST)
+}
+
+// The literal of code 0 is true.
+fn ready(cells: &mut [u16]) {
+    if count(cells) == 0 {
+        let n = push(cells, 0, 0, 0);
+        put(cells, COUNT, n);
+    }
+}
+
+// The nogood that the root violates, one more than its place, or 0.
+fn hint_of(cells: &[u16]) -> usize
+    ensures { λ r. ⌜ r ≤ 65535 ⌝ }
+{
+    let hint = get(cells, HINT);
+    if hint < LED { hint } else { hint - LED }
+}
+
+// The path leads to the nogood that the root violates, and no literal was written over it.
+fn is_led(cells: &[u16]) -> bool {
+    if get(cells, HINT) < LED {
+        return false;
+    }
+    count(cells) <= get(cells, FIRST)
+}
+
+// A nogood that is violated without any assumption.
+fn root(store: &[i32], cells: &mut [u16]) -> usize
+    ensures { λ r. ⌜ r ≤ 65535 ⌝ }
+{
+    let hint = hint_of(cells);
+    if 0 < hint {
+        return hint;
+    }
+    let last = propagate(store, cells);
+    put(cells, HINT, last);
+    last
+}
+
+// The literals are true, and what follows. The path to a nogood that is violated, or to a literal that is true and false; else all that was found.
+fn pursue(store: &[i32], literals: &[i32], cells: &mut [u16], mark: usize) -> usize
+    requires { ⌜ mark ≤ 8192 ⌝ }
+{
+    let against = assume(literals, cells);
+    if 0 < against {
+        return contradict(store, cells, mark, against);
+    }
+    let last = propagate(store, cells);
+    if 0 < last {
+        return lead(store, cells, mark, last);
+    }
+    gather_all(cells, MOST)
+}
+
+// A path: to a nogood that is violated without any assumption, if there is one.
+fn find(store: &[i32], literals: &[i32], cells: &mut [u16], mark: usize, last: usize) -> usize
+    requires { ⌜ (mark ≤ 8192) × (last ≤ 65535) ⌝ }
+{
+    if 0 < last {
+        put(cells, HINT, last + LED);
+        lead(store, cells, mark, last)
+    } else {
+        pursue(store, literals, cells, mark)
+    }
+}
+
+// One search for a conflict that the literals lead to. It leaves a path; one that leads to a conflict without any assumption stays.
+pub fn run(store: &[i32], literals: &[i32], cells: &mut [u16]) {
+    ready(cells);
+    if is_led(cells) {
+        return;
+    }
+    let last = root(store, cells);
+    let mark = count(cells);
+    let first = find(store, literals, cells, mark, last);
+    put(cells, FIRST, first);
+    undo(cells, mark);
+}
+
+// The code of the literal at j, 0 from the end on.
+fn code_at(store: &[i32], j: usize, end: usize) -> usize
+    ensures { λ r. ⌜ r ≤ 16383 ⌝ }
+{
+    if j < end {
+        code_of(words::word_at(store, j))
+    } else {
+        0
+    }
+}
+
+// A nogood that watches one literal that is not true, or none: what follows without any assumption.
+fn settle(cells: &mut [u16], x: usize, open: bool, c: usize)
+    requires { ⌜ (c ≤ 65535) × (x ≤ 65535) ⌝ }
+{
+    if open {
+        if !is_true(cells, opposite(c)) {
+            let n = push(cells, count(cells), opposite(c), x + 1);
+            put(cells, COUNT, n);
+        }
+    } else {
+        if get(cells, HINT) == 0 {
+            put(cells, HINT, x + 1);
+        }
+    }
+}
+
+// A new nogood: two literals that are not true are watched, as far as there are any.
+pub fn enter(store: &[i32], x: usize, cells: &mut [u16]) {
+    if REACH <= x {
+        return;
+    }
+    ready(cells);
+    let from = x + 2;
+    let end = end_of(store, x);
+    let a = open_from(store, cells, from, end, 65535);
+    let b = open_from(store, cells, a + 1, end, 65535);
+    let one = if a < end { a } else { from };
+    let two = if b < end {
+        b
+    } else {
+        if one == from { from + 1 } else { from }
+    };
+    let c = code_at(store, one, end);
+    watch(cells, x, 0, c);
+    watch(cells, x, 1, code_at(store, two, end));
+    if end <= b {
+        settle(cells, x, a < end, c);
+    }
+}
+
+// A literal of a nogood at x that is dead now: if its complement was true by it, that and what came later is not any more. Whether that is so.
+fn withdraw(cells: &mut [u16], x: usize, c: usize) -> bool
+    requires { ⌜ (c ≤ 65535) × (x ≤ 65535) ⌝ }
+{
+    let at = get(cells, ORDER + c);
+    if at == 0 {
+        return false;
+    }
+    if get(cells, REASON + at - 1) != x + 1 {
+        return false;
+    }
+    undo(cells, at - 1);
+    put(cells, DONE, 0);
+    put(cells, HINT, 0);
+    true
+}
+
+// The nogood at x, which is dead now, does not say that the root is violated.
+fn unhint(cells: &mut [u16], x: usize)
+    requires { ⌜ x ≤ 65535 ⌝ }
+{
+    if hint_of(cells) == x + 1 {
+        put(cells, HINT, 0);
+        put(cells, DONE, 0);
+    }
+}
+
+// Nothing of the root rests on the nogood at x, which is dead now.
+pub fn forget(store: &[i32], x: usize, cells: &mut [u16]) {
+    if REACH <= x {
+        return;
+    }
+    unhint(cells, x);
+    if count(cells) <= 1 {
+        return;
+    }
+    let end = end_of(store, x);
+    let mut j = x + 2;
+    while j < end {
+        let c = opposite(code_of(words::word_at(store, j)));
+        j += 1;
+        if withdraw(cells, x, c) {
+            return;
+        }
+    }
+}
+
+// The cells become 0.
+fn clear(cells: &mut [u16]) {
+    let mut i = 0;
+    while i < cells.len() {
+        cells[i] = 0;
+        i += 1;
+    }
+}
+
+// A new start: no literal is true and none is watched. The other cells are written before they are read.
+pub fn reset(cells: &mut [u16]) {
+    undo(cells, 0);
+    put(cells, HINT, 0);
+    if LINK <= cells.len() {
+        clear(&mut cells[..LINK]);
+    }
+}
