@@ -7,7 +7,7 @@ use native.Mathlib.Omega.{arith}
 use lib.IntN.{ℤ, pos}
 use lib.ListN.{length, replicate}
 use Rattle.words.proofs.Lists.{zero-one}
-use Rattle.words.specs.Limits.{longest, mostRules}
+use Rattle.words.specs.Limits.{longest}
 use Rattle.aspif.specs.Rules.{Rule, InputRule, expand}
 use Rattle.drupe.specs.Lines.{LineAt, end, line, lineAt}
 use Rattle.drupe.specs.Lines as Lines
@@ -21,7 +21,7 @@ use Rattle.nogoods.proofs.Live.{live-nil, live-few}
 use Rattle.nogoods.proofs.Indexing.{keeps-blank}
 use Rattle.checker.specs.Check.{storedAfter, Course, stopped, course}
 use Rattle.checker.specs.Claims.{Runs, ends, unread, unaccepted, full, good}
-use Rattle.checker.specs.Held.{Tracks, HoldsState, Leaves, proofTurn, LineLeaves, Ran}
+use Rattle.checker.specs.Held.{Tracks, nameWords, HoldsState, Leaves, proofTurn, LineLeaves, Ran}
 use Rattle.checker.specs.declared.outcomes.Stepped.{Stepped}
 use Rattle.checker.specs.declared.outcomes.Stepped.the-variants.{Uses, Fails}
 use Rattle.checker.specs.declared.runs.ProofTurn.{ProofTurn}
@@ -51,10 +51,10 @@ module _ (N : ℕ) (ws : List InputRule) (size : ℕ) (text : List ℕ) where
     pub within : at ≤ length text
     pub count : steps ≤ at
     pub long : length store ≡ size
-    pub places : length names ≡ mostRules
+    pub places : length names ≡ nameWords
 
   pub going-start : {store : List ℤ} {index known names : List ℕ} {bodies : List ℤ} → Tracks N ws known names bodies [] [] → store ≡ replicate (length store) (pos 0) → length store ≡ size
-      → length names ≡ mostRules → length index ≡ indexSize → Blank index → Going store index known names bodies 0 0 0
+      → length names ≡ nameWords → length index ≡ indexSize → Blank index → Going store index known names bodies 0 0 0
   going-start {store} T e l p n b =
       record {
         z = start;

@@ -43,7 +43,7 @@ pub fn is_inside(word: i32, inside: &[u8]) -> bool
 }
 
 // Some literal is positive with its atom in the set.
-fn any_inside(literals: &[i32], inside: &[u8]) -> bool
+pub fn any_inside(literals: &[i32], inside: &[u8]) -> bool
     ensures { λ r. ⌜ r ≡ any (isInside (now (inside .entry))) (now (literals .entry)) ⌝ }
 {
     let mut i = 0;
@@ -68,7 +68,7 @@ fn is_normal(words: &[i32]) -> bool
 }
 
 // The rule at the front is normal, with just these heads.
-fn is_normal_with(words: &[i32], heads: &[i32]) -> bool
+pub fn is_normal_with(words: &[i32], heads: &[i32]) -> bool
     requires { ⌜ shapeSound (now words) ≡ true ⌝ }
     ensures { λ r. ⌜ (let rule = ruleAt (now (words .entry)) in
         r ≡ (isNormal (rule .kind) && sameList (rule .heads) (now (heads .entry)))) ⌝ }
@@ -267,7 +267,7 @@ pub fn is_completed(
 }
 
 // What is kept by rule for the rule at the front, once the body has the name: `kept` before.
-fn name_for(words: &[i32], body: &[i32], name: u16, kept: u16) -> u16
+pub fn name_for(words: &[i32], body: &[i32], name: u16, kept: u16) -> u16
     requires { ⌜ shapeSound (now words) ≡ true ⌝ }
     ensures { λ r. ⌜ ((called : List ℤ → ℕ) → kept ≡ entry called (bodyAt (now (words .entry)))
         → r ≡ entry (λ L. cond (sameList (now (body .entry)) L) name (called L)) (bodyAt (now (words .entry)))) ⌝ }

@@ -5,10 +5,10 @@ use native.Mathlib.Omega.{arith}
 use lib.IntN.{ℤ, pos}
 use lib.ListN.{length, length-replicate}
 use Rattle.aspif.specs.Rules.{InputRule}
-use Rattle.words.specs.Limits.{mostNumbers, mostRules}
+use Rattle.words.specs.Limits.{mostNumbers}
 use Rattle.text.specs.Classes.{byteClasses}
 use Rattle.drupe.specs.Lines.{lineAt}
-use Rattle.checker.specs.Held.{Program, LineLeaves}
+use Rattle.checker.specs.Held.{Program, nameWords, LineLeaves}
 use Rattle.checker.proofs.Tracking.{same-rules, rules-held, start-tracks}
 use Rattle.checker.proofs.Courses.{Going, going-start, going-ends, going-fails, going-on}
 use Rattle.nogoods.specs.Index.{indexSize}
@@ -18,12 +18,12 @@ use Rattle.checker.proofs.runs.run_lines.Statement.{statement}
 use Rattle.checker.proofs.runs.run_lines.Tie as tie
 
 abbrev Inv-loop : tie.InvT-loop
-Inv-loop proof table rules relevant atoms bodies₀ store₀ classes numbers₀ sorted₀ known₀ names₀ index₀ used₀ at₀ steps₀ bodies store numbers sorted known names index used at steps =
+Inv-loop proof table rules lookup relevant atoms bodies₀ store₀ classes numbers₀ sorted₀ known₀ names₀ index₀ used₀ at₀ steps₀ bodies store numbers sorted known names index used at steps =
     (ws : List InputRule) × Program table rules atoms ws × Going atoms ws (length store₀) proof store index known names bodies used at steps × (length bodies ≡ length bodies₀)
     × (length numbers ≡ mostNumbers) × (length sorted ≡ mostNumbers)
 
 abbrev μ-loop : tie.MeasureT-loop
-μ-loop proof table rules relevant atoms bodies₀ store₀ classes numbers₀ sorted₀ known₀ names₀ index₀ used₀ at₀ steps₀ bodies store numbers sorted known names index used at steps = length proof - at
+μ-loop proof table rules lookup relevant atoms bodies₀ store₀ classes numbers₀ sorted₀ known₀ names₀ index₀ used₀ at₀ steps₀ bodies store numbers sorted known names index used at steps = length proof - at
 
 -- where the loop stands, and what the turn there left
 module _ (c : tie.After-turn-at Inv-loop μ-loop) where
@@ -31,25 +31,25 @@ module _ (c : tie.After-turn-at Inv-loop μ-loop) where
   l = c .before .before .before .before .before .before .before .before .before
 
   abbrev start : tie.Start Inv-loop μ-loop
-  start = l .before .before .before .before .before .before
+  start = l .before .before .before .before .before .before .before
 
   abbrev ws : List InputRule
   ws = l .loop .inv .0
 
   abbrev store′ : List ℤ
-  store′ = c .turn-at .last .1 .1 .1 .1 .1 .1 .1 .1 .1 .1 .1 .1 .0
+  store′ = c .turn-at .last .1 .1 .1 .1 .1 .1 .1 .1 .1 .1 .1 .1 .1 .0
 
   abbrev index′ : List ℕ
-  index′ = c .turn-at .last .1 .1 .1 .1 .1 .1 .1 .1 .1 .1 .1 .1 .1 .1 .0
+  index′ = c .turn-at .last .1 .1 .1 .1 .1 .1 .1 .1 .1 .1 .1 .1 .1 .1 .1 .0
 
   abbrev known′ : List ℕ
-  known′ = c .turn-at .last .1 .1 .1 .1 .1 .1 .1 .1 .1 .0
+  known′ = c .turn-at .last .1 .1 .1 .1 .1 .1 .1 .1 .1 .1 .0
 
   abbrev names′ : List ℕ
-  names′ = c .turn-at .last .1 .1 .1 .1 .1 .1 .1 .1 .1 .1 .0
+  names′ = c .turn-at .last .1 .1 .1 .1 .1 .1 .1 .1 .1 .1 .1 .0
 
   abbrev bodies′ : List ℤ
-  bodies′ = c .turn-at .last .1 .1 .1 .1 .1 .1 .1 .1 .1 .1 .1 .0
+  bodies′ = c .turn-at .last .1 .1 .1 .1 .1 .1 .1 .1 .1 .1 .1 .1 .0
 
   G : Going (start .args .atoms) ws (length (start .args .store .now)) (start .args .proof .now) (l .loop .store) (l .loop .index) (l .loop .known) (l .loop .names) (l .loop .bodies) (l .loop .used) (l .loop .at) (l .loop .steps)
   G = l .loop .inv .2
@@ -61,7 +61,7 @@ module _ (c : tie.After-turn-at Inv-loop μ-loop) where
 
   -- as many words as were lent
   same-bodies : length bodies′ ≡ length (start .args .bodies .now)
-  same-bodies = c .turn-at .kept .1 .1 .1 .1 .1 .1 .1 .1 .1 .1 .1 .0 ∙ l .loop .inv .3
+  same-bodies = c .turn-at .kept .1 .1 .1 .1 .1 .1 .1 .1 .1 .1 .1 .1 .0 ∙ l .loop .inv .3
 
   same-numbers : length (c .turn-at .last .1 .1 .1 .0) ≡ mostNumbers
   same-numbers = c .turn-at .kept .1 .1 .1 .0 ∙ l .loop .inv .4
@@ -74,20 +74,20 @@ module _ (c : tie.After-turn-at Inv-loop μ-loop) where
   same q = same-rules (q .holds) (l .loop .inv .1 .holds)
 
 start-requires : tie.Need-start-requires Inv-loop μ-loop
-start-requires c κs = c .before .before .pre .0 .0 .1 .high
+start-requires c κs = c .before .before .before .pre .0 .0 .1 .high
 
 loop-holds : tie.Need-loop-holds Inv-loop μ-loop
 loop-holds c =
     let s = c .before .before .start .ensures in
-    let q = c .before .before .before .before .before .pre in
+    let q = c .before .before .before .before .before .before .pre in
     let p = q .0 .0 .1 in
-    rw (s .1, s .2) (q .0 .0 .0, p, going-start _ _ _ _ (start-tracks (s .0) (omega (arith, q .0 .1, rules-held (p .holds))) (rw (← p .holds .are) (q .1 .1 .0))) (q .1 .1 .1 .1) refl (length-replicate {A = ℕ} mostRules 0) (length-replicate {A = ℕ} indexSize 0) (blank-zeros indexSize), refl, length-replicate {A = ℤ} mostNumbers (pos 0), length-replicate {A = ℤ} mostNumbers (pos 0))
+    rw (s .1, s .2) (q .0 .0 .0, p, going-start _ _ _ _ (start-tracks (s .0) (omega (arith, q .0 .1, rules-held (p .holds))) (rw (← p .holds .are) (q .1 .1 .1 .0))) (q .1 .1 .1 .1 .1) refl (length-replicate {A = ℕ} nameWords 0) (length-replicate {A = ℕ} indexSize 0) (blank-zeros indexSize), refl, length-replicate {A = ℤ} mostNumbers (pos 0), length-replicate {A = ℤ} mostNumbers (pos 0))
 
 -- the number of the next step
 add-step : tie.Need-add-step Inv-loop μ-loop
 add-step c =
     let g = c .loop .inv .2 in
-    let p = c .before .before .before .before .before .before .pre .1 .1 .1 .0 in
+    let p = c .before .before .before .before .before .before .before .pre .1 .1 .1 .1 .0 in
     search (needs, g .count, g .within, p)
 
 slice-aggregate-turn-at : tie.Need-slice-aggregate-turn-at Inv-loop μ-loop
@@ -103,8 +103,8 @@ turn-at-requires : tie.Need-turn-at-requires Inv-loop μ-loop
 unfolding byteClasses
 turn-at-requires c κs =
     let i = c .before .before .before .before .before .before .before .before .loop .inv in
-    let p = c .before .before .before .before .before .before .before .before .before .before .before .before .before .before .pre in
-    ((p .0 .0, omega (arith, p .0 .1, i .2 .places)), (p .1 .0, (((i .2 .stored, i .2 .keeps .keeps), omega (arith, i .2 .count)), (p .1 .1 .1 .0, (refl, (i .4, i .5))))))
+    let p = c .before .before .before .before .before .before .before .before .before .before .before .before .before .before .before .pre in
+    ((i .0, i .2 .z, i .1, i .2 .tracks), (p .1 .0, (p .1 .1 .0, (((i .2 .stored, i .2 .keeps .keeps), omega (arith, i .2 .count)), (p .1 .1 .1 .1 .0, (refl, (i .4, i .5)))))))
 
 enum-told : tie.Need-enum-told Inv-loop μ-loop
 enum-told c = search needs
@@ -112,19 +112,19 @@ enum-told c = search needs
 returns : tie.Need-returns Inv-loop μ-loop
 returns c =
     let t = c .before .before .before .before .before .before .before .before in
-    λ Q q. rw (same t q) (going-ends _ _ _ _ (start t .pre .1 .1 .1 .0) (G t) (store′ t) (index′ t) (known′ t) (names′ t) (bodies′ t) (search needs) (search needs) (c .enum-told .given .1) (turned t))
+    λ Q q. rw (same t q) (going-ends _ _ _ _ (start t .pre .1 .1 .1 .1 .0) (G t) (store′ t) (index′ t) (known′ t) (names′ t) (bodies′ t) (search needs) (search needs) (c .enum-told .given .1) (turned t))
 
 returns-2 : tie.Need-returns-2 Inv-loop μ-loop
 returns-2 c =
     let t = c .before .before .before .before .before .before .before .before .before in
-    λ Q q. rw (same t q) (going-fails _ _ _ _ (start t .pre .1 .1 .1 .0) (G t) (store′ t) (index′ t) (known′ t) (names′ t) (bodies′ t) (search needs) (search needs) _ (c .before .number .given .1) (turned t))
+    λ Q q. rw (same t q) (going-fails _ _ _ _ (start t .pre .1 .1 .1 .1 .0) (G t) (store′ t) (index′ t) (known′ t) (names′ t) (bodies′ t) (search needs) (search needs) _ (c .before .number .given .1) (turned t))
 
 onward : (c : tie.After-known-told2 Inv-loop μ-loop)
     → (let t = c .before .before .before .before .before .before .before .before .before in let g = c .before .next .given .0 in
     Going (start t .args .atoms) (ws t) (length (start t .args .store .now)) (start t .args .proof .now) (store′ t) (index′ t) (known′ t) (names′ t) (bodies′ t) (g .1 .0) (g .0) (l t .loop .steps + 1) × (l t .loop .at < g .0))
 onward c =
     let t = c .before .before .before .before .before .before .before .before .before in
-    going-on _ _ _ _ (start t .pre .1 .1 .1 .0) (G t) (store′ t) (index′ t) (known′ t) (names′ t) (bodies′ t) (search needs) (search needs) _ _ (c .before .next .given .1) (turned t)
+    going-on _ _ _ _ (start t .pre .1 .1 .1 .1 .0) (G t) (store′ t) (index′ t) (known′ t) (names′ t) (bodies′ t) (search needs) (search needs) _ _ (c .before .next .given .1) (turned t)
 
 loop-less : tie.Need-loop-less Inv-loop μ-loop
 loop-less c = let o = onward c in omega (arith, o .0 .within, o .1)
