@@ -183,7 +183,7 @@ pub fn loops(
     if atoms < words::largest_variable(numbers) {
         return Stepped::Fails(31);
     }
-    if !loops::is_loop(table, rules, relevant, numbers) {
+    if !loops::is_loop(table, rules, lookup, relevant, numbers) {
         return Stepped::Fails(56);
     }
     let inside = marks::marks_of(numbers);

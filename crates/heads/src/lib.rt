@@ -15,7 +15,7 @@ ghost use Rattle.words.specs.Literals.{variable, sameList, distinct, mentions, 
 ghost use Rattle.aspif.specs.Rules.{InputRule, allPlain, expand};
 ghost use Rattle.aspif.specs.Tables.{rulesAt, soundRules, soundAt, shapeSound, headsAt};
 ghost use Rattle.names.specs.Queries.{HoldsRules, entry, Kept, isInside, askedNames, completing};
-ghost use Rattle.heads.specs.Heads.{startOf, wordsFrom, mostHeads, hashes, firstAt, bucketAt, indexWords, Headed, headedBy, headedTo};
+ghost use Rattle.heads.specs.Heads.{startOf, wordsFrom, mostHeads, hashes, firstAt, nextAt, bucketAt, indexWords, Headed, headedBy, headedTo, headedAt};
 ghost use Rattle.heads.specs.Heads.{HeadChains, mixed, hashFrom, Entered, covered, Indexed, Covers, isJustNames, Listed, RuleWith, Completes};
 ghost use Rattle.heads.specs.Heads.{HasHead, Row, InRow, Collected, Gathers, Externals};
 ghost use Rattle.names.specs.declared.queries.Query.the-variants.{External};
@@ -176,6 +176,33 @@ pub fn fill(table: &[i32], rules: usize, index: &mut [u16])
         k += 1;
     }
     index[0] = 1;
+}
+
+// The chain of the heads that are the atom v begins at this entry, one more than the place of a head; 0 where there is none.
+pub fn first_head(index: &[u16], v: usize) -> usize
+    requires { ⌜ v ≤ largest ⌝ }
+    ensures { λ p. ⌜ p ≡ getD (now (index .entry)) (firstAt + v) 0 ⌝ }
+{
+    word_of(index, FIRST + v)
+}
+
+// The entry that follows the head at place x.
+pub fn next_head(index: &[u16], x: usize) -> usize
+    requires { ⌜ x < mostHeads ⌝ }
+    ensures { λ p. ⌜ p ≡ getD (now (index .entry)) (nextAt + x) 0 ⌝ }
+{
+    word_of(index, NEXT + x)
+}
+
+// The words from the rule of the head at place x on.
+pub fn words_of<'a>(table: &'a [i32], rules: usize, index: &[u16], x: usize) -> &'a [i32]
+    requires index { ⌜ Covers (now index) (now table) rules × (soundRules rules (now table) ≡ true) ⌝ }
+    requires place { ⌜ x < length (headedTo rules (now table)) ⌝ }
+    ensures { λ r. ⌜ now r ≡ wordsFrom (headedAt (headedTo rules (now (table .entry))) x .rule) (now (table .entry)) ⌝ }
+{
+    let k = word_of(index, OWNER + x);
+    let at = word_of(index, STARTS + k);
+    &table[at..]
 }
 
 // The place of a name among the listed numbers; as many as they are, where it is not listed.

@@ -61,7 +61,7 @@ returns-2 c =
     (omega (arith, c .if2 .taken, c .before .largest-variable .ensures))
 
 is-loop-requires : tie.Need-is-loop-requires
-is-loop-requires c κs = let p = s c .pre in ((p .0 .2 .holds .sound, p .1 .1 .0), members (U c) (line c))
+is-loop-requires c κs = let p = s c .pre in ((p .0 .2 .holds .sound, p .1 .1 .0), (p .1 .0, members (U c) (line c)))
 
 -- question 56, of the rules that the table holds
 looped : (c : tie.After-is-loop)
