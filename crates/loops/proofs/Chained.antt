@@ -2,11 +2,9 @@
 -- Assumes nothing.
 use mathlib.Core.Path.{_≡_, refl, sym, ap, subst, _∙_}
 use mathlib.Core.Logic.{_⊎_, inl, inr}
-use mathlib.Core.Bool.{Bool, true, false, _&&_, _||_, or-false}
-use mathlib.Core.List.{List, [], _∷_, List·Memᴰ·head, List·Memᴰ·cases-cons}
+use mathlib.Core.Bool.{Bool, true, _&&_, _||_, or-false}
+use mathlib.Core.List.{List, [], _∷_, List·Memᴰ·cases-cons}
 use Prim.Native.Nat.{ℕ, suc, _+_, _<_}
-use native.Mathlib.Omega.{arith}
-use lib.Dec.{eqb}
 use lib.IntN.{ℤ, pos}
 use lib.ListN.{length, getD, take, drop, replicate}
 use lib.Seq.{drop-cons}
@@ -16,8 +14,8 @@ use Rattle.words.specs.Literals.{has}
 use Rattle.words.proofs.Lists.{Decides, passed, if-true, is-true, same-test, and-left, and-right, or-decides, any-decides, eqb-decides}
 use Rattle.words.proofs.Literals.{has-decides}
 use Rattle.words.proofs.Places.{in-at}
-use Rattle.aspif.specs.Rules.{InputRule, allPlain, bodiesOf}
-use Rattle.aspif.specs.Tables.{isWeighted, headsAt, bodyWordsAt, bodyAt, ruleAt, rulesAt}
+use Rattle.aspif.specs.Rules.{allPlain, bodiesOf}
+use Rattle.aspif.specs.Tables.{headsAt, bodyWordsAt, bodyAt, rulesAt}
 use Rattle.heads.specs.Heads.{wordsFrom, HasHead}
 use Rattle.heads.proofs.Starts.{any-written, plain-rule}
 use Rattle.loops.specs.Edges.{placeBy, Placed, isAt, cells, edgeAt, More, ruleEdge}

@@ -14,7 +14,7 @@ use Rattle.heads.specs.Heads.{startOf, wordsFrom, Headed, headedTo, head
 use Rattle.heads.proofs.Starts.{rule-here, head-of, all-seen}
 use Rattle.heads.proofs.Walks.{Walk, walk-from, walk-on, next-less}
 use Rattle.heads.proofs.Bodies.{covers-few}
-use Rattle.heads.proofs.Externals.{Got, in-row-keeps, gather-stops, head-inside}
+use Rattle.heads.proofs.Externals.{Got, collected-few, in-row-keeps, gather-stops, head-inside}
 use borrow.Author.Needs.{needs}
 use Rattle.heads.proofs.gather_head.Statement.{statement}
 use Rattle.heads.proofs.gather_head.Tie as tie
@@ -99,7 +99,9 @@ module _ (c : tie.After-word-of3 Inv-loop μ-loop) where
 gather-rule-requires : tie.Need-gather-rule-requires Inv-loop μ-loop
 gather-rule-requires c κs =
     let w = c .before .before .before in
-    (subst (λ ws. shapeSound ws ≡ true) (sym (words-at w)) (here (o w) .2), i (o w) .before .loop .inv .0 .is)
+    let d = i (o w) in
+    let C = d .before .loop .inv .0 in
+    (subst (λ ws. shapeSound ws ≡ true) (sym (words-at w)) (here (o w) .2), C .is, omega (arith, collected-few (s d .pre .0 .2) C, covers-few (s d .pre .0 .0)))
 
 -- what the call gathers
 module _ (c : tie.After-gather-rule Inv-loop μ-loop) where

@@ -1,4 +1,4 @@
-use mathlib.Core.Path.{_≡_, sym, ap, _∙_}
+use mathlib.Core.Path.{sym, ap, _∙_}
 use mathlib.Core.List.{List}
 use Prim.Native.Nat.{ℕ}
 use native.Mathlib.Omega.{arith}
@@ -44,6 +44,7 @@ returns-2 c =
       g .ensures .0,
       g .ensures .1 ∙ ap (λ x. gathered (marked m) x largest 1) (toZ-ofZ (s n .fits .h)) ∙ gathered-same (marked m) h (listed (asked n ws called A)) largest 1 (λ u i. F .has u (omega arith)),
       sym (F .has 0 (omega arith)) ∙ none,
+      omega (arith, g .ensures .0, g .kept .1 .1 .0, s n .pre .1 .0),
     )
 
 pub scan-spec : {M : Type 1} → statement M

@@ -1,11 +1,10 @@
 -- The walk along the chain of the atom: the edges of each rule of it that is not ahead are marked.
-use mathlib.Core.Path.{_≡_, refl, sym, ap, subst, _∙_}
+use mathlib.Core.Path.{_≡_, sym, ap, subst, _∙_}
 use mathlib.Core.Bool.{true}
 use mathlib.Core.List.{List}
-use Prim.Native.Nat.{ℕ, suc, _-_, _<_, _≤_}
+use Prim.Native.Nat.{ℕ, suc, _-_, _<_}
 use native.Mathlib.Omega.{arith}
 use lib.IntN.{ℤ}
-use lib.ListN.{length}
 use Rattle.aspif.specs.Tables.{bodyWordsAt, shapeSound}
 use Rattle.heads.specs.Heads.{wordsFrom, Headed, headedTo, headedAt, Place, HasHead}
 use Rattle.heads.proofs.Starts.{rule-here, head-of, all-seen}
