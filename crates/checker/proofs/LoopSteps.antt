@@ -30,13 +30,14 @@ use Rattle.heads.specs.declared.Found.the-variants.{Names}
 use Rattle.loops.specs.Edges.{Members}
 use Rattle.nogoods.specs.Store.{Stored}
 use Rattle.checker.specs.Check.{withAdded, storedAfter}
-use Rattle.checker.specs.Held.{Program, PassedLine, nameOf, Tracks, Above, LoopNogood, Fitted, Leaves, gathered}
+use Rattle.checker.specs.Held.{Program, PassedLine, nameOf, Tracks, Above, LoopNogood, LoopAdded, Fitted, HoldsState, Leaves, gathered}
 use Rattle.checker.specs.declared.outcomes.Stepped.{Stepped}
 use Rattle.checker.specs.declared.outcomes.Stepped.the-variants.{Fails}
 use Rattle.checker.proofs.Names.{all-named, name-found}
 use Rattle.checker.proofs.Letters.{some-number, cited}
 use Rattle.checker.proofs.Loops.{all-atoms, external-by, row-gathered, loop-nogood}
 use Rattle.checker.proofs.Gathering.{gathered-count}
+use Rattle.checker.proofs.Kept.{kept-more}
 
 -- the numbers of an `l` line are positive
 positive : (U : List ℤ) → PassedLine Loop U → (x : ℤ) → x ∈ U → T (isPositive x)
@@ -87,7 +88,7 @@ pub row-nogood : {table : List ℤ} {rules : ℕ} {names : List ℕ} {bodies : L
 row-nogood {h = h} {ws} {called} A m row w n low high E room e =
     let l = askedNames External m called (expand ws) in
     let g = e ∙ row-gathered (listed l) h (take n row) low high (E .1) (E .2) (E .3) (λ v i t k. asked-above h (A .above) m (expand ws) v t k) in
-    (gathered-count (listed l) h largest w (n + 1) room g, g, E .4)
+    (gathered-count (listed l) h largest w (n + 1) room g, g, E .4, room)
 
 module _ {N : ℕ} {ws : List InputRule} {known names : List ℕ} {bodies : List ℤ} (z : State) (tracks : Tracks N ws known names bodies (z .introduced) (z .named))
     (origin size : ℕ) (stored : List Stored) (store : List ℤ) (index : List ℕ) where
@@ -123,14 +124,14 @@ module _ {N : ℕ} {ws : List InputRule} {known names : List ℕ} {bodies : List
     named-is : (U : List ℤ) → PassedLine Loop U → Marks inside (map variable U) → not (listed asked 0) ≡ allNamed (expand ws) z U
     named-is U line set = ap (λ l. not (listed l 0)) (external U line set) ∙ all-named (expand ws) z (tracks .proper) U
 
-    pub loop-named : (U : List ℤ) → PassedLine Loop U → all (λ x. marked known (variable x)) U ≡ true → top U ≤ N
+    loop-named : (U : List ℤ) → PassedLine Loop U → all (λ x. marked known (variable x)) U ≡ true → top U ≤ N
         → isLoop (expand ws) U ≡ true → Marks inside (map variable U)
         → listed asked 0 ≡ true → LoopLeaves U (Fails 32)
     loop-named [] line k a l set n = absurd (true≢false (sym (line .signs)))
     loop-named (h ∷ hs) line k a l set n =
         rw (cited z tracks Loop (h ∷ hs) line refl k, atoms-are (h ∷ hs) line a, l, sym (named-is (h ∷ hs) line set) ∙ ap not n) refl
 
-    pub loop-added : (U : List ℤ) → PassedLine Loop U → all (λ x. marked known (variable x)) U ≡ true → top U ≤ N
+    loop-added : (U : List ℤ) → PassedLine Loop U → all (λ x. marked known (variable x)) U ≡ true → top U ≤ N
         → isLoop (expand ws) U ≡ true → Marks inside (map variable U)
         → listed asked 0 ≡ false → N ≤ largest → (r : Stepped)
         → Fitted (withAdded origin size stored (add z (gathered (listed asked) (getD U 0 (pos 0)) largest 1 ∷ []))) store index r → LoopLeaves U r
@@ -141,3 +142,11 @@ module _ {N : ℕ} {ws : List InputRule} {known names : List ℕ} {bodies : List
         let atom : T (isAtom N (variable h)) = passed (isAtom N (variable h)) .from (and-left _ _ all-atoms) in
         rw (cited z tracks Loop U line refl k, all-atoms, l, sym (named-is U line set) ∙ ap not n)
         (subst (λ (g : List ℤ). Fitted (withAdded origin size stored (add z (g ∷ []))) store index r) (ap (λ l. gathered (listed l) h largest 1) (external U line set) ∙ loop-nogood (expand ws) z (tracks .proper) h U atom high) q, tracks)
+
+    -- by what is added to the store, which held the state before
+    pub loop-ends : (U : List ℤ) → PassedLine Loop U → all (λ x. marked known (variable x)) U ≡ true → top U ≤ N
+        → isLoop (expand ws) U ≡ true → Marks inside (map variable U) → N ≤ largest
+        → {before : List ℤ} {was : List ℕ} {used : ℕ} → HoldsState before was used z stored → (r : Stepped)
+        → LoopAdded asked (getD U 0 (pos 0)) size origin stored store index r → LoopLeaves U r
+    loop-ends U line k a l set high K r (inl q) = subst (LoopLeaves U) (sym (q .1)) (loop-named U line k a l set (q .0))
+    loop-ends U line k a l set high K r (inr q) = loop-added U line k a l set (q .0) high r (kept-more K origin size _ store index r (q .1))

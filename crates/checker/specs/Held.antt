@@ -2,6 +2,7 @@
 -- as marks, the names of bodies by rule and by name, live nogoods in the store), and what the steps leave.
 -- Assumes nothing.
 use mathlib.Core.Path.{_≡_}
+use mathlib.Core.Logic.{_⊎_}
 use mathlib.Core.Bool.{Bool, true, false, cond}
 use mathlib.Core.List.{List, [], _∷_, map}
 use Prim.Native.Nat.{ℕ, zero, suc, _+_, _≤_, _<_}
@@ -20,7 +21,7 @@ use Rattle.derivation.specs.States.{Named, State, isAtom, isKnown}
 use Rattle.derivation.specs.Steps.{Outcome, refused, next, byLetter, step}
 use Rattle.nogoods.specs.Keeps.{Literals, Holds}
 use Rattle.nogoods.specs.Index.{Keeps}
-use Rattle.nogoods.specs.Store.{Stored, live, wordsFor}
+use Rattle.nogoods.specs.Store.{Stored, addedIn, live, keptWith, wordsFor}
 use Rattle.nogoods.specs.declared.store.Added.{Added}
 use Rattle.nogoods.specs.declared.store.Added.the-variants as Added
 use Rattle.names.specs.ByName.{bodyWords}
@@ -132,8 +133,14 @@ pub record Above (table : List ℤ) (rules : ℕ) (names : List ℕ) (bodies : L
 
 -- the nogood of an `l` step, in the first n words of a row, where l are the names of the external bodies; or some body has none
 abbrev pub LoopNogood : List ℕ → ℤ → List ℤ → Found → Type 0
-LoopNogood l h row (Names n) = (n ≤ largest) × (take n row ≡ gathered (listed l) h largest 1) × (listed l 0 ≡ false)
+LoopNogood l h row (Names n) = (n ≤ largest) × (take n row ≡ gathered (listed l) h largest 1) × (listed l 0 ≡ false) × (n ≤ length row)
 LoopNogood l h row Unnamed = listed l 0 ≡ true
+
+-- what an `l` step comes to that adds to what is stored: question 32, or this nogood
+abbrev pub LoopAdded : List ℕ → ℤ → (size n : ℕ) → List Stored → List ℤ → List ℕ → Stepped → Type 0
+LoopAdded l h size n stored store index r =
+    ((listed l 0 ≡ true) × (r ≡ Fails 32))
+    ⊎ ((listed l 0 ≡ false) × Fitted (keptWith size (addedIn n (gathered (listed l) h largest 1 ∷ [])) stored) store index r)
 
 -- Lines as steps, and all of them
 

@@ -16,9 +16,9 @@ ghost use Rattle.nogoods.specs.Store.{Stored};
 ghost use Rattle.nogoods.specs.Index.{Keeps};
 ghost use Rattle.names.specs.Queries.{HoldsRules, askedNames};
 ghost use Rattle.names.specs.declared.queries.Query.the-variants.{External};
-ghost use Rattle.heads.specs.Heads.{covered, Indexed};
+ghost use Rattle.heads.specs.Heads.{covered, Indexed, rowWords};
 ghost use Rattle.loops.specs.Relevance.{Relevant};
-ghost use Rattle.checker.specs.Held.{PassedLine, Program, Tracked, Above, LoopNogood, gathered, Stepping};
+ghost use Rattle.checker.specs.Held.{PassedLine, Program, Tracked, Above, LoopNogood, LoopAdded, gathered, Stepping};
 use crate::outcomes;
 use crate::outcomes::Stepped;
 use heads::Found;
@@ -86,7 +86,7 @@ fn scan(
 
 // The first atom and the complements of n names after it in the row.
 fn complete(h: i32, row: &mut [i32], n: usize)
-    requires row { ⌜ (length (now row) ≡ suc entries) × (n ≤ largest) ⌝ }
+    requires row { ⌜ (length (now row) ≡ suc rowWords) × (n ≤ rowWords) ⌝ }
     requires names { ⌜ ((x : ℤ) → x ∈ take n (drop 1 (now row)) → variable x ≤ largest) ⌝ }
     ensures { λ _. ⌜ take (n + 1) (now (row .exit)) ≡ h ∷ map complement (take n (drop 1 (now (row .entry)))) ⌝ }
 {
@@ -109,7 +109,7 @@ fn look_up(
         × Above (now table) rules (now names) (now bodies) (getD (now numbers) 0 (pos 0)) ws called) ⌝ }
     requires index { ⌜ Indexed (now lookup) (now table) rules × (covered (now lookup) ≡ true) ⌝ }
     requires set { ⌜ Marks (now inside) (map variable (now numbers)) × PassedLine Loop (now numbers) ⌝ }
-    requires row { ⌜ length (now row) ≡ suc entries ⌝ }
+    requires row { ⌜ length (now row) ≡ suc rowWords ⌝ }
     ensures { λ r. ⌜ ((ws : List InputRule) (called : List ℤ → ℕ)
         → Above (now (table .entry)) rules (now (names .entry)) (now (bodies .entry)) (getD (now (numbers .entry)) 0 (pos 0)) ws called
         → LoopNogood (askedNames External (now (inside .entry)) called (expand ws)) (getD (now (numbers .entry)) 0 (pos 0)) (now (row .exit)) r) ⌝ }
@@ -124,8 +124,31 @@ fn look_up(
     }
 }
 
-// The nogood of an `l` step, and how many words of the row it has; or some external body has no name.
-fn nogood_of(
+// The nogood that was found is live, after the others; or some external body has no name.
+fn add_found(
+    found: Found,
+    row: &[i32],
+    store: &mut [i32],
+    used: usize,
+    index: &mut [u16; INDEX],
+    origin: usize,
+) -> Stepped
+    requires found { ⌜ ((l : List ℕ) × (h : ℤ) × LoopNogood l h (now row) found) ⌝ }
+    requires store { ⌜ ((stored : List Stored) × Keeps (now store) (now index) used stored) × ((1 ≤ origin) × (origin ≤ longest)) ⌝ }
+    ensures { λ r. ⌜ ((l : List ℕ) (h : ℤ) → LoopNogood l h (now (row .entry)) found
+        → (stored : List Stored) → Keeps (now (store .entry)) (now (index .entry)) used stored
+        → LoopAdded l h (length (now (store .entry))) origin stored (now (store .exit)) (now (index .exit)) r) ⌝ }
+{
+    match found {
+        Found::Unnamed => Stepped::Fails(32),
+        Found::Names(n) => {
+            outcomes::fitted(store::append(store, used, index, origin, &row[..n]))
+        }
+    }
+}
+
+// The nogood of an `l` step by the index of the rules is live, after the others. A row for as many names as there are rules is enough.
+fn add_by_index(
     table: &[i32],
     rules: usize,
     lookup: &[u16],
@@ -133,21 +156,115 @@ fn nogood_of(
     bodies: &[i16],
     numbers: &[i32],
     inside: &[u8],
-    row: &mut [i32],
-) -> Found
+    store: &mut [i32],
+    used: usize,
+    index: &mut [u16; INDEX],
+    origin: usize,
+) -> Stepped
+    requires state { ⌜ ((ws : List InputRule) × (called : List ℤ → ℕ)
+        × Above (now table) rules (now names) (now bodies) (getD (now numbers) 0 (pos 0)) ws called) ⌝ }
+    requires index { ⌜ Indexed (now lookup) (now table) rules × (covered (now lookup) ≡ true) ⌝ }
+    requires set { ⌜ Marks (now inside) (map variable (now numbers)) × PassedLine Loop (now numbers) ⌝ }
+    requires store { ⌜ ((stored : List Stored) × Keeps (now store) (now index) used stored) × ((1 ≤ origin) × (origin ≤ longest)) ⌝ }
+    ensures { λ r. ⌜ ((ws : List InputRule) (called : List ℤ → ℕ)
+        → Above (now (table .entry)) rules (now (names .entry)) (now (bodies .entry)) (getD (now (numbers .entry)) 0 (pos 0)) ws called
+        → (stored : List Stored) → Keeps (now (store .entry)) (now (index .entry)) used stored
+        → LoopAdded (askedNames External (now (inside .entry)) called (expand ws)) (getD (now (numbers .entry)) 0 (pos 0))
+        (length (now (store .entry))) origin stored (now (store .exit)) (now (index .exit)) r) ⌝ }
+{
+    let mut row = [0i32; heads::ROW_WORDS + 1];
+    let found = look_up(
+        table,
+        rules,
+        lookup,
+        names,
+        bodies,
+        numbers,
+        inside,
+        &mut row,
+    );
+    add_found(found, &row, store, used, index, origin)
+}
+
+// The nogood of an `l` step by all rules is live, after the others.
+fn add_by_rules(
+    table: &[i32],
+    rules: usize,
+    names: &[u16],
+    bodies: &[i16],
+    h: i32,
+    inside: &[u8],
+    store: &mut [i32],
+    used: usize,
+    index: &mut [u16; INDEX],
+    origin: usize,
+) -> Stepped
+    requires state { ⌜ ((ws : List InputRule) × (called : List ℤ → ℕ) × Above (now table) rules (now names) (now bodies) h ws called)
+        × (rules ≤ length (now names)) × (variable h ≤ largest) ⌝ }
+    requires store { ⌜ ((stored : List Stored) × Keeps (now store) (now index) used stored) × ((1 ≤ origin) × (origin ≤ longest)) ⌝ }
+    ensures { λ r. ⌜ ((ws : List InputRule) (called : List ℤ → ℕ)
+        → Above (now (table .entry)) rules (now (names .entry)) (now (bodies .entry)) h ws called
+        → (stored : List Stored) → Keeps (now (store .entry)) (now (index .entry)) used stored
+        → LoopAdded (askedNames External (now (inside .entry)) called (expand ws)) h
+        (length (now (store .entry))) origin stored (now (store .exit)) (now (index .exit)) r) ⌝ }
+{
+    let mut row = [0i32; words::ENTRIES + 1];
+    let found = scan(table, rules, names, bodies, h, inside, &mut row);
+    add_found(found, &row, store, used, index, origin)
+}
+
+// The nogood of an `l` step is live, after the others; or some external body has no name.
+fn add_nogood(
+    table: &[i32],
+    rules: usize,
+    lookup: &[u16],
+    names: &[u16],
+    bodies: &[i16],
+    numbers: &[i32],
+    inside: &[u8],
+    store: &mut [i32],
+    used: usize,
+    index: &mut [u16; INDEX],
+    origin: usize,
+) -> Stepped
     requires state { ⌜ ((ws : List InputRule) × (called : List ℤ → ℕ)
         × Above (now table) rules (now names) (now bodies) (getD (now numbers) 0 (pos 0)) ws called) ⌝ }
     requires index { ⌜ Indexed (now lookup) (now table) rules ⌝ }
     requires set { ⌜ Marks (now inside) (map variable (now numbers)) × PassedLine Loop (now numbers) ⌝ }
-    requires row { ⌜ length (now row) ≡ suc entries ⌝ }
+    requires store { ⌜ ((stored : List Stored) × Keeps (now store) (now index) used stored) × ((1 ≤ origin) × (origin ≤ longest)) ⌝ }
     ensures { λ r. ⌜ ((ws : List InputRule) (called : List ℤ → ℕ)
         → Above (now (table .entry)) rules (now (names .entry)) (now (bodies .entry)) (getD (now (numbers .entry)) 0 (pos 0)) ws called
-        → LoopNogood (askedNames External (now (inside .entry)) called (expand ws)) (getD (now (numbers .entry)) 0 (pos 0)) (now (row .exit)) r) ⌝ }
+        → (stored : List Stored) → Keeps (now (store .entry)) (now (index .entry)) used stored
+        → LoopAdded (askedNames External (now (inside .entry)) called (expand ws)) (getD (now (numbers .entry)) 0 (pos 0))
+        (length (now (store .entry))) origin stored (now (store .exit)) (now (index .exit)) r) ⌝ }
 {
     if heads::is_covered(lookup) {
-        return look_up(table, rules, lookup, names, bodies, numbers, inside, row);
+        return add_by_index(
+            table,
+            rules,
+            lookup,
+            names,
+            bodies,
+            numbers,
+            inside,
+            store,
+            used,
+            index,
+            origin,
+        );
     }
-    scan(table, rules, names, bodies, numbers[0], inside, row)
+    add_by_rules(
+        table,
+        rules,
+        names,
+        bodies,
+        numbers[0],
+        inside,
+        store,
+        used,
+        index,
+        origin,
+    )
 }
 
 // `l`: a set U of atoms that is a loop; `relevant` says which literals of weight bodies have edges. Adds the first of them with
@@ -183,12 +300,11 @@ pub fn loops(
     if atoms < words::largest_variable(numbers) {
         return Stepped::Fails(31);
     }
-    if !loops::is_loop(table, rules, relevant, numbers) {
+    if !loops::is_loop(table, rules, lookup, relevant, numbers) {
         return Stepped::Fails(56);
     }
     let inside = marks::marks_of(numbers);
-    let mut row = [0i32; words::ENTRIES + 1];
-    let found = nogood_of(
+    add_nogood(
         table,
         rules,
         lookup,
@@ -196,12 +312,9 @@ pub fn loops(
         bodies,
         numbers,
         &inside,
-        &mut row,
-    );
-    match found {
-        Found::Unnamed => Stepped::Fails(32),
-        Found::Names(n) => {
-            outcomes::fitted(store::append(store, used, index, origin, &row[..n]))
-        }
-    }
+        store,
+        used,
+        index,
+        origin,
+    )
 }

@@ -4,46 +4,58 @@ use mathlib.Core.Path.{_≡_, refl, sym, ap, subst, _∙_}
 use mathlib.Core.Logic.{_⊎_, inl, inr}
 use mathlib.Core.Bool.{true, false, not, true≢false}
 use mathlib.Core.List.{List, [], _∷_, _++_, map, List·Memᴰ·head, List·Memᴰ·tail, List·Memᴰ·append-cases, List·Memᴰ·cases-cons, Memᴰ·append-left, Memᴰ·append-right, Memᴰ·map, Memᴰ·of-map, Memᴰ·cast}
-use Prim.Native.Nat.{ℕ, _+_, _≤_, _<_}
+use Prim.Native.Nat.{ℕ, suc, _+_, _≤_, _<_}
 use native.Mathlib.Numerals.{add-one}
 use native.Mathlib.Omega.{arith}
-use borrow.Author.Tests.{ltb-true, leb-true, lt-ltb}
-use lib.Dec.{ltb, leb}
+use borrow.Author.Tests.{lt-ltb}
 use lib.IntN.{ℤ, pos}
 use lib.Signed.{ltZ}
-use lib.ListN.{length, take, getD, set, length-set, length-map}
-use lib.Seq.{take-suc-set, length-take-le}
-use Rattle.words.specs.Limits.{largest, entries}
-use Rattle.words.specs.Lists.{_∈_, any, filter, ascends}
+use lib.ListN.{length, take, getD, set, length-set}
+use lib.Seq.{take-suc-set, length-take-le, getD-take}
+use Rattle.words.specs.Limits.{largest, entries, mostRules}
+use Rattle.words.specs.Lists.{_∈_, any, filter}
 use Rattle.words.specs.Literals.{variable, has, distinct, ascending}
 use Rattle.words.proofs.Lists.{Decides, reworded, passed, if-true, is-true, failed, same-test, not-decides, and-left, and-right, any-decides, eqb-decides, keep→, keep←}
 use Rattle.words.proofs.Literals.{has-decides, ascending→, ascending←}
-use Rattle.words.proofs.Ascending.{rising-ascends}
-use Rattle.words.proofs.Places.{once-decides, place-of}
-use Rattle.words.proofs.Sorting.{length-ascending, rising-ascending}
+use Rattle.words.proofs.Places.{once-decides, in-at, place-of}
+use Rattle.words.proofs.Sorting.{rising-ascending}
 use Rattle.aspif.specs.Rules.{Rule, allPlain, expand}
 use Rattle.aspif.specs.Tables.{headsAt, bodyWordsAt, rulesAt, soundRules}
 use Rattle.marks.specs.Marks.{listed, marked, Marks}
 use Rattle.names.specs.Queries.{Kept, isInside, asks, askedNames}
 use Rattle.names.specs.declared.queries.Query.the-variants.{External}
-use Rattle.heads.specs.Heads.{wordsFrom, HasHead, IsExternal, Row, Collected, InRow, Gathers, Externals}
+use Rattle.heads.specs.Heads.{wordsFrom, HasHead, IsExternal, rowWords, Row, Collected, InRow, Gathers, Externals}
 use Rattle.heads.specs.declared.Found.the-variants.{Names}
 use Rattle.heads.proofs.Starts.{in-rules→, in-rules←, kept-at, heads-high, rule-here}
 
--- Few different variables
+-- Different words, each of a number that is listed: no more than there are such numbers
 
-ascends-few : (low high : ℕ) (l : List ℕ) → low ≤ high → ascends low high l ≡ true → low + length l ≤ high
-ascends-few low high [] h e = omega arith
-ascends-few low high (x ∷ l) h e =
-    let f = and-right (ltb low x) _ e in
-    let a = ltb-true low x (and-left (ltb low x) _ e) in
-    let b = leb-true x high (and-left (leb x high) _ f) in
-    omega (arith, a, ascends-few x high l b (and-right (leb x high) _ f))
+-- one number off the list
+taken-off : {v : ℕ} (N : List ℕ) → v ∈ N → (M : List ℕ) × (length N ≡ suc (length M)) × ((u : ℕ) → u ∈ N → ¬ (u ≡ v) → u ∈ M)
+taken-off [] i = elim i [ ]
+taken-off (y ∷ N) i = elim (List·Memᴰ·cases-cons i) [
+  | inl e ↦ (N, refl, λ u j d. elim (List·Memᴰ·cases-cons j) [ inl q ↦ absurd (d (q ∙ sym e)) | inr k ↦ k ])
+  | inr j ↦
+      let r = taken-off N j in
+      (y ∷ r .0, ap suc (r .1), λ u k d. elim (List·Memᴰ·cases-cons k) [ inl q ↦ List·Memᴰ·head q | inr m ↦ List·Memᴰ·tail (r .2 u m d) ])
+]
 
-few-variables : (l : List ℤ) → distinct l ≡ true → ((x : ℤ) → x ∈ l → (1 ≤ variable x) × (variable x ≤ largest)) → length l ≤ largest
-few-variables l o f =
-    let r = rising-ascends 0 largest (ascending l) (rising-ascending l ∙ o) (λ z i. let g = f z (ascending→ l i) in (g .0, g .1)) in
-    omega (arith, ascends-few 0 largest (map variable (ascending l)) (omega arith) r, length-map (ascending l) variable, length-ascending l)
+few-numbers : (l : List ℤ) (N : List ℕ) → distinct l ≡ true → ((x : ℤ) → x ∈ l → variable x ∈ N) → length l ≤ length N
+few-numbers [] N o f = omega arith
+few-numbers (x ∷ l) N o f =
+    let r = taken-off N (f x (List·Memᴰ·head refl)) in
+    let d = if-true (once-decides x l) o in
+    let h = few-numbers l (r .0) (d .1) (λ y i. r .2 (variable y) (f y (List·Memᴰ·tail i)) (λ e. d .0 (y, i, sym e))) in
+    omega (arith, h, r .1)
+
+-- no more names are gathered than there are rules
+pub collected-few : {t : List ℤ} {rules : ℕ} {names m : List ℕ} {row : List ℤ} {n : ℕ} → rules ≤ length names → Collected t rules names m row n → n ≤ rules
+collected-few {rules = rules} {names} {row = row} {n} h C =
+    let f = few-numbers (take n row) (take rules names) (C .is .once) (λ x i.
+    let k = C .sound x i in
+    subst (λ v. v ∈ take rules names) (getD-take rules names (k .0) 0 (k .1 .0) ∙ k .2)
+    (in-at 0 (take rules names) (k .0) (omega (arith, length-take-le rules names h, k .1 .0)))) in
+    omega (arith, f, length-take-le n row (omega (arith, C .is .long, C .is .within)), length-take-le rules names h)
 
 distinct-last : (l : List ℤ) (x : ℤ) → distinct l ≡ true → ((y : ℤ) → y ∈ l → ¬ (variable y ≡ variable x)) → distinct (l ++ (x ∷ [])) ≡ true
 distinct-last [] x o f = refl
@@ -60,10 +72,10 @@ distinct-last (z ∷ l) x o f =
 
 -- `note`: a name that is not in the row yet
 
-module _ (row : List ℤ) (n name : ℕ) (w : ℤ) (R : Row row n) (low : 1 ≤ name) (high : name ≤ largest) (is : w ≡ pos name)
+module _ (row : List ℤ) (n name : ℕ) (w : ℤ) (R : Row row n) (room : n ≤ mostRules) (low : 1 ≤ name) (high : name ≤ largest) (is : w ≡ pos name)
     (new : has (pos name) (take n row) ≡ false) where
   noted : take (n + 1) (set row n w) ≡ take n row ++ (pos name ∷ [])
-  noted = rw (add-one, is) (take-suc-set row n (pos name) (omega (arith, R .long, R .within)))
+  noted = rw (add-one, is) (take-suc-set row n (pos name) (omega (arith, R .long, room)))
 
   cases : (x : ℤ) → x ∈ take (n + 1) (set row n w) → (x ∈ take n row) ⊎ (x ≡ pos name)
   cases x i = elim (List·Memᴰ·append-cases (take n row) (subst (λ l. x ∈ l) noted i)) [
@@ -81,9 +93,7 @@ module _ (row : List ℤ) (n name : ℕ) (w : ℤ) (R : Row row n) (low : 1 ≤ 
   pub note-row : Row (set row n w) (n + 1)
   note-row = record {
     long = length-set row n w ∙ R .long;
-    within =
-        let l = few-variables (take (n + 1) (set row n w)) noted-once (λ x i. let g = noted-good x i in (g .1, g .2)) in
-        omega (arith, l, length-take-le (n + 1) (set row n w) (omega (arith, length-set row n w, R .long, R .within)));
+    within = omega (arith, room);
     once = noted-once;
     good = noted-good;
   }
@@ -157,7 +167,7 @@ head-inside m v hs l e h =
     is-true (any-decides (λ x. passed (isInside m x)) hs) (pos v, if-true (has-decides (pos v) hs) h, rw (lt-ltb 0 v l) e)
 
 -- `gather_all`: no name yet
-pub none-collected : (t : List ℤ) (rules : ℕ) (names m : List ℕ) (row : List ℤ) → length row ≡ entries → Collected t rules names m row 0
+pub none-collected : (t : List ℤ) (rules : ℕ) (names m : List ℕ) (row : List ℤ) → length row ≡ rowWords → Collected t rules names m row 0
 none-collected t rules names m row e = record {
   is = record { long = e; within = omega arith; once = refl; good = λ x i. elim i [ ] };
   sound = λ x i. elim i [ ];
@@ -220,7 +230,7 @@ module _ (t : List ℤ) (n : ℕ) {names : List ℕ} {bodies : List ℤ} {called
   pub all-told : {before row : List ℤ} (after : List ℤ) {r : ℕ} → Gathers t n names m (λ k. k < n) before 0 row r → r ≤ largest → take r after ≡ ascending (take r row)
       → Externals Asked after (Names r)
   all-told {row = row} after {r = r} G h e = rw e (
-    h,
+    C .is .within,
     rising-ascending (take r row) ∙ C .is .once,
     (λ x i. C .is .good x (ascending→ (take r row) i)),
     (λ v l. same-test (any-decides (λ x. eqb-decides v (variable x)) (ascending (take r row))) (asked-decides v)

@@ -17,7 +17,7 @@ use Rattle.words.specs.Literals.{variable, has}
 use Rattle.words.proofs.Literals.{has-decides}
 use Rattle.words.proofs.Places.{equal?, in-at, place-of}
 use Rattle.words.proofs.Ascending.{ascends-words}
-use Rattle.words.proofs.Lists.{Decides, reworded, passed, if-true, is-true, any-decides, all-decides, and-left, and-right}
+use Rattle.words.proofs.Lists.{Decides, reworded, passed, if-true, is-true, or-decides, any-decides, all-decides, and-left, and-right}
 use Rattle.aspif.specs.Rules.{Rule, InputRule, isPlain, allPlain, withBody, expandRule, expand}
 use Rattle.aspif.specs.Tables.{isWeighted, headCount, headStart, sizeAt, headsAt, bodyWordsAt, ruleAt, rulesAt, headsSound, shapeSound, soundAt, soundRules}
 use Rattle.aspif.proofs.Cursors.{plain-at, shaped}
@@ -25,6 +25,7 @@ use Rattle.names.specs.Queries.{entry, Kept}
 use Rattle.heads.specs.Heads.{startOf, wordsFrom, Headed, headedBy, headedTo, headedAt, Place, HasHead}
 use Rattle.names.proofs.Asked.{plain-bodies, plain-entry}
 use Rattle.names.proofs.ByRule.{Course, course-start, Turn, turn}
+use Rattle.heads.proofs.Walks.{Walk, walk-end}
 
 -- the words of a rule after the first
 later : (k : ℕ) (t : List ℤ) → wordsFrom (suc k) t ≡ wordsFrom k (drop (sizeAt t) t)
@@ -61,6 +62,19 @@ module _ (t : List ℤ) (n : ℕ) (names : List ℕ) (s : soundRules n t ≡ tru
 pub rule-here : (t : List ℤ) (n : ℕ) → soundRules n t ≡ true → (k : ℕ) → k < n
     → (startOf k t ≤ length t) × (soundAt (wordsFrom k t) ≡ true) × (shapeSound (wordsFrom k t) ≡ true)
 rule-here t n s k h = let r = rule-turn t n [] s k h in (r .here .0, r .sound, r .here .1)
+
+-- some rule as written passes: some rule by its number does
+pub any-written : (f : InputRule → Bool) (n : ℕ) (t : List ℤ) → Decides (any f (rulesAt n t)) ((k : ℕ) × (k < n) × (f (ruleAt (wordsFrom k t)) ≡ true))
+any-written f zero t = record { to = λ a. absurd a; from = λ q. absurd (omega (arith, q .1)) }
+any-written f (suc n) t = reworded to from (or-decides (passed (f (ruleAt t))) (any-written f n (drop (sizeAt t) t)))
+  where
+    to : (f (ruleAt t) ≡ true) ⊎ ((k : ℕ) × (k < n) × (f (ruleAt (wordsFrom k (drop (sizeAt t) t))) ≡ true)) → (k : ℕ) × (k < suc n) × (f (ruleAt (wordsFrom k t)) ≡ true)
+    to (inl e) = (0, omega arith, rw (first-words t) e)
+    to (inr q) = (suc (q .0), omega (arith, q .1), ap (λ ws. f (ruleAt ws)) (later (q .0) t) ∙ q .2)
+
+    from : (k : ℕ) × (k < suc n) × (f (ruleAt (wordsFrom k t)) ≡ true) → (f (ruleAt t) ≡ true) ⊎ ((k : ℕ) × (k < n) × (f (ruleAt (wordsFrom k (drop (sizeAt t) t))) ≡ true))
+    from (zero, h, e) = inl (ap (λ ws. f (ruleAt ws)) (sym (first-words t)) ∙ e)
+    from (suc k, h, e) = inr (k, omega arith, ap (λ ws. f (ruleAt ws)) (sym (later k t)) ∙ e)
 
 -- Programs without weight bodies
 
@@ -163,7 +177,7 @@ module _ (t : List ℤ) where
     | inr d ↦ Memᴰ·append-left (map (headedBy n) (headsAt (wordsFrom n t))) (headed-in n k h (omega (arith, b, d)) e)
   ]
 
-  pub head-place : (n k h : ℕ) → k < n → has (pos h) (headsAt (wordsFrom k t)) ≡ true
+  head-place : (n k h : ℕ) → k < n → has (pos h) (headsAt (wordsFrom k t)) ≡ true
       → (x : ℕ) × Place (headedTo n t) x h × (headedAt (headedTo n t) x .rule ≡ k)
   head-place n k h b e =
       let p = place-of (record { rule = 0; head = 0 }) (headed-in n k h b e) in
@@ -185,6 +199,12 @@ module _ (t : List ℤ) where
   head-of rules v x s p =
       let h = headed-of rules rules s (omega arith) (headedAt (headedTo rules t) x) (in-at (record { rule = 0; head = 0 }) (headedTo rules t) x (p .0)) in
       (h .0, rw (← p .1) (h .1))
+
+  -- a walk along the chain of an atom that is over has seen each rule with that head
+  pub all-seen : (rules v : ℕ) (Q : ℕ → Type 0) (p : ℕ) → p ≤ 0
+      → Walk (Place (headedTo rules t)) (Place (headedTo rules t)) v (λ x. Q (headedAt (headedTo rules t) x .rule)) p
+      → (k : ℕ) → HasHead t rules v k → Q k
+  all-seen rules v Q p e W k H = let r = head-place rules k v (H .0) (H .1) in subst Q (r .2) (walk-end W e (r .0) (r .1))
 
 -- An entry for each rule
 

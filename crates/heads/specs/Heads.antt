@@ -163,10 +163,14 @@ abbrev pub IsExternal : List ℤ → ℕ → List ℕ → ℕ → Type 0
 IsExternal t rules m k =
     (k < rules) × (any (isInside m) (headsAt (wordsFrom k t)) ≡ true) × (any (isInside m) (bodyWordsAt (wordsFrom k t)) ≡ false)
 
--- the first n words of a row with an entry for each variable are variables, and no one stands twice
+-- the words of a row for names: one for each rule that there may be, and one more
+abbrev pub rowWords : ℕ
+rowWords = mostRules + 1
+
+-- the first n words of such a row are variables, and no one stands twice
 pub record Row (row : List ℤ) (n : ℕ) : Type 0 where
-  pub long : length row ≡ entries
-  pub within : n ≤ largest
+  pub long : length row ≡ rowWords
+  pub within : n ≤ rowWords
   pub once : distinct (take n row) ≡ true
   pub good : (x : ℤ) → x ∈ take n row → (x ≡ pos (variable x)) × (1 ≤ variable x) × (variable x ≤ largest)
 
@@ -192,7 +196,7 @@ pub record Gathers (t : List ℤ) (rules : ℕ) (names m : List ℕ) (P : ℕ �
 -- has none
 abbrev pub Externals : List ℕ → List ℤ → Found → Type 0
 Externals l row (Names n) =
-    (n ≤ largest) × (rising (take n row) ≡ true)
+    (n ≤ rowWords) × (rising (take n row) ≡ true)
     × ((x : ℤ) → x ∈ take n row → (x ≡ pos (variable x)) × (1 ≤ variable x) × (variable x ≤ largest))
     × ((v : ℕ) → v ≤ largest → mentions v (take n row) ≡ listed l v) × (listed l 0 ≡ false)
 Externals l row Unnamed = listed l 0 ≡ true

@@ -9,15 +9,15 @@ ghost use Prim.Native.Nat.{ℕ, suc, _+_, _<_, _≤_};
 ghost use lib.Dec.{eqb};
 ghost use lib.IntN.{ℤ, pos};
 ghost use lib.ListN.{length, replicate, take, getD, set};
-ghost use Rattle.words.specs.Limits.{largest, entries, mostRules, longest, mostNumbers};
+ghost use Rattle.words.specs.Limits.{largest, mostRules, longest, mostNumbers};
 ghost use Rattle.words.specs.Lists.{_∈_, any, all};
 ghost use Rattle.words.specs.Literals.{variable, sameList, distinct, mentions, top};
 ghost use Rattle.aspif.specs.Rules.{InputRule, allPlain, expand};
 ghost use Rattle.aspif.specs.Tables.{rulesAt, soundRules, soundAt, shapeSound, headsAt};
 ghost use Rattle.names.specs.Queries.{HoldsRules, entry, Kept, isInside, askedNames, completing};
-ghost use Rattle.heads.specs.Heads.{startOf, wordsFrom, mostHeads, hashes, firstAt, bucketAt, indexWords, Headed, headedBy, headedTo};
+ghost use Rattle.heads.specs.Heads.{startOf, wordsFrom, mostHeads, hashes, firstAt, nextAt, bucketAt, indexWords, Headed, headedBy, headedTo, headedAt};
 ghost use Rattle.heads.specs.Heads.{HeadChains, mixed, hashFrom, Entered, covered, Indexed, Covers, isJustNames, Listed, RuleWith, Completes};
-ghost use Rattle.heads.specs.Heads.{HasHead, Row, InRow, Collected, Gathers, Externals};
+ghost use Rattle.heads.specs.Heads.{HasHead, rowWords, Row, InRow, Collected, Gathers, Externals};
 ghost use Rattle.names.specs.declared.queries.Query.the-variants.{External};
 ghost use Rattle.marks.specs.Marks.{marked, Marks};
 use aspif::tables;
@@ -46,6 +46,9 @@ const BUCKET: usize = OWNER + MOST_HEADS;
 const BEFORE: usize = BUCKET + HASHES;
 
 pub const INDEX_WORDS: usize = BEFORE + MOST_RULES;
+
+// The words of a row for names: one for each rule that there may be, and one more.
+pub const ROW_WORDS: usize = MOST_RULES + 1;
 
 // The names of the external bodies of a set: so many words of the row; or some body has none.
 pub enum Found {
@@ -176,6 +179,33 @@ pub fn fill(table: &[i32], rules: usize, index: &mut [u16])
         k += 1;
     }
     index[0] = 1;
+}
+
+// The chain of the heads that are the atom v begins at this entry, one more than the place of a head; 0 where there is none.
+pub fn first_head(index: &[u16], v: usize) -> usize
+    requires { ⌜ v ≤ largest ⌝ }
+    ensures { λ p. ⌜ p ≡ getD (now (index .entry)) (firstAt + v) 0 ⌝ }
+{
+    word_of(index, FIRST + v)
+}
+
+// The entry that follows the head at place x.
+pub fn next_head(index: &[u16], x: usize) -> usize
+    requires { ⌜ x < mostHeads ⌝ }
+    ensures { λ p. ⌜ p ≡ getD (now (index .entry)) (nextAt + x) 0 ⌝ }
+{
+    word_of(index, NEXT + x)
+}
+
+// The words from the rule of the head at place x on.
+pub fn words_of<'a>(table: &'a [i32], rules: usize, index: &[u16], x: usize) -> &'a [i32]
+    requires index { ⌜ Covers (now index) (now table) rules × (soundRules rules (now table) ≡ true) ⌝ }
+    requires place { ⌜ x < length (headedTo rules (now table)) ⌝ }
+    ensures { λ r. ⌜ now r ≡ wordsFrom (headedAt (headedTo rules (now (table .entry))) x .rule) (now (table .entry)) ⌝ }
+{
+    let k = word_of(index, OWNER + x);
+    let at = word_of(index, STARTS + k);
+    &table[at..]
 }
 
 // The place of a name among the listed numbers; as many as they are, where it is not listed.
@@ -432,7 +462,7 @@ pub fn is_completed(
 
 // One more name after the n of the row, unless it stands there or is no variable. How many there are then.
 fn note(row: &mut [i32], n: usize, name: u16) -> usize
-    requires { ⌜ Row (now row) n × (1 ≤ name) ⌝ }
+    requires { ⌜ Row (now row) n × (n ≤ mostRules) × (1 ≤ name) ⌝ }
     ensures row { λ r. ⌜ Row (now (row .exit)) r × InRow (now (row .exit)) r name ⌝ }
     ensures same { λ r. ⌜ ((x : ℤ) → x ∈ take n (now (row .entry)) → x ∈ take r (now (row .exit)))
         × ((x : ℤ) → x ∈ take r (now (row .exit)) → (x ∈ take n (now (row .entry))) ⊎ (x ≡ pos name)) ⌝ }
@@ -450,7 +480,7 @@ fn note(row: &mut [i32], n: usize, name: u16) -> usize
 
 // The name of the body of the rule at the front, unless a positive atom of it is in the set; 8,192 where it has none.
 fn gather_rule(words: &[i32], inside: &[u8], name: u16, row: &mut [i32], n: usize) -> usize
-    requires { ⌜ (shapeSound (now words) ≡ true) × Row (now row) n ⌝ }
+    requires { ⌜ (shapeSound (now words) ≡ true) × Row (now row) n × (n ≤ mostRules) ⌝ }
     ensures { λ r. ⌜ ((t : List ℤ) (rules : ℕ) (names : List ℕ) (k : ℕ) → now (words .entry) ≡ wordsFrom k t → name ≡ getD names k 0 → k < rules
         → any (isInside (now (inside .entry))) (headsAt (wordsFrom k t)) ≡ true
         → Collected t rules names (now (inside .entry)) (now (row .entry)) n
@@ -510,7 +540,7 @@ fn gather_all(
 ) -> usize
     requires index { ⌜ Covers (now index) (now table) rules × (soundRules rules (now table) ≡ true) × (rules ≤ length (now names)) ⌝ }
     requires set { ⌜ Marks (now inside) (map variable (now atoms)) × ((x : ℤ) → x ∈ now atoms → (1 ≤ variable x) × (variable x ≤ largest)) ⌝ }
-    requires row { ⌜ length (now row) ≡ entries ⌝ }
+    requires row { ⌜ length (now row) ≡ rowWords ⌝ }
     ensures { λ r. ⌜ Gathers (now (table .entry)) rules (now (names .entry)) (now (inside .entry)) (λ k. k < rules)
         (now (row .entry)) 0 (now (row .exit)) r ⌝ }
 {
@@ -548,7 +578,7 @@ pub fn external_names(
     requires program { ⌜ (soundRules rules (now table) ≡ true) × (rules ≤ length (now names)) ⌝ }
     requires index { ⌜ Indexed (now index) (now table) rules × (covered (now index) ≡ true) ⌝ }
     requires set { ⌜ Marks (now inside) (map variable (now atoms)) × ((x : ℤ) → x ∈ now atoms → (1 ≤ variable x) × (variable x ≤ largest)) ⌝ }
-    requires row { ⌜ length (now row) ≡ entries ⌝ }
+    requires row { ⌜ length (now row) ≡ rowWords ⌝ }
     ensures { λ r. ⌜ ((ws : List InputRule) → HoldsRules (now (table .entry)) rules ws
         → (bodies : List ℤ) (called : List ℤ → ℕ) → Kept (now (names .entry)) bodies called ws
         → Externals (askedNames External (now (inside .entry)) called (expand ws)) (now (row .exit)) r) ⌝ }

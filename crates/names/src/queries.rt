@@ -13,10 +13,9 @@ ghost use Rattle.words.specs.Literals.{sameList, top};
 ghost use Rattle.aspif.specs.Rules.{InputRule, bodiesOf, expandRule, expand, isNormal};
 ghost use Rattle.aspif.specs.Tables.{isWeighted, headsAt, bodyAt, ruleAt, shapeSound, soundAt};
 ghost use Rattle.weights.specs.Weights.{mostWeighted};
-ghost use Rattle.marks.specs.Marks.{Marks};
 ghost use Rattle.names.specs.ByName.{Called, Told};
 ghost use Rattle.names.specs.Minimal.{AlsoMarks};
-ghost use Rattle.names.specs.Queries.{HoldsRules, entry, Kept, isInside, asksHeads, askedNames, completing};
+ghost use Rattle.names.specs.Queries.{HoldsRules, entry, Kept, isInside, asksHeads, askedNames, MarksNames, completing};
 use crate::by_name;
 use crate::by_name::Recorded;
 use crate::minimal;
@@ -124,7 +123,8 @@ fn mark_asked(
     }
 }
 
-// The names of the bodies of the plain rules that the query asks for, as marks; 0 is marked where a body has none.
+// The names of the bodies of the plain rules that the query asks for, as marks; 0 is marked where a body has none, and further rules are then
+// not looked at.
 pub fn names_of(
     table: &[i32],
     rules: usize,
@@ -136,7 +136,7 @@ pub fn names_of(
     requires program { ⌜ ((ws : List InputRule) × HoldsRules (now table) rules ws) × (rules ≤ length (now names)) ⌝ }
     ensures { λ m. ⌜ ((ws : List InputRule) → HoldsRules (now (table .entry)) rules ws
         → (called : List ℤ → ℕ) → Kept (now (names .entry)) (now (bodies .entry)) called ws
-        → Marks m (askedNames query (now (inside .entry)) called (expand ws))) ⌝ }
+        → MarksNames m (askedNames query (now (inside .entry)) called (expand ws))) ⌝ }
 {
     let mut found = [0u8; ENTRIES];
     let mut k = 0;
@@ -144,6 +144,9 @@ pub fn names_of(
     while k < rules {
         let rest = &table[i..];
         mark_asked(rest, query, inside, names[k], bodies, &mut found);
+        if marks::is_marked(&found, 0) {
+            return found;
+        }
         i = tables::next_rule(table, i);
         k += 1;
     }

@@ -10,8 +10,8 @@ use lib.Seq.{getD-set-same, getD-set-other}
 use Rattle.words.specs.Literals.{variable}
 use Rattle.words.proofs.Places.{equal?}
 use Rattle.heads.specs.Heads.{Headed, headedTo, headedAt, Place, HasHead, Hit}
-use Rattle.heads.proofs.Starts.{head-place, head-of}
-use Rattle.heads.proofs.Walks.{Walk, walk-from, walk-on, walk-end, next-less, zero-at}
+use Rattle.heads.proofs.Starts.{head-of, all-seen}
+use Rattle.heads.proofs.Walks.{Walk, walk-from, walk-on, next-less, zero-at}
 use borrow.Author.Needs.{needs}
 use Rattle.heads.proofs.all_listed.Statement.{statement}
 use Rattle.heads.proofs.all_listed.Tie as tie
@@ -137,20 +137,12 @@ loop-again c =
       hit-named (a .table .now) (a .rules) (a .names .now) (a .v) (a .listed .now) hits j (o .word-of2 .result) (headed o) (sym (named e)) (d .before .loop .inv .2),
     )
 
--- the walk is over
-hits-all : (t : List ℤ) (rules v : ℕ) (names : List ℕ) (ns : List ℤ) (hits : List ℕ) (p : ℕ) → p ≤ 0
-    → Walk (Place (headedTo rules t)) (Place (headedTo rules t)) v (λ x. Hit names ns hits (headedAt (headedTo rules t) x .rule)) p
-    → (k : ℕ) → HasHead t rules v k → Hit names ns hits k
-hits-all t rules v names ns hits p e W k H =
-    let r = head-place t rules k v (H .0) (H .1) in
-    subst (Hit names ns hits) (r .2) (walk-end W e (r .0) (r .1))
-
 returns-2 : tie.Need-returns-2 Inv-loop μ-loop
 returns-2 c =
     let s = c .before .before .before .before .before .before in
     let a = s .args in
     let l = c .before .loop in
-    (hits-all (a .table .now) (a .rules) (a .v) (a .names .now) (a .listed .now) (l .hits) (l .p) (c .loop-test .left) (l .inv .1), l .inv .2)
+    (all-seen (a .table .now) (a .rules) (a .v) (Hit (a .names .now) (a .listed .now) (l .hits)) (l .p) (c .loop-test .left) (l .inv .1), l .inv .2)
 
 pub all-listed-spec : {M : Type 1} → statement M
 all-listed-spec =

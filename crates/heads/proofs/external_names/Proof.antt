@@ -1,5 +1,6 @@
 use mathlib.Core.Path.{_≡_, sym, ap, _∙_}
 use mathlib.Core.List.{_++_}
+use Prim.Native.Nat.{_≤_}
 use native.Mathlib.Omega.{arith}
 use lib.ListN.{length, take, drop}
 use lib.Seq.{length-take-le, take-at}
@@ -23,12 +24,12 @@ returns c =
     none-named (a .table .now) (a .rules) (s .pre .0 .0) (s .pre .1 .0 .0 (s .pre .1 .0 .1) .plain) K (a .inside .now) (g .gather-all .ensures) (c .if1 .taken))
 
 -- the words that are gathered
+room : (c : tie.Else1) → (let g = c .before .before .gather-all in g .result ≤ length (g .last .1 .1 .1 .1 .1 .1 .0))
+room c = let R = c .before .before .gather-all .ensures .collected (c .if1 .left) .is in omega (arith, R .long, R .within)
+
 size : (c : tie.Else1)
     → (let g = c .before .before .gather-all in length (take (g .result) (g .last .1 .1 .1 .1 .1 .1 .0)) ≡ g .result)
-size c =
-    let g = c .before .before .gather-all in
-    let R = g .ensures .collected (c .if1 .left) .is in
-    length-take-le (g .result) (g .last .1 .1 .1 .1 .1 .1 .0) (omega (arith, R .long, R .within))
+size c = let g = c .before .before .gather-all in length-take-le (g .result) (g .last .1 .1 .1 .1 .1 .1 .0) (room c)
 
 returns-2 : tie.Need-returns-2
 returns-2 c =
@@ -51,7 +52,7 @@ external-names-spec =
     gather-all-requires
     (λ c. search needs)
     returns
-    (λ c. search needs)
+    (λ c. search (needs, room c))
     (λ c. sym (size (c .before)))
     (λ c κs. search needs)
     (λ c. search needs)

@@ -11,10 +11,10 @@ use Rattle.words.proofs.Parts.{tail-of}
 use Rattle.aspif.specs.Tables.{headsAt, soundAt, shapeSound}
 use Rattle.names.specs.Queries.{isInside}
 use Rattle.heads.specs.Heads.{startOf, wordsFrom, Headed, headedTo, headedAt, Place, HasHead, Collected, Gathers}
-use Rattle.heads.proofs.Starts.{rule-here, head-place, head-of}
-use Rattle.heads.proofs.Walks.{Walk, walk-from, walk-on, walk-end, next-less}
+use Rattle.heads.proofs.Starts.{rule-here, head-of, all-seen}
+use Rattle.heads.proofs.Walks.{Walk, walk-from, walk-on, next-less}
 use Rattle.heads.proofs.Bodies.{covers-few}
-use Rattle.heads.proofs.Externals.{Got, in-row-keeps, gather-stops, head-inside}
+use Rattle.heads.proofs.Externals.{Got, collected-few, in-row-keeps, gather-stops, head-inside}
 use borrow.Author.Needs.{needs}
 use Rattle.heads.proofs.gather_head.Statement.{statement}
 use Rattle.heads.proofs.gather_head.Tie as tie
@@ -99,7 +99,9 @@ module _ (c : tie.After-word-of3 Inv-loop μ-loop) where
 gather-rule-requires : tie.Need-gather-rule-requires Inv-loop μ-loop
 gather-rule-requires c κs =
     let w = c .before .before .before in
-    (subst (λ ws. shapeSound ws ≡ true) (sym (words-at w)) (here (o w) .2), i (o w) .before .loop .inv .0 .is)
+    let d = i (o w) in
+    let C = d .before .loop .inv .0 in
+    (subst (λ ws. shapeSound ws ≡ true) (sym (words-at w)) (here (o w) .2), C .is, omega (arith, collected-few (s d .pre .0 .2) C, covers-few (s d .pre .0 .0)))
 
 -- what the call gathers
 module _ (c : tie.After-gather-rule Inv-loop μ-loop) where
@@ -143,14 +145,6 @@ loop-again c =
           (λ m. subst (Got (t e) (a .rules) (a .names .now) (a .inside .now) row r) (owner (o (w g))) (λ X. G .all h (k (o (w g))) refl X)),
     )
 
--- the walk is over
-all-got : (t : List ℤ) (rules v : ℕ) (names m : List ℕ) (row : List ℤ) (count p : ℕ) → p ≤ 0
-    → Walk (Place (headedTo rules t)) (Place (headedTo rules t)) v (λ x. Got t rules names m row count (headedAt (headedTo rules t) x .rule)) p
-    → (k : ℕ) → HasHead t rules v k → Got t rules names m row count k
-all-got t rules v names m row count p e W k H =
-    let r = head-place t rules k v (H .0) (H .1) in
-    subst (Got t rules names m row count) (r .2) (walk-end W e (r .0) (r .1))
-
 returns-2 : tie.Need-returns-2 Inv-loop μ-loop
 returns-2 c =
     let a = c .before .before .before .before .before .before .args in
@@ -160,7 +154,7 @@ returns-2 c =
       unnamed = λ e. absurd (omega (arith, b));
       collected = λ h. l .inv .0;
       keeps = λ h. l .inv .1;
-      all = λ h. all-got (a .table .now) (a .rules) (a .v) (a .names .now) (a .inside .now) (l .row) (l .count) (l .p) (c .loop-test .left) (l .inv .2);
+      all = λ h. all-seen (a .table .now) (a .rules) (a .v) (Got (a .table .now) (a .rules) (a .names .now) (a .inside .now) (l .row) (l .count)) (l .p) (c .loop-test .left) (l .inv .2);
     }
 
 pub gather-head-spec : {M : Type 1} → statement M

@@ -20,7 +20,7 @@ use Rattle.heads.proofs.note.Tie as tie
 returns : tie.Need-returns
 returns c =
     let s = c .before .before in
-    ((s .pre .0, (s .pre .1, λ h. absurd (omega (arith, c .if1 .taken, c .before .wide .ensures)))), ((λ x i. i), λ x i. inl i))
+    ((s .pre .0, (s .pre .2, λ h. absurd (omega (arith, c .if1 .taken, c .before .wide .ensures)))), ((λ x i. i), λ x i. inl i))
 
 -- the name is a variable, and its word is the name
 module _ (c : tie.Else1) where
@@ -44,7 +44,7 @@ returns-2 : tie.Need-returns-2
 returns-2 c =
     let b = c .before in
     let s = b .before .before .before .before in
-    ((s .pre .0, (s .pre .1, λ h. if-true (has-decides (pos (s .args .name)) (take (s .args .n) (s .args .row .now))) (tells b ∙ c .if2 .taken))), ((λ x i. i), λ x i. inl i))
+    ((s .pre .0, (s .pre .2, λ h. if-true (has-decides (pos (s .args .name)) (take (s .args .n) (s .args .row .now))) (tells b ∙ c .if2 .taken))), ((λ x i. i), λ x i. inl i))
 
 returns-3 : tie.Need-returns-3
 returns-3 c =
@@ -53,8 +53,8 @@ returns-3 c =
     let s = e .before .before in
     let a = s .args in
     let new = tells b ∙ c .if2 .left in (
-      (note-row (a .row .now) (a .n) (a .name) _ (s .pre .0) (s .pre .1) (high e) (word e) new, note-in (a .row .now) (a .n) (a .name) _ (s .pre .0) (s .pre .1) (high e) (word e) new),
-      (note-keeps (a .row .now) (a .n) (a .name) _ (s .pre .0) (s .pre .1) (high e) (word e) new, note-cases (a .row .now) (a .n) (a .name) _ (s .pre .0) (s .pre .1) (high e) (word e) new),
+      (note-row (a .row .now) (a .n) (a .name) _ (s .pre .0) (s .pre .1) (s .pre .2) (high e) (word e) new, note-in (a .row .now) (a .n) (a .name) _ (s .pre .0) (s .pre .1) (s .pre .2) (high e) (word e) new),
+      (note-keeps (a .row .now) (a .n) (a .name) _ (s .pre .0) (s .pre .1) (s .pre .2) (high e) (word e) new, note-cases (a .row .now) (a .n) (a .name) _ (s .pre .0) (s .pre .1) (s .pre .2) (high e) (word e) new),
     )
 
 pub note-spec : {M : Type 1} → statement M

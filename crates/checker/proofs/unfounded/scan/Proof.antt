@@ -1,4 +1,4 @@
-use mathlib.Core.Path.{_≡_, sym, ap, _∙_}
+use mathlib.Core.Path.{sym, ap, _∙_}
 use mathlib.Core.List.{List}
 use Prim.Native.Nat.{ℕ}
 use native.Mathlib.Omega.{arith}
@@ -6,9 +6,10 @@ use lib.IntN.{ℤ}
 use mir.Facts.{toZ-ofZ}
 use Rattle.words.specs.Limits.{largest}
 use Rattle.aspif.specs.Rules.{InputRule, expand}
-use Rattle.marks.specs.Marks.{listed, marked, Marks}
-use Rattle.names.specs.Queries.{askedNames}
+use Rattle.marks.specs.Marks.{listed, marked}
+use Rattle.names.specs.Queries.{askedNames, MarksNames}
 use Rattle.names.specs.declared.queries.Query.the-variants.{External}
+use Rattle.names.proofs.Asked.{names-all, name-missing}
 use Rattle.checker.specs.Held.{Above, gathered}
 use Rattle.checker.proofs.Gathering.{gathered-same}
 use borrow.Author.Needs.{needs}
@@ -24,11 +25,11 @@ module _ (c : tie.After-names-of) where
     abbrev asked : List ℕ
     asked = askedNames External (s .args .inside .now) called (expand ws)
 
-    found : Marks (c .names-of .result) asked
+    found : MarksNames (c .names-of .result) asked
     found = c .names-of .ensures ws (A .holds) called (A .kept)
 
 returns : tie.Need-returns
-returns c = λ ws called A. sym (found (c .before .before .before) ws called A .has 0 (omega arith)) ∙ sym (c .before .is-marked .ensures) ∙ c .if1 .taken
+returns c = λ ws called A. name-missing (found (c .before .before .before) ws called A) (sym (c .before .is-marked .ensures) ∙ c .if1 .taken)
 
 returns-2 : tie.Need-returns-2
 returns-2 c =
@@ -38,10 +39,12 @@ returns-2 c =
     let n = k .before .before .before in
     let m = n .names-of .result in
     let h = s n .args .h in
-    let F = found n ws called A in (
+    let none = sym (k .before .is-marked .ensures) ∙ k .if1 .left in
+    let F = names-all (found n ws called A) none in (
       g .ensures .0,
       g .ensures .1 ∙ ap (λ x. gathered (marked m) x largest 1) (toZ-ofZ (s n .fits .h)) ∙ gathered-same (marked m) h (listed (asked n ws called A)) largest 1 (λ u i. F .has u (omega arith)),
-      sym (F .has 0 (omega arith)) ∙ sym (k .before .is-marked .ensures) ∙ k .if1 .left,
+      sym (F .has 0 (omega arith)) ∙ none,
+      omega (arith, g .ensures .0, g .kept .1 .1 .0, s n .pre .1 .0),
     )
 
 pub scan-spec : {M : Type 1} → statement M

@@ -1,4 +1,5 @@
 use mathlib.Core.Path.{_≡_, refl, sym, _∙_}
+use mathlib.Core.Logic.{inl}
 use mathlib.Core.List.{List, _++_}
 use Prim.Native.Nat.{ℕ, _-_}
 use native.Mathlib.Omega.{arith}
@@ -11,7 +12,7 @@ use Rattle.aspif.specs.Tables.{ruleAt, rulesAt}
 use Rattle.marks.proofs.Sets.{MarkedSoFar, found-none, found-all}
 use Rattle.names.specs.Minimal.{AlsoMarks}
 use Rattle.names.specs.Queries.{Kept, askedNames}
-use Rattle.names.proofs.Asked.{asked-more, found-more}
+use Rattle.names.proofs.Asked.{asked-more, found-more, zero-found}
 use Rattle.names.proofs.ByRule.{Course, course-start, rest, no-plain-rules, Turn, turn}
 use borrow.Author.Needs.{needs}
 use Rattle.names.proofs.queries.names_of.Statement.{statement}
@@ -79,11 +80,11 @@ mark-asked-requires c κs =
     let d = c .before .before in rw (tail-of (i d) (t d)) (at d .sound, d .before .before .loop .inv .1)
 
 next-rule-requires : tie.Need-next-rule-requires Inv-loop μ-loop
-next-rule-requires c κs = at (c .before .before .before .before) .here
+next-rule-requires c κs = at (c .before .before .before .before .before .before .before) .here
 
 loop-again : tie.Need-loop-again Inv-loop μ-loop
 loop-again c =
-    let m = c .before .before in
+    let m = c .before .before .before .before .before in
     let d = m .before .before .before in
     let l = d .before .before .loop in
     rw (c .next-rule .ensures .0) (
@@ -94,8 +95,15 @@ loop-again c =
 
 returns : tie.Need-returns Inv-loop μ-loop
 returns c =
+    let k = c .before in
+    let m = k .before .before .before in
+    let d = m .before .before .before in
+    λ ws H. rw (← H .are) (λ called K. zero-found (found-more (left d called (d .before .before .loop .inv .2 called K)) (told m called K)) (sym (k .is-marked .ensures) ∙ c .if1 .taken))
+
+returns-2 : tie.Need-returns-2 Inv-loop μ-loop
+returns-2 c =
     let l = c .before .loop in
-    λ ws H. rw (← H .are) (λ called K. found-all (rw (no-plain-rules (l .inv .0) (c .loop-test .left)) at (l .inv .2 called K)))
+    λ ws H. rw (← H .are) (λ called K. inl (found-all (rw (no-plain-rules (l .inv .0) (c .loop-test .left)) at (l .inv .2 called K))))
 
 pub names-of-spec : {M : Type 1} → statement M
 names-of-spec =
@@ -112,8 +120,11 @@ names-of-spec =
     shared-slice-read-mark-asked
     slice-aggregate-mark-asked
     mark-asked-requires
+    (λ c. search needs)
+    (λ c κs. search needs)
+    returns
     next-rule-requires
     (λ c. search needs)
     (λ c. omega arith)
     loop-again
-    returns)
+    returns-2)
