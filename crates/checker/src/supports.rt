@@ -110,7 +110,16 @@ fn is_supported(
     let listed = marks::marks_of(&numbers[1..]);
     // the empty set: no body is left out
     let none = [0u8; 1];
-    let found = queries::names_of(table, rules, names, bodies, Query::Head(h), &none);
+    let mut found = [0u8; words::ENTRIES];
+    queries::mark_names(
+        table,
+        rules,
+        names,
+        bodies,
+        Query::Head(h),
+        &none,
+        &mut found,
+    );
     marks::is_same_set(&listed, &found)
 }
 

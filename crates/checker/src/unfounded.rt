@@ -77,7 +77,16 @@ fn scan(
     ensures { λ r. ⌜ ((ws : List InputRule) (called : List ℤ → ℕ) → Above (now (table .entry)) rules (now (names .entry)) (now (bodies .entry)) h ws called
         → LoopNogood (askedNames External (now (inside .entry)) called (expand ws)) h (now (row .exit)) r) ⌝ }
 {
-    let found = queries::names_of(table, rules, names, bodies, Query::External, inside);
+    let mut found = [0u8; words::ENTRIES];
+    queries::mark_names(
+        table,
+        rules,
+        names,
+        bodies,
+        Query::External,
+        inside,
+        &mut found,
+    );
     if marks::is_marked(&found, 0) {
         return Found::Unnamed;
     }

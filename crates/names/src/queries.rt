@@ -6,7 +6,7 @@ ghost use mathlib.Core.List.{List, map};
 ghost use Prim.Native.Nat.{ℕ, _≤_};
 ghost use lib.Dec.{eqb};
 ghost use lib.IntN.{ℤ};
-ghost use lib.ListN.{length, take};
+ghost use lib.ListN.{length, replicate, take};
 ghost use Rattle.words.specs.Limits.{largest, entries};
 ghost use Rattle.words.specs.Lists.{any};
 ghost use Rattle.words.specs.Literals.{sameList, top};
@@ -22,7 +22,6 @@ use crate::minimal;
 use aspif::Kind;
 use aspif::tables;
 use weights::MOST_WEIGHTED;
-use words::ENTRIES;
 
 // The plain rules that a step is about, by their heads: those with a head; those with a head in a set of atoms. Of both, those whose
 // bodies have a positive atom in the set are left out.
@@ -123,34 +122,34 @@ fn mark_asked(
     }
 }
 
-// The names of the bodies of the plain rules that the query asks for, as marks; 0 is marked where a body has none, and further rules are then
-// not looked at.
-pub fn names_of(
+// Marks the names of the bodies of the plain rules that the query asks for, where nothing is marked yet; 0 where a body has none, and further rules
+// are then not looked at.
+pub fn mark_names(
     table: &[i32],
     rules: usize,
     names: &[u16],
     bodies: &[i16],
     query: Query,
     inside: &[u8],
-) -> [u8; ENTRIES]
+    found: &mut [u8],
+)
     requires program { ⌜ ((ws : List InputRule) × HoldsRules (now table) rules ws) × (rules ≤ length (now names)) ⌝ }
-    ensures { λ m. ⌜ ((ws : List InputRule) → HoldsRules (now (table .entry)) rules ws
+    requires found { ⌜ now found ≡ replicate entries 0 ⌝ }
+    ensures { λ _. ⌜ ((ws : List InputRule) → HoldsRules (now (table .entry)) rules ws
         → (called : List ℤ → ℕ) → Kept (now (names .entry)) (now (bodies .entry)) called ws
-        → MarksNames m (askedNames query (now (inside .entry)) called (expand ws))) ⌝ }
+        → MarksNames (now (found .exit)) (askedNames query (now (inside .entry)) called (expand ws))) ⌝ }
 {
-    let mut found = [0u8; ENTRIES];
     let mut k = 0;
     let mut i = 0;
     while k < rules {
         let rest = &table[i..];
-        mark_asked(rest, query, inside, names[k], bodies, &mut found);
-        if marks::is_marked(&found, 0) {
-            return found;
+        mark_asked(rest, query, inside, names[k], bodies, found);
+        if marks::is_marked(found, 0) {
+            return;
         }
         i = tables::next_rule(table, i);
         k += 1;
     }
-    found
 }
 
 // The literals are a body of the rule at the front.

@@ -67,11 +67,11 @@ part-marks-of-start c = search (needs, some-number Support refl (c .before .befo
 returns-3 : tie.Need-returns-3
 returns-3 c =
     λ ws p known z T.
-    let k = c .before .before .before .before .before .before .before .before .before in
+    let k = c .before .before .before .before .before .before .before .before .before .before .before in
     let s = k .before .before .before .before .before in
     c .is-same-set .ensures
     ∙ supported z T (s .args .numbers .now) (s .pre .1 .1) (omega (arith, k .if1 .left, head (k .before))) _ (back _ (k .before .before .h .given))
-    (c .before .before .before .before .before .marks-of .ensures) (c .before .before .before .names-of .ensures ws (p .holds) _ (T .kept))
+    (c .before .before .before .before .before .before .before .marks-of .ensures) (c .before .before .before .before .mark-names .ensures ws (p .holds) _ (T .kept))
 
 pub is-supported-spec : {M : Type 1} → statement M
 is-supported-spec =
@@ -91,6 +91,7 @@ is-supported-spec =
     part-marks-of-start
     (λ c. search needs)
     (λ c κs. search needs)
+    (λ c. search needs)
     (λ c. search needs)
     (λ c κs. search needs)
     (λ c κs. search needs)

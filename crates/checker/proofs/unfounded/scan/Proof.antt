@@ -17,27 +17,30 @@ use Rattle.checker.proofs.unfounded.scan.Statement.{statement}
 use Rattle.checker.proofs.unfounded.scan.Tie as tie
 
 -- the names that are marked
-module _ (c : tie.After-names-of) where
+module _ (c : tie.After-mark-names) where
   abbrev s : tie.Start
-  s = c .before .before .before
+  s = c .before .before .before .before
+
+  abbrev marks : List ℕ
+  marks = c .mark-names .last .1 .1 .1 .1 .1 .1 .0
 
   module _ (ws : List InputRule) (called : List ℤ → ℕ) (A : Above (s .args .table .now) (s .args .rules) (s .args .names .now) (s .args .bodies .now) (s .args .h) ws called) where
     abbrev asked : List ℕ
     asked = askedNames External (s .args .inside .now) called (expand ws)
 
-    found : MarksNames (c .names-of .result) asked
-    found = c .names-of .ensures ws (A .holds) called (A .kept)
+    found : MarksNames marks asked
+    found = c .mark-names .ensures ws (A .holds) called (A .kept)
 
 returns : tie.Need-returns
-returns c = λ ws called A. name-missing (found (c .before .before .before) ws called A) (sym (c .before .is-marked .ensures) ∙ c .if1 .taken)
+returns c = λ ws called A. name-missing (found (c .before .before .before .before) ws called A) (sym (c .before .is-marked .ensures) ∙ c .if1 .taken)
 
 returns-2 : tie.Need-returns-2
 returns-2 c =
     λ ws called A.
     let g = c .before .gather in
     let k = c .before .before .before .before in
-    let n = k .before .before .before in
-    let m = n .names-of .result in
+    let n = k .before .before .before .before in
+    let m = marks n in
     let h = s n .args .h in
     let none = sym (k .before .is-marked .ensures) ∙ k .if1 .left in
     let F = names-all (found n ws called A) none in (
@@ -51,6 +54,7 @@ pub scan-spec : {M : Type 1} → statement M
 scan-spec =
     tie.close
     (tie.spec
+    (λ c. search needs)
     (λ c κs. search needs)
     (λ c. search needs)
     (λ c κs. search needs)
