@@ -20,6 +20,7 @@ ghost use Rattle.checker.specs.Check.{course};
 ghost use Rattle.checker.specs.Held.{Program, Tracks, Tracked, NoBodies, HoldsState, proofTurn, LineLeaves, Ran};
 use crate::ProofRefusal;
 use crate::outcomes::Stepped;
+use crate::states::CheckingState;
 use crate::steps;
 use aspif::tables;
 use drupe::LineAnswer;
@@ -29,7 +30,6 @@ use loops::relevance;
 use names::by_name;
 use nogoods::INDEX;
 use weights::MOST_WEIGHTED;
-use words::MOST_NUMBERS;
 use words::MOST_RULES;
 
 // An entry for each pair of the weight bodies of all rules.
@@ -148,12 +148,13 @@ fn run_lines(
         → Ran (now (store .exit)) (course atoms (expand ws) (length (now (store .entry))) (now (proof .entry))) r) ⌝ }
 {
     let classes = text::CLASSES;
-    let mut numbers = [0; MOST_NUMBERS];
-    let mut sorted = [0; MOST_NUMBERS];
+    let mut numbers = [0; CheckingState::NUMBERS];
+    let mut sorted = [0; CheckingState::NUMBERS];
     let mut index = [0u16; INDEX];
-    let mut used = 0;
-    let mut at = 0;
-    let mut steps = 0;
+    let start = CheckingState::start();
+    let mut used = start.used;
+    let mut at = start.at;
+    let mut steps = start.steps;
     loop {
         let step = steps + 1;
         match turn_at(

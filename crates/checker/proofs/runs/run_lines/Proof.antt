@@ -31,7 +31,7 @@ module _ (c : tie.After-turn-at Inv-loop μ-loop) where
   l = c .before .before .before .before .before .before .before .before .before
 
   abbrev start : tie.Start Inv-loop μ-loop
-  start = l .before .before .before .before .before .before
+  start = l .before .before .before .before .before .before .before
 
   abbrev ws : List InputRule
   ws = l .loop .inv .0
@@ -81,16 +81,17 @@ module _ (c : tie.After-turn-at Inv-loop μ-loop) where
 
 loop-holds : tie.Need-loop-holds Inv-loop μ-loop
 loop-holds c =
-    let q = c .before .before .before .before .before .pre in
+    let q = c .before .before .before .before .before .before .pre in
     let p = q .0 .0 .1 in
     let b = q .1 .1 .1 in
-    (q .0 .0 .0, p, going-start _ _ _ _ (rw (b .0 .1) (start-tracks (b .0 .0) (omega (arith, q .0 .1, rules-held (p .holds))) (rw (← p .holds .are) (b .1 .0)))) (b .1 .1 .1) refl (length-replicate {A = ℕ} indexSize 0) (blank-zeros indexSize), refl, refl, refl, length-replicate {A = ℤ} mostNumbers (pos 0), length-replicate {A = ℤ} mostNumbers (pos 0))
+    let s = c .start .ensures in
+    rw (s .0, s .1, s .2) (q .0 .0 .0, p, going-start _ _ _ _ (rw (b .0 .1) (start-tracks (b .0 .0) (omega (arith, q .0 .1, rules-held (p .holds))) (rw (← p .holds .are) (b .1 .0)))) (b .1 .1 .1) refl (length-replicate {A = ℕ} indexSize 0) (blank-zeros indexSize), refl, refl, refl, length-replicate {A = ℤ} mostNumbers (pos 0), length-replicate {A = ℤ} mostNumbers (pos 0))
 
 -- the number of the next step
 add-step : tie.Need-add-step Inv-loop μ-loop
 add-step c =
     let g = c .loop .inv .2 in
-    let p = c .before .before .before .before .before .before .pre .1 .1 .1 .1 .1 .0 in
+    let p = c .before .before .before .before .before .before .before .pre .1 .1 .1 .1 .1 .0 in
     search (needs, g .count, g .within, p)
 
 slice-aggregate-turn-at : tie.Need-slice-aggregate-turn-at Inv-loop μ-loop
@@ -103,7 +104,7 @@ turn-at-requires : tie.Need-turn-at-requires Inv-loop μ-loop
 unfolding byteClasses
 turn-at-requires c κs =
     let i = c .before .before .before .before .before .before .before .before .loop .inv in
-    let p = c .before .before .before .before .before .before .before .before .before .before .before .before .before .before .pre in
+    let p = c .before .before .before .before .before .before .before .before .before .before .before .before .before .before .before .pre in
     ((i .0, i .2 .z, i .1, i .2 .tracks), (p .1 .0, (p .1 .1 .0, (((i .2 .stored, i .2 .keeps .keeps), omega (arith, i .2 .count)), (p .1 .1 .1 .1 .1 .0, (refl, (i .6, i .7)))))))
 
 enum-told : tie.Need-enum-told Inv-loop μ-loop
@@ -141,6 +142,7 @@ run-lines-spec =
     (tie.spec
     Inv-loop
     μ-loop
+    (λ c κs. search needs)
     loop-holds
     add-step
     slice-aggregate-turn-at
