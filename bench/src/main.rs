@@ -6,12 +6,13 @@
 //! the argument says how many others there are to be. With `--slow` the inputs that were made to be slow are run once in place of the others.
 //! With `--beside OTHER`, and a number where it is not to be 31, this program and OTHER, a build of it over another library, are run in turn;
 //! each does a `--round`. With `--growth`, and OTHER where there is one, both run refutations of growing size, each in a `--growth-round`; the
-//! picture goes to docs/growth.svg.
+//! picture goes to docs/growth.svg. With `--fallbacks` it counts, on a copy of the library in plain Rust, the steps that the search left to sweeps.
 
 #![forbid(unsafe_code)]
 
 mod beside;
 mod cases;
+mod fallbacks;
 mod growth;
 mod measure;
 mod packets;
@@ -33,6 +34,7 @@ fn main() -> ExitCode {
         [] => Some(run_all(REPETITIONS)),
         ["--once"] => Some(run_all(1)),
         ["--slow"] => Some(run_slow()),
+        ["--fallbacks"] => Some(fallbacks::run()),
         ["--round"] => Some(beside::round()),
         ["--growth-round"] => Some(growth::round()),
         ["--growth"] => Some(growth::run(None, REPETITIONS)),
@@ -44,7 +46,7 @@ fn main() -> ExitCode {
         _ => None,
     };
     let Some(failed) = failed else {
-        eprintln!("usage: bench [--once | --slow | REPETITIONS | --beside OTHER [REPETITIONS] | --growth [OTHER [REPETITIONS]]]");
+        eprintln!("usage: bench [--once | --slow | --fallbacks | REPETITIONS | --beside OTHER [REPETITIONS] | --growth [OTHER [REPETITIONS]]]");
         eprintln!("       bench --round | --growth-round");
         return ExitCode::from(2);
     };

@@ -25,8 +25,8 @@ extern "C" {
 
 /* A thread with a stack of so many bytes has enough for any call, with what the C library takes of a thread's stack for itself. What your
  * own code and its thread-local variables take comes on top. The need does not grow with the texts: the whole check was measured at
- * 539 KB, the other services at 63 KB or less (bindings/c/stack.c). Some C libraries give a thread less by default: musl 128 KB. */
-#define ASPDRUPE_STACK 589824
+ * 503 KB, the other services at 63 KB or less (bindings/c/stack.c). Some C libraries give a thread less by default: musl 128 KB. */
+#define ASPDRUPE_STACK 524288
 
 /* The most numbers that an answer has. */
 #define ASPDRUPE_ANSWER 4

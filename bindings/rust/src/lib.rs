@@ -36,7 +36,7 @@ pub const MARKS: usize = 8192;
 
 /// The bytes of stack with which a thread has enough for any call, as `std::thread::Builder::stack_size` takes them. What your own
 /// code takes comes on top.
-pub const STACK: usize = 589_824;
+pub const STACK: usize = 524_288;
 
 // Each call below hands over what its slices point to, with their lengths. A slice is valid for its length, an empty one has a
 // pointer that is aligned and not null, and Rust lets no other argument overlap one that is written: nothing more is asked.

@@ -2,7 +2,7 @@
 -- Assumes nothing.
 use mathlib.Core.Path.{_≡_, refl, sym, _∙_, ap, fun-ext, subst}
 use mathlib.Core.Bool.{Bool, true, false, cond, not, _&&_, and-false, and-true, true≢false}
-use mathlib.Core.List.{List, [], _∷_, _++_, map}
+use mathlib.Core.List.{List, [], _∷_, _++_, map, Memᴰ·of-map}
 use Prim.Native.Nat.{ℕ, zero, suc, _-_, _≤_, _<_}
 use native.Mathlib.Omega.{arith}
 use borrow.Author.Tests.{le-leb, lt-leb}
@@ -14,26 +14,29 @@ use lib.Seq.{take-at}
 use Rattle.words.specs.Limits.{largest, entries}
 use Rattle.words.specs.Lists.{any, all, filter}
 use Rattle.words.specs.Literals.{variable, sameList, has, top, ascending}
-use Rattle.words.proofs.Lists.{if-true, and-right, all-decides, leb-decides}
+use Rattle.words.proofs.Lists.{if-true, failed, and-left, and-right, any-decides, all-decides, not-decides, eqb-decides, leb-decides, passed}
 use Rattle.words.proofs.Literals.{ascending→}
 use Rattle.words.proofs.Tops.{top-decides}
 use Rattle.words.proofs.Parts.{tail-of}
 use Rattle.words.proofs.Places.{in-at}
 use Rattle.text.specs.declared.Letter.{Letter}
 use Rattle.text.specs.declared.Letter.the-variants.{Addition, Body, Completion, Deletion, Extension, Loop, Support}
-use Rattle.drupe.specs.Lines.{signsOf, signed}
+use Rattle.drupe.specs.Lines.{signsOf, signed, isPositive}
 use Rattle.aspif.specs.Rules.{Rule, InputRule, expand}
-use Rattle.marks.specs.Marks.{marked, Marks, sameMarks}
+use Rattle.marks.specs.Marks.{listed, marked, Marks, sameMarks}
 use Rattle.derivation.specs.States.{State, isAtom, isKnown}
 use Rattle.derivation.specs.Steps.{Outcome, refused, addition, body, completion, deletion, extension, loop, support, citing, naming, byLetter, isUnnamedBody, isCompletion, isSupport}
+use Rattle.derivation.proofs.Questions.{positive-is}
 use Rattle.nogoods.specs.Keeps.{Literals}
 use Rattle.nogoods.proofs.Literals.{literals-tail}
 use Rattle.nogoods.proofs.Defined.{name-and-literals}
-use Rattle.names.specs.Queries.{Kept, isInside, asks, askedNames, completing}
+use Rattle.names.specs.Queries.{Kept, isInside, asks, askedNames, MarksNames, completing}
 use Rattle.names.specs.declared.queries.Query.the-variants.{Head}
+use Rattle.names.proofs.Asked.{names-same}
+use Rattle.heads.specs.Heads.{isJustNames}
 use Rattle.checker.specs.Held.{PassedLine, nameOf, Tracks}
 use Rattle.checker.proofs.Tracking.{all-known, extended, named}
-use Rattle.checker.proofs.Names.{unnamed-test, completes, supports}
+use Rattle.checker.proofs.Names.{unnamed-test, completes, supports, supports-by-names}
 
 -- The first number of a line, and the others
 
@@ -157,6 +160,14 @@ module _ {N : ℕ} {ws : List InputRule} {known names : List ℕ} {bodies : List
           named z tracks (variable (first zs)) (first-low x needed line) (first-high x needed line) unknown (ascending (drop 1 zs))
           (no-name z tracks (drop 1 zs) e)
 
+-- the first number of an `s` line is an atom
+first-positive : {zs : List ℤ} → PassedLine Support zs → first zs ≡ pos (variable (first zs))
+first-positive {zs} line = by zs (line .signs)
+  where
+    by : (l : List ℤ) → signed (signsOf Support) l ≡ true → first l ≡ pos (variable (first l))
+    by [] e = absurd (true≢false (sym e))
+    by (y ∷ l) e = positive-is y (passed (isPositive y) .from (and-left _ _ e))
+
 -- Questions 29 and 30, as what is found answers them
 
 module _ {N : ℕ} {ws : List InputRule} {known names : List ℕ} {bodies : List ℤ} (z : State) (tracks : Tracks N ws known names bodies (z .introduced) (z .named)) (zs : List ℤ) where
@@ -167,11 +178,32 @@ module _ {N : ℕ} {ws : List InputRule} {known names : List ℕ} {bodies : List
   pub no-atom : N < variable (first zs) → isSupport N (expand ws) z (first zs) (drop 1 zs) ≡ false
   no-atom k = rw (lt-leb (variable (first zs)) N k, and-false (leb 1 (variable (first zs))))
 
-  pub supported : PassedLine Support zs → variable (first zs) ≤ N → (h : ℤ) → h ≡ first zs → {l m : List ℕ} → Marks l (map variable (others zs))
+  -- by the names of the rules with the head
+  pub supported-by : PassedLine Support zs → variable (first zs) ≤ N → {v : ℕ} → v ≡ variable (first zs) → {b : Bool}
+      → b ≡ isJustNames (nameOf (z .named)) (pos v) (others zs) (expand ws) → b ≡ isSupport N (expand ws) z (first zs) (drop 1 zs)
+  supported-by line k {v} e {b} f =
+      let o = others-literals Support refl line in
+      let a : isAtom N (variable (first zs)) ≡ true = rw (le-leb 1 (variable (first zs)) (first-low Support refl line), le-leb (variable (first zs)) N k) in
+      let h : pos v ≡ first zs = ap pos e ∙ sym (first-positive line) in
+      rw (h, tail-of 1 zs) at f ∙ supports-by-names (expand ws) z (tracks .proper) (first zs) (drop 1 zs) (λ y i. o .low y i) ∙ sym (rw a)
+
+  -- by marks of all names
+  supported-named : PassedLine Support zs → variable (first zs) ≤ N → (h : ℤ) → h ≡ first zs → {l m : List ℕ} → Marks l (map variable (others zs))
       → Marks m (askedNames (Head h) (0 ∷ []) (nameOf (z .named)) (expand ws)) → sameMarks entries l m ≡ isSupport N (expand ws) z (first zs) (drop 1 zs)
-  supported line k h e {l} {m} given found =
+  supported-named line k h e {l} {m} given found =
       let o = others-literals Support refl line in
       let a : isAtom N (variable (first zs)) ≡ true = rw (le-leb 1 (variable (first zs)) (first-low Support refl line), le-leb (variable (first zs)) N k) in
       ap (λ (b : Bool). b && sameMarks entries l m) (sym a)
       ∙ supports (expand ws) z (tracks .proper) (first zs) (drop 1 zs) (λ y i. (o .low y i, o .high y i)) (rw (tail-of 1 zs) at given)
       (subst (λ (f : Rule → Bool). Marks m (map (λ r. nameOf (z .named) (r .body)) (filter f (expand ws)))) (asked-heads (first zs)) (rw e at found))
+
+  -- or by marks with 0, which no number after the first is
+  pub supported : PassedLine Support zs → variable (first zs) ≤ N → (h : ℤ) → h ≡ first zs → {l m : List ℕ} → Marks l (map variable (others zs))
+      → MarksNames m (askedNames (Head h) (0 ∷ []) (nameOf (z .named)) (expand ws)) → sameMarks entries l m ≡ isSupport N (expand ws) z (first zs) (drop 1 zs)
+  supported line k h e {l} {m} given found =
+      let q = names-same l (given .has 0 (omega arith) ∙ rw (tail-of 1 zs) none) found in
+      q .2 ∙ supported-named line k h e given (q .1)
+    where
+      none : listed (map variable (drop 1 zs)) 0 ≡ false
+      none = failed _ (not-decides (any-decides (eqb-decides 0) (map variable (drop 1 zs))) .from (λ p.
+          let r = Memᴰ·of-map variable (drop 1 zs) (p .1) in omega (arith, others-literals Support refl line .low (r .0) (r .1), r .2, p .2)))

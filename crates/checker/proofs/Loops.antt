@@ -12,14 +12,14 @@ use lib.IntN.{ℤ, pos, negℤ}
 use lib.ListN.{length, List·getD-eq-default}
 use Rattle.words.specs.Limits.{largest}
 use Rattle.words.specs.Lists.{_∈_, any, filter}
-use Rattle.words.specs.Literals.{variable, mentions, distinct, rising, sameList, has, top, ascending}
-use Rattle.words.proofs.Lists.{Decides, itself, reworded, and-decides, any-decides, all-decides, eqb-decides, leb-decides, keep→, keep←, passed, failed, and-left, and-right, same-test}
+use Rattle.words.specs.Literals.{variable, complement, mentions, distinct, rising, sameList, has, top, ascending}
+use Rattle.words.proofs.Lists.{Decides, itself, reworded, is-true, if-true, and-decides, any-decides, all-decides, eqb-decides, leb-decides, keep→, keep←, passed, failed, and-left, and-right, same-test}
 use Rattle.words.proofs.Literals.{sameList-decides, has-decides, variable-complement, ascending→, ascending←}
 use Rattle.words.proofs.Places.{equal?}
 use Rattle.words.proofs.Sorting.{rising-ascending, rising-before, same-members}
 use Rattle.words.proofs.Tops.{top-decides}
 use Rattle.aspif.specs.Rules.{Rule}
-use Rattle.marks.specs.Marks.{marked, Marks}
+use Rattle.marks.specs.Marks.{listed, marked, Marks}
 use Rattle.drupe.specs.Lines.{isPositive}
 use Rattle.derivation.specs.States.{Named, State, isAtom}
 use Rattle.derivation.specs.Steps.{isExternal, externalNames, allAtoms}
@@ -27,7 +27,7 @@ use Rattle.derivation.proofs.Questions.{positive-is}
 use Rattle.names.specs.Queries.{isInside, asks}
 use Rattle.names.specs.declared.queries.Query.the-variants.{External}
 use Rattle.checker.specs.Held.{nameOf, Proper, gathered}
-use Rattle.checker.proofs.Names.{unlisted, name-found, name-of, found-decides}
+use Rattle.checker.proofs.Names.{unlisted, name-found, name-of, Some, picked-decides}
 
 -- Question 31
 
@@ -133,6 +133,53 @@ module _ (f : ℕ → Bool) (h : ℤ) where
       by r false e true = rising-before (negℤ (pos v)) _ r (λ y i. omega (arith, gathered-above n (suc v) y i, variable-complement (pos v)))
       by r false e false = r
 
+-- The nogood from a row of names, which rise and are above h
+module _ (f : ℕ → Bool) (h : ℤ) (ns : List ℤ) (low : 1 ≤ variable h) (high : variable h ≤ largest) (rise : rising ns ≡ true)
+    (good : (x : ℤ) → x ∈ ns → (x ≡ pos (variable x)) × (1 ≤ variable x) × (variable x ≤ largest)) (same : (v : ℕ) → v ≤ largest → mentions v ns ≡ f v)
+    (above : (v : ℕ) → v ≤ largest → f v ≡ true → 1 ≤ v → variable h < v) where
+  mentions-decides : (v : ℕ) → Decides (mentions v ns) ((x : ℤ) × (x ∈ ns) × (v ≡ variable x))
+  mentions-decides v = any-decides (λ x. eqb-decides v (variable x)) ns
+
+  passes : (x : ℤ) → x ∈ ns → f (variable x) ≡ true
+  passes x i = sym (same (variable x) (good x i .2)) ∙ is-true (mentions-decides (variable x)) (x, i, refl)
+
+  rising-complements : (l : List ℤ) → rising l ≡ true → rising (map complement l) ≡ true
+  rising-complements [] e = refl
+  rising-complements (x ∷ []) e = refl
+  rising-complements (x ∷ y ∷ l) e = rw (variable-complement x, variable-complement y, and-left (ltb (variable x) (variable y)) (rising (y ∷ l)) e) (rising-complements (y ∷ l) (and-right (ltb (variable x) (variable y)) _ e))
+
+  row-to : (x : ℤ) → x ∈ h ∷ map complement ns → x ∈ gathered f h largest 1
+  row-to x (List·Memᴰ·head p) = gathered← f h largest 1 (variable h, low, omega arith, inl (refl, p))
+  row-to x (List·Memᴰ·tail i) =
+      let q = Memᴰ·of-map complement ns i in
+      let y = q .0 in
+      let g = good y (q .1) in
+      let t = passes y (q .1) in
+      let k = above (variable y) (g .2) t (g .1) in
+      gathered← f h largest 1 (variable y, g .1, omega (arith, g .2), inr (λ e. omega arith, (passed (f (variable y)) .from t, sym (q .2) ∙ ap complement (g .0))))
+
+  row-from : (x : ℤ) → x ∈ gathered f h largest 1 → x ∈ h ∷ map complement ns
+  row-from x i = by (gathered→ f h largest 1 i)
+    where
+      by : Gathered f h largest 1 x → x ∈ h ∷ map complement ns
+      by g = elim (g .3) [
+        | inl p ↦ List·Memᴰ·head (p .1)
+        | inr p ↦
+            let q = if-true (mentions-decides (g .0)) (same (g .0) (omega (arith, g .2)) ∙ passed (f (g .0)) .to (p .1 .0)) in
+            let e : x ≡ complement (q .0) = p .1 .1 ∙ ap (λ (n : ℕ). negℤ (pos n)) (q .2) ∙ ap complement (sym (good (q .0) (q .1) .0)) in
+            List·Memᴰ·tail (Memᴰ·cast e (Memᴰ·map complement (q .1)))
+      ]
+
+  pub row-gathered : h ∷ map complement ns ≡ gathered f h largest 1
+  row-gathered =
+      same-members _ _
+      (rising-before h _ (rising-complements ns rise) (λ y i.
+      let q = Memᴰ·of-map complement ns i in
+      let g = good (q .0) (q .1) in
+      let k = above (variable (q .0)) (g .2) (passes (q .0) (q .1)) (g .1) in
+      omega (arith, ap variable (q .2), variable-complement (q .0))))
+      (gathered-rising f h largest 1) row-to row-from
+
 -- distinct names, each with a minus, of those that pass
 module _ (f : Named → Bool) where
   abbrev negated : List Named → List ℤ
@@ -160,7 +207,14 @@ module _ (f : Named → Bool) where
       by false q = q
 
 module _ {N : ℕ} (P : List Rule) (z : State) (proper : Proper N (z .introduced) (z .named)) (h : ℤ) (U : List ℤ) (atom : T (isAtom N (variable h)))
-    (high : N ≤ largest) {m : List ℕ} (found : Marks m (map (λ r. nameOf (z .named) (r .body)) (filter (isExternal U) P))) where
+    (high : N ≤ largest) where
+  -- the names of the external bodies
+  abbrev names : List ℕ
+  names = map (λ r. nameOf (z .named) (r .body)) (filter (isExternal U) P)
+
+  names-decides : (v : ℕ) → Decides (listed names v) (Some (isExternal U) (λ r. nameOf (z .named) (r .body)) P v)
+  names-decides = picked-decides (isExternal U) (λ r. nameOf (z .named) (r .body)) P
+
   -- the body of the name is external
   abbrev test : Named → Bool
   test x = any (λ r. isExternal U r && sameList (x .body) (r .body)) P
@@ -178,23 +232,23 @@ module _ {N : ℕ} (P : List Rule) (z : State) (proper : Proper N (z .introduced
   nogood-distinct : distinct nogood ≡ true
   nogood-distinct = rw (unmentioned test (variable h) (z .named) (unlisted (variable h) (z .named) other), negated-distinct test (z .named) (proper .different))
 
-  -- a marked number is the name of an external body
-  to : (x : ℤ) → Gathered (marked m) h largest 1 x → x ∈ nogood
+  -- a listed number is the name of an external body
+  to : (x : ℤ) → Gathered (listed names) h largest 1 x → x ∈ nogood
   to x g = elim (g .3) [
     | inl p ↦ List·Memᴰ·head (p .1)
     | inr p ↦ named p
   ]
     where
-      named : (¬ (g .0 ≡ variable h)) × (T (marked m (g .0)) × (x ≡ negℤ (pos (g .0)))) → x ∈ nogood
+      named : (¬ (g .0 ≡ variable h)) × (T (listed names (g .0)) × (x ≡ negℤ (pos (g .0)))) → x ∈ nogood
       named p =
           let low = g .1 in
-          let r = found-decides P z proper (isExternal U) found (g .0) (omega (arith, g .2)) .to (p .1 .0) in
+          let r = names-decides (g .0) .to (p .1 .0) in
           let y = name-found (z .named) (r .0 .body) (λ e. omega (arith, r .2 .1)) in
           let k : T (test (y .0)) = test-decides (y .0) .from (r .0, r .1, (r .2 .0, y .2 .1)) in
           let i : y .0 .name ∈ externalNames P z U = Memᴰ·map (λ (x : Named). x .name) (keep← test (y .1) k) in
           List·Memᴰ·tail (Memᴰ·cast (p .1 .1 ∙ ap (λ n. negℤ (pos n)) (sym (y .2 .0 ∙ r .2 .1))) (Memᴰ·map (λ n. negℤ (pos n)) i))
 
-  from : (x : ℤ) → x ∈ nogood → Gathered (marked m) h largest 1 x
+  from : (x : ℤ) → x ∈ nogood → Gathered (listed names) h largest 1 x
   from x (List·Memᴰ·head p) = let a = and-decides (leb-decides 1 (variable h)) (leb-decides (variable h) N) .to atom in (variable h, a .0, omega (arith, a .1, high), inl (refl, p))
   from x (List·Memᴰ·tail i) =
       let q = Memᴰ·of-map (λ n. negℤ (pos n)) (externalNames P z U) i in
@@ -204,11 +258,11 @@ module _ {N : ℕ} (P : List Rule) (z : State) (proper : Proper N (z .introduced
       let b = test-decides y .to (k .1) in
       let e : nameOf (z .named) (b .0 .body) ≡ y .name = ap (nameOf (z .named)) (sym (b .2 .1)) ∙ name-of proper (k .0) in
       let w = proper .high y (k .0) in
-      let t : T (marked m (y .name)) = found-decides P z proper (isExternal U) found (y .name) w .from (b .0, b .1, (b .2 .0, e)) in
+      let t : T (listed names (y .name)) = names-decides (y .name) .from (b .0, b .1, (b .2 .0, e)) in
       (y .name, proper .low y (k .0), omega arith, inr (other y (k .0), (t, sym (q .2) ∙ ap (λ n. negℤ (pos n)) (sym (r .2)))))
 
-  pub loop-nogood : gathered (marked m) h largest 1 ≡ ascending nogood
+  pub loop-nogood : gathered (listed names) h largest 1 ≡ ascending nogood
   loop-nogood =
-      same-members _ _ (gathered-rising (marked m) h largest 1) (rising-ascending nogood ∙ nogood-distinct)
-      (λ x i. ascending← nogood (to x (gathered→ (marked m) h largest 1 i)))
-      (λ x i. gathered← (marked m) h largest 1 (from x (ascending→ nogood i)))
+      same-members _ _ (gathered-rising (listed names) h largest 1) (rising-ascending nogood ∙ nogood-distinct)
+      (λ x i. ascending← nogood (to x (gathered→ (listed names) h largest 1 i)))
+      (λ x i. gathered← (listed names) h largest 1 (from x (ascending→ nogood i)))

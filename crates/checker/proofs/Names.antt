@@ -9,7 +9,7 @@ use native.Mathlib.Omega.{arith}
 use lib.Dec.{T, eqb}
 use lib.IntN.{ℤ, pos}
 use Rattle.words.specs.Limits.{largest, entries}
-use Rattle.words.specs.Lists.{_∈_, any, filter}
+use Rattle.words.specs.Lists.{_∈_, any, all, filter}
 use Rattle.words.specs.Literals.{variable, mentions, sameList, has, ascending}
 use Rattle.words.proofs.Lists.{Decides, itself, reworded, failed, and-decides, if-decides, not-decides, any-decides, all-decides, eqb-decides, keep→, keep←, same-test}
 use Rattle.words.proofs.Literals.{sameList-decides}
@@ -20,6 +20,7 @@ use Rattle.derivation.specs.States.{Named, State, isAtom, isName, hasName}
 use Rattle.derivation.specs.Steps.{isUnnamedBody, isCompletion, isSupport, isExternal, allNamed}
 use Rattle.derivation.proofs.Questions.{name-decides, hasName-decides}
 use Rattle.names.specs.Queries.{completing}
+use Rattle.heads.specs.Heads.{isJustNames}
 use Rattle.marks.proofs.Sets.{same-marks}
 use Rattle.checker.specs.Held.{nameOf, Proper}
 
@@ -95,7 +96,7 @@ module _ {N : ℕ} (z : State) (proper : Proper N (z .introduced) (z .named)) (b
 abbrev pub Some : (Rule → Bool) → (Rule → ℕ) → List Rule → ℕ → Type 0
 Some f g P v = (r : Rule) × (r ∈ P) × (T (f r) × (g r ≡ v))
 
-picked-decides : (f : Rule → Bool) (g : Rule → ℕ) (P : List Rule) (v : ℕ) → Decides (listed (map g (filter f P)) v) (Some f g P v)
+pub picked-decides : (f : Rule → Bool) (g : Rule → ℕ) (P : List Rule) (v : ℕ) → Decides (listed (map g (filter f P)) v) (Some f g P v)
 picked-decides f g P v = reworded to from (any-decides (eqb-decides v) (map g (filter f P)))
   where
     to : (n : ℕ) × (n ∈ map g (filter f P)) × (v ≡ n) → Some f g P v
@@ -111,7 +112,7 @@ module _ {N : ℕ} (P : List Rule) (z : State) (proper : Proper N (z .introduced
   abbrev nameIn : Rule → ℕ
   nameIn r = nameOf (z .named) (r .body)
 
-  pub found-decides : (f : Rule → Bool) {m : List ℕ} → Marks m (map nameIn (filter f P)) → (v : ℕ) → v ≤ largest → Decides (marked m v) (Some f nameIn P v)
+  found-decides : (f : Rule → Bool) {m : List ℕ} → Marks m (map nameIn (filter f P)) → (v : ℕ) → v ≤ largest → Decides (marked m v) (Some f nameIn P v)
   found-decides f marks v h = rw (marks .has v h) (picked-decides f nameIn P v)
 
   -- question 28
@@ -131,12 +132,33 @@ module _ {N : ℕ} (P : List Rule) (z : State) (proper : Proper N (z .introduced
       (λ r. (r .0, r .1, (r .2 .0, (r .2 .1 .0, r .2 .1 .1 .1))))
 
   -- question 32
-  pub all-named : (U : List ℤ) {m : List ℕ} → Marks m (map nameIn (filter (isExternal U) P)) → not (marked m 0) ≡ allNamed P z U
-  all-named U marks =
-      same-test (not-decides (found-decides (isExternal U) marks 0 (omega arith)))
+  pub all-named : (U : List ℤ) → not (listed (map nameIn (filter (isExternal U) P)) 0) ≡ allNamed P z U
+  all-named U =
+      same-test (not-decides (picked-decides (isExternal U) nameIn P 0))
       (all-decides (λ r. if-decides (itself (isExternal U r)) (has-test z proper (r .body))) P)
       (λ f r m t e. f (r, m, (t, e)))
       (λ f q. f (q .0) (q .1) (q .2 .0) (q .2 .1))
+
+  -- Question 30: h and the numbers after it, by their names
+
+  module _ (h : ℤ) (ns : List ℤ) (low : (n : ℤ) → n ∈ ns → 1 ≤ variable n) where
+    pub supports-by-names : isJustNames (nameOf (z .named)) h ns P
+        ≡ (all (λ r. not (has h (r .heads)) || any (λ n. isName z (variable n) (r .body)) ns) P
+        && all (λ n. any (λ r. has h (r .heads) && isName z (variable n) (r .body)) P) ns)
+    supports-by-names =
+        same-test
+        (and-decides (all-decides (λ r. if-decides (itself (has h (r .heads))) (any-decides (λ n. eqb-decides (nameIn r) (variable n)) ns)) P)
+        (all-decides (λ n. any-decides (λ r. and-decides (itself (has h (r .heads))) (eqb-decides (nameIn r) (variable n))) P) ns))
+        (and-decides (all-decides (λ r. if-decides (itself (has h (r .heads))) (any-decides (λ n. name-test z proper (r .body) (variable n)) ns)) P)
+        (all-decides (λ n. any-decides (λ r. and-decides (itself (has h (r .heads))) (name-test z proper (r .body) (variable n))) P) ns))
+        (λ q. (
+          λ r i t. let y = q .0 r i t in (y .0, y .1, (low (y .0) (y .1), y .2)),
+          λ n i. let y = q .1 n i in (y .0, y .1, (y .2 .0, (low n i, y .2 .1))),
+        ))
+        (λ q. (
+          λ r i t. let y = q .0 r i t in (y .0, y .1, y .2 .1),
+          λ n i. let y = q .1 n i in (y .0, y .1, (y .2 .0, y .2 .1 .1)),
+        ))
 
   -- Question 30: h, the numbers after it, and their marks
 

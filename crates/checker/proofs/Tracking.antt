@@ -9,7 +9,7 @@ use native.Mathlib.Omega.{arith}
 use lib.Dec.{T, eqb}
 use lib.IntN.{ℤ, pos}
 use lib.ListN.{length, take, set, replicate, length-set, length-replicate}
-use Rattle.words.specs.Limits.{largest, mostRules}
+use Rattle.words.specs.Limits.{largest}
 use Rattle.words.specs.Lists.{_∈_, any, all}
 use Rattle.words.specs.Literals.{variable}
 use Rattle.words.proofs.Lists.{Decides, itself, reworded, and-decides, or-decides, eqb-decides, leb-decides, same-test, each-cons, or-swap}
@@ -23,7 +23,8 @@ use Rattle.derivation.proofs.Questions.{known-decides}
 use Rattle.names.specs.Queries.{HoldsRules, entry, Kept}
 use Rattle.names.proofs.Called.{none-called}
 use Rattle.marks.proofs.Sets.{marked-set}
-use Rattle.checker.specs.Held.{nameOf, Proper, Tracks, NoBodies}
+use Rattle.checker.specs.Held.{nameOf, Proper, Program, Tracks, Tracked, NoBodies}
+use Rattle.heads.specs.Heads.{nameWords}
 use Rattle.checker.proofs.Names.{unlisted, name-of, name-found}
 
 -- Question 26
@@ -40,6 +41,11 @@ same-rules h k = sym (h .are) ∙ k .are
 
 pub rules-held : {table : List ℤ} {rules : ℕ} {ws : List InputRule} → HoldsRules table rules ws → length ws ≡ rules
 rules-held {table} {rules} h = rw (← h .are) (rules-count rules table)
+
+-- what a state that is held tells of the program
+pub program-of : {table : List ℤ} {rules N : ℕ} {known names : List ℕ} {bodies : List ℤ} → Tracked table rules N known names bodies
+    → ((ws : List InputRule) × Program table rules N ws) × (rules ≤ length names)
+program-of t = ((t .0, t .2), omega (arith, t .3 .kept .rules, rules-held (t .2 .holds)))
 
 -- The start
 
@@ -63,14 +69,14 @@ no-names (r ∷ ws) (suc n) h = ap₂ (λ (x : ℕ) (l : List ℕ). x ∷ l) (sy
     none (plain ls) = refl
     none (weights b l) = refl
 
-pub start-tracks : {N : ℕ} {ws : List InputRule} {known : List ℕ} {bodies : List ℤ} → Marks known (upTo N) → length ws ≤ mostRules → NoBodies ws bodies
-    → Tracks N ws known (replicate mostRules 0) bodies [] []
+pub start-tracks : {N : ℕ} {ws : List InputRule} {known : List ℕ} {bodies : List ℤ} → Marks known (upTo N) → length ws ≤ nameWords → NoBodies ws bodies
+    → Tracks N ws known (replicate nameWords 0) bodies [] []
 start-tracks {N} {ws} {known} marks few none =
     record {
       entries = marks .long;
       knows = λ v h. marks .has v h ∙ same-test (listed-upTo N v) (or-decides (and-decides (leb-decides 1 v) (leb-decides v N)) (itself false))
           (λ p. inl p) (λ s. elim s [ inl p ↦ p | inr t ↦ absurd t ]);
-      kept = record { rules = omega (arith, length-replicate {A = ℕ} mostRules 0); byRule = no-names ws mostRules few; byName = λ w. rw (none w) none-called };
+      kept = record { rules = omega (arith, few, length-replicate {A = ℕ} nameWords 0); byRule = no-names ws nameWords few; byName = λ w. rw (none w) none-called };
       proper = record {
         low = λ x i. elim i [ ];
         high = λ x i. elim i [ ];

@@ -2,17 +2,18 @@
 -- as marks, the names of bodies by rule and by name, live nogoods in the store), and what the steps leave.
 -- Assumes nothing.
 use mathlib.Core.Path.{_≡_}
+use mathlib.Core.Logic.{_⊎_}
 use mathlib.Core.Bool.{Bool, true, false, cond}
 use mathlib.Core.List.{List, [], _∷_, map}
-use Prim.Native.Nat.{ℕ, zero, suc, _≤_, _<_}
+use Prim.Native.Nat.{ℕ, zero, suc, _+_, _≤_, _<_}
 use lib.Dec.{T, eqb}
 use lib.IntN.{ℤ, pos, negℤ}
-use lib.ListN.{length, replicate}
+use lib.ListN.{length, replicate, take}
 use Rattle.words.specs.Limits.{largest, entries, mostNumbers}
 use Rattle.words.specs.Lists.{_∈_}
 use Rattle.words.specs.Literals.{variable, distinct, sameList}
 use Rattle.aspif.specs.Rules.{InputRule, allPlain, expand, atoms}
-use Rattle.marks.specs.Marks.{marked}
+use Rattle.marks.specs.Marks.{marked, listed}
 use Rattle.text.specs.declared.Letter.{Letter}
 use Rattle.drupe.specs.Lines.{signsOf, signed, LineAt, end, line}
 use Rattle.drupe.specs.Lines as Lines
@@ -20,11 +21,13 @@ use Rattle.derivation.specs.States.{Named, State, isAtom, isKnown}
 use Rattle.derivation.specs.Steps.{Outcome, refused, next, byLetter, step}
 use Rattle.nogoods.specs.Keeps.{Literals, Holds}
 use Rattle.nogoods.specs.Index.{Keeps}
-use Rattle.nogoods.specs.Store.{Stored, live, wordsFor}
+use Rattle.nogoods.specs.Store.{Stored, addedIn, live, keptWith, wordsFor}
 use Rattle.nogoods.specs.declared.store.Added.{Added}
 use Rattle.nogoods.specs.declared.store.Added.the-variants as Added
 use Rattle.names.specs.ByName.{bodyWords}
 use Rattle.names.specs.Queries.{HoldsRules, Kept}
+use Rattle.heads.specs.declared.Found.{Found}
+use Rattle.heads.specs.declared.Found.the-variants.{Names, Unnamed}
 use Rattle.checker.specs.Check.{storedAfter, Course, stopped, through}
 use Rattle.checker.specs.declared.outcomes.Stepped.{Stepped}
 use Rattle.checker.specs.declared.outcomes.Stepped.the-variants.{Uses, Fails}
@@ -71,6 +74,11 @@ pub record Tracks (N : ℕ) (ws : List InputRule) (known names : List ℕ) (bodi
   pub kept : Kept names bodies (nameOf named) ws
   pub proper : Proper N introduced named
 
+-- a state that the arrays hold, of the program in the table
+abbrev pub Tracked : (table : List ℤ) → (rules N : ℕ) → (known names : List ℕ) → List ℤ → Type 0
+Tracked table rules N known names bodies =
+    (ws : List InputRule) × (z : State) × Program table rules N ws × Tracks N ws known names bodies (z .introduced) (z .named)
+
 -- what is lent for the bodies by name at the start: 0 throughout, a record for each variable, where some rule has a weight body
 abbrev pub NoBodies : List InputRule → List ℤ → Type 0
 NoBodies ws bodies = allPlain ws ≡ false → bodies ≡ replicate bodyWords (pos 0)
@@ -112,6 +120,23 @@ abbrev pub gathered : (ℕ → Bool) → ℤ → ℕ → ℕ → List ℤ
 gathered f h zero v = []
 gathered f h (suc n) v =
     cond (eqb v (variable h)) (h ∷ gathered f h n (suc v)) (cond (f v) (negℤ (pos v) ∷ gathered f h n (suc v)) (gathered f h n (suc v)))
+
+-- the names of bodies are kept, and are above the first atom of an `l` step: they are no atoms
+pub record Above (table : List ℤ) (rules : ℕ) (names : List ℕ) (bodies : List ℤ) (h : ℤ) (ws : List InputRule) (called : List ℤ → ℕ) : Type 0 where
+  pub holds : HoldsRules table rules ws
+  pub kept : Kept names bodies called ws
+  pub above : (L : List ℤ) → ¬ (called L ≡ 0) → variable h < called L
+
+-- the nogood of an `l` step, in the first n words of a row, where l are the names of the external bodies; or some body has none
+abbrev pub LoopNogood : List ℕ → ℤ → List ℤ → Found → Type 0
+LoopNogood l h row (Names n) = (n ≤ largest) × (take n row ≡ gathered (listed l) h largest 1) × (listed l 0 ≡ false) × (n ≤ length row)
+LoopNogood l h row Unnamed = listed l 0 ≡ true
+
+-- what an `l` step comes to that adds to what is stored: question 32, or this nogood
+abbrev pub LoopAdded : List ℕ → ℤ → (size n : ℕ) → List Stored → List ℤ → List ℕ → Stepped → Type 0
+LoopAdded l h size n stored store index r =
+    ((listed l 0 ≡ true) × (r ≡ Fails 32))
+    ⊎ ((listed l 0 ≡ false) × Fitted (keptWith size (addedIn n (gathered (listed l) h largest 1 ∷ [])) stored) store index r)
 
 -- Lines as steps, and all of them
 

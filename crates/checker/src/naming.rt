@@ -15,11 +15,11 @@ ghost use Rattle.nogoods.specs.Store.{Stored, addedIn, keptWith};
 ghost use Rattle.nogoods.specs.Index.{Keeps};
 ghost use Rattle.nogoods.specs.Keeps.{Literals};
 ghost use Rattle.names.specs.Queries.{HoldsRules, Kept};
+ghost use Rattle.heads.specs.Heads.{Indexed};
 ghost use Rattle.checker.specs.Held.{PassedLine, nameOf, Tracks, Fitted, Stepping};
 use crate::outcomes;
 use crate::outcomes::Stepped;
 use crate::states::CheckingState;
-use names::queries;
 use nogoods::INDEX;
 use nogoods::definitions;
 use nogoods::store;
@@ -73,12 +73,14 @@ pub fn extension(
 fn name_body(
     table: &[i32],
     rules: usize,
+    lookup: &[u16],
     names: &mut [u16],
     bodies: &mut [i16],
     body: &mut [i32],
     name: usize,
 ) -> bool
     requires program { ⌜ ((ws : List InputRule) × HoldsRules (now table) rules ws) × (rules ≤ length (now names)) ⌝ }
+    requires index { ⌜ Indexed (now lookup) (now table) rules ⌝ }
     requires name { ⌜ (1 ≤ name) × (name ≤ largest) × Literals (now body) ⌝ }
     ensures answer { λ r. ⌜ ((N : ℕ) (ws : List InputRule) → HoldsRules (now (table .entry)) rules ws
         → (known : List ℕ) (z : State) → Tracks N ws known (now (names .entry)) (now (bodies .entry)) (z .introduced) (z .named)
@@ -90,10 +92,10 @@ fn name_body(
         (nameOf (record { name = name; body = ascending (now (body .entry)) } ∷ z .named)) ws) ⌝ }
 {
     words::sort(body);
-    if !queries::is_unnamed(table, rules, names, bodies, body) {
+    if !heads::is_unnamed(table, rules, names, bodies, lookup, body) {
         return false;
     }
-    queries::enter(table, rules, body, name, names, bodies);
+    heads::enter(table, rules, lookup, body, name, names, bodies);
     true
 }
 
@@ -102,6 +104,7 @@ fn name_body(
 pub fn body(
     table: &[i32],
     rules: usize,
+    lookup: &[u16],
     known: &mut [u8],
     names: &mut [u16],
     bodies: &mut [i16],
@@ -112,6 +115,7 @@ pub fn body(
     numbers: &mut [i32],
 ) -> Stepped
     requires program { ⌜ ((ws : List InputRule) × HoldsRules (now table) rules ws) × (rules ≤ length (now names)) ⌝ }
+    requires index { ⌜ Indexed (now lookup) (now table) rules ⌝ }
     requires store { ⌜ ((stored : List Stored) × Keeps (now store) (now index) used stored) × ((1 ≤ origin) × (origin ≤ longest)) ⌝ }
     requires line { ⌜ PassedLine Body (now numbers) ⌝ }
     ensures { λ r. ⌜ ((N : ℕ) (ws : List InputRule) → HoldsRules (now (table .entry)) rules ws
@@ -129,7 +133,15 @@ pub fn body(
     let count = numbers.len();
     let mut row = [0i32; CheckingState::NUMBERS];
     words::copy(&mut row, numbers);
-    if !name_body(table, rules, names, bodies, &mut row[1..count], name) {
+    if !name_body(
+        table,
+        rules,
+        lookup,
+        names,
+        bodies,
+        &mut row[1..count],
+        name,
+    ) {
         return Stepped::Fails(28);
     }
     define(known, store, used, index, origin, numbers)

@@ -1,31 +1,35 @@
 // The proof's lines, one after another: questions 22 to 34 and 56.
 ghost use mathlib.Core.Path.{_≡_};
+ghost use mathlib.Core.Bool.{true};
 ghost use mathlib.Core.List.{List};
 ghost use Prim.Native.Nat.{_+_, _≤_};
 ghost use lib.IntN.{pos};
 ghost use lib.ListN.{length, replicate};
 ghost use Rattle.words.specs.Limits.{longest, mostNumbers, mostRules};
 ghost use Rattle.text.specs.Classes.{byteClasses};
-ghost use Rattle.aspif.specs.Rules.{InputRule, expand};
+ghost use Rattle.aspif.specs.Rules.{InputRule, allPlain, expand};
 ghost use Rattle.aspif.specs.Tables.{rulesAt};
 ghost use Rattle.drupe.specs.Lines.{lineAt};
 ghost use Rattle.derivation.specs.States.{State};
 ghost use Rattle.nogoods.specs.Store.{Stored};
 ghost use Rattle.nogoods.specs.Index.{Keeps};
+ghost use Rattle.marks.specs.Marks.{Marks, upTo};
+ghost use Rattle.heads.specs.Heads.{nameWords, Indexed};
 ghost use Rattle.loops.specs.Relevance.{Relevant};
 ghost use Rattle.checker.specs.Check.{course};
-ghost use Rattle.checker.specs.Held.{Program, Tracks, NoBodies, HoldsState, proofTurn, LineLeaves, Ran};
+ghost use Rattle.checker.specs.Held.{Program, Tracks, Tracked, NoBodies, HoldsState, proofTurn, LineLeaves, Ran};
 use crate::ProofRefusal;
 use crate::outcomes::Stepped;
 use crate::states::CheckingState;
 use crate::steps;
 use aspif::tables;
 use drupe::LineAnswer;
+use heads::INDEX_WORDS;
+use heads::NAME_WORDS;
 use loops::relevance;
 use names::by_name;
 use nogoods::INDEX;
 use weights::MOST_WEIGHTED;
-use words::MOST_NUMBERS;
 use words::MOST_RULES;
 
 // An entry for each pair of the weight bodies of all rules.
@@ -64,6 +68,7 @@ fn turn_at(
     sorted: &mut [i32],
     table: &[i32],
     rules: usize,
+    lookup: &[u16],
     relevant: &[u8],
     atoms: usize,
     known: &mut [u8],
@@ -74,7 +79,8 @@ fn turn_at(
     index: &mut [u16; INDEX],
     origin: usize,
 ) -> ProofTurn
-    requires program { ⌜ ((ws : List InputRule) × Program (now table) rules atoms ws) × (rules ≤ length (now names)) ⌝ }
+    requires state { ⌜ Tracked (now table) rules atoms (now known) (now names) (now bodies) ⌝ }
+    requires index { ⌜ Indexed (now lookup) (now table) rules ⌝ }
     requires relevant { ⌜ Relevant (now relevant) (rulesAt rules (now table)) ⌝ }
     requires store { ⌜ ((stored : List Stored) × Keeps (now store) (now index) used stored) × ((1 ≤ origin) × (origin ≤ at + 1)) ⌝ }
     requires short { ⌜ length (now proof) ≤ longest ⌝ }
@@ -99,6 +105,7 @@ fn turn_at(
             let stepped = steps::step(
                 table,
                 rules,
+                lookup,
                 relevant,
                 atoms,
                 letter,
@@ -117,18 +124,23 @@ fn turn_at(
     }
 }
 
-// All lines of a proof text, from an empty store and no names. The first refusal ends them.
+// All lines of a proof text: "At the start there are no nogoods and no names, and the atoms alone are known." The first refusal ends them.
 fn run_lines(
     proof: &[u8],
     table: &[i32],
     rules: usize,
+    lookup: &[u16],
     relevant: &[u8],
     atoms: usize,
+    known: &mut [u8],
+    names: &mut [u16],
     bodies: &mut [i16],
     store: &mut [i32],
 ) -> Run
     requires program { ⌜ ((ws : List InputRule) × Program (now table) rules atoms ws) × (rules ≤ mostRules) ⌝ }
+    requires index { ⌜ Indexed (now lookup) (now table) rules ⌝ }
     requires relevant { ⌜ Relevant (now relevant) (rulesAt rules (now table)) ⌝ }
+    requires start { ⌜ Marks (now known) (upTo atoms) × (now names ≡ replicate nameWords 0) ⌝ }
     requires bodies { ⌜ NoBodies (rulesAt rules (now table)) (now bodies) ⌝ }
     requires short { ⌜ length (now proof) ≤ longest ⌝ }
     requires empty { ⌜ now store ≡ replicate (length (now store)) (pos 0) ⌝ }
@@ -136,15 +148,13 @@ fn run_lines(
         → Ran (now (store .exit)) (course atoms (expand ws) (length (now (store .entry))) (now (proof .entry))) r) ⌝ }
 {
     let classes = text::CLASSES;
-    let mut numbers = [0; MOST_NUMBERS];
-    let mut sorted = [0; MOST_NUMBERS];
-    let start = CheckingState::start(atoms);
-    let mut known = start.known;
-    let mut names = start.names;
+    let mut numbers = [0; CheckingState::NUMBERS];
+    let mut sorted = [0; CheckingState::NUMBERS];
     let mut index = [0u16; INDEX];
+    let start = CheckingState::start();
     let mut used = start.used;
-    let mut at = 0;
-    let mut steps = 0;
+    let mut at = start.at;
+    let mut steps = start.steps;
     loop {
         let step = steps + 1;
         match turn_at(
@@ -155,10 +165,11 @@ fn run_lines(
             &mut sorted,
             table,
             rules,
+            lookup,
             relevant,
             atoms,
-            &mut known,
-            &mut names,
+            known,
+            names,
             bodies,
             store,
             used,
@@ -178,8 +189,17 @@ fn run_lines(
 
 // The lines, with what weight bodies need: the records of their bodies by name, and which of their literals are relevant.
 // These are large, and stand in a frame of their own.
-fn run_weighted(proof: &[u8], table: &[i32], rules: usize, atoms: usize, store: &mut [i32]) -> Run
+fn run_weighted(
+    proof: &[u8],
+    table: &[i32],
+    rules: usize,
+    atoms: usize,
+    known: &mut [u8],
+    names: &mut [u16],
+    store: &mut [i32],
+) -> Run
     requires program { ⌜ ((ws : List InputRule) × Program (now table) rules atoms ws) × (rules ≤ mostRules) ⌝ }
+    requires start { ⌜ Marks (now known) (upTo atoms) × (now names ≡ replicate nameWords 0) ⌝ }
     requires short { ⌜ length (now proof) ≤ longest ⌝ }
     requires empty { ⌜ now store ≡ replicate (length (now store)) (pos 0) ⌝ }
     ensures { λ r. ⌜ ((ws : List InputRule) → Program (now (table .entry)) rules atoms ws
@@ -188,10 +208,58 @@ fn run_weighted(proof: &[u8], table: &[i32], rules: usize, atoms: usize, store: 
     let mut relevant = [0u8; RELEVANT];
     relevance::fill(table, rules, &mut relevant);
     let mut bodies = [0i16; by_name::BODY_WORDS];
-    run_lines(proof, table, rules, &relevant, atoms, &mut bodies, store)
+    // no index of the rules: its first word is not 1
+    run_lines(
+        proof,
+        table,
+        rules,
+        &[0],
+        &relevant,
+        atoms,
+        known,
+        names,
+        &mut bodies,
+        store,
+    )
 }
 
-// All lines of a proof text, from an empty store. Without weight bodies nothing is kept of them, and no records are made.
+// The lines of a proof against a program without weight bodies: nothing is kept of them, and no records are made. The rules get an
+// index, which stands in a frame of its own.
+fn run_plain(
+    proof: &[u8],
+    table: &[i32],
+    rules: usize,
+    atoms: usize,
+    known: &mut [u8],
+    names: &mut [u16],
+    store: &mut [i32],
+) -> Run
+    requires program { ⌜ ((ws : List InputRule) × Program (now table) rules atoms ws) × (rules ≤ mostRules) ⌝ }
+    requires start { ⌜ Marks (now known) (upTo atoms) × (now names ≡ replicate nameWords 0) ⌝ }
+    requires plain { ⌜ allPlain (rulesAt rules (now table)) ≡ true ⌝ }
+    requires short { ⌜ length (now proof) ≤ longest ⌝ }
+    requires empty { ⌜ now store ≡ replicate (length (now store)) (pos 0) ⌝ }
+    ensures { λ r. ⌜ ((ws : List InputRule) → Program (now (table .entry)) rules atoms ws
+        → Ran (now (store .exit)) (course atoms (expand ws) (length (now (store .entry))) (now (proof .entry))) r) ⌝ }
+{
+    let mut lookup = [0u16; INDEX_WORDS];
+    heads::fill(table, rules, &mut lookup);
+    let mut none = [0i16; 1];
+    run_lines(
+        proof,
+        table,
+        rules,
+        &lookup,
+        &[0],
+        atoms,
+        known,
+        names,
+        &mut none,
+        store,
+    )
+}
+
+// All lines of a proof text, from an empty store.
 pub fn run_proof(proof: &[u8], table: &[i32], rules: usize, atoms: usize, store: &mut [i32]) -> Run
     requires program { ⌜ ((ws : List InputRule) × Program (now table) rules atoms ws) × (rules ≤ mostRules) ⌝ }
     requires short { ⌜ length (now proof) ≤ longest ⌝ }
@@ -199,9 +267,10 @@ pub fn run_proof(proof: &[u8], table: &[i32], rules: usize, atoms: usize, store:
     ensures { λ r. ⌜ ((ws : List InputRule) → Program (now (table .entry)) rules atoms ws
         → Ran (now (store .exit)) (course atoms (expand ws) (length (now (store .entry))) (now (proof .entry))) r) ⌝ }
 {
+    let mut known = marks::marks_to(atoms);
+    let mut names = [0u16; NAME_WORDS];
     if tables::all_plain(table, rules) {
-        let mut none = [0i16; 1];
-        return run_lines(proof, table, rules, &[0], atoms, &mut none, store);
+        return run_plain(proof, table, rules, atoms, &mut known, &mut names, store);
     }
-    run_weighted(proof, table, rules, atoms, store)
+    run_weighted(proof, table, rules, atoms, &mut known, &mut names, store)
 }

@@ -1,15 +1,11 @@
-// What the code holds of the three things that the steps work on, beside the lent store.
+// Where the check stands between two steps.
 ghost use mathlib.Core.Path.{_≡_};
-ghost use Prim.Native.Nat.{_≤_};
-ghost use lib.ListN.{replicate};
-ghost use Rattle.words.specs.Limits.{largest, mostRules};
-ghost use Rattle.marks.specs.Marks.{Marks, upTo};
 
-// The known variables as marks; by rule, the name of its plain body, 0 for none; how many words of the store are used. The bodies by
-// name stand beside it: a field is copied before it is lent, and that array is large where there is one.
+// The position in the proof text, the steps that are done, and the words of the store that are used. The store, the known variables and the
+// names of bodies stand beside it and are lent: an array that is a field is copied before it is lent.
 pub struct CheckingState {
-    pub known: [u8; words::ENTRIES],
-    pub names: [u16; words::MOST_RULES],
+    pub at: usize,
+    pub steps: usize,
     pub used: usize,
 }
 
@@ -20,14 +16,13 @@ impl CheckingState {
     // The most numbers of a line.
     pub const NUMBERS: usize = words::MOST_NUMBERS;
 
-    // "At the start there are no nogoods and no names, and the atoms alone are known."
-    pub fn start(atoms: usize) -> CheckingState
-        requires { ⌜ atoms ≤ largest ⌝ }
-        ensures start { λ r. ⌜ Marks (r .known) (upTo atoms) × (r .names ≡ replicate mostRules 0) × (r .used ≡ 0) ⌝ }
+    // "It starts empty."
+    pub fn start() -> CheckingState
+        ensures start { λ r. ⌜ (r .at ≡ 0) × (r .steps ≡ 0) × (r .used ≡ 0) ⌝ }
     {
         CheckingState {
-            known: marks::marks_to(atoms),
-            names: [0; words::MOST_RULES],
+            at: 0,
+            steps: 0,
             used: 0,
         }
     }

@@ -13,8 +13,9 @@ ghost use Rattle.aspif.specs.Tables.{rulesAt};
 ghost use Rattle.nogoods.specs.Store.{Stored};
 ghost use Rattle.nogoods.specs.Index.{Keeps};
 ghost use Rattle.names.specs.Queries.{HoldsRules};
+ghost use Rattle.heads.specs.Heads.{Indexed};
 ghost use Rattle.loops.specs.Relevance.{Relevant};
-ghost use Rattle.checker.specs.Held.{PassedLine, Program, Stepping};
+ghost use Rattle.checker.specs.Held.{PassedLine, Program, Tracked, Stepping};
 use crate::additions;
 use crate::naming;
 use crate::outcomes::Stepped;
@@ -27,6 +28,7 @@ use text::Letter;
 fn step_of_body(
     table: &[i32],
     rules: usize,
+    lookup: &[u16],
     letter: Letter,
     line: &mut [i32],
     known: &mut [u8],
@@ -39,6 +41,7 @@ fn step_of_body(
 ) -> Stepped
     requires letter { ⌜ (letter ≡ Body) ⊎ (letter ≡ Completion) ⌝ }
     requires program { ⌜ ((ws : List InputRule) × HoldsRules (now table) rules ws) × (rules ≤ length (now names)) ⌝ }
+    requires index { ⌜ Indexed (now lookup) (now table) rules ⌝ }
     requires store { ⌜ ((stored : List Stored) × Keeps (now store) (now index) used stored) × ((1 ≤ origin) × (origin ≤ longest)) ⌝ }
     requires line { ⌜ PassedLine letter (now line) ⌝ }
     ensures { λ r. ⌜ ((N : ℕ) (ws : List InputRule) → HoldsRules (now (table .entry)) rules ws
@@ -50,6 +53,7 @@ fn step_of_body(
         Letter::Body => naming::body(
             table,
             rules,
+            lookup,
             known,
             names,
             bodies,
@@ -62,6 +66,7 @@ fn step_of_body(
         _ => supports::completion(
             table,
             rules,
+            lookup,
             known,
             names,
             bodies,
@@ -78,6 +83,7 @@ fn step_of_body(
 fn step_of_heads(
     table: &[i32],
     rules: usize,
+    lookup: &[u16],
     relevant: &[u8],
     atoms: usize,
     letter: Letter,
@@ -91,7 +97,8 @@ fn step_of_heads(
     origin: usize,
 ) -> Stepped
     requires letter { ⌜ (letter ≡ Loop) ⊎ (letter ≡ Support) ⌝ }
-    requires program { ⌜ ((ws : List InputRule) × Program (now table) rules atoms ws) × (rules ≤ length (now names)) ⌝ }
+    requires state { ⌜ Tracked (now table) rules atoms (now known) (now names) (now bodies) ⌝ }
+    requires index { ⌜ Indexed (now lookup) (now table) rules ⌝ }
     requires relevant { ⌜ Relevant (now relevant) (rulesAt rules (now table)) ⌝ }
     requires store { ⌜ ((stored : List Stored) × Keeps (now store) (now index) used stored) × ((1 ≤ origin) × (origin ≤ longest)) ⌝ }
     requires line { ⌜ PassedLine letter (now line) ⌝ }
@@ -104,6 +111,7 @@ fn step_of_heads(
         Letter::Loop => unfounded::loops(
             table,
             rules,
+            lookup,
             relevant,
             atoms,
             known,
@@ -118,6 +126,7 @@ fn step_of_heads(
         _ => supports::support(
             table,
             rules,
+            lookup,
             atoms,
             known,
             names,
@@ -136,6 +145,7 @@ fn step_of_heads(
 pub fn step(
     table: &[i32],
     rules: usize,
+    lookup: &[u16],
     relevant: &[u8],
     atoms: usize,
     letter: Letter,
@@ -149,7 +159,8 @@ pub fn step(
     index: &mut [u16; INDEX],
     origin: usize,
 ) -> Stepped
-    requires program { ⌜ ((ws : List InputRule) × Program (now table) rules atoms ws) × (rules ≤ length (now names)) ⌝ }
+    requires state { ⌜ Tracked (now table) rules atoms (now known) (now names) (now bodies) ⌝ }
+    requires index { ⌜ Indexed (now lookup) (now table) rules ⌝ }
     requires relevant { ⌜ Relevant (now relevant) (rulesAt rules (now table)) ⌝ }
     requires store { ⌜ ((stored : List Stored) × Keeps (now store) (now index) used stored) × ((1 ≤ origin) × (origin ≤ longest)) ⌝ }
     requires line { ⌜ PassedLine letter (now line) ⌝ }
@@ -166,6 +177,7 @@ pub fn step(
         Letter::Body | Letter::Completion => step_of_body(
             table,
             rules,
+            lookup,
             letter,
             line,
             known,
@@ -179,6 +191,7 @@ pub fn step(
         Letter::Loop | Letter::Support => step_of_heads(
             table,
             rules,
+            lookup,
             relevant,
             atoms,
             letter,

@@ -14,6 +14,7 @@ ghost use Rattle.nogoods.specs.Store.{Stored, addedIn, keptWith};
 ghost use Rattle.nogoods.specs.Index.{Keeps};
 ghost use Rattle.nogoods.specs.Keeps.{Literals};
 ghost use Rattle.names.specs.Queries.{HoldsRules};
+ghost use Rattle.heads.specs.Heads.{Indexed};
 ghost use Rattle.checker.specs.Held.{PassedLine, Program, Tracks, Fitted, Stepping};
 use crate::outcomes;
 use crate::outcomes::Stepped;
@@ -46,6 +47,7 @@ fn join(
 pub fn completion(
     table: &[i32],
     rules: usize,
+    lookup: &[u16],
     known: &[u8],
     names: &[u16],
     bodies: &[i16],
@@ -56,6 +58,7 @@ pub fn completion(
     numbers: &mut [i32],
 ) -> Stepped
     requires program { ⌜ ((ws : List InputRule) × HoldsRules (now table) rules ws) × (rules ≤ length (now names)) ⌝ }
+    requires index { ⌜ Indexed (now lookup) (now table) rules ⌝ }
     requires store { ⌜ ((stored : List Stored) × Keeps (now store) (now index) used stored) × ((1 ≤ origin) × (origin ≤ longest)) ⌝ }
     requires line { ⌜ PassedLine Completion (now numbers) ⌝ }
     ensures { λ r. ⌜ ((N : ℕ) (ws : List InputRule) → HoldsRules (now (table .entry)) rules ws
@@ -67,7 +70,7 @@ pub fn completion(
         return Stepped::Fails(26);
     }
     let name = words::variable_of(numbers[0]);
-    if !queries::is_completed(table, rules, names, bodies, &numbers[1..], name) {
+    if !heads::is_completed(table, rules, names, bodies, lookup, &numbers[1..], name) {
         return Stepped::Fails(29);
     }
     join(store, used, index, origin, numbers)
@@ -77,12 +80,14 @@ pub fn completion(
 fn is_supported(
     table: &[i32],
     rules: usize,
+    lookup: &[u16],
     atoms: usize,
     names: &[u16],
     bodies: &[i16],
     numbers: &[i32],
 ) -> bool
     requires program { ⌜ ((ws : List InputRule) × Program (now table) rules atoms ws) × (rules ≤ length (now names)) ⌝ }
+    requires index { ⌜ Indexed (now lookup) (now table) rules ⌝ }
     requires line { ⌜ PassedLine Support (now numbers) ⌝ }
     ensures { λ r. ⌜ ((ws : List InputRule) → Program (now (table .entry)) rules atoms ws
         → (known : List ℕ) (z : State) → Tracks atoms ws known (now (names .entry)) (now (bodies .entry)) (z .introduced) (z .named)
@@ -92,10 +97,29 @@ fn is_supported(
     if atoms < words::variable_of(h) {
         return false;
     }
+    if heads::is_covered(lookup) {
+        return heads::are_just_names(
+            table,
+            rules,
+            names,
+            lookup,
+            words::variable_of(h),
+            &numbers[1..],
+        );
+    }
     let listed = marks::marks_of(&numbers[1..]);
     // the empty set: no body is left out
     let none = [0u8; 1];
-    let found = queries::names_of(table, rules, names, bodies, Query::Head(h), &none);
+    let mut found = [0u8; words::ENTRIES];
+    queries::mark_names(
+        table,
+        rules,
+        names,
+        bodies,
+        Query::Head(h),
+        &none,
+        &mut found,
+    );
     marks::is_same_set(&listed, &found)
 }
 
@@ -103,6 +127,7 @@ fn is_supported(
 pub fn support(
     table: &[i32],
     rules: usize,
+    lookup: &[u16],
     atoms: usize,
     known: &[u8],
     names: &[u16],
@@ -114,6 +139,7 @@ pub fn support(
     numbers: &mut [i32],
 ) -> Stepped
     requires program { ⌜ ((ws : List InputRule) × Program (now table) rules atoms ws) × (rules ≤ length (now names)) ⌝ }
+    requires index { ⌜ Indexed (now lookup) (now table) rules ⌝ }
     requires store { ⌜ ((stored : List Stored) × Keeps (now store) (now index) used stored) × ((1 ≤ origin) × (origin ≤ longest)) ⌝ }
     requires line { ⌜ PassedLine Support (now numbers) ⌝ }
     ensures { λ r. ⌜ ((ws : List InputRule) → Program (now (table .entry)) rules atoms ws
@@ -124,7 +150,7 @@ pub fn support(
     if !marks::all_marked(numbers, known) {
         return Stepped::Fails(26);
     }
-    if !is_supported(table, rules, atoms, names, bodies, numbers) {
+    if !is_supported(table, rules, lookup, atoms, names, bodies, numbers) {
         return Stepped::Fails(30);
     }
     join(store, used, index, origin, numbers)

@@ -69,7 +69,7 @@ module _ {U : List ℤ} {m : List ℕ} (p : Placed m U) where
 
 -- Plain bodies and weight bodies
 
-plain-edge : (f : ℤ → Bool) (ws : List ℤ) → isWeighted ws ≡ false → any (any f) (bodiesOf (bodyAt ws)) ≡ any f (bodyWordsAt ws)
+pub plain-edge : (f : ℤ → Bool) (ws : List ℤ) → isWeighted ws ≡ false → any (any f) (bodiesOf (bodyAt ws)) ≡ any f (bodyWordsAt ws)
 unfolding bodiesOf bodyAt
 plain-edge f ws e = rw e (or-false (any f (bodyWordsAt ws)))
 

@@ -5,4 +5,5 @@ pub mod WeightExamples
 pub mod Placing
 pub mod EdgeMarks
 pub mod Expanded
+pub mod Chained
 pub mod Reaching

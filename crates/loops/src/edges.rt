@@ -1,13 +1,17 @@
-// The numbers of an `l` line by their places in it, and the edges between the places: one pass over the table.
+// The numbers of an `l` line by their places in it, and the edges between the places: by the chains of the rules with these heads,
+// or in one pass over the table.
 ghost use mathlib.Core.Path.{_≡_};
 ghost use mathlib.Core.Bool.{true, false, _&&_};
+ghost use mathlib.Core.List.{List, [], _∷_};
 ghost use Prim.Native.Nat.{ℕ, suc, _≤_, _<_};
 ghost use lib.Dec.{eqb};
+ghost use lib.IntN.{ℤ, pos};
 ghost use lib.ListN.{length, getD, drop};
-ghost use Rattle.words.specs.Limits.{mostNumbers};
+ghost use Rattle.words.specs.Limits.{largest, mostNumbers};
 ghost use Rattle.words.specs.Lists.{any};
 ghost use Rattle.weights.specs.Weights.{paired, mostWeighted};
 ghost use Rattle.aspif.specs.Tables.{ruleAt, shapeSound, rulesAt, soundRules};
+ghost use Rattle.heads.specs.Heads.{Covers, Indexed};
 ghost use Rattle.loops.specs.Relevance.{RelevantRule, Relevant};
 ghost use Rattle.loops.specs.Edges.{Members, placeBy, Placed, Low, isAt, hasPlace, cells, More, anyMarked, ruleEdge, Edges};
 use aspif::tables;
@@ -181,8 +185,8 @@ fn next_entries(relevant: &[u8], at: usize) -> usize
     at + MOST_WEIGHTED
 }
 
-// The edges between the places.
-pub fn edges_of(table: &[i32], rules: usize, relevant: &[u8], places: &[u8]) -> [u8; CELLS]
+// The edges between the places by all rules.
+fn scan(table: &[i32], rules: usize, relevant: &[u8], places: &[u8]) -> [u8; CELLS]
     requires program { ⌜ (soundRules rules (now table) ≡ true) × Relevant (now relevant) (rulesAt rules (now table)) ⌝ }
     requires places { ⌜ Low (now places) ⌝ }
     ensures { λ e. ⌜ Edges (now (places .entry)) (rulesAt rules (now (table .entry))) e ⌝ }
@@ -198,4 +202,79 @@ pub fn edges_of(table: &[i32], rules: usize, relevant: &[u8], places: &[u8]) -> 
         left -= 1;
     }
     edges
+}
+
+// Edges to the place of the one head, the atom v, from the bodies of the rules that have it.
+fn mark_chain(
+    table: &[i32],
+    rules: usize,
+    lookup: &[u16],
+    head: &[i32],
+    v: usize,
+    places: &[u8],
+    edges: &mut [u8],
+)
+    requires index { ⌜ Covers (now lookup) (now table) rules × (soundRules rules (now table) ≡ true) ⌝ }
+    requires head { ⌜ (now head ≡ pos v ∷ []) × (v ≤ largest) ⌝ }
+    requires sizes { ⌜ (length (now edges) ≡ cells) × Low (now places) × ((U : List ℤ) × Placed (now places) U) ⌝ }
+    ensures { λ _. ⌜ More (λ i j. any (isAt (now (places .entry)) j) (now (head .entry))
+        && any (ruleEdge (now (places .entry)) i j) (rulesAt rules (now (table .entry)))) (now (edges .entry)) (now (edges .exit)) ⌝ }
+{
+    let mut p = heads::first_head(lookup, v);
+    while 0 < p {
+        let x = p - 1;
+        let words = heads::words_of(table, rules, lookup, x);
+        mark_body(tables::body_of(words), head, places, edges);
+        p = heads::next_head(lookup, x);
+    }
+}
+
+// The edges between the places by the index of the rules.
+fn look_up(
+    table: &[i32],
+    rules: usize,
+    lookup: &[u16],
+    numbers: &[i32],
+    places: &[u8],
+) -> [u8; CELLS]
+    requires index { ⌜ Covers (now lookup) (now table) rules × (soundRules rules (now table) ≡ true) ⌝ }
+    requires places { ⌜ Members (now numbers) × Placed (now places) (now numbers) ⌝ }
+    ensures { λ e. ⌜ Edges (now (places .entry)) (rulesAt rules (now (table .entry))) e ⌝ }
+{
+    let mut edges = [0u8; CELLS];
+    let mut j = 0;
+    while j < numbers.len() {
+        let v = words::variable_of(numbers[j]);
+        mark_chain(
+            table,
+            rules,
+            lookup,
+            &numbers[j..j + 1],
+            v,
+            places,
+            &mut edges,
+        );
+        j += 1;
+    }
+    edges
+}
+
+// The edges between the places: by the index where it covers the program, else by all rules.
+pub fn edges_of(
+    table: &[i32],
+    rules: usize,
+    lookup: &[u16],
+    relevant: &[u8],
+    numbers: &[i32],
+    places: &[u8],
+) -> [u8; CELLS]
+    requires program { ⌜ (soundRules rules (now table) ≡ true) × Relevant (now relevant) (rulesAt rules (now table)) ⌝ }
+    requires index { ⌜ Indexed (now lookup) (now table) rules ⌝ }
+    requires places { ⌜ Members (now numbers) × Placed (now places) (now numbers) ⌝ }
+    ensures { λ e. ⌜ Edges (now (places .entry)) (rulesAt rules (now (table .entry))) e ⌝ }
+{
+    if heads::is_covered(lookup) {
+        return look_up(table, rules, lookup, numbers, places);
+    }
+    scan(table, rules, relevant, places)
 }

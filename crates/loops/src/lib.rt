@@ -9,18 +9,27 @@ ghost use mathlib.Core.Bool.{true};
 ghost use Rattle.aspif.specs.Rules.{expand};
 ghost use Rattle.aspif.specs.Tables.{rulesAt, soundRules};
 ghost use Rattle.derivation.specs.Loops.{isLoop};
+ghost use Rattle.heads.specs.Heads.{Indexed};
 ghost use Rattle.loops.specs.Relevance.{Relevant};
 ghost use Rattle.loops.specs.Edges.{Members};
 
-// Question 56: every atom of the set reaches every atom of it, itself included. One pass over the table finds the edges inside
-// the set, and two searches over these alone say what the first atom reaches and what reaches it.
-pub fn is_loop(table: &[i32], rules: usize, relevant: &[u8], numbers: &[i32]) -> bool
+// Question 56: every atom of the set reaches every atom of it, itself included. The rules with a head in the set, found by the index,
+// or else one pass over the table, give the edges inside the set, and two searches over these alone say what the first atom reaches
+// and what reaches it.
+pub fn is_loop(
+    table: &[i32],
+    rules: usize,
+    lookup: &[u16],
+    relevant: &[u8],
+    numbers: &[i32],
+) -> bool
     requires program { ⌜ (soundRules rules (now table) ≡ true) × Relevant (now relevant) (rulesAt rules (now table)) ⌝ }
+    requires index { ⌜ Indexed (now lookup) (now table) rules ⌝ }
     requires numbers { ⌜ Members (now numbers) ⌝ }
     ensures { λ r. ⌜ r ≡ isLoop (expand (rulesAt rules (now (table .entry)))) (now (numbers .entry)) ⌝ }
 {
     let places = edges::places_of(numbers);
-    let edges = edges::edges_of(table, rules, relevant, &places);
+    let edges = edges::edges_of(table, rules, lookup, relevant, numbers, &places);
     let ahead = searches::search(&edges, false, numbers.len());
     if searches::is_full(&ahead, numbers.len()) {
         let behind = searches::search(&edges, true, numbers.len());

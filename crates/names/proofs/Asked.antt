@@ -1,16 +1,18 @@
 -- What is asked of the plain rules of a program: rule by rule as written, and of one such rule body by body.
 -- Assumes nothing.
 use mathlib.Core.Path.{_≡_, refl, sym, ap, _∙_}
-use mathlib.Core.Bool.{Bool, true, false, cond, not, _&&_, _||_, or-assoc}
+use mathlib.Core.Logic.{inl, inr}
+use mathlib.Core.Bool.{Bool, true, false, cond, not, _&&_, _||_, or-assoc, true≢false}
 use mathlib.Core.List.{List, [], _∷_, _++_, map, map-append, map-map}
 use Prim.Native.Nat.{ℕ, _≤_}
 use native.Mathlib.Omega.{arith}
 use lib.Dec.{eqb}
 use lib.IntN.{ℤ}
-use lib.ListN.{length, take, length-map}
+use lib.ListN.{length, take, replicate, length-map}
+use Rattle.words.specs.Limits.{entries}
 use Rattle.words.specs.Lists.{_∈_, any, filter}
 use Rattle.words.specs.Literals.{sameList}
-use Rattle.words.proofs.Lists.{if-true, any-decides}
+use Rattle.words.proofs.Lists.{if-true, failed, not-decides, any-decides}
 use Rattle.words.proofs.Literals.{sameList-decides}
 use Rattle.weights.specs.Weights.{Weighted, literals, bodies, paired, mostWeighted}
 use Rattle.weights.specs.Claims.{_⊑_, none, with-it, without}
@@ -19,11 +21,11 @@ use Rattle.weights.proofs.Minimal.{body→}
 use Rattle.aspif.specs.Rules.{Rule, Body, InputRule, isNormal, bodiesOf, withBody, expandRule, expand}
 use Rattle.aspif.specs.Tables.{isWeighted, bodyWordsAt, boundAt, bodyAt}
 use Rattle.aspif.proofs.SoundWeights.{Weighing}
-use Rattle.marks.specs.Marks.{listed, marked}
-use Rattle.marks.proofs.Sets.{MarkedSoFar}
+use Rattle.marks.specs.Marks.{listed, marked, Marks, markAll, sameMarks}
+use Rattle.marks.proofs.Sets.{MarkedSoFar, found-none, found-on, found-all, same-marks}
 use Rattle.names.specs.ByName.{Called, Told}
 use Rattle.names.specs.Minimal.{AlsoMarks}
-use Rattle.names.specs.Queries.{entry, isInside, asksHeads, asks, askedNames, completing}
+use Rattle.names.specs.Queries.{entry, isInside, asksHeads, asks, askedNames, MarksNames, completing}
 use Rattle.names.specs.declared.queries.Query.{Query}
 use Rattle.names.specs.declared.by_name.Recorded.{Recorded}
 use Rattle.names.specs.declared.by_name.Recorded.the-variants as Recorded
@@ -50,6 +52,36 @@ found-more {m} {after} {l} {left} f a = record {
       ap (λ (t : Bool). t || listed left v) (a .has v h) ∙ or-assoc (marked m v) (listed l v) (listed left v)
       ∙ ap (λ (t : Bool). marked m v || t) (sym (any-append (eqb v) l left)) ∙ f .has v h;
 }
+
+-- Marks that are of all names, or have 0 as some body has none
+
+-- a loop that marks may end where 0 is marked
+pub zero-found : {m left whole : List ℕ} → MarkedSoFar m left whole → marked m 0 ≡ true → MarksNames m whole
+zero-found {left = left} f e = inr (e, sym (f .has 0 (omega arith)) ∙ ap (λ (t : Bool). t || listed left 0) e)
+
+pub names-all : {m l : List ℕ} → MarksNames m l → marked m 0 ≡ false → Marks m l
+names-all (inl M) e = M
+names-all (inr q) e = absurd (true≢false (sym (q .0) ∙ e))
+
+pub name-missing : {m l : List ℕ} → MarksNames m l → marked m 0 ≡ true → listed l 0 ≡ true
+name-missing (inl M) e = sym (M .has 0 (omega arith)) ∙ e
+name-missing (inr q) e = q .1
+
+-- the marks of a list
+all-found : (l : List ℕ) {m whole : List ℕ} → MarkedSoFar m l whole → Marks (markAll l m) whole
+all-found [] f = found-all f
+all-found (x ∷ l) f = all-found l (found-on f)
+
+-- a set without 0 is the same as the marks just where it is the same as those of all names
+module _ (a : List ℕ) (z : marked a 0 ≡ false) where
+  differ : (b : List ℕ) → marked b 0 ≡ true → sameMarks entries a b ≡ false
+  differ b e = failed _ (not-decides (same-marks entries a b) .from (λ f. true≢false (sym e ∙ sym (f 0 (omega arith)) ∙ z)))
+
+  pub names-same : {m l : List ℕ} → MarksNames m l → (n : List ℕ) × Marks n l × (sameMarks entries a m ≡ sameMarks entries a n)
+  names-same {m} (inl M) = (m, M, refl)
+  names-same {m} {l} (inr q) =
+      let M = all-found l (found-none l) in
+      (markAll l (replicate entries 0), M, differ m (q .0) ∙ sym (differ _ (M .has 0 (omega arith) ∙ q .1)))
 
 -- The plain rules of one rule
 

@@ -3,6 +3,7 @@
 -- found here is what they ask for.
 -- Assumes nothing.
 use mathlib.Core.Path.{_≡_}
+use mathlib.Core.Logic.{_⊎_}
 use mathlib.Core.Bool.{Bool, true, false, not, _&&_}
 use mathlib.Core.List.{List, map}
 use Prim.Native.Nat.{ℕ, _≤_}
@@ -14,7 +15,7 @@ use Rattle.words.specs.Lists.{any, filter}
 use Rattle.words.specs.Literals.{variable, sameList, has}
 use Rattle.aspif.specs.Rules.{Rule, Body, plain, weights, InputRule, allPlain, isNormal}
 use Rattle.aspif.specs.Tables.{rulesAt, soundRules}
-use Rattle.marks.specs.Marks.{marked}
+use Rattle.marks.specs.Marks.{listed, marked, Marks}
 use Rattle.names.specs.ByName.{Called}
 use Rattle.names.specs.declared.queries.Query.{Query}
 use Rattle.names.specs.declared.queries.Query.the-variants.{Head, External}
@@ -55,6 +56,10 @@ asks q m r = asksHeads q m (r .heads) && not (any (isInside m) (r .body))
 -- the names of the bodies of those that are asked for
 abbrev pub askedNames : Query → List ℕ → (List ℤ → ℕ) → List Rule → List ℕ
 askedNames q m called P = map (λ r. called (r .body)) (filter (asks q m) P)
+
+-- what is told of names by marks: they are those listed; or 0 is marked and listed, as some body has no name
+abbrev pub MarksNames : List ℕ → List ℕ → Type 0
+MarksNames m l = Marks m l ⊎ ((marked m 0 ≡ true) × (listed l 0 ≡ true))
 
 -- question 29 of a plain rule: it is normal, has just the heads, and its body has the name
 abbrev pub completing : (List ℤ → ℕ) → List ℤ → ℕ → Rule → Bool

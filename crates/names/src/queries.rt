@@ -6,24 +6,22 @@ ghost use mathlib.Core.List.{List, map};
 ghost use Prim.Native.Nat.{ℕ, _≤_};
 ghost use lib.Dec.{eqb};
 ghost use lib.IntN.{ℤ};
-ghost use lib.ListN.{length, take};
+ghost use lib.ListN.{length, replicate, take};
 ghost use Rattle.words.specs.Limits.{largest, entries};
 ghost use Rattle.words.specs.Lists.{any};
 ghost use Rattle.words.specs.Literals.{sameList, top};
 ghost use Rattle.aspif.specs.Rules.{InputRule, bodiesOf, expandRule, expand, isNormal};
 ghost use Rattle.aspif.specs.Tables.{isWeighted, headsAt, bodyAt, ruleAt, shapeSound, soundAt};
 ghost use Rattle.weights.specs.Weights.{mostWeighted};
-ghost use Rattle.marks.specs.Marks.{Marks};
 ghost use Rattle.names.specs.ByName.{Called, Told};
 ghost use Rattle.names.specs.Minimal.{AlsoMarks};
-ghost use Rattle.names.specs.Queries.{HoldsRules, entry, Kept, isInside, asksHeads, askedNames, completing};
+ghost use Rattle.names.specs.Queries.{HoldsRules, entry, Kept, isInside, asksHeads, askedNames, MarksNames, completing};
 use crate::by_name;
 use crate::by_name::Recorded;
 use crate::minimal;
 use aspif::Kind;
 use aspif::tables;
 use weights::MOST_WEIGHTED;
-use words::ENTRIES;
 
 // The plain rules that a step is about, by their heads: those with a head; those with a head in a set of atoms. Of both, those whose
 // bodies have a positive atom in the set are left out.
@@ -43,7 +41,7 @@ pub fn is_inside(word: i32, inside: &[u8]) -> bool
 }
 
 // Some literal is positive with its atom in the set.
-fn any_inside(literals: &[i32], inside: &[u8]) -> bool
+pub fn any_inside(literals: &[i32], inside: &[u8]) -> bool
     ensures { λ r. ⌜ r ≡ any (isInside (now (inside .entry))) (now (literals .entry)) ⌝ }
 {
     let mut i = 0;
@@ -68,7 +66,7 @@ fn is_normal(words: &[i32]) -> bool
 }
 
 // The rule at the front is normal, with just these heads.
-fn is_normal_with(words: &[i32], heads: &[i32]) -> bool
+pub fn is_normal_with(words: &[i32], heads: &[i32]) -> bool
     requires { ⌜ shapeSound (now words) ≡ true ⌝ }
     ensures { λ r. ⌜ (let rule = ruleAt (now (words .entry)) in
         r ≡ (isNormal (rule .kind) && sameList (rule .heads) (now (heads .entry)))) ⌝ }
@@ -124,30 +122,34 @@ fn mark_asked(
     }
 }
 
-// The names of the bodies of the plain rules that the query asks for, as marks; 0 is marked where a body has none.
-pub fn names_of(
+// Marks the names of the bodies of the plain rules that the query asks for, where nothing is marked yet; 0 where a body has none, and further rules
+// are then not looked at.
+pub fn mark_names(
     table: &[i32],
     rules: usize,
     names: &[u16],
     bodies: &[i16],
     query: Query,
     inside: &[u8],
-) -> [u8; ENTRIES]
+    found: &mut [u8],
+)
     requires program { ⌜ ((ws : List InputRule) × HoldsRules (now table) rules ws) × (rules ≤ length (now names)) ⌝ }
-    ensures { λ m. ⌜ ((ws : List InputRule) → HoldsRules (now (table .entry)) rules ws
+    requires found { ⌜ now found ≡ replicate entries 0 ⌝ }
+    ensures { λ _. ⌜ ((ws : List InputRule) → HoldsRules (now (table .entry)) rules ws
         → (called : List ℤ → ℕ) → Kept (now (names .entry)) (now (bodies .entry)) called ws
-        → Marks m (askedNames query (now (inside .entry)) called (expand ws))) ⌝ }
+        → MarksNames (now (found .exit)) (askedNames query (now (inside .entry)) called (expand ws))) ⌝ }
 {
-    let mut found = [0u8; ENTRIES];
     let mut k = 0;
     let mut i = 0;
     while k < rules {
         let rest = &table[i..];
-        mark_asked(rest, query, inside, names[k], bodies, &mut found);
+        mark_asked(rest, query, inside, names[k], bodies, found);
+        if marks::is_marked(found, 0) {
+            return;
+        }
         i = tables::next_rule(table, i);
         k += 1;
     }
-    found
 }
 
 // The literals are a body of the rule at the front.
@@ -267,7 +269,7 @@ pub fn is_completed(
 }
 
 // What is kept by rule for the rule at the front, once the body has the name: `kept` before.
-fn name_for(words: &[i32], body: &[i32], name: u16, kept: u16) -> u16
+pub fn name_for(words: &[i32], body: &[i32], name: u16, kept: u16) -> u16
     requires { ⌜ shapeSound (now words) ≡ true ⌝ }
     ensures { λ r. ⌜ ((called : List ℤ → ℕ) → kept ≡ entry called (bodyAt (now (words .entry)))
         → r ≡ entry (λ L. cond (sameList (now (body .entry)) L) name (called L)) (bodyAt (now (words .entry)))) ⌝ }

@@ -21,7 +21,7 @@ use Rattle.nogoods.specs.declared.chains.Spot.the-variants.{Here, Nowher
 
 -- how many chains there are, and how many words of the store they reach
 abbrev pub keys : ℕ
-keys = 8192
+keys = 2048
 
 abbrev pub reach : ℕ
 reach = 16384
@@ -34,11 +34,11 @@ abbrev pub provedCells : ℕ
 provedCells = coveredAt + 1
 
 abbrev pub indexSize : ℕ
-indexSize = 106629
+indexSize = 100485
 
 -- the key of a list of literals
 unfoldable pub mixed : ℕ → ℤ → ℕ
-mixed h z = (h * 1567 + 2 * variable z + cond (ltZ z (pos 0)) 1 0) % 8192
+mixed h z = (h * 1565 + 2 * variable z + cond (ltZ z (pos 0)) 1 0) % keys
 
 unfoldable pub hashFrom : ℕ → List ℤ → ℕ
 hashFrom h [] = h

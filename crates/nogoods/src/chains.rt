@@ -11,7 +11,7 @@ use crate::records;
 use search::REACH;
 
 // As many chains there are.
-pub const KEYS: usize = 8192;
+pub const KEYS: usize = 2048;
 
 // The cell that says how many words were entered, and the first of the search's.
 const COVERED: usize = KEYS + REACH;
@@ -32,9 +32,9 @@ fn mix(h: usize, word: i32) -> usize
 {
     let v = words::variable_of(word);
     if word < 0 {
-        (h * 1567 + 2 * v + 1) % KEYS
+        (h * 1565 + 2 * v + 1) % KEYS
     } else {
-        (h * 1567 + 2 * v + 0) % KEYS
+        (h * 1565 + 2 * v + 0) % KEYS
     }
 }
 

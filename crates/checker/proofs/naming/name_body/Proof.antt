@@ -26,7 +26,7 @@ module _ (c : tie.After-is-unnamed) where
   o = c .before .before .before .before .before
 
   abbrev s : tie.Start
-  s = o .before .before .before
+  s = o .before .before .before .before
 
   module _ (N : ℕ) (ws : List InputRule) (p : HoldsRules (s .args .table .now) (s .args .rules) ws) (known : List ℕ) (z : State)
       (T : Tracks N ws known (s .args .names .now) (s .args .bodies .now) (z .introduced) (z .named)) where
@@ -37,7 +37,7 @@ module _ (c : tie.After-is-unnamed) where
         ∙ unnamed-body (expand ws) z (T .proper) (s .args .body .now)
 
 is-unnamed-requires : tie.Need-is-unnamed-requires
-is-unnamed-requires c κs = c .before .before .before .before .before .before .before .pre .0
+is-unnamed-requires c κs = let q = c .before .before .before .before .before .before .before .before .pre in (q .0, q .1 .0)
 
 returns : tie.Need-returns
 returns c =
@@ -47,19 +47,19 @@ enter-requires : tie.Need-enter-requires
 enter-requires c κs =
     let u = c .before .before .before .before in
     let q = s u .pre in
-    (q .0, (q .1 .0, q .1 .1, subst (λ (t : List ℤ). top t ≤ largest) (sym (o u .sort .ensures)) (sorted-low (s u .args .body .now) (q .1 .2))))
+    (q .0, (q .1 .0, (q .1 .1 .0, q .1 .1 .1, subst (λ (t : List ℤ). top t ≤ largest) (sym (o u .sort .ensures)) (sorted-low (s u .args .body .now) (q .1 .1 .2)))))
 
 returns-2 : tie.Need-returns-2
 returns-2 c =
     let e = c .before .before .before in
     let m = e .before .before .before .before in
     let u = m .before in
-    let q = s u .pre .1 in
+    let q = s u .pre .1 .1 in
     let yes = not-false _ (m .if1 .left) in (
       λ N ws p known z T. sym yes ∙ answer u N ws p known z T,
       λ N ws p f known z T new.
           let none = no-name z T (s u .args .body .now) (sym (answer u N ws p known z T) ∙ yes) in
-          subst (λ (t : List ℤ). nameOf (z .named) t ≡ 0 → Kept (e .enter .last .1 .1 .1 .1 .0) (e .enter .last .1 .1 .1 .1 .1 .0) (λ L. cond (sameList t L) (s u .args .name) (nameOf (z .named) L)) ws)
+          subst (λ (t : List ℤ). nameOf (z .named) t ≡ 0 → Kept (e .enter .last .1 .1 .1 .1 .1 .0) (e .enter .last .1 .1 .1 .1 .1 .1 .0) (λ L. cond (sameList t L) (s u .args .name) (nameOf (z .named) L)) ws)
           (o u .sort .ensures)
           (λ n. e .enter .ensures ws p (nameOf (z .named)) (T .kept) n (nothing-older z T (s u .args .name) (q .0) (q .1) new _ none)) none,
     )

@@ -24,7 +24,7 @@ module _ (c : tie.After-answer2) where
   b = c .before .before .before .before
 
   abbrev start : tie.Start
-  start = b .before .before .before .before .before .before .before
+  start = b .before .before .before .before .before .before .before .before
 
   abbrev numbers : List ℤ
   numbers = b .read-into .last .1 .1 .1 .0
@@ -40,15 +40,15 @@ module _ (c : tie.After-answer2) where
   room =
       let u = into-room (b .read-into .ensures) (c .answer2 .given .1) in
       let k = b .read-into .kept in
-      let r = start .pre .1 .1 .1 .1 .1 in
+      let r = start .pre .1 .1 .1 .1 .1 .1 in
       (omega (arith, u .2, k .1 .1 .1 .0, r .0), omega (arith, u .2, k .1 .1 .1 .1 .0, r .1))
 
   -- the step's number is at most that of the bytes
   numbered : (let a = start .args in (1 ≤ a .origin) × (a .origin ≤ longest))
   numbered =
       let u = passed-line (start .args .proof .now) (start .args .at) there in
-      let o = start .pre .1 .1 .0 .1 in
-      (o .0, omega (arith, u .0, u .1, o .1, start .pre .1 .1 .1 .0))
+      let o = start .pre .1 .1 .1 .0 .1 in
+      (o .0, omega (arith, u .0, u .1, o .1, start .pre .1 .1 .1 .1 .0))
 
   good : (let g = c .answer2 .given .0 in let zs = take (g .1 .0) numbers in (lineRefusal (g .0) zs ≡ none) × (has (pos 0) zs ≡ false))
   good = let u = passed-line (start .args .proof .now) (start .args .at) there in (u .2, u .3)
@@ -69,7 +69,7 @@ step-requires : tie.Need-step-requires
 step-requires c κs =
     let d = c .before .before .before .before .before .before .before .before in
     let s = start d in
-    (s .pre .0, (s .pre .1 .0, ((s .pre .1 .1 .0 .0, numbered d), (good-line _ _ (good d .0) (good d .1), into-sorted (b d .read-into .ensures) (d .answer2 .given .1)))))
+    (s .pre .0, (s .pre .1 .0, (s .pre .1 .1 .0, ((s .pre .1 .1 .1 .0 .0, numbered d), (good-line _ _ (good d .0) (good d .1), into-sorted (b d .read-into .ensures) (d .answer2 .given .1))))))
 
 returns : tie.Need-returns
 returns c = λ ws p z stored T K. rw (into-told (c .before .before .before .before .read-into .ensures) (c .enum-told .given .1)) (refl, K .keeps .holds)

@@ -10,23 +10,23 @@ use Rattle.checker.proofs.steps.step_of_body.Tie as tie
 
 -- the line passed 22 to 25 for the letter that was told
 line : (s : tie.Start) {x : Letter} → s .args .letter ≡ x → PassedLine x (s .args .line .now)
-line s e = subst (λ x. PassedLine x (s .args .line .now)) e (s .pre .1 .1 .1)
+line s e = subst (λ x. PassedLine x (s .args .line .now)) e (s .pre .1 .1 .1 .1)
 
 -- the letter is not `b`
-other : (m : tie.At-match-keys2) → (let s = m .before .before .before in s .args .letter ≡ Completion)
-other m = second (m .before .before .before .pre .0) (0 ∷ 2 ∷ 3 ∷ 4 ∷ 5 ∷ 6 ∷ []) tt (m .match .keys2)
+other : (m : tie.At-match-keys2) → (let s = m .before .before .before .before in s .args .letter ≡ Completion)
+other m = second (m .before .before .before .before .pre .0) (0 ∷ 2 ∷ 3 ∷ 4 ∷ 5 ∷ 6 ∷ []) tt (m .match .keys2)
 
 body-requires : tie.Need-body-requires
 body-requires c κs =
     let t = c .before .before .before .before .before .before in
-    let s = t .before .before .before .before in
-    (s .pre .1 .0, (s .pre .1 .1 .0, line s (t .enum-told .given .1)))
+    let s = t .before .before .before .before .before in
+    (s .pre .1 .0, (s .pre .1 .1 .0, (s .pre .1 .1 .1 .0, line s (t .enum-told .given .1))))
 
 completion-requires : tie.Need-completion-requires
 completion-requires c κs =
     let m = c .before .before .before .before .before .before in
-    let s = m .before .before .before in
-    (s .pre .1 .0, (s .pre .1 .1 .0, line s (other m)))
+    let s = m .before .before .before .before in
+    (s .pre .1 .0, (s .pre .1 .1 .0, (s .pre .1 .1 .1 .0, line s (other m))))
 
 returns : tie.Need-returns
 returns c =

@@ -3,6 +3,7 @@ use mathlib.Core.List.{[], _∷_}
 use Rattle.text.specs.declared.Letter.{Letter}
 use Rattle.text.specs.declared.Letter.the-variants.{Support}
 use Rattle.checker.specs.Held.{PassedLine}
+use Rattle.checker.proofs.Tracking.{program-of}
 use Rattle.checker.proofs.Arms.{second}
 use borrow.Author.Needs.{needs}
 use Rattle.checker.proofs.steps.step_of_heads.Statement.{statement}
@@ -10,23 +11,23 @@ use Rattle.checker.proofs.steps.step_of_heads.Tie as tie
 
 -- the line passed 22 to 25 for the letter that was told
 line : (s : tie.Start) {x : Letter} → s .args .letter ≡ x → PassedLine x (s .args .line .now)
-line s e = subst (λ x. PassedLine x (s .args .line .now)) e (s .pre .1 .1 .1 .1)
+line s e = subst (λ x. PassedLine x (s .args .line .now)) e (s .pre .1 .1 .1 .1 .1)
 
 -- the letter is not `l`
-other : (m : tie.At-match-keys2) → (let s = m .before .before .before .before in s .args .letter ≡ Support)
-other m = second (m .before .before .before .before .pre .0) (0 ∷ 1 ∷ 2 ∷ 3 ∷ 4 ∷ 6 ∷ []) tt (m .match .keys2)
+other : (m : tie.At-match-keys2) → (let s = m .before .before .before .before .before in s .args .letter ≡ Support)
+other m = second (m .before .before .before .before .before .pre .0) (0 ∷ 1 ∷ 2 ∷ 3 ∷ 4 ∷ 6 ∷ []) tt (m .match .keys2)
 
 loops-requires : tie.Need-loops-requires
 loops-requires c κs =
     let t = c .before .before .before in
-    let s = t .before .before .before .before .before in
-    (s .pre .1 .0, (s .pre .1 .1 .0, (s .pre .1 .1 .1 .0, line s (t .enum-told .given .1))))
+    let s = t .before .before .before .before .before .before in
+    (s .pre .1 .0, (s .pre .1 .1 .0, (s .pre .1 .1 .1 .0, (s .pre .1 .1 .1 .1 .0, line s (t .enum-told .given .1)))))
 
 support-requires : tie.Need-support-requires
 support-requires c κs =
     let m = c .before .before .before in
-    let s = m .before .before .before .before in
-    (s .pre .1 .0, (s .pre .1 .1 .1 .0, line s (other m)))
+    let s = m .before .before .before .before .before in
+    (program-of (s .pre .1 .0), (s .pre .1 .1 .0, (s .pre .1 .1 .1 .1 .0, line s (other m))))
 
 returns : tie.Need-returns
 returns c =

@@ -55,7 +55,7 @@ gather-one-requires c κs =
     let t = c .before in
     let l = t .before .loop in
     let e = t .before .before in
-    (l .inv .0, omega (arith, t .loop-test .taken, within e), l .inv .2, l .inv .3 ∙ s e .pre .0 .0)
+    (l .inv .0, omega (arith, t .loop-test .taken, within e), l .inv .2, omega (arith, l .inv .3, s e .pre .0 .0))
 
 loop-again : tie.Need-loop-again Inv-loop μ-loop
 loop-again c =

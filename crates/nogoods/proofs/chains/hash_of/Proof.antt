@@ -8,7 +8,7 @@ use lib.IntN.{ℤ, pos}
 use lib.ListN.{length, drop, getD, drop-of-length-le}
 use lib.Seq.{drop-cons}
 use Rattle.words.proofs.Words.{back}
-use Rattle.nogoods.specs.Index.{mixed, hashFrom}
+use Rattle.nogoods.specs.Index.{keys, mixed, hashFrom}
 use Rattle.nogoods.proofs.chains.hash_of.Statement.{statement}
 use Rattle.nogoods.proofs.chains.hash_of.Tie as tie
 
@@ -21,7 +21,7 @@ unfolding hashFrom
 hash-end h l i k = rw (drop-of-length-le l {i = i} k)
 
 abbrev Inv-loop : tie.InvT-loop
-Inv-loop literals h₀ i₀ h i = (i ≤ length literals) × (h < 8192) × (hashFrom h (drop i literals) ≡ hashFrom 0 literals)
+Inv-loop literals h₀ i₀ h i = (i ≤ length literals) × (h < keys) × (hashFrom h (drop i literals) ≡ hashFrom 0 literals)
 
 abbrev μ-loop : tie.MeasureT-loop
 μ-loop literals h₀ i₀ h i = length literals - i

@@ -7,6 +7,7 @@ use borrow.Author.Needs.{needs}
 use lib.IntN.{ℤ}
 use lib.ListN.{length, getD}
 use Rattle.words.specs.Limits.{entries}
+use Rattle.nogoods.specs.Index.{provedCells, indexSize}
 use Rattle.nogoods.specs.Records.{Readable, Stands}
 use Rattle.nogoods.specs.Propagate.{Grows, DerivesAt}
 use Rattle.nogoods.specs.declared.units.Derived.{Derived}
@@ -14,6 +15,10 @@ use Rattle.nogoods.proofs.Recorded.{readable}
 use Rattle.nogoods.proofs.Closures.{grows-not, grows-on, derived, conflicting, clashes-before}
 use Rattle.nogoods.proofs.replay.replay.Statement.{statement}
 use Rattle.nogoods.proofs.replay.replay.Tie as tie
+
+-- the first cell of the search's literals in their order, at whose end the path stands
+abbrev trailAt : ℕ
+trailAt = provedCells + 65536
 
 abbrev Inv-loop : tie.InvT-loop
 Inv-loop nogoods index assignment₀ k₀ assignment k = Grows nogoods assignment₀ assignment
@@ -25,13 +30,13 @@ shared-slice-read-k : tie.Need-shared-slice-read-k Inv-loop μ-loop
 shared-slice-read-k c = omega (arith, c .before .before .pre .1 .0)
 
 cast-k : tie.Need-cast-k Inv-loop μ-loop
-cast-k c = omega (arith, c .shared-slice-known2 .given 106628)
+cast-k c = omega (arith, c .shared-slice-known2 .given (indexSize - 1))
 
 shared-slice-read-x : tie.Need-shared-slice-read-x Inv-loop μ-loop
 shared-slice-read-x c = omega (arith, c .before .loop-test .taken, c .before .before .before .before .before .pre .1 .0)
 
 cast-x : tie.Need-cast-x Inv-loop μ-loop
-cast-x c = omega (arith, c .shared-slice-known3 .given (90113 + c .before .before .loop .k))
+cast-x c = omega (arith, c .shared-slice-known3 .given (trailAt + c .before .before .loop .k))
 
 is-start-requires : tie.Need-is-start-requires Inv-loop μ-loop
 is-start-requires c κs = c .before .before .before .before .before .pre .1 .0 .0
@@ -48,7 +53,7 @@ module _ (d : tie.Then1 Inv-loop μ-loop) where
   words = s .args .nogoods .now
 
   abbrev x : ℕ
-  x = getD (s .args .index .now) (90113 + l .loop .k) 0
+  x = getD (s .args .index .now) (trailAt + l .loop .k) 0
 
   stands : Stands words x
   stands = let e = d .before .is-start .ensures (d .if1 .taken) in s .pre .1 .0 .1 x (e .0) (e .1)

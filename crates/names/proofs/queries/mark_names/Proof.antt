@@ -1,9 +1,10 @@
 use mathlib.Core.Path.{_≡_, refl, sym, _∙_}
+use mathlib.Core.Logic.{inl}
 use mathlib.Core.List.{List, _++_}
 use Prim.Native.Nat.{ℕ, _-_}
 use native.Mathlib.Omega.{arith}
 use lib.IntN.{ℤ}
-use lib.ListN.{length, drop}
+use lib.ListN.{length, replicate, drop, length-replicate}
 use Rattle.words.specs.Limits.{entries}
 use Rattle.words.proofs.Parts.{tail-of}
 use Rattle.aspif.specs.Rules.{expandRule, expand}
@@ -11,11 +12,11 @@ use Rattle.aspif.specs.Tables.{ruleAt, rulesAt}
 use Rattle.marks.proofs.Sets.{MarkedSoFar, found-none, found-all}
 use Rattle.names.specs.Minimal.{AlsoMarks}
 use Rattle.names.specs.Queries.{Kept, askedNames}
-use Rattle.names.proofs.Asked.{asked-more, found-more}
+use Rattle.names.proofs.Asked.{asked-more, found-more, zero-found}
 use Rattle.names.proofs.ByRule.{Course, course-start, rest, no-plain-rules, Turn, turn}
 use borrow.Author.Needs.{needs}
-use Rattle.names.proofs.queries.names_of.Statement.{statement}
-use Rattle.names.proofs.queries.names_of.Tie as tie
+use Rattle.names.proofs.queries.mark_names.Statement.{statement}
+use Rattle.names.proofs.queries.mark_names.Tie as tie
 
 abbrev Inv-loop : tie.InvT-loop
 Inv-loop table rules names bodies query inside found₀ k₀ i₀ found k i =
@@ -30,7 +31,7 @@ abbrev μ-loop : tie.MeasureT-loop
 -- the words from i on, and the rule there
 module _ (c : tie.After-rest Inv-loop μ-loop) where
   abbrev s : tie.Start Inv-loop μ-loop
-  s = c .before .before .before .before .before
+  s = c .before .before .before .before .before .before
 
   abbrev t : List ℤ
   t = s .args .table .now
@@ -60,30 +61,31 @@ told c called K =
     let d = c .before .before .before in
     rw (tail-of (i d) (t d)) at (c .mark-asked .ensures called (rw (tail-of (i d) (t d)) (λ w. K .byName (at d .weighted w))) (rw (tail-of (i d) (t d)) (at d .kept called (K .byRule))))
 
+-- as many marks as there are entries
+zeros-long : (l : List ℕ) → l ≡ replicate entries 0 → length l ≡ entries
+zeros-long l e = rw e (length-replicate {A = ℕ} entries 0)
+
 loop-holds : tie.Need-loop-holds Inv-loop μ-loop
 loop-holds c =
-    let s = c .before .before in
-    (course-start (s .args .table .now) (s .args .rules) (s .args .names .now) (s .pre .0 .1 .sound), refl, λ called K. found-none _)
+    let s = c .before .before .before in
+    (course-start (s .args .table .now) (s .args .rules) (s .args .names .now) (s .pre .0 .0 .1 .sound), zeros-long _ (s .pre .1), λ called K. rw (s .pre .1) (found-none _))
 
 mul-rest : tie.Need-mul-rest Inv-loop μ-loop
 mul-rest c = let w = c .before .loop .inv .0 .cursor .within in search needs
 
 shared-slice-read-mark-asked : tie.Need-shared-slice-read-mark-asked Inv-loop μ-loop
-shared-slice-read-mark-asked c = omega (arith, s (c .before) .pre .1, c .before .before .loop-test .taken)
-
-slice-aggregate-mark-asked : tie.Need-slice-aggregate-mark-asked Inv-loop μ-loop
-slice-aggregate-mark-asked c = sym (c .before .before .before .before .loop .inv .1)
+shared-slice-read-mark-asked c = omega (arith, s (c .before) .pre .0 .1, c .before .before .loop-test .taken)
 
 mark-asked-requires : tie.Need-mark-asked-requires Inv-loop μ-loop
 mark-asked-requires c κs =
     let d = c .before .before in rw (tail-of (i d) (t d)) (at d .sound, d .before .before .loop .inv .1)
 
 next-rule-requires : tie.Need-next-rule-requires Inv-loop μ-loop
-next-rule-requires c κs = at (c .before .before .before .before) .here
+next-rule-requires c κs = at (c .before .before .before .before .before .before .before .before) .here
 
 loop-again : tie.Need-loop-again Inv-loop μ-loop
 loop-again c =
-    let m = c .before .before in
+    let m = c .before .before .before .before .before .before in
     let d = m .before .before .before in
     let l = d .before .before .loop in
     rw (c .next-rule .ensures .0) (
@@ -92,13 +94,29 @@ loop-again c =
       λ called K. found-more (left d called (l .inv .2 called K)) (told m called K),
     )
 
+same-length : tie.Need-same-length Inv-loop μ-loop
+same-length c =
+    let m = c .before .before .before .before .before in
+    let d = m .before .before .before in
+    m .mark-asked .kept .1 .1 .1 .1 .1 .0 ∙ d .before .before .loop .inv .1 ∙ sym (zeros-long _ (s d .pre .1))
+
 returns : tie.Need-returns Inv-loop μ-loop
 returns c =
-    let l = c .before .loop in
-    λ ws H. rw (← H .are) (λ called K. found-all (rw (no-plain-rules (l .inv .0) (c .loop-test .left)) at (l .inv .2 called K)))
+    let m = c .before .before .before .before .before in
+    let d = m .before .before .before in
+    λ ws H. rw (← H .are) (λ called K.
+    zero-found (found-more (left d called (d .before .before .loop .inv .2 called K)) (told m called K)) (sym (c .before .is-marked .ensures) ∙ c .if1 .taken))
 
-pub names-of-spec : {M : Type 1} → statement M
-names-of-spec =
+same-length-2 : tie.Need-same-length-2 Inv-loop μ-loop
+same-length-2 c = c .before .loop .inv .1 ∙ sym (zeros-long _ (c .before .before .before .before .before .pre .1))
+
+returns-2 : tie.Need-returns-2 Inv-loop μ-loop
+returns-2 c =
+    let l = c .before .loop in
+    λ ws H. rw (← H .are) (λ called K. inl (found-all (rw (no-plain-rules (l .inv .0) (c .loop-test .left)) at (l .inv .2 called K))))
+
+pub mark-names-spec : {M : Type 1} → statement M
+mark-names-spec =
     tie.close
     (tie.spec
     Inv-loop
@@ -110,10 +128,13 @@ names-of-spec =
     (λ c. search needs)
     (λ c. search needs)
     shared-slice-read-mark-asked
-    slice-aggregate-mark-asked
     mark-asked-requires
+    (λ c κs. search needs)
+    same-length
+    returns
     next-rule-requires
     (λ c. search needs)
     (λ c. omega arith)
     loop-again
-    returns)
+    same-length-2
+    returns-2)

@@ -1,0 +1,69 @@
+use mathlib.Core.Path.{_≡_}
+use mathlib.Core.Bool.{true, false}
+use Prim.Native.Nat.{ℕ, _+_, _*_, _%_, _≤_, _<_}
+use lib.Signed.{ltZ}
+use native.Mathlib.Omega.{arith}
+use lib.IntN.{ℤ, pos, negsuc}
+use mir.Syntax.{w32}
+use mir.Val.{SFits}
+use mir.Facts.{toZ-ofZ}
+use Rattle.words.specs.Literals.{variable}
+use Rattle.heads.specs.Heads.{mixed, hashes}
+use borrow.Author.Needs.{needs}
+use Rattle.heads.proofs.mix.Statement.{statement}
+use Rattle.heads.proofs.mix.Tie as tie
+
+small : (z : ℤ) → SFits w32 z → variable z ≤ 2147483648
+small (pos n) f = omega (arith, f .sfits)
+small (negsuc n) f = omega (arith, f .sfits)
+
+v-is : (c : tie.After-variable-of) → c .variable-of .result ≡ variable (c .before .args .word)
+v-is c = rw (toZ-ofZ (c .before .fits .word)) at (c .variable-of .ensures)
+
+mixed-neg : (h : ℕ) (z : ℤ) (v : ℕ) → v ≡ variable z → ltZ z (pos 0) ≡ true → (h * 1567 + v + 1024) % hashes ≡ mixed h z
+unfolding mixed
+mixed-neg h z v e t = rw (e, t)
+
+mixed-pos : (h : ℕ) (z : ℤ) (v : ℕ) → v ≡ variable z → ltZ z (pos 0) ≡ false → (h * 1567 + v + 0) % hashes ≡ mixed h z
+unfolding mixed
+mixed-pos h z v e t = rw (e, t)
+
+below : (n : ℕ) → n % hashes < hashes
+below n = omega arith
+
+-- the sums fit
+module _ (c : tie.After-variable-of) where
+  room : (c .before .args .h < hashes) × (c .variable-of .result ≤ 2147483648)
+  room = (c .before .pre, omega (arith, v-is c, small _ (c .before .fits .word)))
+
+add-result : tie.Need-add-result
+add-result c = let k = room (c .before) in search needs
+
+add-result-2 : tie.Need-add-result-2
+add-result-2 c = let k = room (c .before) in search needs
+
+add-result-3 : tie.Need-add-result-3
+add-result-3 c = let k = room (c .before) in search needs
+
+add-result-4 : tie.Need-add-result-4
+add-result-4 c = let k = room (c .before) in search needs
+
+returns : tie.Need-returns
+returns c = let f = c .before .before .fits .word in (mixed-neg _ _ _ (v-is (c .before)) (simp (toZ-ofZ f) at (c .if1 .taken)), below _)
+
+returns-2 : tie.Need-returns-2
+returns-2 c = let f = c .before .before .fits .word in (mixed-pos _ _ _ (v-is (c .before)) (simp (toZ-ofZ f) at (c .if1 .left)), below _)
+
+pub mix-spec : {M : Type 1} → statement M
+mix-spec =
+    tie.close
+    (tie.spec
+    (λ c κs. search needs)
+    (λ c. search needs)
+    add-result
+    add-result-2
+    (λ c. search needs)
+    add-result-3
+    add-result-4
+    returns
+    returns-2)
