@@ -1,0 +1,4 @@
+-- The claims over texts.
+pub mod Texts
+pub mod Written
+pub mod Examples

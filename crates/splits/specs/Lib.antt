@@ -1,0 +1,5 @@
+-- What the service that merges two halves leaves, and what is claimed of it.
+pub mod Service
+pub mod Writing
+pub mod Claims
+pub mod Examples
