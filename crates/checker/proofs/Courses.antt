@@ -21,7 +21,7 @@ use Rattle.nogoods.proofs.Live.{live-nil, live-few}
 use Rattle.nogoods.proofs.Indexing.{keeps-blank}
 use Rattle.checker.specs.Check.{storedAfter, Course, stopped, course}
 use Rattle.checker.specs.Claims.{Runs, ends, unread, unaccepted, full, good}
-use Rattle.checker.specs.Held.{Tracks, nameWords, HoldsState, Leaves, proofTurn, LineLeaves, Ran}
+use Rattle.checker.specs.Held.{Tracks, HoldsState, Leaves, proofTurn, LineLeaves, Ran}
 use Rattle.checker.specs.declared.outcomes.Stepped.{Stepped}
 use Rattle.checker.specs.declared.outcomes.Stepped.the-variants.{Uses, Fails}
 use Rattle.checker.specs.declared.runs.ProofTurn.{ProofTurn}
@@ -51,11 +51,10 @@ module _ (N : ℕ) (ws : List InputRule) (size : ℕ) (text : List ℕ) where
     pub within : at ≤ length text
     pub count : steps ≤ at
     pub long : length store ≡ size
-    pub places : length names ≡ nameWords
 
   pub going-start : {store : List ℤ} {index known names : List ℕ} {bodies : List ℤ} → Tracks N ws known names bodies [] [] → store ≡ replicate (length store) (pos 0) → length store ≡ size
-      → length names ≡ nameWords → length index ≡ indexSize → Blank index → Going store index known names bodies 0 0 0
-  going-start {store} T e l p n b =
+      → length index ≡ indexSize → Blank index → Going store index known names bodies 0 0 0
+  going-start {store} T e l n b =
       record {
         z = start;
         tracks = T;
@@ -65,14 +64,13 @@ module _ (N : ℕ) (ws : List InputRule) (size : ℕ) (text : List ℕ) where
         within = omega arith;
         count = omega arith;
         long = l;
-        places = p;
       }
 
   module _ (short : length text ≤ longest) {store : List ℤ} {index known names : List ℕ} {bodies : List ℤ} {used at steps : ℕ} (G : Going store index known names bodies used at steps) where
     comes : (c : Course) → Runs N P size text at steps (G .z) (G .stored) c → course N P size text ≡ c
     comes c r = step-by-step N P size text c short .1 (G .onward c r)
 
-    module _ (after : List ℤ) (index′ known′ names′ : List ℕ) (bodies′ : List ℤ) (same : length after ≡ length store) (same′ : length names′ ≡ length names) where
+    module _ (after : List ℤ) (index′ known′ names′ : List ℕ) (bodies′ : List ℤ) (same : length after ≡ length store) where
       -- what the turn at the position leaves
       abbrev Turned : LineAt → ProofTurn → Type 0
       Turned = LineLeaves N ws known′ names′ bodies′ after index′ used (steps + 1) size (G .z) (G .stored)
@@ -142,7 +140,6 @@ module _ (N : ℕ) (ws : List InputRule) (size : ℕ) (text : List ℕ) where
                       within = omega (arith, u .1, f);
                       count = omega (arith, u .0, f, G .count);
                       long = w;
-                      places = same′ ∙ G .places;
                     },
                     omega (arith, u .0, f),
                   )

@@ -23,7 +23,8 @@ use Rattle.derivation.proofs.Questions.{known-decides}
 use Rattle.names.specs.Queries.{HoldsRules, entry, Kept}
 use Rattle.names.proofs.Called.{none-called}
 use Rattle.marks.proofs.Sets.{marked-set}
-use Rattle.checker.specs.Held.{nameOf, Proper, Program, Tracks, Tracked, nameWords, NoBodies}
+use Rattle.checker.specs.Held.{nameOf, Proper, Program, Tracks, Tracked, NoBodies}
+use Rattle.heads.specs.Heads.{nameWords}
 use Rattle.checker.proofs.Names.{unlisted, name-of, name-found}
 
 -- Question 26

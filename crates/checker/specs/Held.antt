@@ -8,7 +8,7 @@ use Prim.Native.Nat.{ℕ, zero, suc, _+_, _≤_, _<_}
 use lib.Dec.{T, eqb}
 use lib.IntN.{ℤ, pos, negℤ}
 use lib.ListN.{length, replicate, take}
-use Rattle.words.specs.Limits.{largest, entries, mostRules, mostNumbers}
+use Rattle.words.specs.Limits.{largest, entries, mostNumbers}
 use Rattle.words.specs.Lists.{_∈_}
 use Rattle.words.specs.Literals.{variable, distinct, sameList}
 use Rattle.aspif.specs.Rules.{InputRule, allPlain, expand, atoms}
@@ -77,10 +77,6 @@ pub record Tracks (N : ℕ) (ws : List InputRule) (known names : List ℕ) (bodi
 abbrev pub Tracked : (table : List ℤ) → (rules N : ℕ) → (known names : List ℕ) → List ℤ → Type 0
 Tracked table rules N known names bodies =
     (ws : List InputRule) × (z : State) × Program table rules N ws × Tracks N ws known names bodies (z .introduced) (z .named)
-
--- how many words the names take: one for each rule, then one for each variable, of which nothing is said
-abbrev pub nameWords : ℕ
-nameWords = mostRules + entries
 
 -- what is lent for the bodies by name at the start: 0 throughout, a record for each variable, where some rule has a weight body
 abbrev pub NoBodies : List InputRule → List ℤ → Type 0

@@ -6,7 +6,6 @@ mod naming;
 mod outcomes;
 pub mod report;
 mod runs;
-mod states;
 mod steps;
 mod supports;
 mod unfounded;

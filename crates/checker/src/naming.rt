@@ -19,7 +19,6 @@ ghost use Rattle.heads.specs.Heads.{Indexed};
 ghost use Rattle.checker.specs.Held.{PassedLine, nameOf, Tracks, Fitted, Stepping};
 use crate::outcomes;
 use crate::outcomes::Stepped;
-use crate::states::CheckingState;
 use nogoods::INDEX;
 use nogoods::definitions;
 use nogoods::store;
@@ -131,7 +130,7 @@ pub fn body(
         return Stepped::Fails(27);
     }
     let count = numbers.len();
-    let mut row = [0i32; CheckingState::NUMBERS];
+    let mut row = [0i32; words::MOST_NUMBERS];
     words::copy(&mut row, numbers);
     if !name_body(
         table,

@@ -13,17 +13,18 @@ ghost use Rattle.drupe.specs.Lines.{lineAt};
 ghost use Rattle.derivation.specs.States.{State};
 ghost use Rattle.nogoods.specs.Store.{Stored};
 ghost use Rattle.nogoods.specs.Index.{Keeps};
-ghost use Rattle.heads.specs.Heads.{Indexed};
+ghost use Rattle.marks.specs.Marks.{Marks, upTo};
+ghost use Rattle.heads.specs.Heads.{nameWords, Indexed};
 ghost use Rattle.loops.specs.Relevance.{Relevant};
 ghost use Rattle.checker.specs.Check.{course};
 ghost use Rattle.checker.specs.Held.{Program, Tracks, Tracked, NoBodies, HoldsState, proofTurn, LineLeaves, Ran};
 use crate::ProofRefusal;
 use crate::outcomes::Stepped;
-use crate::states::CheckingState;
 use crate::steps;
 use aspif::tables;
 use drupe::LineAnswer;
 use heads::INDEX_WORDS;
+use heads::NAME_WORDS;
 use loops::relevance;
 use names::by_name;
 use nogoods::INDEX;
@@ -123,7 +124,7 @@ fn turn_at(
     }
 }
 
-// All lines of a proof text, from an empty store and no names. The first refusal ends them.
+// All lines of a proof text: "At the start there are no nogoods and no names, and the atoms alone are known." The first refusal ends them.
 fn run_lines(
     proof: &[u8],
     table: &[i32],
@@ -131,12 +132,15 @@ fn run_lines(
     lookup: &[u16],
     relevant: &[u8],
     atoms: usize,
+    known: &mut [u8],
+    names: &mut [u16],
     bodies: &mut [i16],
     store: &mut [i32],
 ) -> Run
     requires program { ⌜ ((ws : List InputRule) × Program (now table) rules atoms ws) × (rules ≤ mostRules) ⌝ }
     requires index { ⌜ Indexed (now lookup) (now table) rules ⌝ }
     requires relevant { ⌜ Relevant (now relevant) (rulesAt rules (now table)) ⌝ }
+    requires start { ⌜ Marks (now known) (upTo atoms) × (now names ≡ replicate nameWords 0) ⌝ }
     requires bodies { ⌜ NoBodies (rulesAt rules (now table)) (now bodies) ⌝ }
     requires short { ⌜ length (now proof) ≤ longest ⌝ }
     requires empty { ⌜ now store ≡ replicate (length (now store)) (pos 0) ⌝ }
@@ -146,11 +150,8 @@ fn run_lines(
     let classes = text::CLASSES;
     let mut numbers = [0; MOST_NUMBERS];
     let mut sorted = [0; MOST_NUMBERS];
-    let start = CheckingState::start(atoms);
-    let mut known = start.known;
-    let mut names = start.names;
     let mut index = [0u16; INDEX];
-    let mut used = start.used;
+    let mut used = 0;
     let mut at = 0;
     let mut steps = 0;
     loop {
@@ -166,8 +167,8 @@ fn run_lines(
             lookup,
             relevant,
             atoms,
-            &mut known,
-            &mut names,
+            known,
+            names,
             bodies,
             store,
             used,
@@ -187,8 +188,17 @@ fn run_lines(
 
 // The lines, with what weight bodies need: the records of their bodies by name, and which of their literals are relevant.
 // These are large, and stand in a frame of their own.
-fn run_weighted(proof: &[u8], table: &[i32], rules: usize, atoms: usize, store: &mut [i32]) -> Run
+fn run_weighted(
+    proof: &[u8],
+    table: &[i32],
+    rules: usize,
+    atoms: usize,
+    known: &mut [u8],
+    names: &mut [u16],
+    store: &mut [i32],
+) -> Run
     requires program { ⌜ ((ws : List InputRule) × Program (now table) rules atoms ws) × (rules ≤ mostRules) ⌝ }
+    requires start { ⌜ Marks (now known) (upTo atoms) × (now names ≡ replicate nameWords 0) ⌝ }
     requires short { ⌜ length (now proof) ≤ longest ⌝ }
     requires empty { ⌜ now store ≡ replicate (length (now store)) (pos 0) ⌝ }
     ensures { λ r. ⌜ ((ws : List InputRule) → Program (now (table .entry)) rules atoms ws
@@ -205,6 +215,8 @@ fn run_weighted(proof: &[u8], table: &[i32], rules: usize, atoms: usize, store: 
         &[0],
         &relevant,
         atoms,
+        known,
+        names,
         &mut bodies,
         store,
     )
@@ -212,8 +224,17 @@ fn run_weighted(proof: &[u8], table: &[i32], rules: usize, atoms: usize, store: 
 
 // The lines of a proof against a program without weight bodies: nothing is kept of them, and no records are made. The rules get an
 // index, which stands in a frame of its own.
-fn run_plain(proof: &[u8], table: &[i32], rules: usize, atoms: usize, store: &mut [i32]) -> Run
+fn run_plain(
+    proof: &[u8],
+    table: &[i32],
+    rules: usize,
+    atoms: usize,
+    known: &mut [u8],
+    names: &mut [u16],
+    store: &mut [i32],
+) -> Run
     requires program { ⌜ ((ws : List InputRule) × Program (now table) rules atoms ws) × (rules ≤ mostRules) ⌝ }
+    requires start { ⌜ Marks (now known) (upTo atoms) × (now names ≡ replicate nameWords 0) ⌝ }
     requires plain { ⌜ allPlain (rulesAt rules (now table)) ≡ true ⌝ }
     requires short { ⌜ length (now proof) ≤ longest ⌝ }
     requires empty { ⌜ now store ≡ replicate (length (now store)) (pos 0) ⌝ }
@@ -223,7 +244,18 @@ fn run_plain(proof: &[u8], table: &[i32], rules: usize, atoms: usize, store: &mu
     let mut lookup = [0u16; INDEX_WORDS];
     heads::fill(table, rules, &mut lookup);
     let mut none = [0i16; 1];
-    run_lines(proof, table, rules, &lookup, &[0], atoms, &mut none, store)
+    run_lines(
+        proof,
+        table,
+        rules,
+        &lookup,
+        &[0],
+        atoms,
+        known,
+        names,
+        &mut none,
+        store,
+    )
 }
 
 // All lines of a proof text, from an empty store.
@@ -234,8 +266,10 @@ pub fn run_proof(proof: &[u8], table: &[i32], rules: usize, atoms: usize, store:
     ensures { λ r. ⌜ ((ws : List InputRule) → Program (now (table .entry)) rules atoms ws
         → Ran (now (store .exit)) (course atoms (expand ws) (length (now (store .entry))) (now (proof .entry))) r) ⌝ }
 {
+    let mut known = marks::marks_to(atoms);
+    let mut names = [0u16; NAME_WORDS];
     if tables::all_plain(table, rules) {
-        return run_plain(proof, table, rules, atoms, store);
+        return run_plain(proof, table, rules, atoms, &mut known, &mut names, store);
     }
-    run_weighted(proof, table, rules, atoms, store)
+    run_weighted(proof, table, rules, atoms, &mut known, &mut names, store)
 }

@@ -62,6 +62,17 @@ beforeAt = bucketAt + hashes
 abbrev pub indexWords : ℕ
 indexWords = beforeAt + mostRules
 
+-- The words that hold the names of bodies: one for each rule, and behind these the hints, of which nothing is said.
+abbrev pub hints : ℕ
+hints = 1024
+
+abbrev pub nameWords : ℕ
+nameWords = mostRules + hints
+
+-- where the hint for a name stands
+abbrev pub hintOf : ℕ → ℕ
+hintOf name = mostRules + name % hints
+
 -- Heads
 
 -- a head with its rule

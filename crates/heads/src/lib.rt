@@ -15,7 +15,7 @@ ghost use Rattle.words.specs.Literals.{variable, sameList, distinct, mentions, 
 ghost use Rattle.aspif.specs.Rules.{InputRule, allPlain, expand};
 ghost use Rattle.aspif.specs.Tables.{rulesAt, soundRules, soundAt, shapeSound, headsAt};
 ghost use Rattle.names.specs.Queries.{HoldsRules, entry, Kept, isInside, askedNames, completing};
-ghost use Rattle.heads.specs.Heads.{startOf, wordsFrom, mostHeads, hashes, firstAt, bucketAt, indexWords, Headed, headedBy, headedTo};
+ghost use Rattle.heads.specs.Heads.{startOf, wordsFrom, mostHeads, hashes, firstAt, bucketAt, indexWords, hintOf, Headed, headedBy, headedTo};
 ghost use Rattle.heads.specs.Heads.{HeadChains, mixed, hashFrom, Entered, covered, Indexed, Covers, isJustNames, Listed, RuleWith, Completes};
 ghost use Rattle.heads.specs.Heads.{HasHead, Row, InRow, Collected, Gathers, Externals};
 ghost use Rattle.names.specs.declared.queries.Query.the-variants.{External};
@@ -46,6 +46,11 @@ const BUCKET: usize = OWNER + MOST_HEADS;
 const BEFORE: usize = BUCKET + HASHES;
 
 pub const INDEX_WORDS: usize = BEFORE + MOST_RULES;
+
+// What is kept by rule, and behind it the hints.
+const HINTS: usize = 1024;
+
+pub const NAME_WORDS: usize = MOST_RULES + HINTS;
 
 // The names of the external bodies of a set: so many words of the row; or some body has none.
 pub enum Found {
@@ -327,12 +332,19 @@ fn enter_rules(
     }
 }
 
+// Where the hint for a name stands. Names with the same place take it from each other, which costs time and nothing else.
+fn hint_of(name: usize) -> usize
+    ensures { λ r. ⌜ r ≡ hintOf name ⌝ }
+{
+    MOST_RULES + name % HINTS
+}
+
 // The last rule with the body of a name, one more than its number: a hint behind what is kept by rule, where there is room for it.
 fn put_hint(names: &mut [u16], name: usize, newest: usize)
-    requires { ⌜ (name ≤ largest) × (newest ≤ mostRules) ⌝ }
-    ensures { λ _. ⌜ now (names .exit) ≡ set (now (names .entry)) (mostRules + name) newest ⌝ }
+    requires { ⌜ newest ≤ mostRules ⌝ }
+    ensures { λ _. ⌜ now (names .exit) ≡ set (now (names .entry)) (hintOf name) newest ⌝ }
 {
-    let at = MOST_RULES + name;
+    let at = hint_of(name);
     if at < names.len() {
         names[at] = newest as u16;
     }
@@ -385,11 +397,11 @@ fn is_found(
     heads: &[i32],
     name: usize,
 ) -> bool
-    requires { ⌜ Covers (now index) (now table) rules × (soundRules rules (now table) ≡ true) × (rules ≤ length (now names)) × (name ≤ largest) ⌝ }
+    requires { ⌜ Covers (now index) (now table) rules × (soundRules rules (now table) ≡ true) × (rules ≤ length (now names)) ⌝ }
     ensures { λ r. ⌜ (r ≡ true → (k : ℕ) × (k < rules)
         × Completes (wordsFrom k (now (table .entry))) (now (heads .entry)) name (getD (now (names .entry)) k 0)) ⌝ }
 {
-    let mut p = word_of(names, MOST_RULES + name);
+    let mut p = word_of(names, hint_of(name));
     if rules < p {
         return false;
     }

@@ -5,7 +5,7 @@ use native.Mathlib.Omega.{arith}
 use lib.ListN.{take}
 use Rattle.words.specs.Limits.{mostRules}
 use Rattle.aspif.proofs.Readable.{rules-count}
-use Rattle.heads.specs.Heads.{Covers}
+use Rattle.heads.specs.Heads.{Covers, hintOf}
 use Rattle.heads.proofs.Bodies.{covers-few, found-few, kept-front}
 use borrow.Author.Needs.{needs}
 use Rattle.heads.proofs.enter.Statement.{statement}
@@ -29,7 +29,7 @@ put-hint-requires c κs =
     let r = c .before .before .before .before .before in
     let d = r .before in
     let s = d .before .before .before .before in
-    (s .pre .1 .1 .1, found-few (s .args .table .now) (s .args .rules) (s .args .body .now) _ (covers-few (covers d)) (r .rule-with .ensures))
+    found-few (s .args .table .now) (s .args .rules) (s .args .body .now) _ (covers-few (covers d)) (r .rule-with .ensures)
 
 returns : tie.Need-returns
 returns c =
@@ -42,7 +42,7 @@ returns c =
     let few = covers-few (covers d) in
     λ ws H. rw (← H .are) (λ called K u f. record {
       rules = omega (arith, K .rules, g .kept .1 .1 .1 .1 .1 .0, h .kept .0);
-      byRule = kept-front (g .last .1 .1 .1 .1 .1 .0) (h .last .0) (a .rules) (mostRules + a .name) _ _ _ n (omega (arith, few)) (h .ensures)
+      byRule = kept-front (g .last .1 .1 .1 .1 .1 .0) (h .last .0) (a .rules) (hintOf (a .name)) _ _ _ n (omega (arith, few)) (h .ensures)
           (g .ensures called (ap (λ m. take m (a .names .now)) (sym n) ∙ K .byRule));
       byName = λ w. absurd (true≢false (sym (covers d .plain) ∙ w));
     })

@@ -10,7 +10,7 @@ covers : (c : tie.Then1) → (let a = c .before .before .before .before .args in
 covers c = c .before .before .before .before .pre .1 .0 (sym (c .before .is-covered .ensures) ∙ c .if1 .taken)
 
 is-found-requires : tie.Need-is-found-requires
-is-found-requires c κs = let p = c .before .before .before .before .pre in (covers c, p .0 .0 .1 .sound, p .0 .1, p .1 .1 .1)
+is-found-requires c κs = let p = c .before .before .before .before .pre in (covers c, p .0 .0 .1 .sound, p .0 .1)
 
 returns : tie.Need-returns
 returns c =

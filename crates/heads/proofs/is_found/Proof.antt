@@ -23,7 +23,7 @@ abbrev μ-loop : tie.MeasureT-loop
 -- the rule at hand
 module _ (c : tie.In-loop Inv-loop μ-loop) where
   abbrev s : tie.Start Inv-loop μ-loop
-  s = c .before .before .before .before .before .before
+  s = c .before .before .before .before .before .before .before
 
   abbrev t : List ℤ
   t = s .args .table .now

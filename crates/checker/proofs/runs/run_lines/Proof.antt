@@ -8,7 +8,7 @@ use Rattle.aspif.specs.Rules.{InputRule}
 use Rattle.words.specs.Limits.{mostNumbers}
 use Rattle.text.specs.Classes.{byteClasses}
 use Rattle.drupe.specs.Lines.{lineAt}
-use Rattle.checker.specs.Held.{Program, nameWords, LineLeaves}
+use Rattle.checker.specs.Held.{Program, LineLeaves}
 use Rattle.checker.proofs.Tracking.{same-rules, rules-held, start-tracks}
 use Rattle.checker.proofs.Courses.{Going, going-start, going-ends, going-fails, going-on}
 use Rattle.nogoods.specs.Index.{indexSize}
@@ -18,12 +18,12 @@ use Rattle.checker.proofs.runs.run_lines.Statement.{statement}
 use Rattle.checker.proofs.runs.run_lines.Tie as tie
 
 abbrev Inv-loop : tie.InvT-loop
-Inv-loop proof table rules lookup relevant atoms bodies₀ store₀ classes numbers₀ sorted₀ known₀ names₀ index₀ used₀ at₀ steps₀ bodies store numbers sorted known names index used at steps =
-    (ws : List InputRule) × Program table rules atoms ws × Going atoms ws (length store₀) proof store index known names bodies used at steps × (length bodies ≡ length bodies₀)
-    × (length numbers ≡ mostNumbers) × (length sorted ≡ mostNumbers)
+Inv-loop proof table rules lookup relevant atoms known₀ names₀ bodies₀ store₀ classes numbers₀ sorted₀ index₀ used₀ at₀ steps₀ known names bodies store numbers sorted index used at steps =
+    (ws : List InputRule) × Program table rules atoms ws × Going atoms ws (length store₀) proof store index known names bodies used at steps × (length known ≡ length known₀) × (length names ≡ length names₀)
+    × (length bodies ≡ length bodies₀) × (length numbers ≡ mostNumbers) × (length sorted ≡ mostNumbers)
 
 abbrev μ-loop : tie.MeasureT-loop
-μ-loop proof table rules lookup relevant atoms bodies₀ store₀ classes numbers₀ sorted₀ known₀ names₀ index₀ used₀ at₀ steps₀ bodies store numbers sorted known names index used at steps = length proof - at
+μ-loop proof table rules lookup relevant atoms known₀ names₀ bodies₀ store₀ classes numbers₀ sorted₀ index₀ used₀ at₀ steps₀ known names bodies store numbers sorted index used at steps = length proof - at
 
 -- where the loop stands, and what the turn there left
 module _ (c : tie.After-turn-at Inv-loop μ-loop) where
@@ -31,7 +31,7 @@ module _ (c : tie.After-turn-at Inv-loop μ-loop) where
   l = c .before .before .before .before .before .before .before .before .before
 
   abbrev start : tie.Start Inv-loop μ-loop
-  start = l .before .before .before .before .before .before .before
+  start = l .before .before .before .before .before .before
 
   abbrev ws : List InputRule
   ws = l .loop .inv .0
@@ -60,80 +60,80 @@ module _ (c : tie.After-turn-at Inv-loop μ-loop) where
       (G .long) (c .turn-at .ensures ws (l .loop .inv .1) (G .z) (G .stored) (G .tracks) (G .keeps))
 
   -- as many words as were lent
+  same-known : length known′ ≡ length (start .args .known .now)
+  same-known = c .turn-at .kept .1 .1 .1 .1 .1 .1 .1 .1 .1 .1 .0 ∙ l .loop .inv .3
+
+  same-names : length names′ ≡ length (start .args .names .now)
+  same-names = c .turn-at .kept .1 .1 .1 .1 .1 .1 .1 .1 .1 .1 .1 .0 ∙ l .loop .inv .4
+
   same-bodies : length bodies′ ≡ length (start .args .bodies .now)
-  same-bodies = c .turn-at .kept .1 .1 .1 .1 .1 .1 .1 .1 .1 .1 .1 .1 .0 ∙ l .loop .inv .3
+  same-bodies = c .turn-at .kept .1 .1 .1 .1 .1 .1 .1 .1 .1 .1 .1 .1 .0 ∙ l .loop .inv .5
 
   same-numbers : length (c .turn-at .last .1 .1 .1 .0) ≡ mostNumbers
-  same-numbers = c .turn-at .kept .1 .1 .1 .0 ∙ l .loop .inv .4
+  same-numbers = c .turn-at .kept .1 .1 .1 .0 ∙ l .loop .inv .6
 
   same-sorted : length (c .turn-at .last .1 .1 .1 .1 .0) ≡ mostNumbers
-  same-sorted = c .turn-at .kept .1 .1 .1 .1 .0 ∙ l .loop .inv .5
+  same-sorted = c .turn-at .kept .1 .1 .1 .1 .0 ∙ l .loop .inv .7
 
   -- every program that the table holds is the same
   same : {us : List InputRule} → Program (start .args .table .now) (start .args .rules) (start .args .atoms) us → us ≡ ws
   same q = same-rules (q .holds) (l .loop .inv .1 .holds)
 
-start-requires : tie.Need-start-requires Inv-loop μ-loop
-start-requires c κs = c .before .before .before .pre .0 .0 .1 .high
-
 loop-holds : tie.Need-loop-holds Inv-loop μ-loop
 loop-holds c =
-    let s = c .before .before .start .ensures in
-    let q = c .before .before .before .before .before .before .pre in
+    let q = c .before .before .before .before .before .pre in
     let p = q .0 .0 .1 in
-    rw (s .1, s .2) (q .0 .0 .0, p, going-start _ _ _ _ (start-tracks (s .0) (omega (arith, q .0 .1, rules-held (p .holds))) (rw (← p .holds .are) (q .1 .1 .1 .0))) (q .1 .1 .1 .1 .1) refl (length-replicate {A = ℕ} nameWords 0) (length-replicate {A = ℕ} indexSize 0) (blank-zeros indexSize), refl, length-replicate {A = ℤ} mostNumbers (pos 0), length-replicate {A = ℤ} mostNumbers (pos 0))
+    let b = q .1 .1 .1 in
+    (q .0 .0 .0, p, going-start _ _ _ _ (rw (b .0 .1) (start-tracks (b .0 .0) (omega (arith, q .0 .1, rules-held (p .holds))) (rw (← p .holds .are) (b .1 .0)))) (b .1 .1 .1) refl (length-replicate {A = ℕ} indexSize 0) (blank-zeros indexSize), refl, refl, refl, length-replicate {A = ℤ} mostNumbers (pos 0), length-replicate {A = ℤ} mostNumbers (pos 0))
 
 -- the number of the next step
 add-step : tie.Need-add-step Inv-loop μ-loop
 add-step c =
     let g = c .loop .inv .2 in
-    let p = c .before .before .before .before .before .before .before .pre .1 .1 .1 .1 .0 in
+    let p = c .before .before .before .before .before .before .pre .1 .1 .1 .1 .1 .0 in
     search (needs, g .count, g .within, p)
 
 slice-aggregate-turn-at : tie.Need-slice-aggregate-turn-at Inv-loop μ-loop
-slice-aggregate-turn-at c = let p = c .before .before .loop .inv .4 in search needs
+slice-aggregate-turn-at c = let p = c .before .before .loop .inv .6 in search needs
 
 slice-aggregate-turn-at-2 : tie.Need-slice-aggregate-turn-at-2 Inv-loop μ-loop
-slice-aggregate-turn-at-2 c = let p = c .before .before .before .loop .inv .5 in search needs
-
-slice-aggregate-turn-at-4 : tie.Need-slice-aggregate-turn-at-4 Inv-loop μ-loop
-slice-aggregate-turn-at-4 c = let p = c .before .before .before .before .before .loop .inv .2 .places in search needs
+slice-aggregate-turn-at-2 c = let p = c .before .before .before .loop .inv .7 in search needs
 
 turn-at-requires : tie.Need-turn-at-requires Inv-loop μ-loop
 unfolding byteClasses
 turn-at-requires c κs =
     let i = c .before .before .before .before .before .before .before .before .loop .inv in
-    let p = c .before .before .before .before .before .before .before .before .before .before .before .before .before .before .before .pre in
-    ((i .0, i .2 .z, i .1, i .2 .tracks), (p .1 .0, (p .1 .1 .0, (((i .2 .stored, i .2 .keeps .keeps), omega (arith, i .2 .count)), (p .1 .1 .1 .1 .0, (refl, (i .4, i .5)))))))
+    let p = c .before .before .before .before .before .before .before .before .before .before .before .before .before .before .pre in
+    ((i .0, i .2 .z, i .1, i .2 .tracks), (p .1 .0, (p .1 .1 .0, (((i .2 .stored, i .2 .keeps .keeps), omega (arith, i .2 .count)), (p .1 .1 .1 .1 .1 .0, (refl, (i .6, i .7)))))))
 
 enum-told : tie.Need-enum-told Inv-loop μ-loop
 enum-told c = search needs
 
 returns : tie.Need-returns Inv-loop μ-loop
 returns c =
-    let t = c .before .before .before .before .before .before .before .before in
-    λ Q q. rw (same t q) (going-ends _ _ _ _ (start t .pre .1 .1 .1 .1 .0) (G t) (store′ t) (index′ t) (known′ t) (names′ t) (bodies′ t) (search needs) (search needs) (c .enum-told .given .1) (turned t))
+    let t = c .before .before .before .before .before .before .before .before .before .before in
+    λ Q q. rw (same t q) (going-ends _ _ _ _ (start t .pre .1 .1 .1 .1 .1 .0) (G t) (store′ t) (index′ t) (known′ t) (names′ t) (bodies′ t) (search needs) (c .enum-told .given .1) (turned t))
 
 returns-2 : tie.Need-returns-2 Inv-loop μ-loop
 returns-2 c =
-    let t = c .before .before .before .before .before .before .before .before .before in
-    λ Q q. rw (same t q) (going-fails _ _ _ _ (start t .pre .1 .1 .1 .1 .0) (G t) (store′ t) (index′ t) (known′ t) (names′ t) (bodies′ t) (search needs) (search needs) _ (c .before .number .given .1) (turned t))
+    let t = c .before .before .before .before .before .before .before .before .before .before .before in
+    λ Q q. rw (same t q) (going-fails _ _ _ _ (start t .pre .1 .1 .1 .1 .1 .0) (G t) (store′ t) (index′ t) (known′ t) (names′ t) (bodies′ t) (search needs) _ (c .before .number .given .1) (turned t))
 
 onward : (c : tie.After-known-told2 Inv-loop μ-loop)
-    → (let t = c .before .before .before .before .before .before .before .before .before in let g = c .before .next .given .0 in
+    → (let t = c .before .before .before .before .before .before .before .before .before .before .before in let g = c .before .next .given .0 in
     Going (start t .args .atoms) (ws t) (length (start t .args .store .now)) (start t .args .proof .now) (store′ t) (index′ t) (known′ t) (names′ t) (bodies′ t) (g .1 .0) (g .0) (l t .loop .steps + 1) × (l t .loop .at < g .0))
 onward c =
-    let t = c .before .before .before .before .before .before .before .before .before in
-    going-on _ _ _ _ (start t .pre .1 .1 .1 .1 .0) (G t) (store′ t) (index′ t) (known′ t) (names′ t) (bodies′ t) (search needs) (search needs) _ _ (c .before .next .given .1) (turned t)
+    let t = c .before .before .before .before .before .before .before .before .before .before .before in
+    going-on _ _ _ _ (start t .pre .1 .1 .1 .1 .1 .0) (G t) (store′ t) (index′ t) (known′ t) (names′ t) (bodies′ t) (search needs) _ _ (c .before .next .given .1) (turned t)
 
 loop-less : tie.Need-loop-less Inv-loop μ-loop
 loop-less c = let o = onward c in omega (arith, o .0 .within, o .1)
 
 loop-again : tie.Need-loop-again Inv-loop μ-loop
 loop-again c =
-    let t = c .before .before .before .before .before .before .before .before .before in
+    let t = c .before .before .before .before .before .before .before .before .before .before .before in
     let i = l t .loop .inv in
-    (i .0, i .1, onward c .0, same-bodies t, same-numbers t, same-sorted t)
+    (i .0, i .1, onward c .0, same-known t, same-names t, same-bodies t, same-numbers t, same-sorted t)
 
 pub run-lines-spec : {M : Type 1} → statement M
 run-lines-spec =
@@ -141,20 +141,21 @@ run-lines-spec =
     (tie.spec
     Inv-loop
     μ-loop
-    start-requires
     loop-holds
     add-step
     slice-aggregate-turn-at
     slice-aggregate-turn-at-2
-    (λ c. search needs)
-    slice-aggregate-turn-at-4
     turn-at-requires
     enum-told
-    (λ c. same-bodies (c .before .before .before .before .before .before .before .before))
+    (λ c. same-known (c .before .before .before .before .before .before .before .before .before .before))
+    (λ c. same-names (c .before .before .before .before .before .before .before .before .before .before))
+    (λ c. same-bodies (c .before .before .before .before .before .before .before .before .before .before))
     (λ c. search needs)
     returns
     (λ c. search needs)
-    (λ c. same-bodies (c .before .before .before .before .before .before .before .before .before))
+    (λ c. same-known (c .before .before .before .before .before .before .before .before .before .before .before))
+    (λ c. same-names (c .before .before .before .before .before .before .before .before .before .before .before))
+    (λ c. same-bodies (c .before .before .before .before .before .before .before .before .before .before .before))
     (λ c. search needs)
     returns-2
     (λ c. search needs)

@@ -7,9 +7,9 @@ use Rattle.checker.proofs.runs.run_plain.Tie as tie
 
 run-lines-requires : tie.Need-run-lines-requires
 run-lines-requires c κs =
-    let f = c .before .before .before .before .before in
-    let p = f .before .before .before .pre in
-    (p .0, (f .fill .ensures, (relevant-plain _ _ (p .1 .0), (λ w. absurd (true≢false (sym (p .1 .0) ∙ w)), (p .1 .1 .0, p .1 .1 .1)))))
+    let f = c .before .before .before .before .before .before .before in
+    let p = f .before .before .before .before .before .pre in
+    (p .0, (f .fill .ensures, (relevant-plain _ _ (p .1 .1 .0), (p .1 .0, (λ w. absurd (true≢false (sym (p .1 .1 .0) ∙ w)), p .1 .1 .1)))))
 
 pub run-plain-spec : {M : Type 1} → statement M
 run-plain-spec =
@@ -21,5 +21,7 @@ run-plain-spec =
     (λ c. search needs)
     (λ c. search needs)
     run-lines-requires
+    (λ c. search needs)
+    (λ c. search needs)
     (λ c. search needs)
     (λ c. search needs))

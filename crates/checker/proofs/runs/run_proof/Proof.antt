@@ -1,21 +1,34 @@
-use mathlib.Core.Path.{sym, _∙_}
+use mathlib.Core.Path.{refl, sym, _∙_}
 use borrow.Author.Needs.{needs}
 use Rattle.checker.proofs.runs.run_proof.Statement.{statement}
 use Rattle.checker.proofs.runs.run_proof.Tie as tie
 
 run-plain-requires : tie.Need-run-plain-requires
 run-plain-requires c κs =
-    let s = c .before .before .before .before in
-    (s .pre .0, (sym (c .before .before .all-plain .ensures) ∙ c .before .if1 .taken, s .pre .1))
+    let d = c .before .before .before in
+    let m = d .before .before in
+    let p = m .before .before .pre in
+    (p .0, ((m .marks-to .ensures, refl), (sym (d .before .all-plain .ensures) ∙ d .if1 .taken, p .1)))
+
+run-weighted-requires : tie.Need-run-weighted-requires
+run-weighted-requires c κs =
+    let m = c .before .before .before .before .before in
+    let p = m .before .before .pre in
+    (p .0, ((m .marks-to .ensures, refl), p .1))
 
 pub run-proof-spec : {M : Type 1} → statement M
 run-proof-spec =
     tie.close
     (tie.spec
+    (λ c κs. c .before .pre .0 .0 .1 .high)
     (λ c κs. search needs)
+    (λ c. search needs)
+    (λ c. search needs)
     run-plain-requires
     (λ c. search needs)
     (λ c. search needs)
-    (λ c κs. search needs)
+    (λ c. search needs)
+    (λ c. search needs)
+    run-weighted-requires
     (λ c. search needs)
     (λ c. search needs))

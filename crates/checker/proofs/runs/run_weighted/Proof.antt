@@ -6,9 +6,9 @@ use Rattle.checker.proofs.runs.run_weighted.Tie as tie
 
 run-lines-requires : tie.Need-run-lines-requires
 run-lines-requires c κs =
-    let f = c .before .before .before .before .before in
-    let p = f .before .before .before .pre in
-    (p .0, (λ e. absurd (true≢false (sym e)), (f .fill .ensures, (λ w. refl, (p .1 .0, p .1 .1)))))
+    let f = c .before .before .before .before .before .before .before in
+    let p = f .before .before .before .before .before .pre in
+    (p .0, (λ e. absurd (true≢false (sym e)), (f .fill .ensures, (p .1 .0, (λ w. refl, p .1 .1)))))
 
 pub run-weighted-spec : {M : Type 1} → statement M
 run-weighted-spec =
@@ -21,4 +21,6 @@ run-weighted-spec =
     (λ c. search needs)
     run-lines-requires
     (λ c. search needs)
-    (λ c. c .before .before .run-lines .ensures))
+    (λ c. search needs)
+    (λ c. search needs)
+    (λ c. c .before .before .before .before .before .before .run-lines .ensures))
