@@ -10,7 +10,7 @@ use lib.Dec.{eqb}
 use lib.IntN.{ℤ}
 use lib.ListN.{length, take, getD, set}
 use lib.Seq.{getD-set-same, getD-set-other, take-set-le}
-use Rattle.words.specs.Limits.{mostRules}
+use Rattle.words.specs.Limits.{mostHeld}
 use Rattle.words.specs.Lists.{any}
 use Rattle.words.specs.Literals.{sameList}
 use Rattle.words.proofs.Lists.{Decides, passed, if-true, is-true, and-left, and-right, and-decides, eqb-decides}
@@ -129,7 +129,7 @@ one-completes t n {called = called} s p K hs name k h q =
     (k, h, (and-left (isNormal (ruleAt (wordsFrom k t) .kind)) _ (q .0), (and-right (isNormal (ruleAt (wordsFrom k t) .kind)) _ (q .0), sym (kept-at t n s p K k h) ∙ q .1)))
 
 -- a program that is covered has at most 1,024 rules
-pub covers-few : {index : List ℕ} {t : List ℤ} {rules : ℕ} → Covers index t rules → rules ≤ mostRules
+pub covers-few : {index : List ℕ} {t : List ℤ} {rules : ℕ} → Covers index t rules → rules ≤ mostHeld
 covers-few {rules = zero} C = omega arith
 covers-few {t = t} {rules = suc n} C = omega (arith, C .entered .bodies .within n (hashFrom 0 (bodyWordsAt (wordsFrom n t))) (omega arith, refl) .0)
 
@@ -142,7 +142,7 @@ before-less {index} {t} {rules} C k h = by (getD index (beforeAt + k) 0) refl
     by (suc r) e = omega (arith, C .entered .bodies .next k (hashFrom 0 (bodyWordsAt (wordsFrom k t))) r (h, refl) e .1)
 
 -- the number of a rule that has the body, and one more
-pub found-few : (t : List ℤ) (rules : ℕ) (body : List ℤ) (r : ℕ) → rules ≤ mostRules → RuleWith t rules body r → r ≤ mostRules
+pub found-few : (t : List ℤ) (rules : ℕ) (body : List ℤ) (r : ℕ) → rules ≤ mostHeld → RuleWith t rules body r → r ≤ mostHeld
 found-few t rules body zero h f = omega arith
 found-few t rules body (suc k) h f = omega (arith, f .0)
 

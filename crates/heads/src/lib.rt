@@ -9,7 +9,7 @@ ghost use Prim.Native.Nat.{ℕ, suc, _+_, _<_, _≤_};
 ghost use lib.Dec.{eqb};
 ghost use lib.IntN.{ℤ, pos};
 ghost use lib.ListN.{length, replicate, take, getD, set};
-ghost use Rattle.words.specs.Limits.{largest, entries, mostRules, longest, mostNumbers};
+ghost use Rattle.words.specs.Limits.{largest, entries, mostHeld, longest, mostNumbers};
 ghost use Rattle.words.specs.Lists.{_∈_, any, all};
 ghost use Rattle.words.specs.Literals.{variable, sameList, distinct, mentions, top};
 ghost use Rattle.aspif.specs.Rules.{InputRule, allPlain, expand};
@@ -26,7 +26,7 @@ use words::ENTRIES;
 use words::LARGEST;
 use words::LONGEST;
 use words::MOST_NUMBERS;
-use words::MOST_RULES;
+use words::MOST_HELD;
 
 // The regions of specs/Heads.antt.
 const MOST_HEADS: usize = 8192;
@@ -35,7 +35,7 @@ const HASHES: usize = 2048;
 
 const STARTS: usize = 1;
 
-const FIRST: usize = STARTS + MOST_RULES;
+const FIRST: usize = STARTS + MOST_HELD;
 
 const NEXT: usize = FIRST + ENTRIES;
 
@@ -45,12 +45,12 @@ const BUCKET: usize = OWNER + MOST_HEADS;
 
 const BEFORE: usize = BUCKET + HASHES;
 
-pub const INDEX_WORDS: usize = BEFORE + MOST_RULES;
+pub const INDEX_WORDS: usize = BEFORE + MOST_HELD;
 
 // What is kept by rule, and behind it the hints.
 const HINTS: usize = 1024;
 
-pub const NAME_WORDS: usize = MOST_RULES + HINTS;
+pub const NAME_WORDS: usize = MOST_HELD + HINTS;
 
 // The names of the external bodies of a set: so many words of the row; or some body has none.
 pub enum Found {
@@ -120,7 +120,7 @@ fn link(index: &mut [u16], first: usize, next: usize, key: usize, place: usize)
 
 // One more head: the head v of rule k, after n others.
 fn enter_head(index: &mut [u16], v: usize, k: usize, n: usize)
-    requires { ⌜ (length (now index) ≡ indexWords) × (v ≤ largest) × (k < mostRules) × (n < mostHeads) ⌝ }
+    requires { ⌜ (length (now index) ≡ indexWords) × (v ≤ largest) × (k < mostHeld) × (n < mostHeads) ⌝ }
     ensures chains { λ _. ⌜ ((es : List Headed) → HeadChains (now (index .entry)) es → length es ≡ n
         → HeadChains (now (index .exit)) (es ++ (record { rule = k; head = v } ∷ []))) ⌝ }
     ensures others { λ _. ⌜ ((i : ℕ) → (i < firstAt) ⊎ (bucketAt ≤ i) → getD (now (index .exit)) i 0 ≡ getD (now (index .entry)) i 0) ⌝ }
@@ -131,7 +131,7 @@ fn enter_head(index: &mut [u16], v: usize, k: usize, n: usize)
 
 // The heads of rule k, after n others.
 fn enter_heads(index: &mut [u16], heads: &[i32], k: usize, n: usize)
-    requires index { ⌜ (length (now index) ≡ indexWords) × (k < mostRules) × (n + length (now heads) ≤ mostHeads) ⌝ }
+    requires index { ⌜ (length (now index) ≡ indexWords) × (k < mostHeld) × (n + length (now heads) ≤ mostHeads) ⌝ }
     requires heads { ⌜ ((h : ℤ) → h ∈ now heads → variable h ≤ largest) ⌝ }
     ensures chains { λ _. ⌜ ((es : List Headed) → HeadChains (now (index .entry)) es → length es ≡ n
         → HeadChains (now (index .exit)) (es ++ map (headedBy k) (now (heads .entry)))) ⌝ }
@@ -146,7 +146,7 @@ fn enter_heads(index: &mut [u16], heads: &[i32], k: usize, n: usize)
 
 // Rule k, at the front of the words, which stand in the table from `at` on, after n heads.
 fn enter_rule(index: &mut [u16], words: &[i32], at: usize, k: usize, n: usize)
-    requires index { ⌜ (length (now index) ≡ indexWords) × (k < mostRules) × (at ≤ longest) × (n + length (headsAt (now words)) ≤ mostHeads) ⌝ }
+    requires index { ⌜ (length (now index) ≡ indexWords) × (k < mostHeld) × (at ≤ longest) × (n + length (headsAt (now words)) ≤ mostHeads) ⌝ }
     requires rule { ⌜ soundAt (now words) ≡ true ⌝ }
     ensures entered { λ _. ⌜ ((table : List ℤ) → now (words .entry) ≡ wordsFrom k table → at ≡ startOf k table → length (headedTo k table) ≡ n
         → Entered (now (index .entry)) table k → Entered (now (index .exit)) table (suc k)) ⌝ }
@@ -159,7 +159,7 @@ fn enter_rule(index: &mut [u16], words: &[i32], at: usize, k: usize, n: usize)
 
 // The index of a program without weight bodies, if it has room.
 pub fn fill(table: &[i32], rules: usize, index: &mut [u16])
-    requires program { ⌜ (soundRules rules (now table) ≡ true) × (allPlain (rulesAt rules (now table)) ≡ true) × (rules ≤ mostRules) ⌝ }
+    requires program { ⌜ (soundRules rules (now table) ≡ true) × (allPlain (rulesAt rules (now table)) ≡ true) × (rules ≤ mostHeld) ⌝ }
     requires zero { ⌜ now index ≡ replicate indexWords 0 ⌝ }
     ensures { λ _. ⌜ Indexed (now (index .exit)) (now (table .entry)) rules ⌝ }
 {
@@ -336,12 +336,12 @@ fn enter_rules(
 fn hint_of(name: usize) -> usize
     ensures { λ r. ⌜ r ≡ hintOf name ⌝ }
 {
-    MOST_RULES + name % HINTS
+    MOST_HELD + name % HINTS
 }
 
 // The last rule with the body of a name, one more than its number: a hint behind what is kept by rule, where there is room for it.
 fn put_hint(names: &mut [u16], name: usize, newest: usize)
-    requires { ⌜ newest ≤ mostRules ⌝ }
+    requires { ⌜ newest ≤ mostHeld ⌝ }
     ensures { λ _. ⌜ now (names .exit) ≡ set (now (names .entry)) (hintOf name) newest ⌝ }
 {
     let at = hint_of(name);
