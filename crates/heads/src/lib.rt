@@ -282,6 +282,31 @@ fn rule_with(table: &[i32], rules: usize, index: &[u16], body: &[i32]) -> usize
     0
 }
 
+// What the literals, ascending, are called as a body of the rules: 0 where that has no name, 8,192 where no rule has the body.
+pub fn body_name(
+    table: &[i32],
+    rules: usize,
+    names: &[u16],
+    bodies: &[i16],
+    index: &[u16],
+    body: &[i32],
+) -> usize
+    requires program { ⌜ ((ws : List InputRule) × HoldsRules (now table) rules ws) × (rules ≤ length (now names)) ⌝ }
+    requires index { ⌜ Indexed (now index) (now table) rules ⌝ }
+    ensures { λ r. ⌜ ((ws : List InputRule) → HoldsRules (now (table .entry)) rules ws
+        → (called : List ℤ → ℕ) → Kept (now (names .entry)) (now (bodies .entry)) called ws
+        → r ≡ cond (any (λ x. sameList (now (body .entry)) (x .body)) (expand ws)) (called (now (body .entry))) entries) ⌝ }
+{
+    if !is_covered(index) {
+        return queries::body_name(table, rules, names, bodies, body);
+    }
+    let found = rule_with(table, rules, index, body);
+    if 0 < found {
+        return wide(names[found - 1]);
+    }
+    ENTRIES
+}
+
 // Question 28: the literals, ascending, are the body of a rule, and it has no name.
 pub fn is_unnamed(
     table: &[i32],
@@ -297,14 +322,7 @@ pub fn is_unnamed(
         → (called : List ℤ → ℕ) → Kept (now (names .entry)) (now (bodies .entry)) called ws
         → r ≡ (any (λ x. sameList (now (body .entry)) (x .body)) (expand ws) && eqb (called (now (body .entry))) 0)) ⌝ }
 {
-    if !is_covered(index) {
-        return queries::is_unnamed(table, rules, names, bodies, body);
-    }
-    let found = rule_with(table, rules, index, body);
-    if found == 0 {
-        return false;
-    }
-    wide(names[found - 1]) == 0
+    body_name(table, rules, names, bodies, index, body) == 0
 }
 
 // Every rule with the body gets the name; what is kept of other rules stays.

@@ -28,11 +28,11 @@ use Rattle.merging.proofs.Lines.{steps-append, fit-append}
 use Rattle.merging.proofs.Relation.{Setting, Follows}
 use Rattle.merging.proofs.Simulation.{Introduces, steps-go}
 use Rattle.merging.proofs.Runs.{Named-well, start-well, Names, none, extends, names-body, alongAll, steps-keep}
-use Rattle.merging.proofs.Renaming.{name-cases, name-stays, Kind, shared, stays, given, Kinds, kinds-start, kinds-step}
+use Rattle.merging.proofs.Renaming.{name-cases, name-stays, Kind, shared, stays, given, Kinds, kinds-start, kinds-step, renaming-same}
 
 -- What the lines of a list introduce
 
-introduced-more : (t : Step) (names : List ℕ) (v : ℕ) → v ∈ names → v ∈ introducedBy t names
+pub introduced-more : (t : Step) (names : List ℕ) (v : ℕ) → v ∈ names → v ∈ introducedBy t names
 introduced-more t names v m = go (t .letter) (t .numbers)
   where
     go : (c : Letter) (zs : List ℤ) → v ∈ introducedBy (record { letter = c; numbers = zs }) names
@@ -146,7 +146,7 @@ unmixed-step N P z _ E W (names-body m L l u b v) U = (λ v i. List·Memᴰ·tai
 
 -- The names of any list of accepted steps
 
-well-named : (N : ℕ) (P : List Rule) (ts : List Step) (z : State) → steps N P start ts ≡ next z
+pub well-named : (N : ℕ) (P : List Rule) (ts : List Step) (z : State) → steps N P start ts ≡ next z
     → (z .introduced ≡ introducedIn [] ts) × ((z .named ≡ namedIn [] ts) × Named-well N P (introducedIn [] ts) (namedIn [] ts))
 well-named N P ts z e =
     let E = steps-keep N P {A = ℕ} (λ a t. a) (λ i n a. Unit {0}) (λ z t a W N K. tt) ts start z 0 (start-well N P) tt e in
@@ -157,13 +157,29 @@ unmixed N P ts z e =
     steps-keep N P extendedBy Unmixed (unmixed-step N P) ts start z [] (start-well N P) (λ v i. elim i [ ], λ y i. elim i [ ]) e .keeps
 
 -- a body of the program with the constraint
-body-cases : (P : List Rule) (x : ℤ) (L : List ℤ) → T (isBody (demanding P x) L) → T (isBody P L) ⊎ (L ≡ complement x ∷ [])
+pub body-cases : (P : List Rule) (x : ℤ) (L : List ℤ) → T (isBody (demanding P x) L) → T (isBody P L) ⊎ (L ≡ complement x ∷ [])
 body-cases P x L t =
     let r = any-decides (λ q. sameList-decides (q .body) L) (demanding P x) .to t in
     elim (List·Memᴰ·append-cases P (r .1)) [
       | inl m ↦ inl (any-decides (λ q. sameList-decides (q .body) L) P .from (r .0, m, r .2))
       | inr m ↦ inr (sym (r .2) ∙ ap (λ (q : Rule). q .body) (List·Memᴰ·eq-of-singleton m))
     ]
+
+-- a body of both programs is the program's own: the two added bodies differ
+pub both-bodies : (P : List Rule) (v : ℕ) → 1 ≤ v → (L : List ℤ) → T (isBody (demanding P (pos v)) L) → T (isBody (demanding P (negℤ (pos v))) L) → T (isBody P L)
+both-bodies P v low L a b = by (body-cases P (pos v) L a) (body-cases P (negℤ (pos v)) L b)
+  where
+    opposite : negℤ (pos v) ≡ complement (negℤ (pos v)) → ⊥
+    opposite h = go v low (h ∙ complement-twice (pos v))
+      where
+        go : (n : ℕ) → 1 ≤ n → negℤ (pos n) ≡ pos n → ⊥
+        go zero l e = omega (arith, l)
+        go (suc n) l e = zero-one (cc)
+
+    by : T (isBody P L) ⊎ (L ≡ complement (pos v) ∷ []) → T (isBody P L) ⊎ (L ≡ complement (negℤ (pos v)) ∷ []) → T (isBody P L)
+    by (inl t) s = t
+    by (inr p) (inl t) = t
+    by (inr p) (inr q) = absurd (opposite (head-eq-of-cons-eq (sym p ∙ q)))
 
 -- The two halves
 
@@ -257,15 +273,11 @@ module _ (N : ℕ) (P : List Rule) (small : plainAtoms P ≤ N) (v : ℕ) (atom 
   abbrev AllKinds : List ℕ → List Named → List Renamed → Type 0
   AllKinds = Kinds N n₁ i₁ used in-used (well₁ .positive) (well₁ .names)
 
-  renaming-same : (ts : List Step) (D : List Renamed) → alongAll (λ D t. renamedBy N n₁ i₁ used t D) D ts ≡ renaming N n₁ i₁ used D ts
-  renaming-same [] D = refl
-  renaming-same (t ∷ ts) D = renaming-same ts (renamedBy N n₁ i₁ used t D)
-
   kinds₂ : AllKinds i₂ n₂ pairs
   kinds₂ =
       let E = steps-keep N (demanding P (negℤ (pos v))) (λ D t. renamedBy N n₁ i₁ used t D) AllKinds (kinds-step N n₁ i₁ used in-used (well₁ .positive) (well₁ .names) (demanding P (negℤ (pos v))))
       two start z₂ [] (start-well N (demanding P (negℤ (pos v)))) (kinds-start N n₁ i₁ used in-used (well₁ .positive) (well₁ .names)) e₂ in
-      subst (AllKinds i₂ n₂) (renaming-same two []) (E .keeps)
+      subst (AllKinds i₂ n₂) (renaming-same N n₁ i₁ used two []) (E .keeps)
 
   abbrev KindOf : ℕ → Type 0
   KindOf u = Kind N n₁ i₁ used in-used (well₁ .positive) (well₁ .names) u n₂ pairs
@@ -316,20 +328,9 @@ module _ (N : ℕ) (P : List Rule) (small : plainAtoms P ≤ N) (v : ℕ) (atom 
     ]
 
     -- a body that both halves name is one of the program's
-    both-bodies : (k y : Named) → k ∈ n₁ → y ∈ n₂ → k .body ≡ y .body → T (isBody P (k .body))
-    both-bodies k y ik iy b = by (body-cases P (pos v) (k .body) (well₁ .bodies k ik)) (body-cases P (negℤ (pos v)) (y .body) (well₂ .bodies y iy))
-      where
-        opposite : negℤ (pos v) ≡ complement (negℤ (pos v)) → ⊥
-        opposite h = go v low (h ∙ complement-twice (pos v))
-          where
-            go : (n : ℕ) → 1 ≤ n → negℤ (pos n) ≡ pos n → ⊥
-            go zero l e = omega (arith, l)
-            go (suc n) l e = zero-one (cc)
-
-        by : T (isBody P (k .body)) ⊎ (k .body ≡ complement (pos v) ∷ []) → T (isBody P (y .body)) ⊎ (y .body ≡ complement (negℤ (pos v)) ∷ []) → T (isBody P (k .body))
-        by (inl t) s = t
-        by (inr p) (inl t) = subst (λ (l : List ℤ). T (isBody P l)) (sym b) t
-        by (inr p) (inr q) = absurd (opposite (head-eq-of-cons-eq (sym p ∙ (b ∙ q))))
+    shared-body : (k y : Named) → k ∈ n₁ → y ∈ n₂ → k .body ≡ y .body → T (isBody P (k .body))
+    shared-body k y ik iy b =
+        both-bodies P v low (k .body) (well₁ .bodies k ik) (subst (λ (l : List ℤ). T (isBody (demanding P (negℤ (pos v))) l)) (sym b) (well₂ .bodies y iy))
 
     abbrev BodyLine : ℤ → List ℤ → Type 0
     BodyLine n L = Introduces N P small (negℤ (pos v)) f₂ bodies₁ w₁ i₂ setting₂ Body (n ∷ L)
@@ -353,7 +354,7 @@ module _ (N : ℕ) (P : List Rule) (small : plainAtoms P ≤ N) (v : ℕ) (atom 
         let c : y .body ≡ ascending L = well₂ .distinct y (record { name = variable n; body = ascending L }) iy m e in
         let d : k .body ≡ ascending L = b ∙ c in
         let z-k : k ∈ z₁ .named = subst (λ (l : List Named). k ∈ l) (sym (well-named N (demanding P (pos v)) one z₁ e₁ .1 .0)) ik in
-        let w-k = F₁ .bodies .kept k z-k (both-bodies k y ik iy b) in (
+        let w-k = F₁ .bodies .kept k z-k (shared-body k y ik iy b) in (
           i,
           inl (
             shared-decides (ascending L) .from (k .body, Memᴰ·map (λ (y : Named). y .body) ik, d),

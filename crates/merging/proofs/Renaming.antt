@@ -17,13 +17,13 @@ use Rattle.aspif.specs.Rules.{Rule}
 use Rattle.derivation.specs.States.{Named, State}
 use Rattle.drupe.specs.Texts.{Step}
 use Rattle.derivation.proofs.Questions.{known-decides}
-use Rattle.merging.specs.Merge.{lowest, Renamed, newName, free, otherName, bodyName, renamedBy, introducedBy, namedBy}
+use Rattle.merging.specs.Merge.{lowest, Renamed, newName, free, otherName, bodyName, renamedBy, renaming, introducedBy, namedBy}
 use Rattle.merging.proofs.Lines.{cond-cases}
-use Rattle.merging.proofs.Runs.{Named-well, Names, none, extends, names-body}
+use Rattle.merging.proofs.Runs.{Named-well, Names, none, extends, names-body, alongAll}
 
 -- Numbers
 
-number-decides : (n : ℕ) (l : List ℕ) → Decides (any (eqb n) l) (n ∈ l)
+pub number-decides : (n : ℕ) (l : List ℕ) → Decides (any (eqb n) l) (n ∈ l)
 number-decides n l = reworded (λ r. Memᴰ·cast (r .2) (r .1)) (λ m. (n, m, refl)) (any-decides (eqb-decides n) l)
 
 -- the lowest free number is free
@@ -80,13 +80,13 @@ lowest-is n l r h free taken = elim (answered (leb (lowest (length l) n l) r)) [
 
 -- Pairs of names
 
-abbrev pair : ℕ → ℕ → Renamed
+abbrev pub pair : ℕ → ℕ → Renamed
 pair n c = record { old = n; new = c }
 
-name-here : (n c : ℕ) (D : List Renamed) → newName (pair n c ∷ D) n ≡ c
+pub name-here : (n c : ℕ) (D : List Renamed) → newName (pair n c ∷ D) n ≡ c
 name-here n c D = rw (passed (eqb n n) .to (eqb-decides n n .from refl))
 
-name-other : (n c : ℕ) (D : List Renamed) (v : ℕ) → v ≢ n → newName (pair n c ∷ D) v ≡ newName D v
+pub name-other : (n c : ℕ) (D : List Renamed) (v : ℕ) → v ≢ n → newName (pair n c ∷ D) v ≡ newName D v
 name-other n c D v d = rw (failed (eqb v n) (not-decides (eqb-decides v n) .from d))
 
 pub name-cases : (D : List Renamed) (v : ℕ) → (newName D v ≡ v) ⊎ ((p : Renamed) × (p ∈ D) × ((p .old ≡ v) × (newName D v ≡ p .new)))
@@ -246,3 +246,9 @@ module _ (N : ℕ) (named₁ : List Named) (introduced₁ used : List ℕ) (in-u
   kinds-step P z _ D W (names-body m L l u b v) K =
       body-kinds (z .introduced) (z .named) D K m (λ i. u (known-decides N z m .from (inr i))) (ascending L) named₁ (λ y i. i) (λ y i e. i)
       (λ y i e. u (known-decides N z m .from (inr (Memᴰ·cast (sym e) (W .names y i)))))
+
+-- all steps
+pub renaming-same : (N : ℕ) (named₁ : List Named) (introduced₁ used : List ℕ) (ts : List Step) (D : List Renamed)
+    → alongAll (λ D t. renamedBy N named₁ introduced₁ used t D) D ts ≡ renaming N named₁ introduced₁ used D ts
+renaming-same N named₁ introduced₁ used [] D = refl
+renaming-same N named₁ introduced₁ used (t ∷ ts) D = renaming-same N named₁ introduced₁ used ts (renamedBy N named₁ introduced₁ used t D)

@@ -118,7 +118,7 @@ module _ (N : ℕ) (P : List Rule) where
     extends : (m : ℕ) (L : List ℤ) → 1 ≤ m → ¬ T (isKnown N z m) → Names z (record { letter = Extension; numbers = pos m ∷ L })
     names-body : (m : ℕ) (L : List ℤ) → 1 ≤ m → ¬ T (isKnown N z m) → T (isBody P (ascending L)) → ¬ T (hasName z (ascending L)) → Names z (record { letter = Body; numbers = pos m ∷ L })
 
-  abbrev Does : State → Step → State → Type 0
+  abbrev pub Does : State → Step → State → Type 0
   Does z t z′ = (z′ .introduced ≡ introducedBy t (z .introduced)) × (z′ .named ≡ namedBy t (z .named)) × Names z t
 
   module _ (z : State) where
@@ -156,14 +156,14 @@ module _ (N : ℕ) (P : List Rule) where
     letter-does Support (h ∷ ns) nz s =
         citing-does (Does z (record { letter = Support; numbers = h ∷ ns })) (h ∷ ns) _ (if-yes (Does z (record { letter = Support; numbers = h ∷ ns })) (itself (isSupport N P z h ns)) _ 30 (λ c. (refl, refl, none Support (h ∷ ns) tt)))
 
-    step-does : (t : Step) → Then (Does z t) (step N P z t)
+    pub step-does : (t : Step) → Then (Does z t) (step N P z t)
     step-does t = if-no (Does z t) (has-decides (pos 0) (t .numbers)) _ 22 (λ nz. if-line (Does z t) (t .letter) (t .numbers) _ (λ s u. letter-does (t .letter) (t .numbers) nz s))
 
   -- All steps, for a property of the two lists of names and of whatever else goes along with the steps
   module _ {A : Type 0} (along : A → Step → A) (Keeps : List ℕ → List Named → A → Type 0)
       (each : (z : State) (t : Step) (a : A) → Named-well (z .introduced) (z .named) → Names z t → Keeps (z .introduced) (z .named) a
       → Keeps (introducedBy t (z .introduced)) (namedBy t (z .named)) (along a t)) where
-    names-well : (z : State) (t : Step) → Named-well (z .introduced) (z .named) → Names z t → Named-well (introducedBy t (z .introduced)) (namedBy t (z .named))
+    pub names-well : (z : State) (t : Step) → Named-well (z .introduced) (z .named) → Names z t → Named-well (introducedBy t (z .introduced)) (namedBy t (z .named))
     names-well z _ W (none Addition zs q) = W
     names-well z _ W (none Body zs q) = absurd q
     names-well z _ W (none Completion zs q) = W

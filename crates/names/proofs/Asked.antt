@@ -8,6 +8,7 @@ use native.Mathlib.Omega.{arith}
 use lib.Dec.{eqb}
 use lib.IntN.{ℤ}
 use lib.ListN.{length, take, length-map}
+use Rattle.words.specs.Limits.{entries}
 use Rattle.words.specs.Lists.{_∈_, any, filter}
 use Rattle.words.specs.Literals.{sameList}
 use Rattle.words.proofs.Lists.{if-true, any-decides}
@@ -138,3 +139,8 @@ module _ {ws m : List ℤ} {name : ℕ} {called : List ℤ → ℕ} (w : Weighin
   named-none row e t =
       let told : Told m name row Recorded.Nothing = rw e at t in
       none-pass _ (bodies (boundAt ws) (paired (bodyWordsAt ws))) (λ L i. told called C above L (body-short L w i))
+
+-- Question 28: a name that is 0 is that of a body which some rule has
+pub no-name : (b : Bool) (n : ℕ) → eqb (cond b n entries) 0 ≡ (b && eqb n 0)
+no-name true n = refl
+no-name false n = refl

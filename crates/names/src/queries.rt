@@ -161,17 +161,37 @@ fn has_body(words: &[i32], body: &[i32]) -> bool
     words::is_same_list(body, tables::body_of(words))
 }
 
-// The body, which is one of the rule at the front, has no name; `name` is what is kept by rule.
-fn is_nameless(words: &[i32], body: &[i32], name: u16, bodies: &[i16]) -> bool
+// What the body, which is one of the rule at the front, is called; `name` is what is kept by rule.
+fn name_at(words: &[i32], body: &[i32], name: u16, bodies: &[i16]) -> u16
     requires rule { ⌜ (soundAt (now words) ≡ true) × (any (sameList (now body)) (bodiesOf (bodyAt (now words))) ≡ true) ⌝ }
     ensures { λ r. ⌜ ((called : List ℤ → ℕ) → (isWeighted (now (words .entry)) ≡ true → Called (now (bodies .entry)) called)
         → name ≡ entry called (bodyAt (now (words .entry)))
-        → r ≡ eqb (called (now (body .entry))) 0) ⌝ }
+        → r ≡ called (now (body .entry))) ⌝ }
 {
     if tables::is_weighted(words) {
-        return by_name::name_of(bodies, body) == 0;
+        return by_name::name_of(bodies, body);
     }
-    name == 0
+    name
+}
+
+// What the literals, ascending, are called as a body of the rules: 0 where that has no name, 8,192 where no rule has the body.
+pub fn body_name(table: &[i32], rules: usize, names: &[u16], bodies: &[i16], body: &[i32]) -> usize
+    requires program { ⌜ ((ws : List InputRule) × HoldsRules (now table) rules ws) × (rules ≤ length (now names)) ⌝ }
+    ensures { λ r. ⌜ ((ws : List InputRule) → HoldsRules (now (table .entry)) rules ws
+        → (called : List ℤ → ℕ) → Kept (now (names .entry)) (now (bodies .entry)) called ws
+        → r ≡ cond (any (λ x. sameList (now (body .entry)) (x .body)) (expand ws)) (called (now (body .entry))) entries) ⌝ }
+{
+    let mut k = 0;
+    let mut i = 0;
+    while k < rules {
+        let rest = &table[i..];
+        if has_body(rest, body) {
+            return name_at(rest, body, names[k], bodies) as usize;
+        }
+        i = tables::next_rule(table, i);
+        k += 1;
+    }
+    ENTRIES
 }
 
 // Question 28: the literals, ascending, are the body of a rule, and it has no name.
@@ -181,17 +201,7 @@ pub fn is_unnamed(table: &[i32], rules: usize, names: &[u16], bodies: &[i16], bo
         → (called : List ℤ → ℕ) → Kept (now (names .entry)) (now (bodies .entry)) called ws
         → r ≡ (any (λ x. sameList (now (body .entry)) (x .body)) (expand ws) && eqb (called (now (body .entry))) 0)) ⌝ }
 {
-    let mut k = 0;
-    let mut i = 0;
-    while k < rules {
-        let rest = &table[i..];
-        if has_body(rest, body) {
-            return is_nameless(rest, body, names[k], bodies);
-        }
-        i = tables::next_rule(table, i);
-        k += 1;
-    }
-    false
+    body_name(table, rules, names, bodies, body) == 0
 }
 
 // Some body of the rule at the front has the name, whose literals are those recorded; `kept` is what is kept by rule.
