@@ -42,10 +42,10 @@ RunsAs (next z) c = (n : ℕ) × (stored : List Stored) × (c ≡ through n z st
 module _ (N : ℕ) (P : List Rule) (size : ℕ) where
   runs-as : (n : ℕ) (z : State) (b : List Stored) (ts : List Step) → RunsAs (Claims.stepsIn (fitting size) N P z ts) (runSteps N P size n z b ts)
   runs-as n z b [] = (n, b, refl)
-  runs-as n z b (t ∷ ts) = by (λ z′. runs-as (n + 1) z′ (storedAfter (n + 1) (t .letter) (t .numbers) b z′) ts) (step N P z t)
+  runs-as n z b (t ∷ ts) = by (λ z′. runs-as (n + 1) z′ (storedAfter (n + 1) size (t .letter) (t .numbers) b z′) ts) (step N P z t)
     where
       after : State → Course
-      after z′ = runSteps N P size (n + 1) z′ (storedAfter (n + 1) (t .letter) (t .numbers) b z′) ts
+      after z′ = runSteps N P size (n + 1) z′ (storedAfter (n + 1) size (t .letter) (t .numbers) b z′) ts
 
       by : ((z′ : State) → RunsAs (Claims.stepsIn (fitting size) N P z′ ts) (after z′)) → (o : Outcome)
           → RunsAs (elim o as (λ x. Outcome) [ refused k ↦ refused k | next z′ ↦ cond (fitting size z′) (Claims.stepsIn (fitting size) N P z′ ts) (refused 34) ])
