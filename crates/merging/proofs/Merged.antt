@@ -63,7 +63,7 @@ named-more t named y m = go (t .letter) (t .numbers)
     go Loop zs = m
     go Support zs = m
 
-named-all : (ts : List Step) (named : List Named) (y : Named) → y ∈ named → y ∈ namedIn named ts
+pub named-all : (ts : List Step) (named : List Named) (y : Named) → y ∈ named → y ∈ namedIn named ts
 named-all [] named y m = m
 named-all (t ∷ ts) named y m = named-all ts (namedBy t named) y (named-more t named y m)
 
@@ -157,7 +157,7 @@ unmixed N P ts z e =
     steps-keep N P extendedBy Unmixed (unmixed-step N P) ts start z [] (start-well N P) (λ v i. elim i [ ], λ y i. elim i [ ]) e .keeps
 
 -- a body of the program with the constraint
-body-cases : (P : List Rule) (x : ℤ) (L : List ℤ) → T (isBody (demanding P x) L) → T (isBody P L) ⊎ (L ≡ complement x ∷ [])
+pub body-cases : (P : List Rule) (x : ℤ) (L : List ℤ) → T (isBody (demanding P x) L) → T (isBody P L) ⊎ (L ≡ complement x ∷ [])
 body-cases P x L t =
     let r = any-decides (λ q. sameList-decides (q .body) L) (demanding P x) .to t in
     elim (List·Memᴰ·append-cases P (r .1)) [
