@@ -3,4 +3,5 @@ pub mod Texts
 pub mod Written
 pub mod Agrees
 pub mod Walk
+pub mod SameNames
 pub mod Examples
