@@ -63,7 +63,7 @@ named-more t named y m = go (t .letter) (t .numbers)
     go Loop zs = m
     go Support zs = m
 
-named-all : (ts : List Step) (named : List Named) (y : Named) → y ∈ named → y ∈ namedIn named ts
+pub named-all : (ts : List Step) (named : List Named) (y : Named) → y ∈ named → y ∈ namedIn named ts
 named-all [] named y m = m
 named-all (t ∷ ts) named y m = named-all ts (namedBy t named) y (named-more t named y m)
 

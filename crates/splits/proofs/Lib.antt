@@ -1,4 +1,7 @@
 -- The claims over texts.
 pub mod Texts
 pub mod Written
+pub mod Agrees
+pub mod Walk
+pub mod SameNames
 pub mod Examples
