@@ -4,7 +4,7 @@
 -- Assumes nothing.
 use mathlib.Core.Path.{_≡_}
 use mathlib.Core.Bool.{Bool, true, false, not, _&&_}
-use mathlib.Core.List.{List, map}
+use mathlib.Core.List.{List, [], map}
 use Prim.Native.Nat.{ℕ, _≤_}
 use lib.Dec.{eqb}
 use lib.IntN.{ℤ, pos}
@@ -59,3 +59,7 @@ askedNames q m called P = map (λ r. called (r .body)) (filter (asks q m) P)
 -- question 29 of a plain rule: it is normal, has just the heads, and its body has the name
 abbrev pub completing : (List ℤ → ℕ) → List ℤ → ℕ → Rule → Bool
 completing called hs n r = isNormal (r .kind) && (sameList (r .heads) hs && eqb (called (r .body)) n)
+
+-- a plain rule that is normal, has no heads and has the body
+abbrev pub constraining : List ℤ → Rule → Bool
+constraining B r = isNormal (r .kind) && (sameList (r .heads) [] && sameList B (r .body))

@@ -16,7 +16,7 @@ ghost use Rattle.weights.specs.Weights.{mostWeighted};
 ghost use Rattle.marks.specs.Marks.{Marks};
 ghost use Rattle.names.specs.ByName.{Called, Told};
 ghost use Rattle.names.specs.Minimal.{AlsoMarks};
-ghost use Rattle.names.specs.Queries.{HoldsRules, entry, Kept, isInside, asksHeads, askedNames, completing};
+ghost use Rattle.names.specs.Queries.{HoldsRules, entry, Kept, isInside, asksHeads, askedNames, completing, constraining};
 use crate::by_name;
 use crate::by_name::Recorded;
 use crate::minimal;
@@ -268,6 +268,36 @@ pub fn is_completed(
     while k < rules {
         let rest = &table[i..];
         if completes(rest, heads, name as u16, names[k], recorded, &row) {
+            return true;
+        }
+        i = tables::next_rule(table, i);
+        k += 1;
+    }
+    false
+}
+
+// The rule at the front is a constraint with the body.
+fn constrains(words: &[i32], body: &[i32]) -> bool
+    requires { ⌜ soundAt (now words) ≡ true ⌝ }
+    ensures { λ r. ⌜ r ≡ any (constraining (now (body .entry))) (expandRule (ruleAt (now (words .entry)))) ⌝ }
+{
+    if is_normal_with(words, &body[..0]) {
+        return has_body(words, body);
+    }
+    false
+}
+
+// Some normal rule has no heads and the body.
+pub fn is_constraint(table: &[i32], rules: usize, body: &[i32]) -> bool
+    requires { ⌜ ((ws : List InputRule) × HoldsRules (now table) rules ws) ⌝ }
+    ensures { λ r. ⌜ ((ws : List InputRule) → HoldsRules (now (table .entry)) rules ws
+        → r ≡ any (constraining (now (body .entry))) (expand ws)) ⌝ }
+{
+    let mut k = 0;
+    let mut i = 0;
+    while k < rules {
+        let rest = &table[i..];
+        if constrains(rest, body) {
             return true;
         }
         i = tables::next_rule(table, i);
