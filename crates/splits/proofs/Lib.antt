@@ -1,5 +1,5 @@
 -- The claims over texts.
-pub mod Texts
+pub mod OverTexts
 pub mod Written
 pub mod Agrees
 pub mod Walk

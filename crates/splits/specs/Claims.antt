@@ -1,4 +1,4 @@
--- What is claimed of the merge over texts; proofs/Texts.antt proves it.
+-- What is claimed of the merge over texts; proofs/OverTexts.antt proves it.
 -- Assumes nothing.
 use mathlib.Core.Path.{_≡_}
 use mathlib.Core.Logic.{_⊎_}
