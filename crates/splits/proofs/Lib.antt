@@ -1,4 +1,6 @@
 -- The claims over texts.
 pub mod Texts
 pub mod Written
+pub mod Positions
+pub mod Renamed
 pub mod Examples
