@@ -4,4 +4,6 @@ pub mod Written
 pub mod Agrees
 pub mod Walk
 pub mod SameNames
+pub mod Positions
+pub mod Renamed
 pub mod Examples

@@ -2,5 +2,6 @@
 pub mod Service
 pub mod Writing
 pub mod Standing
+pub mod Renames
 pub mod Claims
 pub mod Examples

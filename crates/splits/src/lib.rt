@@ -1,5 +1,6 @@
 // Two halves of a split, as texts, into one proof text: document 02, Change 9. What the service leaves is specs/Service.antt.
 pub mod lines;
+pub mod renames;
 
 use aspif::ProgramRefusal;
 
