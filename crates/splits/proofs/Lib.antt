@@ -1,4 +1,6 @@
 -- The claims over texts.
 pub mod Texts
 pub mod Written
+pub mod Demands
+pub mod Accepting
 pub mod Examples

@@ -1,5 +1,6 @@
 -- What the service that merges two halves leaves, and what is claimed of it.
 pub mod Service
 pub mod Writing
+pub mod Halves
 pub mod Claims
 pub mod Examples
