@@ -119,8 +119,8 @@ returns-3 c =
       b .ensures .0 ∙ ap (λ (n : ℕ). replicate n (pos 0)) (same-store a),
       λ ws p.
           let Half : ℕ → Type 0 = λ n.
-              HalfChecked (s x .args .atoms) (demandingAsWritten ws (complement (toZ w32 (ofZ w32 (k .complement-of .result))))) n (s x .args .first .now)
-              (b .last .1 .1 .1 .1 .1 .0) (b .last .1 .1 .1 .1 .1 .1 .0) (b .last .1 .1 .1 .1 .1 .1 .1 .0) (b .result) in
+          HalfChecked (s x .args .atoms) (demandingAsWritten ws (complement (toZ w32 (ofZ w32 (k .complement-of .result))))) n (s x .args .first .now)
+          (b .last .1 .1 .1 .1 .1 .0) (b .last .1 .1 .1 .1 .1 .1 .0) (b .last .1 .1 .1 .1 .1 .1 .1 .0) (b .result) in
           halves-checked (length (s x .args .store .now)) ws v _ _ (p .top) (is-atom x) (literal x) (a .accepts-with .ensures .1 ws p)
           (not-false _ (c .before .before .before .before .before .before .before .before .before .before .before .before .before .before .before .before .before .before .before .if2 .left)) (other k) (subst Half (same-store a) (b .ensures .1 ws p)),
     )
