@@ -29,8 +29,8 @@ use loops::relevance;
 use names::by_name;
 use nogoods::INDEX;
 use weights::MOST_WEIGHTED;
-use words::MOST_NUMBERS;
 use words::MOST_HELD;
+use words::MOST_NUMBERS;
 
 // An entry for each pair of the weight bodies of all rules.
 const RELEVANT: usize = MOST_WEIGHTED * MOST_HELD;
@@ -305,16 +305,7 @@ fn run_recorded(
         → Ran (now (store .exit)) (course atoms (expand ws) (length (now (store .entry))) (now (proof .entry))) r) ⌝ }
 {
     let mut bodies = [0i16; by_name::BODY_WORDS];
-    run_weighted(
-        proof,
-        table,
-        rules,
-        atoms,
-        known,
-        names,
-        &mut bodies,
-        store,
-    )
+    run_weighted(proof, table, rules, atoms, known, names, &mut bodies, store)
 }
 
 // All lines of a proof text, from an empty store.

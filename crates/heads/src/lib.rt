@@ -25,8 +25,8 @@ use names::queries;
 use words::ENTRIES;
 use words::LARGEST;
 use words::LONGEST;
-use words::MOST_NUMBERS;
 use words::MOST_HELD;
+use words::MOST_NUMBERS;
 
 // The regions of specs/Heads.antt.
 const MOST_HEADS: usize = 8192;

@@ -6,4 +6,6 @@ pub mod Walk
 pub mod SameNames
 pub mod Positions
 pub mod Renamed
+pub mod Demands
+pub mod Accepting
 pub mod Examples

@@ -3,5 +3,6 @@ pub mod Service
 pub mod Writing
 pub mod Standing
 pub mod Renames
+pub mod Halves
 pub mod Claims
 pub mod Examples

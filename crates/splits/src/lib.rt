@@ -1,6 +1,8 @@
 // Two halves of a split, as texts, into one proof text: document 02, Change 9. What the service leaves is specs/Service.antt.
+pub mod halves;
 pub mod lines;
 pub mod renames;
+mod tables;
 
 use aspif::ProgramRefusal;
 
