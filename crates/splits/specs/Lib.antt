@@ -4,5 +4,7 @@ pub mod Writing
 pub mod Standing
 pub mod Renames
 pub mod Halves
+pub mod Joined
+pub mod Judging
 pub mod Claims
 pub mod Examples
