@@ -8,4 +8,5 @@ pub mod Positions
 pub mod Renamed
 pub mod Demands
 pub mod Accepting
+pub mod Joining
 pub mod Examples

@@ -29,10 +29,10 @@ text-one : (c : Letter) (zs : List ℤ) → textOf (one c zs) ≡ stepText (reco
 unfolding textOf
 text-one c zs = append-nil (stepText (record { letter = c; numbers = zs }))
 
-above : {m n : ℕ} → n < m → leb m n ≡ false
+pub above : {m n : ℕ} → n < m → leb m n ≡ false
 above {m} {n} h = failed (leb m n) (not-decides (leb-decides m n) .from (λ k. omega (arith, h, k)))
 
-and-false : (b : Bool) {c : Bool} → c ≡ false → (b && c) ≡ false
+pub and-false : (b : Bool) {c : Bool} → c ≡ false → (b && c) ≡ false
 and-false true e = e
 and-false false e = refl
 

@@ -4,5 +4,6 @@ pub mod Writing
 pub mod Standing
 pub mod Renames
 pub mod Halves
+pub mod Joined
 pub mod Claims
 pub mod Examples

@@ -3,6 +3,7 @@ pub mod halves;
 pub mod lines;
 pub mod renames;
 mod tables;
+pub mod texts;
 
 use aspif::ProgramRefusal;
 

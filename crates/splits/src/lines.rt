@@ -74,7 +74,7 @@ pub fn rename(new: &[u16], numbers: &mut [i32])
 }
 
 // A line, from a position on.
-fn write_line(letter: Letter, numbers: &[i32], output: &mut [u8], at: usize) -> Wrote
+pub fn write_line(letter: Letter, numbers: &[i32], output: &mut [u8], at: usize) -> Wrote
     requires at { ⌜ at ≤ longest ⌝ }
     requires numbers { ⌜ anyOutside (now numbers) ≡ false ⌝ }
     ensures { λ r. ⌜ Writes (one letter (now (numbers .entry))) (now (output .entry)) (now (output .exit)) at r ⌝ }

@@ -33,7 +33,7 @@ pub enum RenameTurn {
 }
 
 // Each variable keeps its name.
-fn keep_all(new: &mut [u16])
+pub fn keep_all(new: &mut [u16])
     requires { ⌜ length (now new) ≡ entries ⌝ }
     ensures { λ _. ⌜ ((u : ℕ) → u ≤ largest → getD (now (new .exit)) u 0 ≡ u) ⌝ }
 {
