@@ -5,7 +5,6 @@ mod lines;
 mod renames;
 mod tables;
 mod texts;
-pub mod texts;
 
 ghost use mathlib.Core.Path.{_≡_};
 ghost use mathlib.Core.List.{List, _++_};
