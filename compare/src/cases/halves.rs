@@ -1,14 +1,15 @@
 //! Random splits: programs without an answer set, one of their atoms, and a refutation of each half with lines put in that it does not need.
 
-use std::collections::BTreeSet;
+use std::collections::{BTreeMap, BTreeSet};
 
+use inputs::lines::line_of;
 use inputs::programs::{self, weight_body};
 use inputs::random::Random;
 use inputs::rules::{choice, constraint, largest_atom, normal, program_text, Rule};
 
 use super::changes;
 use super::refutations::{known_literals, refute, Author, Found};
-use crate::reference::lines::lines_of;
+use crate::reference::lines::{lines_of, Line};
 use crate::reference::merge::{demanding, Split};
 use crate::reference::program::{read, Program};
 use crate::reference::{LARGEST, LINE_LIMIT};
@@ -76,14 +77,34 @@ fn half(program: &Program, literal: i32, random: &mut Random) -> Option<Vec<u8>>
     if refute(&mut author, random, at_first) != Found::Refutation {
         return None;
     }
-    let text = author.text();
-    Some(if random.percent(70) { with_more(&wider, &text, random) } else { text })
+    let mut text = author.text();
+    if random.percent(70) {
+        text = with_more(&wider, &text, random);
+    }
+    Some(if random.percent(80) { with_other_names(&text, program.atoms, random) } else { text })
+}
+
+/// The names that the lines introduce.
+fn introduced(lines: &[Line]) -> BTreeSet<i32> {
+    lines.iter().filter(|line| b"be".contains(&line.letter)).map(|line| line.numbers[0]).collect()
+}
+
+/// The proof with other names, in any order and with gaps between them and after N.
+fn with_other_names(text: &[u8], atoms: i32, random: &mut Random) -> Vec<u8> {
+    let lines = lines_of(text).unwrap_or_default();
+    let names = introduced(&lines);
+    let span = (names.len() * random.between(1, 4) as usize).min((LARGEST - atoms) as usize);
+    let others = random.different(names.len(), span.max(1) as i32);
+    let renaming: BTreeMap<i32, i32> = names.into_iter().zip(others.into_iter().map(|number| atoms + number)).collect();
+    let renamed = |number: &i32| renaming.get(&number.abs()).map_or(*number, |name| name * number.signum());
+    let line_text = |line: &Line| line_of(line.letter, &line.numbers.iter().map(renamed).collect::<Vec<_>>()).into_bytes();
+    lines.iter().flat_map(line_text).collect()
 }
 
 /// The proof with lines put in between its own and after them.
 fn with_more(wider: &Program, text: &[u8], random: &mut Random) -> Vec<u8> {
     let lines = lines_of(text).unwrap_or_default();
-    let later: BTreeSet<i32> = lines.iter().filter(|line| b"be".contains(&line.letter)).map(|line| line.numbers[0]).collect();
+    let later = introduced(&lines);
     let mut author = Author::of(wider);
     let share = *random.pick(&[5, 15, 40]);
     for line in lines {
