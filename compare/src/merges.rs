@@ -73,12 +73,15 @@ fn kind(answer: &Answer) -> String {
     }
 }
 
+/// A case of document 02; other lengths are tried where it is not about lengths itself.
 pub fn run_worked(comparison: &mut Comparison, index: u64) {
     let case = &cases()[index as usize];
     let found = comparison.merge_halves(&case.split, case.rooms);
     let text = case.text.as_ref().is_none_or(|text| found.output.starts_with(text));
     comparison.settle(found.answer == case.answer && text, || format!("{}: the reference says {:?}", case.name, found.answer));
-    compare_lengths(comparison, &case.split);
+    if case.rooms == PLENTY {
+        compare_lengths(comparison, &case.split);
+    }
 }
 
 /// The merge with plenty of everything and, where a text is written, with every buffer at its least length and one less; then the whole
