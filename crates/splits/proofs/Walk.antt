@@ -2,22 +2,20 @@
 -- Assumes nothing.
 use mathlib.Core.Path.{_≡_, refl, subst}
 use mathlib.Core.Bool.{Bool, true, false, cond, not, _&&_}
-use mathlib.Core.List.{List, [], _∷_, _++_, map}
-use Prim.Native.Nat.{ℕ, zero, suc, _+_, _≤_, _<_}
+use mathlib.Core.List.{List, [], _∷_, map}
+use Prim.Native.Nat.{ℕ, _≤_, _<_}
 use native.Mathlib.Omega.{arith}
 use borrow.Author.Tests.{le-ltb}
-use lib.Dec.{ltb}
 use lib.IntN.{ℤ}
 use lib.ListN.{length}
 use Rattle.words.specs.Limits.{largest, longest}
 use Rattle.words.specs.Literals.{variable}
-use Rattle.words.proofs.Lists.{zero-one}
 use Rattle.text.specs.Line.{anyOutside}
 use Rattle.text.specs.declared.Letter.{Letter}
 use Rattle.text.specs.declared.Letter.the-variants.{Extension}
 use Rattle.drupe.specs.Lines.{LineAt, end, line, lineAt}
 use Rattle.drupe.specs.Lines as Lines
-use Rattle.drupe.specs.Texts.{Step, StepsRead, stepsAt, stepsOf}
+use Rattle.drupe.specs.Texts.{Step, stepsOf}
 use Rattle.drupe.specs.Texts as Texts
 use Rattle.drupe.proofs.Lines.{passed-line}
 use Rattle.merging.specs.Merge.{renamed, addition, one}
@@ -28,6 +26,7 @@ use Rattle.splits.specs.declared.lines.Wrote.{Wrote}
 use Rattle.splits.specs.declared.lines.Wrote.the-variants as Written
 use Rattle.splits.specs.declared.lines.HalfTurn.{HalfTurn}
 use Rattle.splits.specs.declared.lines.HalfTurn.the-variants.{Ends, Over, Goes}
+use Rattle.splits.proofs.Positions.{Left, LeftBy, left-start, left-by}
 use Rattle.splits.proofs.Written.{none-written, then-written, over-more}
 
 -- numbers under new names that are small are small
@@ -35,42 +34,10 @@ pub renamed-inside : (f : ℕ → ℕ) → ((v : ℕ) → f v ≤ largest) → (
 renamed-inside f h [] = refl
 renamed-inside f h (z ∷ zs) = rw (renamed-variable f z, le-ltb largest (f (variable z)) (h (variable z))) (renamed-inside f h zs)
 
--- Steps that are left
-
-after-steps : (t : Step) (o : StepsRead) (ts : List Step) → Texts.after t o ≡ Texts.steps ts → (us : List Step) × (ts ≡ t ∷ us) × (o ≡ Texts.steps us)
-after-steps t (Texts.steps us) ts e = (us, cc, refl)
-after-steps t (Texts.refused us k n) ts e = absurd (zero-one (cc))
-
 module _ (text : List ℕ) where
-  -- the steps from a position on are those
-  abbrev Left : ℕ → List Step → Type 0
-  Left at ts = (turns : ℕ) × (done : ℕ) × (stepsAt text turns at done ≡ Texts.steps ts)
-
-  left-start : (ts : List Step) → stepsOf text ≡ Texts.steps ts → Left 0 ts
-  unfolding stepsOf
-  left-start ts e = (suc (length text), 0, by (ltb longest (length text)) e)
-    where
-      by : {o : StepsRead} (b : Bool) → cond b (Texts.refused [] 21 0) o ≡ Texts.steps ts → o ≡ Texts.steps ts
-      by true e = absurd (zero-one (cc))
-      by false e = e
-
-  left-end : (at : ℕ) (ts : List Step) → Left at ts → lineAt text at ≡ end → ts ≡ []
-  unfolding stepsAt
-  left-end at ts (zero, n, e) q = absurd (zero-one (cc))
-  left-end at ts (suc turns, n, e) q = let p = rw (q, stepsAt) at e in cc
-
-  left-refused : (at : ℕ) {k : ℕ} (ts : List Step) → Left at ts → lineAt text at ≡ Lines.refused k → ⊥
-  unfolding stepsAt
-  left-refused at ts (zero, n, e) q = zero-one (cc)
-  left-refused at ts (suc turns, n, e) q = let p = rw (q, stepsAt) at e in zero-one (cc)
-
-  left-line : (at to : ℕ) (c : Letter) (zs : List ℤ) (ts : List Step) → Left at ts → lineAt text at ≡ line c zs to
-      → (us : List Step) × (ts ≡ record { letter = c; numbers = zs } ∷ us) × Left to us
-  unfolding stepsAt
-  left-line at to c zs ts (zero, n, e) q = absurd (zero-one (cc))
-  left-line at to c zs ts (suc turns, n, e) q =
-      let r = after-steps (record { letter = c; numbers = zs }) (stepsAt text turns to (n + 1)) ts (rw (q, stepsAt) at e) in
-      (r .0, r .1, (turns, n + 1, r .2))
+  -- what a line at the position tells of the steps that are left
+  told : {at : ℕ} {ts : List Step} {l : LineAt} → Left text at ts → lineAt text at ≡ l → LeftBy text ts l
+  told {ts = ts} left p = subst (LeftBy text ts) p (left-by text left)
 
   -- The walk, which began with an output and a position in it
 
@@ -78,7 +45,7 @@ module _ (text : List ℕ) where
     -- what is written of the steps that are left is, with what was written, what is written of all
     pub record Walking (ts : List Step) (output : List ℕ) (at name stop : ℕ) : Type 0 where
       pub rest : List Step
-      pub left : Left at rest
+      pub left : Left text at rest
       pub onward : (after : List ℕ) (r : Wrote) → Writes (allStanding x f shared hasBody hasConstraint name rest) output after stop r
           → Writes (allStanding x f shared hasBody hasConstraint 0 ts) before after from r
 
@@ -87,7 +54,7 @@ module _ (text : List ℕ) where
     Walks output at name stop = (ts : List Step) → stepsOf text ≡ Texts.steps ts → Walking ts output at name stop
 
     pub walk-start : Walks before 0 0 from
-    walk-start ts e = record { rest = ts; left = left-start ts e; onward = λ after r w. w }
+    walk-start ts e = record { rest = ts; left = left-start text e; onward = λ after r w. w }
 
     module _ {output : List ℕ} {at name stop : ℕ} (W : Walks output at name stop) (near : stop ≤ longest) (after : List ℕ) where
       pub walk-ends : {r : HalfTurn} → r ≡ Ends → Turned x f shared hasBody hasConstraint name output after stop (lineAt text at) r
@@ -98,8 +65,8 @@ module _ (text : List ℕ) where
               → Writes (allStanding x f shared hasBody hasConstraint 0 ts) before after from (Written.At stop)
           by end p t =
               let G = W ts q in
-              G .onward after (Written.At stop) (rw (left-end at (G .rest) (G .left) p, t) (none-written output stop near))
-          by (Lines.refused k) p t = let G = W ts q in absurd (left-refused at (G .rest) (G .left) p)
+              G .onward after (Written.At stop) (rw (told (G .left) p, t) (none-written output stop near))
+          by (Lines.refused k) p t = let G = W ts q in absurd (told (G .left) p)
           by (line c zs to) p t = absurd t
 
       pub walk-over : {r : HalfTurn} → r ≡ Over → Turned x f shared hasBody hasConstraint name output after stop (lineAt text at) r
@@ -112,7 +79,7 @@ module _ (text : List ℕ) where
           by (Lines.refused k) p t = absurd t
           by (line c zs to) p t =
               let G = W ts q in
-              let s = left-line at to c zs (G .rest) (G .left) p in
+              let s = told (G .left) p in
               G .onward after Written.Over (rw (s .1) (over-more (standing x f shared hasBody hasConstraint name c zs) _ output after after stop t))
 
       pub walk-on : {r : HalfTurn} (n m e : ℕ) → r ≡ Goes n m e → Turned x f shared hasBody hasConstraint name output after stop (lineAt text at) r
@@ -130,7 +97,7 @@ module _ (text : List ℕ) where
               on : Walks after to (nameAfter x name c zs) e
               on ts q =
                   let G = W ts q in
-                  let s = left-line at to c zs (G .rest) (G .left) p in
+                  let s = told (G .left) p in
                   record {
                     rest = s .0;
                     left = s .2;
