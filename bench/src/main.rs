@@ -1,6 +1,6 @@
 //! The benchmark: the whole check through the static library beside an unverified checker, on inputs made from fixed seeds. Both
-//! must give the same verdict on each input. Then the packet of the longest proof, written and read back, and reading alone. The last line
-//! is 'N passed, M failed'; the exit status is 0 where none failed.
+//! must give the same verdict on each input. Then the packet of the longest proof, written and read back, two halves merged into one proof,
+//! and reading alone. The last line is 'N passed, M failed'; the exit status is 0 where none failed.
 //!
 //! With `--once` each input is run once by each checker. Without arguments the times are medians of 31 repetitions; a number as
 //! the argument says how many others there are to be. With `--slow` the inputs that were made to be slow are run once in place of the others.
@@ -15,6 +15,7 @@ mod cases;
 mod fallbacks;
 mod growth;
 mod measure;
+mod merging;
 mod packets;
 mod picture;
 mod reading;
@@ -67,18 +68,21 @@ fn run_slow() -> usize {
     failed
 }
 
-/// Runs all inputs, the packet of the longest proof and reading alone; on how many inputs the checkers differ, one more where the packet is not
-/// read back, and one more where a text is refused that should be read.
+/// Runs all inputs, the packet of the longest proof, the merge and reading alone; on how many inputs the checkers differ, one more where the
+/// packet is not read back, one more where the halves are not merged, and one more where a text is refused that should be read.
 fn run_all(repetitions: usize) -> usize {
     let inputs = cases::all();
     let measured = measure::measure(&inputs, repetitions);
     let packed = packets::measure(&inputs, repetitions);
+    let merged = merging::measure(&cases::split(), repetitions);
     let read = reading::measure(&inputs, repetitions);
     report::heading(repetitions);
-    let failed = report_inputs(&inputs, &measured) + usize::from(packed.is_none()) + usize::from(read.is_none());
+    let others = [packed.is_none(), merged.is_none(), read.is_none()];
+    let failed = report_inputs(&inputs, &measured) + others.iter().filter(|failed| **failed).count();
     report::packet(packed.as_ref());
+    report::merging(merged.as_ref());
     report::reading(read.as_ref());
-    println!("{} passed, {failed} failed", inputs.len() + 2 - failed);
+    println!("{} passed, {failed} failed", inputs.len() + others.len() - failed);
     failed
 }
 

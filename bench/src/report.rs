@@ -1,8 +1,10 @@
-//! What is printed: a row for each input, lines on the packet and on reading, the rows of two programs side by side, and those on growth.
+//! What is printed: a row for each input, lines on the packet, on the merge and on reading, the rows of two programs side by side, and those
+//! on growth.
 
 use crate::cases::{Goal, Input};
 use crate::growth::Row;
 use crate::measure::{Answer, Measured, Times};
+use crate::merging::Merged;
 use crate::packets::Packed;
 use crate::reading::{Amount, Reading};
 use aspdrupe::{Counts, Verdict};
@@ -81,6 +83,26 @@ pub fn packet(packed: Option<&Packed>) {
         milliseconds(packed.writing.least),
         milliseconds(packed.reading.median),
         milliseconds(packed.reading.least),
+    );
+}
+
+/// The line on the two halves.
+pub fn merging(merged: Option<&Merged>) {
+    let Some(merged) = merged else {
+        println!("FAILED: two halves are not merged, or the merged proof is not accepted");
+        return;
+    };
+    println!(
+        "merge of {}: {} and {} steps, merged into {} of {} bytes in {:.3} ms (least {:.3}); that proof is checked in {:.3} ms (least {:.3})",
+        merged.name,
+        merged.halves[0],
+        merged.halves[1],
+        merged.steps,
+        merged.size,
+        milliseconds(merged.merging.median),
+        milliseconds(merged.merging.least),
+        milliseconds(merged.checking.median),
+        milliseconds(merged.checking.least),
     );
 }
 

@@ -1,13 +1,13 @@
-/* The six services of the proof checker for C: the program reader, the set test, the proof-line reader, the whole check over two texts,
- * and the writer and the reader of packets. The functions are in target/staticlib/libexports.a, which `rt staticlib exports` writes, for
- * x86-64 Linux.
+/* The seven services of the proof checker for C: the program reader, the set test, the proof-line reader, the whole check over two texts,
+ * the writer and the reader of packets, and the merge of two halves' proofs. The functions are in target/staticlib/libexports.a, which
+ * `rt staticlib exports` writes, for x86-64 Linux.
  *
  * Each function is proved to meet its contract (crates/exports/src/lib.rt and crates/exports/specs/) on every input: no text, no
  * number and no length is asked to be good. What the caller must see to is what C cannot say:
  *   - each pointer is valid for its length, counted in elements: readable where it is const, readable and writable where not;
  *     where the length is 0 it is not followed, and any pointer that is not null and is aligned for its type will do;
  *   - a buffer that is written overlaps no other argument;
- *   - the thread has ASPDRUPE_STACK bytes of stack for the call.
+ *   - the thread has ASPDRUPE_STACK bytes of stack for the call, and ASPDRUPE_MERGE_STACK for aspdrupe_merge_halves.
  * Nothing else: no function allocates, keeps a pointer, has a state of its own, or fails to return. Calls with buffers of their
  * own may run at the same time.
  *
@@ -23,10 +23,14 @@
 extern "C" {
 #endif
 
-/* A thread with a stack of so many bytes has enough for any call, with what the C library takes of a thread's stack for itself. What your
- * own code and its thread-local variables take comes on top. The need does not grow with the texts: the whole check was measured at
- * 503 KB, the other services at 63 KB or less (bindings/c/stack.c). Some C libraries give a thread less by default: musl 128 KB. */
+/* A thread with a stack of so many bytes has enough for any call but a merge, with what the C library takes of a thread's stack for itself.
+ * What your own code and its thread-local variables take comes on top. The need does not grow with the texts: the whole check was measured
+ * at 503 KB, the services other than it and the merge at 63 KB or less (bindings/c/stack.c). Some C libraries give a thread less by default:
+ * musl 128 KB. */
 #define ASPDRUPE_STACK 524288
+
+/* The same for aspdrupe_merge_halves, which checks the halves over a table of its own beside the one lent: 865 KB were measured. */
+#define ASPDRUPE_MERGE_STACK 1048576
 
 /* The most numbers that an answer has. */
 #define ASPDRUPE_ANSWER 4
@@ -111,6 +115,21 @@ uint32_t aspdrupe_write_packet(const int32_t *table, size_t table_len, uint64_t 
  * throughout, and `answer` stays as it was. */
 uint32_t aspdrupe_read_packet(const uint8_t *packet, size_t packet_len, int32_t *table, size_t table_len, uint8_t *proof,
                               size_t proof_len, uint64_t *answer, size_t answer_len);
+
+/* Merges the proofs of two halves into one proof for the program itself. The program is split on an atom, one of 1 to N: the first proof is
+ * for the program with a constraint added that demands the atom, the second for the program with a constraint added that forbids it. Both are
+ * accepted where their check comes to ASPDRUPE_INCONSISTENT. 65,535 bytes hold every merged text.
+ * Returns 0 where it is written: answer[0] is how many bytes the text has; the output holds it and 0 after it, and table and store are as
+ * aspdrupe_check_texts leaves them for the program and that text, which comes to ASPDRUPE_INCONSISTENT.
+ * Returns the number of the question that the program fails, 1 to 11, 54 or 55: answer[0] is the line and answer[1] is 0, as
+ * aspdrupe_read_program has them.
+ * Otherwise returns 57 (the atom is none of the program's, or a half is refused or open when it is checked with the store lent), 58 (a line
+ * of more than ASPDRUPE_NUMBERS numbers, a name above 8,191, or a text that is longer than 65,535 bytes or than the output) or 59 (the merged
+ * text's live nogoods do not fit the store), asked in this order: `answer` stays as it was.
+ * After a refusal, the program's too, table, store and output are 0 throughout. */
+uint32_t aspdrupe_merge_halves(const uint8_t *program, size_t program_len, uint64_t atom, const uint8_t *first, size_t first_len,
+                               const uint8_t *second, size_t second_len, int32_t *table, size_t table_len, int32_t *store,
+                               size_t store_len, uint8_t *output, size_t output_len, uint64_t *answer, size_t answer_len);
 
 #ifdef __cplusplus
 }

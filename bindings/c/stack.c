@@ -1,6 +1,7 @@
 /* How much stack the services need. Every service is called, on inputs that reach its deepest paths, each call in a thread of its own:
  *
- *   stack           in threads with a stack of ASPDRUPE_STACK bytes: the test, which bindings/c/run builds and runs
+ *   stack           in threads with a stack of ASPDRUPE_STACK bytes, or ASPDRUPE_MERGE_STACK for merges: the test, which bindings/c/run
+ *                   builds and runs
  *   stack SIZE      in threads with a stack of SIZE bytes
  *   stack measure   in threads with more than enough; prints how many bytes of it each has used, with what the thread itself takes
  *
@@ -25,7 +26,7 @@
 
 /* Below a thread's stack, so that a frame cannot reach past it; and the stack that is measured on. */
 #define GUARD ((size_t)1 << 20)
-#define PLENTY ((size_t)1 << 20)
+#define PLENTY ((size_t)1 << 21)
 #define PATTERN 0xA5
 
 /* The limits of documents 01 and 02. */
@@ -185,6 +186,65 @@ static void make_packets(void) {
     bad_packet.bytes[bad_packet.size - 1] = 0x80;
 }
 
+/* A program, the atom that it is split on, and the proofs of its two halves. */
+struct split {
+    struct text program, first, second;
+    uint64_t atom;
+};
+
+static struct split weight_split, full_split;
+
+/* The proof of a half of the program with weights, with names from this one on: all bodies, the atoms without a rule, and a loop. */
+static void put_weight_half(struct text *half, int names) {
+    for (int left = 1; left <= WEIGHTED; left++) {
+        put(half, "b %d", names + left);
+        for (int atom = 1; atom <= WEIGHTED; atom++) {
+            if (atom != left) put(half, " %d", -atom);
+        }
+        put(half, " 0\n");
+    }
+    put(half, "b %d 13 0\nc %d 13 0\nc %d 0\ns 13", names + 13, names + 1, names + 13);
+    put_range(half, names + 1, names + 13);
+    put(half, " 0\nl 13 0\n");
+    for (int atom = 1; atom <= WEIGHTED; atom++) put(half, "s %d 0\n", atom);
+    put(half, "a 13 0\na 0\n");
+}
+
+/* Rules with weights that fill the table, by which atom 13 holds, and a constraint against it. The first half names and completes its own
+ * constraint too; the second has other names, one of them the first half's. */
+static void make_weight_split(void) {
+    struct split *split = &weight_split;
+    split->atom = 13;
+    put(&split->program, "asp 1 0 0\n");
+    for (int i = 2; i < WEIGHT_RULES; i++) {
+        put(&split->program, "1 0 1 13 1 %d %d", WEIGHTED - 1, WEIGHTED);
+        for (int atom = 1; atom <= WEIGHTED; atom++) put(&split->program, " %d 1", -atom);
+        put(&split->program, "\n");
+    }
+    put(&split->program, "1 0 1 13 0 1 13\n1 0 0 0 1 13\n0\n");
+    put(&split->first, "b 14 -13 0\nc 14 0\n");
+    put_weight_half(&split->first, 14);
+    put(&split->second, "e 14 -13 0\n");
+    put_weight_half(&split->second, 20);
+}
+
+/* As many rules as there may be, and a first half that nearly fills the merged text with lines of 64 numbers, widened to 65. */
+static void make_full_split(void) {
+    struct split *split = &full_split;
+    split->atom = 1;
+    put(&split->program, "asp 1 0 0\n1 0 1 1 0 1 -1\n");
+    for (int i = 1; i < RULES; i++) put(&split->program, "1 1 7 2 3 4 5 6 7 8 0 5 4 5 6 7 8\n");
+    put(&split->program, "0\n");
+    put(&split->first, "b 9 -1 0\nc 9 0\nc 9 1 0\ns 1 9 0\na 0\n");
+    for (int name = 8001; name <= 8000 + PART; name++) put(&split->first, "e %d 0\n", name);
+    while (split->first.size < TEXT - 1000) {
+        put(&split->first, "a");
+        put_range(&split->first, 8001, 8000 + PART);
+        put(&split->first, " 0\n");
+    }
+    put(&split->second, "b 9 -1 0\nb 10 1 0\nc 10 0\nc 9 1 0\ns 1 9 0\ne 8001 9 0\na 0\n");
+}
+
 static void make_inputs(void) {
     make_chain();
     make_wide();
@@ -192,6 +252,8 @@ static void make_inputs(void) {
     make_full();
     make_weights();
     make_packets();
+    make_weight_split();
+    make_full_split();
     for (int i = 0; i < TEXT; i++) put(&newlines, "\n");
     put(&long_line, "a");
     while (long_line.size < TEXT - 10) put(&long_line, " -8191");
@@ -226,6 +288,12 @@ static uint32_t read_packet(const struct packet *packet, size_t text_size) {
     return aspdrupe_read_packet(packet->bytes, packet->size, table, WORDS, proof_text, text_size, answer, ASPDRUPE_ANSWER);
 }
 
+static uint32_t merge(const struct split *split, size_t store_size, size_t size) {
+    return aspdrupe_merge_halves(split->program.bytes, split->program.size, split->atom, split->first.bytes, split->first.size,
+                                 split->second.bytes, split->second.size, table, WORDS, store, store_size, bytes, size, answer,
+                                 ASPDRUPE_ANSWER);
+}
+
 static uint32_t read_full(void) { return read_program(&full_rules); }
 static uint32_t read_big(void) { return read_program(&big_rules); }
 static uint32_t read_wide(void) { return read_program(&wide_rules); }
@@ -248,6 +316,29 @@ static uint32_t unpack_full(void) { return read_packet(&full_packet, TEXT); }
 static uint32_t unpack_wide(void) { return read_packet(&wide_packet, TEXT); }
 static uint32_t unpack_bad(void) { return read_packet(&bad_packet, TEXT); }
 static uint32_t unpack_short(void) { return read_packet(&full_packet, full_packet.proof->size - 1); }
+
+/* The bytes of the merged texts, and the words that the one with weights needs of the store. */
+#define WEIGHT_MERGED 861
+#define WEIGHT_STORE 879
+#define FULL_MERGED 65200
+
+static uint32_t merge_weights(void) { return merge(&weight_split, WEIGHT_STORE, WEIGHT_MERGED); }
+static uint32_t merge_full(void) { return merge(&full_split, WORDS, TEXT); }
+static uint32_t merge_short(void) { return merge(&weight_split, WORDS, WEIGHT_MERGED - 1); }
+static uint32_t merge_small(void) { return merge(&weight_split, WEIGHT_STORE - 1, TEXT); }
+
+/* The second half of another split is refused at its first line, after the first half has been checked. */
+static uint32_t merge_other(void) {
+    return aspdrupe_merge_halves(weight_split.program.bytes, weight_split.program.size, weight_split.atom, weight_split.first.bytes,
+                                 weight_split.first.size, full_split.second.bytes, full_split.second.size, table, WORDS, store, WORDS,
+                                 bytes, TEXT, answer, ASPDRUPE_ANSWER);
+}
+
+/* A program that is refused. */
+static uint32_t merge_many(void) {
+    return aspdrupe_merge_halves(many_weights.bytes, many_weights.size, 1, chain.bytes, chain.size, chain.bytes, chain.size, table, WORDS,
+                                 store, WORDS, bytes, TEXT, answer, ASPDRUPE_ANSWER);
+}
 
 /* A chain of rules against their order: the least model takes as many rounds as there are rules. It is the set that is tested. */
 static uint32_t test_chain(void) {
@@ -310,7 +401,22 @@ static const struct call calls[] = {
     {"read_packet: a text too short", unpack_short, 52, {0, 0, 0, 0}},
 };
 
-#define CALLS (sizeof calls / sizeof *calls)
+static const struct call merges[] = {
+    {"merge_halves: rules with 12 weights", merge_weights, 0, {WEIGHT_MERGED, 0, 0, 0}},
+    {"merge_halves: full text, 1,024 rules", merge_full, 0, {FULL_MERGED, 0, 0, 0}},
+    {"merge_halves: a half of another program", merge_other, 57, {0, 0, 0, 0}},
+    {"merge_halves: an output too short", merge_short, 58, {0, 0, 0, 0}},
+    {"merge_halves: a store too short", merge_small, 59, {0, 0, 0, 0}},
+    {"merge_halves: 64 heads, 64 weights", merge_many, 55, {2, 0, 0, 0}},
+};
+
+#define COUNT(list) (sizeof list / sizeof *list)
+
+/* Calls, and the stack that the header names for them. */
+static const struct {
+    const struct call *calls;
+    size_t count, stack;
+} groups[] = {{calls, COUNT(calls), ASPDRUPE_STACK}, {merges, COUNT(merges), ASPDRUPE_MERGE_STACK}};
 
 /* ---- The threads ---- */
 
@@ -382,14 +488,18 @@ static int passes(const struct call *call, size_t size, int measuring) {
 
 int main(int argc, char **argv) {
     int measuring = argc == 2 && strcmp(argv[1], "measure") == 0;
-    size_t size = measuring ? PLENTY : argc == 2 ? strtoul(argv[1], NULL, 10) : ASPDRUPE_STACK;
-    size_t failed = 0;
-    if (argc > 2 || size < (size_t)PTHREAD_STACK_MIN) {
+    size_t asked = measuring ? PLENTY : argc == 2 ? strtoul(argv[1], NULL, 10) : 0;
+    size_t all_failed = 0;
+    if (argc > 2 || (argc == 2 && asked < (size_t)PTHREAD_STACK_MIN)) {
         fprintf(stderr, "usage: %s [SIZE | measure]; a thread has at least %zu bytes\n", argv[0], (size_t)PTHREAD_STACK_MIN);
         return 2;
     }
     make_inputs();
-    for (size_t i = 0; i < CALLS; i++) failed += !passes(&calls[i], size, measuring);
-    printf("stacks of %zu bytes: %zu calls passed, %zu failed\n", size, CALLS - failed, failed);
-    return failed != 0;
+    for (size_t group = 0; group < COUNT(groups); group++) {
+        size_t size = argc == 2 ? asked : groups[group].stack, count = groups[group].count, failed = 0;
+        for (size_t i = 0; i < count; i++) failed += !passes(&groups[group].calls[i], size, measuring);
+        printf("stacks of %zu bytes: %zu calls passed, %zu failed\n", size, count - failed, failed);
+        all_failed += failed;
+    }
+    return all_failed != 0;
 }

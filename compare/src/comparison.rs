@@ -51,7 +51,7 @@ impl Comparison {
     }
 
     /// Words that a lent buffer holds before the call.
-    fn pattern(&mut self, length: usize) -> Vec<i32> {
+    pub fn pattern(&mut self, length: usize) -> Vec<i32> {
         let word = *self.random.pick(&[0x5A5A_5A5A, -1, 1, 0, i32::MIN, 2]);
         let mut words = vec![word; length];
         if self.random.percent(30) {
@@ -236,7 +236,7 @@ fn check_differs(pair: &Pair, table_room: usize, store_room: usize) -> Option<(S
 }
 
 /// Where two rows of words or bytes differ first.
-fn difference<T: PartialEq + std::fmt::Display>(found: &[T], expected: &[T]) -> String {
+pub fn difference<T: PartialEq + std::fmt::Display>(found: &[T], expected: &[T]) -> String {
     match found.iter().zip(expected).position(|(one, other)| one != other) {
         Some(place) => format!(" (place {place} is {}, not {})", found[place], expected[place]),
         None => String::from(" (the same)"),

@@ -7,6 +7,7 @@ use inputs::{programs, Pair, ROOM};
 use crate::cases::refutations::{go_on, refute, Author, Found};
 use crate::cases::{self, bytes, changes, deep, deletions, fixed, guided, limits, loops, noise, weights};
 use crate::comparison::Comparison;
+use crate::merges;
 use crate::packets;
 use crate::reference::check::{check, store_lengths, verdict_line};
 use crate::reference::models::{self, every_set};
@@ -48,6 +49,8 @@ pub fn families() -> Vec<Family> {
         listed("packet-limits", 1, packets::run_limits),
         listed("packet-limit-pairs", 1, packets::run_limit_pairs),
         family("packet-pairs", 100, packets::run_pairs),
+        listed("merges", cases::merges::cases().len(), merges::run_worked),
+        family("splits", 50, merges::run_random),
     ]
 }
 

@@ -13,6 +13,7 @@ mod brute;
 mod cases;
 mod comparison;
 mod families;
+mod merges;
 mod packets;
 mod reference;
 mod shrink;

@@ -3,6 +3,7 @@
 use std::collections::BTreeMap;
 
 use crate::reference::check::{verdict_line, Verdict};
+use crate::reference::merge::Turn;
 
 #[derive(Default)]
 pub struct Tally {
@@ -84,6 +85,9 @@ fn wanted(with_binary: bool) -> Vec<String> {
     wanted.extend(["set", "model"].map(|which| format!("test_set: differs, in the {which} only")));
     wanted.extend(["written", "refused 52", "refused 53"].map(|word| format!("write_packet: {word}")));
     wanted.extend(["read", "refused 51", "refused 52", "refused 53"].map(|word| format!("read_packet: {word}")));
+    wanted.extend(["merged", "refused 57", "refused 58", "refused 59"].map(|word| format!("merge_halves: {word}")));
+    wanted.extend(PROGRAM_QUESTIONS.map(|number| format!("merge_halves: refused program {number:02}")));
+    wanted.extend(Turn::ALL.map(|turn| format!("merge_halves: {}", turn.told())));
     wanted.extend("abcdels".chars().map(|letter| format!("inconsistent by a proof with {letter}")));
     wanted.extend(["refuted", "answer set"].map(|word| format!("search: {word}")));
     wanted.extend(["program", "program with weights", "program with further constraints"].map(|what| format!("no answer set: {what}")));

@@ -24,6 +24,14 @@ pub struct Input {
     pub goal: Option<Goal>,
 }
 
+/// A program, the atom that it is split on, and a refutation of each half: the one that demands the atom, and the one that forbids it.
+pub struct Split {
+    pub name: String,
+    pub program: Vec<u8>,
+    pub atom: usize,
+    pub halves: [Vec<Line>; 2],
+}
+
 /// What the time of the verified check is to reach.
 #[derive(Clone, Copy)]
 pub enum Goal {
@@ -59,6 +67,11 @@ pub fn all() -> Vec<Input> {
 /// The inputs that were made to be slow.
 pub fn slow() -> Vec<Input> {
     slow::inputs()
+}
+
+/// The split whose halves are merged.
+pub fn split() -> Split {
+    searched::split()
 }
 
 /// Refutations of growing size.

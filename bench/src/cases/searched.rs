@@ -1,8 +1,9 @@
 //! Refutations of random programs, of growing length up to the limit of a proof's text.
 
-use super::{refutations, Goal, Input};
+use super::{refutations, Goal, Input, Split};
+use inputs::lines::Line;
 use inputs::random::Random;
-use inputs::rules::{choice, constraint, normal, Rule};
+use inputs::rules::{choice, constraint, normal, program_text, Rule};
 
 /// About so many steps, and the seed that gives a program with such a refutation.
 const CASES: [(usize, u64); 6] = [(100, 179), (200, 109), (400, 136), (800, 160), (1_600, 77), (2_300, 6_638)];
@@ -24,6 +25,20 @@ fn input(length: usize, seed: u64) -> Input {
     let rules = rules(&mut Random::from_seed(seed + 1));
     let lines = refutations::refute(&rules, 2 * length, seed).expect("the seed gives a refutation");
     Input::of(format!("random-{length}"), &rules, &lines).with_goal(Goal::Ratio(2.5))
+}
+
+/// A program of which both halves together have about so many steps, its seed, and the atom that it is split on.
+const SPLIT: (usize, u64, i32) = (1_000, 8_659, 1);
+
+pub fn split() -> Split {
+    let (length, seed, atom) = SPLIT;
+    let rules = rules(&mut Random::from_seed(seed + 1));
+    let half = |literal: i32| -> Vec<Line> {
+        let rules = [&rules[..], &[constraint(&[-literal])]].concat();
+        refutations::refute(&rules, length, seed).expect("the seed gives a refutation of each half")
+    };
+    let halves = [half(atom), half(-atom)];
+    Split { name: format!("split-{length}"), program: program_text(&rules), atom: atom as usize, halves }
 }
 
 /// Atoms of which half may be chosen, and the others have two rules each; constraints of three literals.

@@ -1,6 +1,6 @@
 //! What the services answer.
 
-use crate::questions::{Letter, PacketQuestion, ProgramQuestion, ProofQuestion, SetQuestion};
+use crate::questions::{Letter, MergeQuestion, PacketQuestion, ProgramQuestion, ProofQuestion, SetQuestion};
 use std::fmt;
 
 /// Why a program text is refused. It is displayed as `refused program NUMBER LINE`.
@@ -113,6 +113,17 @@ pub enum PacketReading {
     },
     /// It is refused.
     Refused(PacketQuestion),
+}
+
+/// What the merge says of a program and the proofs of its two halves.
+#[derive(Debug, Clone, Copy, PartialEq, Eq, Hash)]
+pub enum Merging {
+    /// The proof for the program is written, and has so many bytes: the program has no answer set.
+    Merged(usize),
+    /// The program is refused.
+    RefusedProgram(ProgramRefusal),
+    /// The merge is refused.
+    Refused(MergeQuestion),
 }
 
 impl fmt::Display for ProgramRefusal {

@@ -1,7 +1,9 @@
 //! From what a function of the library returns and leaves, a code and numbers, to the answer of its service.
 
-use crate::answers::{Counts, LineAnswer, PacketReading, PacketWriting, ProgramReading, ProgramRefusal, ProofRefusal, SetAnswer, Verdict};
-use crate::questions::{Letter, PacketQuestion, ProgramQuestion, ProofQuestion, SetQuestion, UnknownAnswer};
+use crate::answers::{
+    Counts, LineAnswer, Merging, PacketReading, PacketWriting, ProgramReading, ProgramRefusal, ProofRefusal, SetAnswer, Verdict,
+};
+use crate::questions::{Letter, MergeQuestion, PacketQuestion, ProgramQuestion, ProofQuestion, SetQuestion, UnknownAnswer};
 
 /// What the program reader returns.
 #[derive(Debug, Clone, Copy, PartialEq, Eq)]
@@ -48,6 +50,14 @@ enum WritingCode {
 enum ReadingCode {
     Read,
     Refused(PacketQuestion),
+}
+
+/// What the merge returns.
+#[derive(Debug, Clone, Copy, PartialEq, Eq)]
+enum MergeCode {
+    Merged,
+    RefusedProgram(ProgramQuestion),
+    Refused(MergeQuestion),
 }
 
 fn unknown(wanted: &'static str, code: u32) -> UnknownAnswer {
@@ -133,6 +143,19 @@ impl TryFrom<u32> for ReadingCode {
     }
 }
 
+impl TryFrom<u32> for MergeCode {
+    type Error = UnknownAnswer;
+
+    fn try_from(code: u32) -> Result<Self, UnknownAnswer> {
+        match code {
+            0 => Ok(MergeCode::Merged),
+            1..=11 | 54 | 55 => ProgramQuestion::try_from(u64::from(code)).map(MergeCode::RefusedProgram),
+            57..=59 => MergeQuestion::try_from(u64::from(code)).map(MergeCode::Refused),
+            _ => Err(unknown("code of the merge", code)),
+        }
+    }
+}
+
 /// The program reader's answer.
 pub fn program_reading(code: u32, answer: [u64; 2]) -> Result<ProgramReading, UnknownAnswer> {
     let [first, second] = answer.map(|number| number as usize);
@@ -197,6 +220,16 @@ pub fn packet_reading(code: u32, answer: [u64; 2]) -> Result<PacketReading, Unkn
     })
 }
 
+/// The merge's answer.
+pub fn merging(code: u32, answer: u64) -> Result<Merging, UnknownAnswer> {
+    let number = answer as usize;
+    Ok(match MergeCode::try_from(code)? {
+        MergeCode::Merged => Merging::Merged(number),
+        MergeCode::RefusedProgram(question) => Merging::RefusedProgram(ProgramRefusal { question, line: number }),
+        MergeCode::Refused(question) => Merging::Refused(question),
+    })
+}
+
 #[cfg(test)]
 mod tests {
     use super::*;
@@ -217,6 +250,7 @@ mod tests {
         assert_eq!(known::<CheckCode>(), [0, 1, 2, 3]);
         assert_eq!(known::<WritingCode>(), [0, 52, 53]);
         assert_eq!(known::<ReadingCode>(), [0, 51, 52, 53]);
+        assert_eq!(known::<MergeCode>(), (0..=11).chain([54, 55, 57, 58, 59]).collect::<Vec<_>>());
     }
 
     #[test]
@@ -227,6 +261,7 @@ mod tests {
         assert_eq!(verdict(4, [0; 4]), Err(UnknownAnswer { wanted: "code of the whole check", number: 4 }));
         assert_eq!(packet_writing(51, 0), Err(UnknownAnswer { wanted: "code of the writer of packets", number: 51 }));
         assert_eq!(packet_reading(54, [0; 2]), Err(UnknownAnswer { wanted: "code of the reader of packets", number: 54 }));
+        assert_eq!(merging(34, 0), Err(UnknownAnswer { wanted: "code of the merge", number: 34 }));
     }
 
     #[test]
@@ -248,6 +283,9 @@ mod tests {
         assert_eq!(packet_reading(0, [1, 35]), Ok(PacketReading::Read { rules: 1, bytes: 35 }));
         assert_eq!(packet_writing(53, 9), Ok(PacketWriting::Refused(PacketQuestion::Pair)));
         assert_eq!(packet_reading(51, [9; 2]), Ok(PacketReading::Refused(PacketQuestion::Mark)));
+        assert_eq!(merging(0, 66), Ok(Merging::Merged(66)));
+        assert_eq!(merging(5, 7), Ok(Merging::RefusedProgram(refusal)));
+        assert_eq!(merging(59, 9), Ok(Merging::Refused(MergeQuestion::Store)));
         for (code, answer, line) in
             [(0, [1, 2, 3, 4], "inconsistent 1 2 3 4"), (1, [5, 6, 7, 8], "open 5 6 7 8"), (2, [10, 3, 0, 0], "refused program 10 3")]
         {

@@ -1,6 +1,6 @@
-//! The six services of the proof checker for Rust: the program reader, the set test, the proof-line reader, the whole check over two
-//! texts, and the writer and the reader of packets. The work is done by functions that are proved to meet their contracts on every input
-//! (`crates/exports`); here they are declared and wrapped, and their codes become enums. No input panics.
+//! The seven services of the proof checker for Rust: the program reader, the set test, the proof-line reader, the whole check over two
+//! texts, the writer and the reader of packets, and the merge of two halves' proofs. The work is done by functions that are proved to meet
+//! their contracts on every input (`crates/exports`); here they are declared and wrapped, and their codes become enums. No input panics.
 //!
 //! Each function answers an [`UnknownAnswer`] where the library returns what its contract does not allow, which a library of the
 //! same version never does.
@@ -25,8 +25,10 @@ mod codes;
 mod questions;
 mod raw;
 
-pub use answers::{Counts, LineAnswer, PacketReading, PacketWriting, ProgramReading, ProgramRefusal, ProofRefusal, SetAnswer, Verdict};
-pub use questions::{Letter, PacketQuestion, ProgramQuestion, ProofQuestion, SetQuestion, UnknownAnswer};
+pub use answers::{
+    Counts, LineAnswer, Merging, PacketReading, PacketWriting, ProgramReading, ProgramRefusal, ProofRefusal, SetAnswer, Verdict,
+};
+pub use questions::{Letter, MergeQuestion, PacketQuestion, ProgramQuestion, ProofQuestion, SetQuestion, UnknownAnswer};
 
 /// The most numbers of a proof line.
 pub const MOST_NUMBERS: usize = 65;
@@ -34,9 +36,12 @@ pub const MOST_NUMBERS: usize = 65;
 /// The marks that the set test asks for.
 pub const MARKS: usize = 8192;
 
-/// The bytes of stack with which a thread has enough for any call, as `std::thread::Builder::stack_size` takes them. What your own
-/// code takes comes on top.
+/// The bytes of stack with which a thread has enough for any call but [`merge_halves`], as `std::thread::Builder::stack_size` takes them.
+/// What your own code takes comes on top.
 pub const STACK: usize = 524_288;
+
+/// The same for [`merge_halves`].
+pub const MERGE_STACK: usize = 1_048_576;
 
 // Each call below hands over what its slices point to, with their lengths. A slice is valid for its length, an empty one has a
 // pointer that is aligned and not null, and Rust lets no other argument overlap one that is written: nothing more is asked.
@@ -193,4 +198,57 @@ pub fn read_packet(packet: &[u8], table: &mut [i32], proof: &mut [u8]) -> Result
         )
     };
     codes::packet_reading(code, answer)
+}
+
+/// Merges the proofs of two halves into one proof for the program itself. The program is split on one of its atoms: the first proof is for
+/// the program with a constraint added that demands the atom, the second for the program with a constraint added that forbids it, and each
+/// must be inconsistent when it is checked with the store. The output then begins with the merged text and has 0 after it, and table and store
+/// are as [`check_texts`] leaves them for the program and that text; all three are 0 throughout where anything is refused. 65,535 bytes hold
+/// every merged text. A thread needs [`MERGE_STACK`] bytes of stack.
+///
+/// ```
+/// use aspdrupe::{check_texts, merge_halves, Merging};
+///
+/// // 1 where not 1
+/// let program = b"asp 1 0 0\n1 0 1 1 0 1 -1\n0\n";
+/// let demanded = b"b 2 -1 0\nc 2 0\nc 2 1 0\ns 1 2 0\na 0\n";
+/// let forbidden = b"b 2 -1 0\nb 3 1 0\nc 3 0\nc 2 1 0\ns 1 2 0\na 0\n";
+/// let (mut table, mut store, mut output) = ([0; 6], [0; 40], [0; 66]);
+/// let merging = merge_halves(program, 1, demanded, forbidden, &mut table, &mut store, &mut output)?;
+/// assert_eq!(merging, Merging::Merged(66));
+/// assert_eq!(&output, b"b 2 -1 0\nc 2 1 0\ns 1 2 0\na 1 0\ne 3 1 0\nc 2 1 0\ns 1 2 0\na -1 0\na 0\n");
+/// assert_eq!(check_texts(program, &output, &mut table, &mut store)?.to_string(), "inconsistent 1 1 9 11");
+/// # Ok::<(), aspdrupe::UnknownAnswer>(())
+/// ```
+pub fn merge_halves(
+    program: &[u8],
+    atom: usize,
+    first: &[u8],
+    second: &[u8],
+    table: &mut [i32],
+    store: &mut [i32],
+    output: &mut [u8],
+) -> Result<Merging, UnknownAnswer> {
+    let mut answer = [0; 2];
+    // SAFETY: as said above.
+    let code = unsafe {
+        raw::aspdrupe_merge_halves(
+            program.as_ptr(),
+            program.len(),
+            atom as u64,
+            first.as_ptr(),
+            first.len(),
+            second.as_ptr(),
+            second.len(),
+            table.as_mut_ptr(),
+            table.len(),
+            store.as_mut_ptr(),
+            store.len(),
+            output.as_mut_ptr(),
+            output.len(),
+            answer.as_mut_ptr(),
+            answer.len(),
+        )
+    };
+    codes::merging(code, answer[0])
 }

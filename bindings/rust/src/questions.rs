@@ -118,6 +118,15 @@ numbered! {
 }
 
 numbered! {
+    /// A question put by the merge of two halves, after those put to the program. A refusal names the first that is answered no.
+    MergeQuestion, "question put to two halves" {
+        Halves = 57, "Is the atom one of the program's, and each half inconsistent when it is checked with the store?";
+        Limits = 58, "Is every line and name within its limit, and the text within 65,535 bytes and the output?";
+        Store = 59, "Do the live nogoods of the merged proof fit the store?";
+    }
+}
+
+numbered! {
     /// The letter of a proof line; its number is its byte.
     Letter, "letter of a proof line" {
         Addition = b'a', "a";
@@ -146,6 +155,7 @@ mod tests {
         assert_eq!(known(ProofQuestion::number), (21..=34).chain([56]).collect::<Vec<_>>());
         assert_eq!(known(SetQuestion::number), (41..=43).collect::<Vec<_>>());
         assert_eq!(known(PacketQuestion::number), (51..=53).collect::<Vec<_>>());
+        assert_eq!(known(MergeQuestion::number), (57..=59).collect::<Vec<_>>());
         assert_eq!(known(Letter::number), b"abcdels".map(u64::from));
         assert_eq!(Letter::ALL.iter().map(Letter::to_string).collect::<String>(), "abcdels");
     }

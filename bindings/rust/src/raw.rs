@@ -62,6 +62,23 @@ extern "C" {
         answer: *mut u64,
         answer_len: usize,
     ) -> u32;
+    pub fn aspdrupe_merge_halves(
+        program: *const u8,
+        program_len: usize,
+        atom: u64,
+        first: *const u8,
+        first_len: usize,
+        second: *const u8,
+        second_len: usize,
+        table: *mut i32,
+        table_len: usize,
+        store: *mut i32,
+        store_len: usize,
+        output: *mut u8,
+        output_len: usize,
+        answer: *mut u64,
+        answer_len: usize,
+    ) -> u32;
 }
 
 // What does not fit is not written, and what stands after an answer stays.
@@ -181,5 +198,53 @@ mod tests {
         assert_eq!(read(&packet[..56], 3), (52, [9; 3]));
         packet[55] = b'x';
         assert_eq!(read(&packet, 3), (53, [9; 3]));
+    }
+
+    /// The proof as both halves of the program, with a table and a store of so many words and an output of so many bytes: the code, and what
+    /// is left in an answer of so many numbers.
+    fn merged(table: usize, store: usize, output: usize, size: usize) -> (u32, [u64; 3]) {
+        let (mut table, mut store, mut output) = (vec![7; table], vec![7; store], vec![7; output]);
+        let mut answer = [9u64; 3];
+        // SAFETY: as above.
+        let code = unsafe {
+            aspdrupe_merge_halves(
+                PROGRAM.as_ptr(),
+                PROGRAM.len(),
+                1,
+                PROOF.as_ptr(),
+                PROOF.len(),
+                PROOF.as_ptr(),
+                PROOF.len(),
+                table.as_mut_ptr(),
+                table.len(),
+                store.as_mut_ptr(),
+                store.len(),
+                output.as_mut_ptr(),
+                output.len(),
+                answer.as_mut_ptr(),
+                size,
+            )
+        };
+        (code, answer)
+    }
+
+    #[test]
+    fn merge_counts_that_do_not_fit() {
+        for size in 0..=3 {
+            let mut left = [64, 9, 9];
+            left[size.min(1)..].fill(9);
+            assert_eq!(merged(6, 35, 64, size), (0, left));
+            let mut left = [2, 0, 9];
+            left[size.min(2)..].fill(9);
+            assert_eq!(merged(5, 35, 64, size), (10, left));
+        }
+    }
+
+    // "`answer` stays as it was" where no number is told.
+    #[test]
+    fn merge_refusals_tell_no_numbers() {
+        for (store, output, code) in [(20, 64, 57), (35, 63, 58), (34, 64, 59)] {
+            assert_eq!(merged(6, store, output, 3), (code, [9; 3]));
+        }
     }
 }

@@ -1,4 +1,4 @@
-//! The six services on document 01's starred examples, on rules with weights, and on buffers that are too small or empty.
+//! The seven services on document 01's starred examples, on rules with weights, and on buffers that are too small or empty.
 
 use aspdrupe::*;
 
@@ -323,4 +323,51 @@ fn nothing_lent() {
     assert_eq!(checked(&[], &[], 0, 0).0, "refused program 2 1");
     assert_eq!(checked(b"asp 1 0 0\n0\n", &[], 0, 0).0, "open 0 0 0 0");
     assert_eq!(checked(PROGRAM, b"a 1 0\n", 6, 0).0, "refused proof 33 1");
+}
+
+// Two halves of starred example 1, split on atom 1.
+const DEMANDED: &[u8] = b"b 2 -1 0\nc 2 0\nc 2 1 0\ns 1 2 0\na 0\n";
+const FORBIDDEN: &[u8] = b"b 2 -1 0\nb 3 1 0\nc 3 0\nc 2 1 0\ns 1 2 0\na 0\n";
+const MERGED: &[u8; 66] = b"b 2 -1 0\nc 2 1 0\ns 1 2 0\na 1 0\ne 3 1 0\nc 2 1 0\ns 1 2 0\na -1 0\na 0\n";
+
+/// What the merge says, with every word and byte of buffers of so many.
+fn merged(program: &[u8], atom: usize, halves: [&[u8]; 2], rooms: [usize; 3]) -> (Merging, Vec<i32>, Vec<i32>, Vec<u8>) {
+    let (mut table, mut store, mut output) = (vec![7; rooms[0]], vec![7; rooms[1]], vec![7; rooms[2]]);
+    let merging = merge_halves(program, atom, halves[0], halves[1], &mut table, &mut store, &mut output).unwrap();
+    (merging, table, store, output)
+}
+
+#[test]
+fn halves_of_starred_1() {
+    for more in [0, 1, 100] {
+        let found = merged(PROGRAM, 1, [DEMANDED, FORBIDDEN], [6 + more, 40 + more, 66 + more]);
+        let (_, table, store) = checked(PROGRAM, MERGED, 6 + more, 40 + more);
+        assert_eq!(found, (Merging::Merged(66), table, store, and_zeros(MERGED, more)));
+    }
+    assert_eq!(checked(PROGRAM, MERGED, 6, 40).0, "inconsistent 1 1 9 11");
+}
+
+#[test]
+fn halves_that_are_not_merged() {
+    let refused = |question, rooms: [usize; 3]| (Merging::Refused(question), vec![0; rooms[0]], vec![0; rooms[1]], vec![0; rooms[2]]);
+    let halves = [DEMANDED, FORBIDDEN];
+    for (rooms, question) in [
+        ([6, 13, 66], MergeQuestion::Halves),
+        ([6, 13, 0], MergeQuestion::Halves),
+        ([6, 40, 65], MergeQuestion::Limits),
+        ([6, 39, 65], MergeQuestion::Limits),
+        ([6, 39, 66], MergeQuestion::Store),
+    ] {
+        assert_eq!(merged(PROGRAM, 1, halves, rooms), refused(question, rooms));
+    }
+    let rooms = [6, 40, 66];
+    for atom in [0, 2, usize::MAX] {
+        assert_eq!(merged(PROGRAM, atom, halves, rooms), refused(MergeQuestion::Halves, rooms));
+    }
+    for halves in [[FORBIDDEN, DEMANDED], [DEMANDED, DEMANDED], [DEMANDED, &[]], [&[], &[]]] {
+        assert_eq!(merged(PROGRAM, 1, halves, rooms), refused(MergeQuestion::Halves, rooms));
+    }
+    let refusal = ProgramRefusal { question: ProgramQuestion::Table, line: 2 };
+    let zeros = (Merging::RefusedProgram(refusal), vec![0; 5], vec![0; 40], vec![0; 66]);
+    assert_eq!(merged(PROGRAM, 1, halves, [5, 40, 66]), zeros);
 }

@@ -1,4 +1,4 @@
-//! Where the texts and packets come from: fixed cases, cases at the limits, random proofs for programs, changes of them, and noise.
+//! Where the texts, packets and splits come from: fixed cases, cases at the limits, random proofs for programs, changes of them, and noise.
 
 pub mod bytes;
 pub mod changes;
@@ -6,8 +6,10 @@ pub mod deep;
 pub mod deletions;
 pub mod fixed;
 pub mod guided;
+pub mod halves;
 pub mod limits;
 pub mod loops;
+pub mod merges;
 pub mod noise;
 pub mod packets;
 pub mod refutations;

@@ -46,9 +46,9 @@ pub fn check(program_text: &[u8], proof_text: &[u8], table_room: usize, store_ro
 }
 
 /// The state after the last step, and whether dead nogoods were taken out on the way.
-struct Ran {
-    state: State,
-    closed_up: bool,
+pub struct Ran {
+    pub state: State,
+    pub closed_up: bool,
 }
 
 fn course(program_text: &[u8], proof_text: &[u8], table_room: usize, store_room: usize) -> Result<(Program, Ran), Verdict> {
@@ -59,7 +59,7 @@ fn course(program_text: &[u8], proof_text: &[u8], table_room: usize, store_room:
 
 /// All steps of the proof: the state after the last, or a refusal's number and step. The store is closed up for a step that "would not fit
 /// otherwise", all of its nogoods taken together; since none of these is dead, it is the same to filter once they stand at the end.
-fn run(program: &Program, text: &[u8], store_room: usize) -> Result<Ran, (u8, usize)> {
+pub fn run(program: &Program, text: &[u8], store_room: usize) -> Result<Ran, (u8, usize)> {
     if text.len() > TEXT_LIMIT {
         return Err((21, 0));
     }

@@ -32,6 +32,22 @@ pub fn read_line(text: &[u8], position: usize) -> Answer {
     }
 }
 
+/// The lines of a proof text that 21 to 25 let pass.
+pub fn lines_of(text: &[u8]) -> Option<Vec<Line>> {
+    let mut lines = Vec::new();
+    let mut position = 0;
+    loop {
+        match read_line(text, position) {
+            Answer::End => return Some(lines),
+            Answer::Refused(_) => return None,
+            Answer::Line(line) => {
+                position = line.next;
+                lines.push(line);
+            }
+        }
+    }
+}
+
 fn questions(text: &[u8], position: usize) -> Result<Line, u8> {
     let (line, next) = line_at(text, position).ok_or(22)?;
     let (letter, numbers) = shape(line).ok_or(22)?;

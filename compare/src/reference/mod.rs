@@ -1,4 +1,5 @@
-//! The slow and plain reference: every service of document 01, and the packets of document 02, once more, written from their words.
+//! The slow and plain reference: every service of document 01, and the packets and the merge of document 02, once more, written from their
+//! words.
 //!
 //! Where its words left room for doubt, this is how they are read here:
 //! - A refused proof zeroes the table too: the whole check "is lent both texts and a table and a store to fill", and every refusal
@@ -27,11 +28,17 @@
 //!   it exactly is a fit. A `d` step adds nothing, so it never closes up; nor does the end of the check.
 //! - A second `d` of the same set passes over the dead one and takes the next live one.
 //! - A packet holds the words of the base, without the body kind; its reader's table is too short where it does not hold the new words.
+//! - The program's rules in Change 9 are the plain ones that they stand for: a weight constraint with the added body among its minimal sets
+//!   keeps `b` and `c`. A `c n h` stays where a normal rule of the program has the body named n, be it the added one, and the head h.
+//! - "that neither half uses" counts every name that a half introduces, also by a line that goes.
+//! - Only `a` lines are widened or skipped. A line that is skipped is not asked for its length.
+//! - All lines stay as often as they stand, but for the second `b` of a body that both halves name. `a 0` is added also after an `a 0`.
 
 pub mod check;
 pub mod closure;
 pub mod lines;
 pub mod loops;
+pub mod merge;
 pub mod models;
 pub mod numbers;
 pub mod packets;

@@ -2,7 +2,7 @@
 //! weight rule with 53": inside stand the words of the base, outside those of Change 3. "packets of version 1 keep the old" largest variable.
 
 use super::filled;
-use super::lines::{read_line, Answer, Line};
+use super::lines::{lines_of, Line};
 use super::models::{rule_at_front, rules_of};
 use super::program::{table_words, InputRule};
 use super::{PACKET_LARGEST, PART_LIMIT, RULE_LIMIT};
@@ -73,22 +73,6 @@ fn bytes_of(words: &[i32], steps: &[Line]) -> Vec<u8> {
         packet.extend(step.numbers.iter().flat_map(|number| (*number as i16).to_le_bytes()));
     }
     packet
-}
-
-/// The lines of a proof text that 21 to 25 let pass.
-fn lines_of(text: &[u8]) -> Option<Vec<Line>> {
-    let mut lines = Vec::new();
-    let mut position = 0;
-    loop {
-        match read_line(text, position) {
-            Answer::End => return Some(lines),
-            Answer::Refused(_) => return None,
-            Answer::Line(line) => {
-                position = line.next;
-                lines.push(line);
-            }
-        }
-    }
 }
 
 /// The reader, lent a table and a text of so many words and bytes.

@@ -163,7 +163,7 @@ module _ (k : Kind) (hs ls : List ℤ) (body : Body) (lits : literalsOf body ≡
           }
 
 -- so many words from a place on, where they are there
-part-length : (m n : ℕ) (zs : List ℤ) → n + m ≤ length zs → length (take m (drop n zs)) ≡ m
+pub part-length : (m n : ℕ) (zs : List ℤ) → n + m ≤ length zs → length (take m (drop n zs)) ≡ m
 part-length m n zs h = length-take-le m (drop n zs) (omega (arith, length-drop n zs))
 
 part-in : (m n : ℕ) (zs : List ℤ) → anyOutside zs ≡ false → anyOutside (take m (drop n zs)) ≡ false

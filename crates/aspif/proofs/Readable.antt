@@ -174,7 +174,7 @@ module _ (r : InputRule) (f : Formed r) (t : List ℤ) where
       (sound-body (r .kind) (r .heads) t (r .body) f)
 
 module _ (t : List ℤ) (z : all (same (pos 0)) t ≡ true) where
-  rules-back : (rs : List InputRule) → ((r : InputRule) → r ∈ rs → Formed r) → (soundRules (length rs) (programWords rs ++ t) ≡ true) × (rulesAt (length rs) (programWords rs ++ t) ≡ rs)
+  pub rules-back : (rs : List InputRule) → ((r : InputRule) → r ∈ rs → Formed r) → (soundRules (length rs) (programWords rs ++ t) ≡ true) × (rulesAt (length rs) (programWords rs ++ t) ≡ rs)
   rules-back [] f = (z, refl)
   rules-back (r ∷ rs) f =
       let g = f r (List·Memᴰ·head refl) in
@@ -183,7 +183,7 @@ module _ (t : List ℤ) (z : all (same (pos 0)) t ≡ true) where
       let i = rules-back rs (λ s j. f s (List·Memᴰ·tail j)) in
       rw e (rw (sound-words r g u, rest-at r u) (i .0), ap₂ (λ a l. a ∷ l) (rule-at r u) (rw (rest-at r u) (i .1)))
 
-all-zero : (n : ℕ) → all (same (pos 0)) (replicate n (pos 0)) ≡ true
+pub all-zero : (n : ℕ) → all (same (pos 0)) (replicate n (pos 0)) ≡ true
 all-zero zero = refl
 all-zero (suc n) = all-zero n
 
@@ -349,12 +349,12 @@ pub rules-count : (n : ℕ) (ws : List ℤ) → length (rulesAt n ws) ≡ n
 rules-count zero ws = refl
 rules-count (suc n) ws = ap suc (rules-count n (drop (sizeAt ws) ws))
 
-rules-formed : (n : ℕ) (ws : List ℤ) → soundRules n ws ≡ true → (r : InputRule) → r ∈ rulesAt n ws → Formed r
+pub rules-formed : (n : ℕ) (ws : List ℤ) → soundRules n ws ≡ true → (r : InputRule) → r ∈ rulesAt n ws → Formed r
 rules-formed zero ws e r i = elim i [ ]
 rules-formed (suc n) ws e r (List·Memᴰ·head p) = rw p (rule-formed ws (and-left (soundAt ws) _ e))
 rules-formed (suc n) ws e r (List·Memᴰ·tail i) = rules-formed n (drop (sizeAt ws) ws) (and-right (soundAt ws) _ e) r i
 
-rules-words : (n : ℕ) (ws : List ℤ) → soundRules n ws ≡ true → (k : ℕ) × (ws ≡ programWords (rulesAt n ws) ++ replicate k (pos 0))
+pub rules-words : (n : ℕ) (ws : List ℤ) → soundRules n ws ≡ true → (k : ℕ) × (ws ≡ programWords (rulesAt n ws) ++ replicate k (pos 0))
 rules-words zero ws e = (length ws, zero-words ws e)
 rules-words (suc n) ws e =
     let r = ruleWords (ruleAt ws) in

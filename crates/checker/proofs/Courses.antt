@@ -21,11 +21,12 @@ use Rattle.nogoods.proofs.Live.{live-nil, live-few}
 use Rattle.nogoods.proofs.Indexing.{keeps-blank}
 use Rattle.checker.specs.Check.{storedAfter, Course, stopped, course}
 use Rattle.checker.specs.Claims.{Runs, ends, unread, unaccepted, full, good}
-use Rattle.checker.specs.Held.{Tracks, HoldsState, Leaves, proofTurn, LineLeaves, Ran}
+use Rattle.checker.specs.Held.{Tracks, HoldsState, Leaves, proofTurn, LineLeaves, Ran, Ended}
 use Rattle.checker.specs.declared.outcomes.Stepped.{Stepped}
 use Rattle.checker.specs.declared.outcomes.Stepped.the-variants.{Uses, Fails}
 use Rattle.checker.specs.declared.runs.ProofTurn.{ProofTurn}
 use Rattle.checker.specs.declared.runs.ProofTurn.the-variants as Turn
+use Rattle.checker.specs.declared.runs.Run.{Run}
 use Rattle.checker.specs.declared.runs.Run.the-variants as Run
 use Rattle.checker.proofs.Whole.{step-by-step}
 use Rattle.checker.proofs.Origins.{step-live}
@@ -75,26 +76,30 @@ module _ (N : ℕ) (ws : List InputRule) (size : ℕ) (text : List ℕ) where
       abbrev Turned : LineAt → ProofTurn → Type 0
       Turned = LineLeaves N ws known′ names′ bodies′ after index′ used (steps + 1) size (G .z) (G .stored)
 
-      pub going-ends : {r : ProofTurn} → r ≡ Turn.Ends → Turned (lineAt text at) r → Ran after (course N P size text) (Run.Through steps used)
+      -- what the lines have left, once they are over
+      abbrev Left : Run → Type 0
+      Left r = Ran after (course N P size text) r × Ended N ws known′ names′ bodies′ (course N P size text)
+
+      pub going-ends : {r : ProofTurn} → r ≡ Turn.Ends → Turned (lineAt text at) r → Left (Run.Through steps used)
       going-ends e t = by (lineAt text at) refl (subst (Turned (lineAt text at)) e t)
         where
           never : (n : ℕ) (s : Stepped) → Turn.Ends ≡ proofTurn n s → ⊥
           never n (Uses m) e = zero-one (cc)
           never n (Fails k) e = zero-one (cc)
 
-          by : (l : LineAt) → lineAt text at ≡ l → Turned l Turn.Ends → Ran after (course N P size text) (Run.Through steps used)
-          by end q t = rw (comes _ (ends q)) (used, refl, t .1)
+          by : (l : LineAt) → lineAt text at ≡ l → Turned l Turn.Ends → Left (Run.Through steps used)
+          by end q t = rw (comes _ (ends q)) ((used, refl, t .1), t .2)
           by (Lines.refused k) q t = absurd (zero-one (cc))
           by (line x zs n) q t = absurd (never n (t .0) (t .1))
 
-      pub going-fails : {r : ProofTurn} (k : ℕ) → r ≡ Turn.Fails k → Turned (lineAt text at) r → Ran after (course N P size text) (Run.Stopped (record { number = k; step = steps + 1 }))
+      pub going-fails : {r : ProofTurn} (k : ℕ) → r ≡ Turn.Fails k → Turned (lineAt text at) r → Left (Run.Stopped (record { number = k; step = steps + 1 }))
       going-fails k e t = by (lineAt text at) refl (subst (Turned (lineAt text at)) e t)
         where
           Stops : Type 0
-          Stops = Ran after (course N P size text) (Run.Stopped (record { number = k; step = steps + 1 }))
+          Stops = Left (Run.Stopped (record { number = k; step = steps + 1 }))
 
           stops : (j : ℕ) → k ≡ j → course N P size text ≡ stopped j (steps + 1) → Stops
-          stops j p q = rw (q, p)
+          stops j p q = rw (q, p) (refl, tt)
 
           by : (l : LineAt) → lineAt text at ≡ l → Turned l (Turn.Fails k) → Stops
           by end q t = absurd (zero-one (cc))

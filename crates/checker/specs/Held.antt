@@ -5,7 +5,7 @@ use mathlib.Core.Path.{_≡_}
 use mathlib.Core.Logic.{_⊎_}
 use mathlib.Core.Bool.{Bool, true, false, cond}
 use mathlib.Core.List.{List, [], _∷_, map}
-use Prim.Native.Nat.{ℕ, zero, suc, _+_, _≤_, _<_}
+use Prim.Native.Nat.{ℕ, zero, suc, _≤_, _<_}
 use lib.Dec.{T, eqb}
 use lib.IntN.{ℤ, pos, negℤ}
 use lib.ListN.{length, replicate, take}
@@ -153,7 +153,7 @@ module _ (N : ℕ) (ws : List InputRule) (known names : List ℕ) (bodies store 
   -- what one turn of the check leaves, by what stands at the position; so many words were used, and its step is step n in a store
   -- of the size given
   abbrev pub LineLeaves : (used n size : ℕ) → State → List Stored → LineAt → ProofTurn → Type 0
-  LineLeaves used n size z stored end r = (r ≡ Turn.Ends) × Holds store used stored
+  LineLeaves used n size z stored end r = (r ≡ Turn.Ends) × Holds store used stored × Tracks N ws known names bodies (z .introduced) (z .named)
   LineLeaves used n size z stored (Lines.refused k) r = r ≡ Turn.Fails k
   LineLeaves used n size z stored (line x zs at) r =
       StepLeaves at (storedAfter n size x zs stored) (step N (expand ws) z (record { letter = x; numbers = zs })) r
@@ -162,3 +162,8 @@ module _ (N : ℕ) (ws : List InputRule) (known names : List ℕ) (bodies store 
 abbrev pub Ran : List ℤ → Course → Run → Type 0
 Ran store (stopped k n) r = r ≡ Run.Stopped (record { number = k; step = n })
 Ran store (through n z stored) r = (used : ℕ) × (r ≡ Run.Through n used) × Holds store used stored
+
+-- the arrays at the end of lines that all pass: they hold the state that is left
+abbrev pub Ended : (N : ℕ) → List InputRule → (known names : List ℕ) → List ℤ → Course → Type 0
+Ended N ws known names bodies (stopped k n) = Unit {0}
+Ended N ws known names bodies (through n z stored) = Tracks N ws known names bodies (z .introduced) (z .named)

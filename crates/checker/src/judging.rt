@@ -4,7 +4,7 @@ ghost use mathlib.Core.List.{List};
 ghost use lib.IntN.{pos};
 ghost use Prim.Native.Nat.{_≤_};
 ghost use lib.ListN.{length, replicate};
-ghost use Rattle.words.specs.Limits.{mostRules};
+ghost use Rattle.words.specs.Limits.{mostHeld};
 ghost use Rattle.words.specs.Lists.{any};
 ghost use Rattle.aspif.specs.Rules.{InputRule, isEmpty, tableWords};
 ghost use Rattle.aspif.specs.Reading.{program};
@@ -57,7 +57,7 @@ pub fn check_proof(
     rules: usize,
     store: &mut [i32],
 ) -> Verdict
-    requires program { ⌜ ((ws : List InputRule) × Program (now table) rules atoms ws) × (rules ≤ mostRules) ⌝ }
+    requires program { ⌜ ((ws : List InputRule) × Program (now table) rules atoms ws) × (rules ≤ mostHeld) ⌝ }
     requires empty { ⌜ now store ≡ replicate (length (now store)) (pos 0) ⌝ }
     ensures { λ r. ⌜ ((ws : List InputRule) → Program (now (table .entry)) rules atoms ws
         → now (table .entry) ≡ tableWords (length (now (table .entry))) ws

@@ -5,7 +5,7 @@ ghost use mathlib.Core.List.{List};
 ghost use Prim.Native.Nat.{_+_, _≤_};
 ghost use lib.IntN.{pos};
 ghost use lib.ListN.{length, replicate};
-ghost use Rattle.words.specs.Limits.{longest, mostNumbers, mostRules};
+ghost use Rattle.words.specs.Limits.{longest, mostNumbers, mostHeld};
 ghost use Rattle.text.specs.Classes.{byteClasses};
 ghost use Rattle.aspif.specs.Rules.{InputRule, allPlain, expand};
 ghost use Rattle.aspif.specs.Tables.{rulesAt};
@@ -17,7 +17,7 @@ ghost use Rattle.marks.specs.Marks.{Marks, upTo};
 ghost use Rattle.heads.specs.Heads.{nameWords, Indexed};
 ghost use Rattle.loops.specs.Relevance.{Relevant};
 ghost use Rattle.checker.specs.Check.{course};
-ghost use Rattle.checker.specs.Held.{Program, Tracks, Tracked, NoBodies, HoldsState, proofTurn, LineLeaves, Ran};
+ghost use Rattle.checker.specs.Held.{Program, Tracks, Tracked, NoBodies, HoldsState, proofTurn, LineLeaves, Ran, Ended};
 use crate::ProofRefusal;
 use crate::outcomes::Stepped;
 use crate::states::CheckingState;
@@ -30,10 +30,10 @@ use loops::relevance;
 use names::by_name;
 use nogoods::INDEX;
 use weights::MOST_WEIGHTED;
-use words::MOST_RULES;
+use words::MOST_HELD;
 
 // An entry for each pair of the weight bodies of all rules.
-const RELEVANT: usize = MOST_WEIGHTED * MOST_RULES;
+const RELEVANT: usize = MOST_WEIGHTED * MOST_HELD;
 
 // What stands at a position comes to: the end, the question that is answered no, or the next position and the words used then.
 pub enum ProofTurn {
@@ -137,7 +137,7 @@ fn run_lines(
     bodies: &mut [i16],
     store: &mut [i32],
 ) -> Run
-    requires program { ⌜ ((ws : List InputRule) × Program (now table) rules atoms ws) × (rules ≤ mostRules) ⌝ }
+    requires program { ⌜ ((ws : List InputRule) × Program (now table) rules atoms ws) × (rules ≤ mostHeld) ⌝ }
     requires index { ⌜ Indexed (now lookup) (now table) rules ⌝ }
     requires relevant { ⌜ Relevant (now relevant) (rulesAt rules (now table)) ⌝ }
     requires start { ⌜ Marks (now known) (upTo atoms) × (now names ≡ replicate nameWords 0) ⌝ }
@@ -145,7 +145,8 @@ fn run_lines(
     requires short { ⌜ length (now proof) ≤ longest ⌝ }
     requires empty { ⌜ now store ≡ replicate (length (now store)) (pos 0) ⌝ }
     ensures { λ r. ⌜ ((ws : List InputRule) → Program (now (table .entry)) rules atoms ws
-        → Ran (now (store .exit)) (course atoms (expand ws) (length (now (store .entry))) (now (proof .entry))) r) ⌝ }
+        → (let c = course atoms (expand ws) (length (now (store .entry))) (now (proof .entry)) in
+        Ran (now (store .exit)) c r × Ended atoms ws (now (known .exit)) (now (names .exit)) (now (bodies .exit)) c)) ⌝ }
 {
     let classes = text::CLASSES;
     let mut numbers = [0; CheckingState::NUMBERS];
@@ -187,8 +188,7 @@ fn run_lines(
     }
 }
 
-// The lines, with what weight bodies need: the records of their bodies by name, and which of their literals are relevant.
-// These are large, and stand in a frame of their own.
+// The lines of a proof against a program with weight bodies: which of their literals are relevant stands in a frame of its own.
 fn run_weighted(
     proof: &[u8],
     table: &[i32],
@@ -196,18 +196,20 @@ fn run_weighted(
     atoms: usize,
     known: &mut [u8],
     names: &mut [u16],
+    bodies: &mut [i16],
     store: &mut [i32],
 ) -> Run
-    requires program { ⌜ ((ws : List InputRule) × Program (now table) rules atoms ws) × (rules ≤ mostRules) ⌝ }
+    requires program { ⌜ ((ws : List InputRule) × Program (now table) rules atoms ws) × (rules ≤ mostHeld) ⌝ }
     requires start { ⌜ Marks (now known) (upTo atoms) × (now names ≡ replicate nameWords 0) ⌝ }
+    requires bodies { ⌜ NoBodies (rulesAt rules (now table)) (now bodies) ⌝ }
     requires short { ⌜ length (now proof) ≤ longest ⌝ }
     requires empty { ⌜ now store ≡ replicate (length (now store)) (pos 0) ⌝ }
     ensures { λ r. ⌜ ((ws : List InputRule) → Program (now (table .entry)) rules atoms ws
-        → Ran (now (store .exit)) (course atoms (expand ws) (length (now (store .entry))) (now (proof .entry))) r) ⌝ }
+        → (let c = course atoms (expand ws) (length (now (store .entry))) (now (proof .entry)) in
+        Ran (now (store .exit)) c r × Ended atoms ws (now (known .exit)) (now (names .exit)) (now (bodies .exit)) c)) ⌝ }
 {
     let mut relevant = [0u8; RELEVANT];
     relevance::fill(table, rules, &mut relevant);
-    let mut bodies = [0i16; by_name::BODY_WORDS];
     // no index of the rules: its first word is not 1
     run_lines(
         proof,
@@ -218,13 +220,12 @@ fn run_weighted(
         atoms,
         known,
         names,
-        &mut bodies,
+        bodies,
         store,
     )
 }
 
-// The lines of a proof against a program without weight bodies: nothing is kept of them, and no records are made. The rules get an
-// index, which stands in a frame of its own.
+// The lines of a proof against a program without weight bodies. The rules get an index, which stands in a frame of its own.
 fn run_plain(
     proof: &[u8],
     table: &[i32],
@@ -232,19 +233,20 @@ fn run_plain(
     atoms: usize,
     known: &mut [u8],
     names: &mut [u16],
+    bodies: &mut [i16],
     store: &mut [i32],
 ) -> Run
-    requires program { ⌜ ((ws : List InputRule) × Program (now table) rules atoms ws) × (rules ≤ mostRules) ⌝ }
+    requires program { ⌜ ((ws : List InputRule) × Program (now table) rules atoms ws) × (rules ≤ mostHeld) ⌝ }
     requires start { ⌜ Marks (now known) (upTo atoms) × (now names ≡ replicate nameWords 0) ⌝ }
     requires plain { ⌜ allPlain (rulesAt rules (now table)) ≡ true ⌝ }
     requires short { ⌜ length (now proof) ≤ longest ⌝ }
     requires empty { ⌜ now store ≡ replicate (length (now store)) (pos 0) ⌝ }
     ensures { λ r. ⌜ ((ws : List InputRule) → Program (now (table .entry)) rules atoms ws
-        → Ran (now (store .exit)) (course atoms (expand ws) (length (now (store .entry))) (now (proof .entry))) r) ⌝ }
+        → (let c = course atoms (expand ws) (length (now (store .entry))) (now (proof .entry)) in
+        Ran (now (store .exit)) c r × Ended atoms ws (now (known .exit)) (now (names .exit)) (now (bodies .exit)) c)) ⌝ }
 {
     let mut lookup = [0u16; INDEX_WORDS];
     heads::fill(table, rules, &mut lookup);
-    let mut none = [0i16; 1];
     run_lines(
         proof,
         table,
@@ -254,14 +256,62 @@ fn run_plain(
         atoms,
         known,
         names,
-        &mut none,
+        bodies,
         store,
     )
 }
 
+// All lines of a proof text, from an empty store, with the arrays of the check lent. Where no rule has a weight body nothing is kept in
+// the bodies by name, and any number of words will do.
+pub fn run_half(
+    proof: &[u8],
+    table: &[i32],
+    rules: usize,
+    atoms: usize,
+    known: &mut [u8],
+    names: &mut [u16],
+    bodies: &mut [i16],
+    store: &mut [i32],
+) -> Run
+    requires program { ⌜ ((ws : List InputRule) × Program (now table) rules atoms ws) × (rules ≤ mostHeld) ⌝ }
+    requires start { ⌜ Marks (now known) (upTo atoms) × (now names ≡ replicate nameWords 0) ⌝ }
+    requires bodies { ⌜ NoBodies (rulesAt rules (now table)) (now bodies) ⌝ }
+    requires short { ⌜ length (now proof) ≤ longest ⌝ }
+    requires empty { ⌜ now store ≡ replicate (length (now store)) (pos 0) ⌝ }
+    ensures { λ r. ⌜ ((ws : List InputRule) → Program (now (table .entry)) rules atoms ws
+        → (let c = course atoms (expand ws) (length (now (store .entry))) (now (proof .entry)) in
+        Ran (now (store .exit)) c r × Ended atoms ws (now (known .exit)) (now (names .exit)) (now (bodies .exit)) c)) ⌝ }
+{
+    if tables::all_plain(table, rules) {
+        return run_plain(proof, table, rules, atoms, known, names, bodies, store);
+    }
+    run_weighted(proof, table, rules, atoms, known, names, bodies, store)
+}
+
+// The same with the records of the bodies by name, which are large and stand in a frame of their own.
+fn run_recorded(
+    proof: &[u8],
+    table: &[i32],
+    rules: usize,
+    atoms: usize,
+    known: &mut [u8],
+    names: &mut [u16],
+    store: &mut [i32],
+) -> Run
+    requires program { ⌜ ((ws : List InputRule) × Program (now table) rules atoms ws) × (rules ≤ mostHeld) ⌝ }
+    requires start { ⌜ Marks (now known) (upTo atoms) × (now names ≡ replicate nameWords 0) ⌝ }
+    requires short { ⌜ length (now proof) ≤ longest ⌝ }
+    requires empty { ⌜ now store ≡ replicate (length (now store)) (pos 0) ⌝ }
+    ensures { λ r. ⌜ ((ws : List InputRule) → Program (now (table .entry)) rules atoms ws
+        → Ran (now (store .exit)) (course atoms (expand ws) (length (now (store .entry))) (now (proof .entry))) r) ⌝ }
+{
+    let mut bodies = [0i16; by_name::BODY_WORDS];
+    run_weighted(proof, table, rules, atoms, known, names, &mut bodies, store)
+}
+
 // All lines of a proof text, from an empty store.
 pub fn run_proof(proof: &[u8], table: &[i32], rules: usize, atoms: usize, store: &mut [i32]) -> Run
-    requires program { ⌜ ((ws : List InputRule) × Program (now table) rules atoms ws) × (rules ≤ mostRules) ⌝ }
+    requires program { ⌜ ((ws : List InputRule) × Program (now table) rules atoms ws) × (rules ≤ mostHeld) ⌝ }
     requires short { ⌜ length (now proof) ≤ longest ⌝ }
     requires empty { ⌜ now store ≡ replicate (length (now store)) (pos 0) ⌝ }
     ensures { λ r. ⌜ ((ws : List InputRule) → Program (now (table .entry)) rules atoms ws
@@ -270,7 +320,17 @@ pub fn run_proof(proof: &[u8], table: &[i32], rules: usize, atoms: usize, store:
     let mut known = marks::marks_to(atoms);
     let mut names = [0u16; NAME_WORDS];
     if tables::all_plain(table, rules) {
-        return run_plain(proof, table, rules, atoms, &mut known, &mut names, store);
+        let mut none = [0i16; 1];
+        return run_plain(
+            proof,
+            table,
+            rules,
+            atoms,
+            &mut known,
+            &mut names,
+            &mut none,
+            store,
+        );
     }
-    run_weighted(proof, table, rules, atoms, &mut known, &mut names, store)
+    run_recorded(proof, table, rules, atoms, &mut known, &mut names, store)
 }

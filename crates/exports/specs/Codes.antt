@@ -18,6 +18,8 @@ use Rattle.packets.specs.declared.PacketReading.the-variants as Reading
 use Rattle.checker.specs.declared.Counts.{Counts}
 use Rattle.checker.specs.declared.Verdict.{Verdict}
 use Rattle.checker.specs.declared.Verdict.the-variants.{Inconsistent, Open, RefusedProgram, RefusedProof}
+use Rattle.splits.specs.declared.MergeAnswer.{MergeAnswer}
+use Rattle.splits.specs.declared.MergeAnswer.the-variants as Merge
 
 -- the code is returned, and the numbers stand at the front of the lent buffer, as many as fit; no other number of it has changed
 pub record Told (code : ℕ) (numbers before after : List ℕ) (result : ℕ) : Type 0 where
@@ -100,3 +102,15 @@ verdictNumbers (Inconsistent c) = countNumbers c
 verdictNumbers (Open c) = countNumbers c
 verdictNumbers (RefusedProgram r) = r .number ∷ r .line ∷ []
 verdictNumbers (RefusedProof r) = r .number ∷ r .step ∷ []
+
+-- The merge of two halves: 0 with the bytes of the text written; the program's number and line, as its reader tells them; 57 to 59
+
+abbrev pub mergeCode : MergeAnswer → ℕ
+mergeCode (Merge.Merged n) = 0
+mergeCode (Merge.RefusedProgram r) = r .number
+mergeCode (Merge.Refused k) = k
+
+abbrev pub mergeNumbers : MergeAnswer → List ℕ
+mergeNumbers (Merge.Merged n) = n ∷ []
+mergeNumbers (Merge.RefusedProgram r) = r .line ∷ 0 ∷ []
+mergeNumbers (Merge.Refused k) = []

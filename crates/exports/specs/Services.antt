@@ -1,5 +1,5 @@
--- What the six functions for C return and leave: an answer told by its code and numbers. Of the program reader and of the whole check
--- it is the one for which the service's own contract holds, which is an equation; of the others it is said outright. A primed name is what a lent slice holds afterwards; `answer` is the buffer for the numbers.
+-- What the seven functions for C return and leave: an answer told by its code and numbers. Of the program reader, of the whole check and of
+-- the merge it is the one for which the service's own contract holds, which is an equation; of the others it is said outright. A primed name is what a lent slice holds afterwards; `answer` is the buffer for the numbers.
 -- Assumes nothing.
 use mathlib.Core.Path.{_≡_}
 use mathlib.Core.List.{List}
@@ -14,7 +14,9 @@ use Rattle.drupe.specs.Lines.{lineAt, lineAnswer, numbersOf}
 use Rattle.packets.specs.Packets.{reading, readingAnswer, tableLeft, textLeft, writing, writingAnswer, packetLeft}
 use Rattle.checker.specs.Check.{CheckedTexts}
 use Rattle.checker.specs.declared.Verdict.{Verdict}
-use Rattle.exports.specs.Codes.{Told, programCode, programNumbers, setCode, setNumbers, lineCode, lineNumbers, writingCode, writingNumbers, readingCode, readingNumbers, verdictCode, verdictNumbers}
+use Rattle.splits.specs.Service.{MergedHalves}
+use Rattle.splits.specs.declared.MergeAnswer.{MergeAnswer}
+use Rattle.exports.specs.Codes.{Told, programCode, programNumbers, setCode, setNumbers, lineCode, lineNumbers, writingCode, writingNumbers, readingCode, readingNumbers, verdictCode, verdictNumbers, mergeCode, mergeNumbers}
 
 -- the program reader's answer and every word of the table
 pub record ProgramService (text : List ℕ) (table table′ : List ℤ) (answer answer′ : List ℕ) (result : ℕ) : Type 0 where
@@ -49,3 +51,10 @@ pub record CheckService (program proof : List ℕ) (table store table′ store�
   pub verdict : Verdict
   pub checked : CheckedTexts program proof table store table′ store′ verdict
   pub told : Told (verdictCode verdict) (verdictNumbers verdict) answer answer′ result
+
+-- the answer of the merge, every word of the table and of the store, and every byte of the output
+pub record MergeService (program : List ℕ) (atom : ℕ) (first second : List ℕ) (table store table′ store′ : List ℤ) (output output′ answer answer′ : List ℕ)
+    (result : ℕ) : Type 0 where
+  pub answered : MergeAnswer
+  pub merged : MergedHalves program atom first second table store table′ store′ output output′ answered
+  pub told : Told (mergeCode answered) (mergeNumbers answered) answer answer′ result

@@ -7,12 +7,13 @@ use checker::Verdict;
 use drupe::LineAnswer;
 use packets::PacketReading;
 use packets::PacketWriting;
+use splits::MergeAnswer;
 use text::writing;
 ghost use mathlib.Core.Path.{_≡_};
 ghost use mathlib.Core.List.{[], _∷_};
 ghost use lib.ListN.{set};
 ghost use lib.Seq.{sets};
-ghost use Rattle.exports.specs.Codes.{Told, programCode, programNumbers, setCode, setNumbers, lineCode, lineNumbers, writingCode, writingNumbers, readingCode, readingNumbers, verdictCode, verdictNumbers, countNumbers};
+ghost use Rattle.exports.specs.Codes.{Told, programCode, programNumbers, setCode, setNumbers, lineCode, lineNumbers, writingCode, writingNumbers, readingCode, readingNumbers, verdictCode, verdictNumbers, countNumbers, mergeCode, mergeNumbers};
 
 // The codes of the cases to which document 01 gives no number.
 const READ: u32 = 0;
@@ -159,5 +160,22 @@ pub fn tell_verdict(verdict: Verdict, answer: &mut [u64]) -> u32
             put_two(answer, refusal.number as usize, refusal.step);
             REFUSED_PROOF
         }
+    }
+}
+
+// The answer of the merge of two halves.
+pub fn tell_merge(merged: MergeAnswer, answer: &mut [u64]) -> u32
+    ensures { λ r. ⌜ Told (mergeCode merged) (mergeNumbers merged) (now (answer .entry)) (now (answer .exit)) r ⌝ }
+{
+    match merged {
+        MergeAnswer::Merged(bytes) => {
+            put(answer, 0, bytes);
+            WRITTEN
+        }
+        MergeAnswer::RefusedProgram(refusal) => {
+            put_two(answer, refusal.line, 0);
+            refusal.number as u32
+        }
+        MergeAnswer::Refused(number) => number as u32,
     }
 }

@@ -1,9 +1,9 @@
-// The six services for programs in C and Rust, on numbers and slices. An answer's case is the code that is returned, and its
+// The seven services for programs in C and Rust, on numbers and slices. An answer's case is the code that is returned, and its
 // numbers are put at the front of the lent `answer`, as many as fit; what the codes and numbers are is specs/Codes.antt, and what
 // each function returns and leaves is specs/Services.antt. bindings/c/aspdrupe.h declares the functions for C.
 mod answers;
 
-ghost use Rattle.exports.specs.Services.{ProgramService, SetService, LineService, WriteService, ReadService, CheckService};
+ghost use Rattle.exports.specs.Services.{ProgramService, SetService, LineService, WriteService, ReadService, CheckService, MergeService};
 
 // Reads a program text into the table.
 #[no_mangle]
@@ -95,4 +95,23 @@ pub extern "C" fn aspdrupe_check_texts(
 {
     let verdict = checker::check_texts(program, proof, table, store);
     answers::tell_verdict(verdict, answer)
+}
+
+// Writes one proof text for a program from the proofs of its two halves.
+#[no_mangle]
+pub extern "C" fn aspdrupe_merge_halves(
+    program: &[u8],
+    atom: u64,
+    first: &[u8],
+    second: &[u8],
+    table: &mut [i32],
+    store: &mut [i32],
+    output: &mut [u8],
+    answer: &mut [u64],
+) -> u32
+    ensures { λ r. ⌜ MergeService (now (program .entry)) atom (now (first .entry)) (now (second .entry)) (now (table .entry)) (now (store .entry))
+        (now (table .exit)) (now (store .exit)) (now (output .entry)) (now (output .exit)) (now (answer .entry)) (now (answer .exit)) r ⌝ }
+{
+    let merged = splits::merge_halves(program, atom as usize, first, second, table, store, output);
+    answers::tell_merge(merged, answer)
 }

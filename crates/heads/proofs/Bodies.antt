@@ -2,15 +2,14 @@
 -- Assumes nothing.
 use mathlib.Core.Path.{_≡_, refl, sym, ap, subst, _∙_}
 use mathlib.Core.Logic.{inl, inr}
-use mathlib.Core.Bool.{Bool, true, false, cond, _&&_, true≢false}
+use mathlib.Core.Bool.{Bool, true, false, cond, true≢false}
 use mathlib.Core.List.{List, map}
 use Prim.Native.Nat.{ℕ, zero, suc, _+_, _≤_, _<_}
 use native.Mathlib.Omega.{arith}
-use lib.Dec.{eqb}
 use lib.IntN.{ℤ}
 use lib.ListN.{length, take, getD, set}
 use lib.Seq.{getD-set-same, getD-set-other, take-set-le}
-use Rattle.words.specs.Limits.{mostRules}
+use Rattle.words.specs.Limits.{entries, mostHeld}
 use Rattle.words.specs.Lists.{any}
 use Rattle.words.specs.Literals.{sameList}
 use Rattle.words.proofs.Lists.{Decides, passed, if-true, is-true, and-left, and-right, and-decides, eqb-decides}
@@ -47,25 +46,24 @@ none-with t n body p e W k h = elim (equal? (hashFrom 0 (bodyWordsAt (wordsFrom 
 
 module _ (t : List ℤ) (n : ℕ) {names : List ℕ} {bodies : List ℤ} {called : List ℤ → ℕ} (s : soundRules n t ≡ true) (p : allPlain (rulesAt n t) ≡ true)
     (K : Kept names bodies called (rulesAt n t)) (body : List ℤ) where
-  -- question 28
-  abbrev Unnamed : Bool
-  Unnamed = any (λ x. sameList body (x .body)) (expand (rulesAt n t)) && eqb (called body) 0
+  -- what the body is called
+  abbrev Name : ℕ
+  Name = cond (any (λ x. sameList body (x .body)) (expand (rulesAt n t))) (called body) entries
 
   has-body : Decides (any (λ x. sameList body (x .body)) (expand (rulesAt n t))) ((k : ℕ) × (k < n) × (sameList body (bodyWordsAt (wordsFrom k t)) ≡ true))
   has-body = any-rule (λ r. passed (sameList body (r .body))) n t p
 
-  pub no-body : RuleWith t n body 0 → false ≡ Unnamed
+  pub no-body : RuleWith t n body 0 → entries ≡ Name
   no-body f = by (any (λ x. sameList body (x .body)) (expand (rulesAt n t))) refl
     where
-      by : (b : Bool) → any (λ x. sameList body (x .body)) (expand (rulesAt n t)) ≡ b → false ≡ (b && eqb (called body) 0)
+      by : (b : Bool) → any (λ x. sameList body (x .body)) (expand (rulesAt n t)) ≡ b → entries ≡ cond b (called body) entries
       by true e = let q = if-true has-body e in absurd (true≢false (sym (q .2) ∙ f (q .0) (q .1)))
       by false e = refl
 
-  pub one-body : (k m : ℕ) → RuleWith t n body (suc k) → m ≡ getD names k 0 → eqb m 0 ≡ Unnamed
+  pub one-body : (k m : ℕ) → RuleWith t n body (suc k) → m ≡ getD names k 0 → m ≡ Name
   one-body k m q e =
       let same : body ≡ bodyWordsAt (wordsFrom k t) = if-true (sameList-decides body (bodyWordsAt (wordsFrom k t))) (q .1) in
-      let c : m ≡ called body = e ∙ kept-at t n s p K k (q .0) ∙ ap called (sym same) in
-      ap (λ (x : ℕ). eqb x 0) c ∙ ap (λ (b : Bool). b && eqb (called body) 0) (sym (is-true has-body (k, q .0, q .1)))
+      e ∙ kept-at t n s p K k (q .0) ∙ ap called (sym same) ∙ ap (λ (b : Bool). cond b (called body) entries) (sym (is-true has-body (k, q .0, q .1)))
 
 -- A walk that names the body
 
@@ -128,8 +126,8 @@ one-completes t n {called = called} s p K hs name k h q =
     is-true (any-rule (λ r. and-decides (passed (isNormal (r .kind))) (and-decides (passed (sameList (r .heads) hs)) (eqb-decides (called (r .body)) name))) n t p)
     (k, h, (and-left (isNormal (ruleAt (wordsFrom k t) .kind)) _ (q .0), (and-right (isNormal (ruleAt (wordsFrom k t) .kind)) _ (q .0), sym (kept-at t n s p K k h) ∙ q .1)))
 
--- a program that is covered has at most 1,024 rules
-pub covers-few : {index : List ℕ} {t : List ℤ} {rules : ℕ} → Covers index t rules → rules ≤ mostRules
+-- a program that is covered has no more rules than may be held
+pub covers-few : {index : List ℕ} {t : List ℤ} {rules : ℕ} → Covers index t rules → rules ≤ mostHeld
 covers-few {rules = zero} C = omega arith
 covers-few {t = t} {rules = suc n} C = omega (arith, C .entered .bodies .within n (hashFrom 0 (bodyWordsAt (wordsFrom n t))) (omega arith, refl) .0)
 
@@ -142,7 +140,7 @@ before-less {index} {t} {rules} C k h = by (getD index (beforeAt + k) 0) refl
     by (suc r) e = omega (arith, C .entered .bodies .next k (hashFrom 0 (bodyWordsAt (wordsFrom k t))) r (h, refl) e .1)
 
 -- the number of a rule that has the body, and one more
-pub found-few : (t : List ℤ) (rules : ℕ) (body : List ℤ) (r : ℕ) → rules ≤ mostRules → RuleWith t rules body r → r ≤ mostRules
+pub found-few : (t : List ℤ) (rules : ℕ) (body : List ℤ) (r : ℕ) → rules ≤ mostHeld → RuleWith t rules body r → r ≤ mostHeld
 found-few t rules body zero h f = omega arith
 found-few t rules body (suc k) h f = omega (arith, f .0)
 

@@ -8,7 +8,7 @@ use native.Mathlib.Omega.{arith}
 use lib.IntN.{ℤ}
 use lib.ListN.{length, getD, set, replicate, length-set, length-append, List·getD-append}
 use lib.Seq.{getD-set-same, getD-set-other, getD-append-seam}
-use Rattle.words.specs.Limits.{largest, entries, mostRules}
+use Rattle.words.specs.Limits.{largest, entries, mostHeld}
 use Rattle.words.proofs.Places.{equal?}
 use Rattle.words.proofs.Descending.{unchanged, same-entries}
 use Rattle.aspif.specs.Tables.{headsAt, bodyWordsAt}
@@ -96,7 +96,7 @@ heads-on k t = refl
 abbrev pub withBody : List ℕ → ℕ → ℕ → ℕ → List ℕ
 withBody index k at h = linked (set index (startsAt + k) at) bucketAt beforeAt h k
 
-module _ (index : List ℕ) (t : List ℤ) (k at h : ℕ) (long : length index ≡ indexWords) (kb : k < mostRules) (hb : h < hashes) where
+module _ (index : List ℕ) (t : List ℤ) (k at h : ℕ) (long : length index ≡ indexWords) (kb : k < mostHeld) (hb : h < hashes) where
   abbrev started : List ℕ
   started = set index (startsAt + k) at
 
@@ -131,8 +131,8 @@ module _ (index : List ℕ) (t : List ℤ) (k at h : ℕ) (long : length index �
       starts = λ j b. others (startsAt + j) (inl (omega arith)) ∙ past-body (startsAt + j) (omega arith) ∙ start-at j b;
       heads = rw (heads-on k t) (f old-heads);
       bodies = same-entries
-          (link-entered started bucketAt beforeAt hashes mostRules (omega arith)
-          (same-entries (E .bodies) (unchanged index bucketAt hashes (startsAt + k) at (inl (omega arith))) (unchanged index beforeAt mostRules (startsAt + k) at (inl (omega arith))))
+          (link-entered started bucketAt beforeAt hashes mostHeld (omega arith)
+          (same-entries (E .bodies) (unchanged index bucketAt hashes (startsAt + k) at (inl (omega arith))) (unchanged index beforeAt mostHeld (startsAt + k) at (inl (omega arith))))
           k h
           (λ y w p. p .0)
           (either-body (sym key))
@@ -177,5 +177,5 @@ pub entered-flag : {index : List ℕ} {t : List ℤ} {n : ℕ} (x : ℕ) → Ent
 entered-flag {index} x E = record {
   starts = λ k h. getD-set-other index 0 (startsAt + k) x 0 (λ e. omega arith) ∙ E .starts k h;
   heads = heads-same (E .heads) (λ i a b. getD-set-other index 0 i x 0 (λ e. omega arith));
-  bodies = same-entries (E .bodies) (unchanged index bucketAt hashes 0 x (inl (omega arith))) (unchanged index beforeAt mostRules 0 x (inl (omega arith)));
+  bodies = same-entries (E .bodies) (unchanged index bucketAt hashes 0 x (inl (omega arith))) (unchanged index beforeAt mostHeld 0 x (inl (omega arith)));
 }

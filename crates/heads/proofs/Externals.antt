@@ -12,7 +12,7 @@ use lib.IntN.{ℤ, pos}
 use lib.Signed.{ltZ}
 use lib.ListN.{length, take, getD, set, length-set}
 use lib.Seq.{take-suc-set, length-take-le, getD-take}
-use Rattle.words.specs.Limits.{largest, entries, mostRules}
+use Rattle.words.specs.Limits.{largest, entries, mostHeld}
 use Rattle.words.specs.Lists.{_∈_, any, filter}
 use Rattle.words.specs.Literals.{variable, has, distinct, ascending}
 use Rattle.words.proofs.Lists.{Decides, reworded, passed, if-true, is-true, failed, same-test, not-decides, and-left, and-right, any-decides, eqb-decides, keep→, keep←}
@@ -72,7 +72,7 @@ distinct-last (z ∷ l) x o f =
 
 -- `note`: a name that is not in the row yet
 
-module _ (row : List ℤ) (n name : ℕ) (w : ℤ) (R : Row row n) (room : n ≤ mostRules) (low : 1 ≤ name) (high : name ≤ largest) (is : w ≡ pos name)
+module _ (row : List ℤ) (n name : ℕ) (w : ℤ) (R : Row row n) (room : n ≤ mostHeld) (low : 1 ≤ name) (high : name ≤ largest) (is : w ≡ pos name)
     (new : has (pos name) (take n row) ≡ false) where
   noted : take (n + 1) (set row n w) ≡ take n row ++ (pos name ∷ [])
   noted = rw (add-one, is) (take-suc-set row n (pos name) (omega (arith, R .long, room)))

@@ -9,7 +9,7 @@ use lib.Dec.{eqb}
 use lib.IntN.{ℤ, pos}
 use lib.Signed.{ltZ}
 use lib.ListN.{length, take, drop, getD}
-use Rattle.words.specs.Limits.{largest, entries, mostRules}
+use Rattle.words.specs.Limits.{largest, entries, mostHeld}
 use Rattle.words.specs.Lists.{_∈_, any, all}
 use Rattle.words.specs.Literals.{variable, has, mentions, sameList, distinct, rising}
 use Rattle.words.specs.Descending.{Descends}
@@ -45,7 +45,7 @@ abbrev pub startsAt : ℕ
 startsAt = 1
 
 abbrev pub firstAt : ℕ
-firstAt = startsAt + mostRules
+firstAt = startsAt + mostHeld
 
 abbrev pub nextAt : ℕ
 nextAt = firstAt + entries
@@ -60,18 +60,18 @@ abbrev pub beforeAt : ℕ
 beforeAt = bucketAt + hashes
 
 abbrev pub indexWords : ℕ
-indexWords = beforeAt + mostRules
+indexWords = beforeAt + mostHeld
 
 -- The words that hold the names of bodies: one for each rule, and behind these the hints, of which nothing is said.
 abbrev pub hints : ℕ
 hints = 1024
 
 abbrev pub nameWords : ℕ
-nameWords = mostRules + hints
+nameWords = mostHeld + hints
 
 -- where the hint for a name stands
 abbrev pub hintOf : ℕ → ℕ
-hintOf name = mostRules + name % hints
+hintOf name = mostHeld + name % hints
 
 -- Heads
 
@@ -121,7 +121,7 @@ BodyPlace t n k h = (k < n) × (hashFrom 0 (bodyWordsAt (wordsFrom k t)) ≡ h)
 pub record Entered (index : List ℕ) (table : List ℤ) (n : ℕ) : Type 0 where
   pub starts : (k : ℕ) → k < n → getD index (startsAt + k) 0 ≡ startOf k table
   pub heads : HeadChains index (headedTo n table)
-  pub bodies : Descends hashes mostRules (BodyPlace table n) (BodyPlace table n) (λ h. getD index (bucketAt + h) 0) (λ k. getD index (beforeAt + k) 0)
+  pub bodies : Descends hashes mostHeld (BodyPlace table n) (BodyPlace table n) (λ h. getD index (bucketAt + h) 0) (λ k. getD index (beforeAt + k) 0)
 
 -- it has all of them, and none has a weight body
 pub record Covers (index : List ℕ) (table : List ℤ) (rules : ℕ) : Type 0 where
@@ -176,7 +176,7 @@ IsExternal t rules m k =
 
 -- the words of a row for names: one for each rule that there may be, and one more
 abbrev pub rowWords : ℕ
-rowWords = mostRules + 1
+rowWords = mostHeld + 1
 
 -- the first n words of such a row are variables, and no one stands twice
 pub record Row (row : List ℤ) (n : ℕ) : Type 0 where

@@ -9,7 +9,7 @@ ghost use Prim.Native.Nat.{ℕ, suc, _+_, _<_, _≤_};
 ghost use lib.Dec.{eqb};
 ghost use lib.IntN.{ℤ, pos};
 ghost use lib.ListN.{length, replicate, take, getD, set};
-ghost use Rattle.words.specs.Limits.{largest, mostRules, longest, mostNumbers};
+ghost use Rattle.words.specs.Limits.{largest, entries, mostHeld, longest, mostNumbers};
 ghost use Rattle.words.specs.Lists.{_∈_, any, all};
 ghost use Rattle.words.specs.Literals.{variable, sameList, distinct, mentions, top};
 ghost use Rattle.aspif.specs.Rules.{InputRule, allPlain, expand};
@@ -25,8 +25,8 @@ use names::queries;
 use words::ENTRIES;
 use words::LARGEST;
 use words::LONGEST;
+use words::MOST_HELD;
 use words::MOST_NUMBERS;
-use words::MOST_RULES;
 
 // The regions of specs/Heads.antt.
 const MOST_HEADS: usize = 8192;
@@ -35,7 +35,7 @@ const HASHES: usize = 2048;
 
 const STARTS: usize = 1;
 
-const FIRST: usize = STARTS + MOST_RULES;
+const FIRST: usize = STARTS + MOST_HELD;
 
 const NEXT: usize = FIRST + ENTRIES;
 
@@ -45,15 +45,15 @@ const BUCKET: usize = OWNER + MOST_HEADS;
 
 const BEFORE: usize = BUCKET + HASHES;
 
-pub const INDEX_WORDS: usize = BEFORE + MOST_RULES;
+pub const INDEX_WORDS: usize = BEFORE + MOST_HELD;
 
 // The words of a row for names: one for each rule that there may be, and one more.
-pub const ROW_WORDS: usize = MOST_RULES + 1;
+pub const ROW_WORDS: usize = MOST_HELD + 1;
 
 // What is kept by rule, and behind it the hints.
 const HINTS: usize = 1024;
 
-pub const NAME_WORDS: usize = MOST_RULES + HINTS;
+pub const NAME_WORDS: usize = MOST_HELD + HINTS;
 
 // The names of the external bodies of a set: so many words of the row; or some body has none.
 pub enum Found {
@@ -123,7 +123,7 @@ fn link(index: &mut [u16], first: usize, next: usize, key: usize, place: usize)
 
 // One more head: the head v of rule k, after n others.
 fn enter_head(index: &mut [u16], v: usize, k: usize, n: usize)
-    requires { ⌜ (length (now index) ≡ indexWords) × (v ≤ largest) × (k < mostRules) × (n < mostHeads) ⌝ }
+    requires { ⌜ (length (now index) ≡ indexWords) × (v ≤ largest) × (k < mostHeld) × (n < mostHeads) ⌝ }
     ensures chains { λ _. ⌜ ((es : List Headed) → HeadChains (now (index .entry)) es → length es ≡ n
         → HeadChains (now (index .exit)) (es ++ (record { rule = k; head = v } ∷ []))) ⌝ }
     ensures others { λ _. ⌜ ((i : ℕ) → (i < firstAt) ⊎ (bucketAt ≤ i) → getD (now (index .exit)) i 0 ≡ getD (now (index .entry)) i 0) ⌝ }
@@ -134,7 +134,7 @@ fn enter_head(index: &mut [u16], v: usize, k: usize, n: usize)
 
 // The heads of rule k, after n others.
 fn enter_heads(index: &mut [u16], heads: &[i32], k: usize, n: usize)
-    requires index { ⌜ (length (now index) ≡ indexWords) × (k < mostRules) × (n + length (now heads) ≤ mostHeads) ⌝ }
+    requires index { ⌜ (length (now index) ≡ indexWords) × (k < mostHeld) × (n + length (now heads) ≤ mostHeads) ⌝ }
     requires heads { ⌜ ((h : ℤ) → h ∈ now heads → variable h ≤ largest) ⌝ }
     ensures chains { λ _. ⌜ ((es : List Headed) → HeadChains (now (index .entry)) es → length es ≡ n
         → HeadChains (now (index .exit)) (es ++ map (headedBy k) (now (heads .entry)))) ⌝ }
@@ -149,7 +149,7 @@ fn enter_heads(index: &mut [u16], heads: &[i32], k: usize, n: usize)
 
 // Rule k, at the front of the words, which stand in the table from `at` on, after n heads.
 fn enter_rule(index: &mut [u16], words: &[i32], at: usize, k: usize, n: usize)
-    requires index { ⌜ (length (now index) ≡ indexWords) × (k < mostRules) × (at ≤ longest) × (n + length (headsAt (now words)) ≤ mostHeads) ⌝ }
+    requires index { ⌜ (length (now index) ≡ indexWords) × (k < mostHeld) × (at ≤ longest) × (n + length (headsAt (now words)) ≤ mostHeads) ⌝ }
     requires rule { ⌜ soundAt (now words) ≡ true ⌝ }
     ensures entered { λ _. ⌜ ((table : List ℤ) → now (words .entry) ≡ wordsFrom k table → at ≡ startOf k table → length (headedTo k table) ≡ n
         → Entered (now (index .entry)) table k → Entered (now (index .exit)) table (suc k)) ⌝ }
@@ -162,7 +162,7 @@ fn enter_rule(index: &mut [u16], words: &[i32], at: usize, k: usize, n: usize)
 
 // The index of a program without weight bodies, if it has room.
 pub fn fill(table: &[i32], rules: usize, index: &mut [u16])
-    requires program { ⌜ (soundRules rules (now table) ≡ true) × (allPlain (rulesAt rules (now table)) ≡ true) × (rules ≤ mostRules) ⌝ }
+    requires program { ⌜ (soundRules rules (now table) ≡ true) × (allPlain (rulesAt rules (now table)) ≡ true) × (rules ≤ mostHeld) ⌝ }
     requires zero { ⌜ now index ≡ replicate indexWords 0 ⌝ }
     ensures { λ _. ⌜ Indexed (now (index .exit)) (now (table .entry)) rules ⌝ }
 {
@@ -312,6 +312,31 @@ fn rule_with(table: &[i32], rules: usize, index: &[u16], body: &[i32]) -> usize
     0
 }
 
+// What the literals, ascending, are called as a body of the rules: 0 where that has no name, 8,192 where no rule has the body.
+pub fn body_name(
+    table: &[i32],
+    rules: usize,
+    names: &[u16],
+    bodies: &[i16],
+    index: &[u16],
+    body: &[i32],
+) -> usize
+    requires program { ⌜ ((ws : List InputRule) × HoldsRules (now table) rules ws) × (rules ≤ length (now names)) ⌝ }
+    requires index { ⌜ Indexed (now index) (now table) rules ⌝ }
+    ensures { λ r. ⌜ ((ws : List InputRule) → HoldsRules (now (table .entry)) rules ws
+        → (called : List ℤ → ℕ) → Kept (now (names .entry)) (now (bodies .entry)) called ws
+        → r ≡ cond (any (λ x. sameList (now (body .entry)) (x .body)) (expand ws)) (called (now (body .entry))) entries) ⌝ }
+{
+    if !is_covered(index) {
+        return queries::body_name(table, rules, names, bodies, body);
+    }
+    let found = rule_with(table, rules, index, body);
+    if 0 < found {
+        return wide(names[found - 1]);
+    }
+    ENTRIES
+}
+
 // Question 28: the literals, ascending, are the body of a rule, and it has no name.
 pub fn is_unnamed(
     table: &[i32],
@@ -327,14 +352,7 @@ pub fn is_unnamed(
         → (called : List ℤ → ℕ) → Kept (now (names .entry)) (now (bodies .entry)) called ws
         → r ≡ (any (λ x. sameList (now (body .entry)) (x .body)) (expand ws) && eqb (called (now (body .entry))) 0)) ⌝ }
 {
-    if !is_covered(index) {
-        return queries::is_unnamed(table, rules, names, bodies, body);
-    }
-    let found = rule_with(table, rules, index, body);
-    if found == 0 {
-        return false;
-    }
-    wide(names[found - 1]) == 0
+    body_name(table, rules, names, bodies, index, body) == 0
 }
 
 // Every rule with the body gets the name; what is kept of other rules stays.
@@ -366,12 +384,12 @@ fn enter_rules(
 fn hint_of(name: usize) -> usize
     ensures { λ r. ⌜ r ≡ hintOf name ⌝ }
 {
-    MOST_RULES + name % HINTS
+    MOST_HELD + name % HINTS
 }
 
 // The last rule with the body of a name, one more than its number: a hint behind what is kept by rule, where there is room for it.
 fn put_hint(names: &mut [u16], name: usize, newest: usize)
-    requires { ⌜ newest ≤ mostRules ⌝ }
+    requires { ⌜ newest ≤ mostHeld ⌝ }
     ensures { λ _. ⌜ now (names .exit) ≡ set (now (names .entry)) (hintOf name) newest ⌝ }
 {
     let at = hint_of(name);
@@ -474,7 +492,7 @@ pub fn is_completed(
 
 // One more name after the n of the row, unless it stands there or is no variable. How many there are then.
 fn note(row: &mut [i32], n: usize, name: u16) -> usize
-    requires { ⌜ Row (now row) n × (n ≤ mostRules) × (1 ≤ name) ⌝ }
+    requires { ⌜ Row (now row) n × (n ≤ mostHeld) × (1 ≤ name) ⌝ }
     ensures row { λ r. ⌜ Row (now (row .exit)) r × InRow (now (row .exit)) r name ⌝ }
     ensures same { λ r. ⌜ ((x : ℤ) → x ∈ take n (now (row .entry)) → x ∈ take r (now (row .exit)))
         × ((x : ℤ) → x ∈ take r (now (row .exit)) → (x ∈ take n (now (row .entry))) ⊎ (x ≡ pos name)) ⌝ }
@@ -492,7 +510,7 @@ fn note(row: &mut [i32], n: usize, name: u16) -> usize
 
 // The name of the body of the rule at the front, unless a positive atom of it is in the set; 8,192 where it has none.
 fn gather_rule(words: &[i32], inside: &[u8], name: u16, row: &mut [i32], n: usize) -> usize
-    requires { ⌜ (shapeSound (now words) ≡ true) × Row (now row) n × (n ≤ mostRules) ⌝ }
+    requires { ⌜ (shapeSound (now words) ≡ true) × Row (now row) n × (n ≤ mostHeld) ⌝ }
     ensures { λ r. ⌜ ((t : List ℤ) (rules : ℕ) (names : List ℕ) (k : ℕ) → now (words .entry) ≡ wordsFrom k t → name ≡ getD names k 0 → k < rules
         → any (isInside (now (inside .entry))) (headsAt (wordsFrom k t)) ≡ true
         → Collected t rules names (now (inside .entry)) (now (row .entry)) n

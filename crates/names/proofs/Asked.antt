@@ -90,17 +90,24 @@ module _ (r : InputRule) where
   unfolding expandRule
   any-bodies f = any-map (withBody r) (λ x. f (x .body)) (bodiesOf (r .body))
 
-  pub completing-bodies : (called : List ℤ → ℕ) (hs : List ℤ) (n : ℕ)
-      → any (completing called hs n) (expandRule r)
-      ≡ ((isNormal (r .kind) && sameList (r .heads) hs) && any (λ ls. eqb (called ls) n) (bodiesOf (r .body)))
+  -- a test that asks for kind and heads, and then for the body
+  pub normal-bodies : (hs : List ℤ) (f : List ℤ → Bool)
+      → any (λ x. isNormal (x .kind) && (sameList (x .heads) hs && f (x .body))) (expandRule r)
+      ≡ ((isNormal (r .kind) && sameList (r .heads) hs) && any f (bodiesOf (r .body)))
   unfolding expandRule
-  completing-bodies called hs n =
-      any-map (withBody r) (completing called hs n) (bodiesOf (r .body)) ∙ by (isNormal (r .kind)) (sameList (r .heads) hs) (bodiesOf (r .body))
+  normal-bodies hs f =
+      any-map (withBody r) (λ x. isNormal (x .kind) && (sameList (x .heads) hs && f (x .body))) (bodiesOf (r .body))
+      ∙ by (isNormal (r .kind)) (sameList (r .heads) hs) (bodiesOf (r .body))
     where
-      by : (a b : Bool) (l : List (List ℤ)) → any (λ ls. a && (b && eqb (called ls) n)) l ≡ ((a && b) && any (λ ls. eqb (called ls) n) l)
+      by : (a b : Bool) (l : List (List ℤ)) → any (λ ls. a && (b && f ls)) l ≡ ((a && b) && any f l)
       by true true l = refl
       by true false l = none-pass (λ ls. false) l (λ ls i. refl)
       by false b l = none-pass (λ ls. false) l (λ ls i. refl)
+
+  pub completing-bodies : (called : List ℤ → ℕ) (hs : List ℤ) (n : ℕ)
+      → any (completing called hs n) (expandRule r)
+      ≡ ((isNormal (r .kind) && sameList (r .heads) hs) && any (λ ls. eqb (called ls) n) (bodiesOf (r .body)))
+  completing-bodies called hs n = normal-bodies hs (λ ls. eqb (called ls) n)
 
   pub asked-bodies : (q : Query) (m : List ℕ) (called : List ℤ → ℕ)
       → askedNames q m called (expandRule r)
@@ -170,3 +177,8 @@ module _ {ws m : List ℤ} {name : ℕ} {called : List ℤ → ℕ} (w : Weighin
   named-none row e t =
       let told : Told m name row Recorded.Nothing = rw e at t in
       none-pass _ (bodies (boundAt ws) (paired (bodyWordsAt ws))) (λ L i. told called C above L (body-short L w i))
+
+-- Question 28: a name that is 0 is that of a body which some rule has
+pub no-name : (b : Bool) (n : ℕ) → eqb (cond b n entries) 0 ≡ (b && eqb n 0)
+no-name true n = refl
+no-name false n = refl

@@ -5,7 +5,7 @@
 use mathlib.Core.Path.{_≡_}
 use mathlib.Core.Logic.{_⊎_}
 use mathlib.Core.Bool.{Bool, true, false, not, _&&_}
-use mathlib.Core.List.{List, map}
+use mathlib.Core.List.{List, [], map}
 use Prim.Native.Nat.{ℕ, _≤_}
 use lib.Dec.{eqb}
 use lib.IntN.{ℤ, pos}
@@ -64,3 +64,7 @@ MarksNames m l = Marks m l ⊎ ((marked m 0 ≡ true) × (listed l 0 ≡ true))
 -- question 29 of a plain rule: it is normal, has just the heads, and its body has the name
 abbrev pub completing : (List ℤ → ℕ) → List ℤ → ℕ → Rule → Bool
 completing called hs n r = isNormal (r .kind) && (sameList (r .heads) hs && eqb (called (r .body)) n)
+
+-- a plain rule that is normal, has no heads and has the body
+abbrev pub constraining : List ℤ → Rule → Bool
+constraining B r = isNormal (r .kind) && (sameList (r .heads) [] && sameList B (r .body))

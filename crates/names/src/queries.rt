@@ -15,13 +15,14 @@ ghost use Rattle.aspif.specs.Tables.{isWeighted, headsAt, bodyAt, ruleAt, shape
 ghost use Rattle.weights.specs.Weights.{mostWeighted};
 ghost use Rattle.names.specs.ByName.{Called, Told};
 ghost use Rattle.names.specs.Minimal.{AlsoMarks};
-ghost use Rattle.names.specs.Queries.{HoldsRules, entry, Kept, isInside, asksHeads, askedNames, MarksNames, completing};
+ghost use Rattle.names.specs.Queries.{HoldsRules, entry, Kept, isInside, asksHeads, askedNames, MarksNames, completing, constraining};
 use crate::by_name;
 use crate::by_name::Recorded;
 use crate::minimal;
 use aspif::Kind;
 use aspif::tables;
 use weights::MOST_WEIGHTED;
+use words::ENTRIES;
 
 // The plain rules that a step is about, by their heads: those with a head; those with a head in a set of atoms. Of both, those whose
 // bodies have a positive atom in the set are left out.
@@ -163,17 +164,37 @@ fn has_body(words: &[i32], body: &[i32]) -> bool
     words::is_same_list(body, tables::body_of(words))
 }
 
-// The body, which is one of the rule at the front, has no name; `name` is what is kept by rule.
-fn is_nameless(words: &[i32], body: &[i32], name: u16, bodies: &[i16]) -> bool
+// What the body, which is one of the rule at the front, is called; `name` is what is kept by rule.
+fn name_at(words: &[i32], body: &[i32], name: u16, bodies: &[i16]) -> u16
     requires rule { ⌜ (soundAt (now words) ≡ true) × (any (sameList (now body)) (bodiesOf (bodyAt (now words))) ≡ true) ⌝ }
     ensures { λ r. ⌜ ((called : List ℤ → ℕ) → (isWeighted (now (words .entry)) ≡ true → Called (now (bodies .entry)) called)
         → name ≡ entry called (bodyAt (now (words .entry)))
-        → r ≡ eqb (called (now (body .entry))) 0) ⌝ }
+        → r ≡ called (now (body .entry))) ⌝ }
 {
     if tables::is_weighted(words) {
-        return by_name::name_of(bodies, body) == 0;
+        return by_name::name_of(bodies, body);
     }
-    name == 0
+    name
+}
+
+// What the literals, ascending, are called as a body of the rules: 0 where that has no name, 8,192 where no rule has the body.
+pub fn body_name(table: &[i32], rules: usize, names: &[u16], bodies: &[i16], body: &[i32]) -> usize
+    requires program { ⌜ ((ws : List InputRule) × HoldsRules (now table) rules ws) × (rules ≤ length (now names)) ⌝ }
+    ensures { λ r. ⌜ ((ws : List InputRule) → HoldsRules (now (table .entry)) rules ws
+        → (called : List ℤ → ℕ) → Kept (now (names .entry)) (now (bodies .entry)) called ws
+        → r ≡ cond (any (λ x. sameList (now (body .entry)) (x .body)) (expand ws)) (called (now (body .entry))) entries) ⌝ }
+{
+    let mut k = 0;
+    let mut i = 0;
+    while k < rules {
+        let rest = &table[i..];
+        if has_body(rest, body) {
+            return name_at(rest, body, names[k], bodies) as usize;
+        }
+        i = tables::next_rule(table, i);
+        k += 1;
+    }
+    ENTRIES
 }
 
 // Question 28: the literals, ascending, are the body of a rule, and it has no name.
@@ -183,17 +204,7 @@ pub fn is_unnamed(table: &[i32], rules: usize, names: &[u16], bodies: &[i16], bo
         → (called : List ℤ → ℕ) → Kept (now (names .entry)) (now (bodies .entry)) called ws
         → r ≡ (any (λ x. sameList (now (body .entry)) (x .body)) (expand ws) && eqb (called (now (body .entry))) 0)) ⌝ }
 {
-    let mut k = 0;
-    let mut i = 0;
-    while k < rules {
-        let rest = &table[i..];
-        if has_body(rest, body) {
-            return is_nameless(rest, body, names[k], bodies);
-        }
-        i = tables::next_rule(table, i);
-        k += 1;
-    }
-    false
+    body_name(table, rules, names, bodies, body) == 0
 }
 
 // Some body of the rule at the front has the name, whose literals are those recorded; `kept` is what is kept by rule.
@@ -260,6 +271,36 @@ pub fn is_completed(
     while k < rules {
         let rest = &table[i..];
         if completes(rest, heads, name as u16, names[k], recorded, &row) {
+            return true;
+        }
+        i = tables::next_rule(table, i);
+        k += 1;
+    }
+    false
+}
+
+// The rule at the front is a constraint with the body.
+fn constrains(words: &[i32], body: &[i32]) -> bool
+    requires { ⌜ soundAt (now words) ≡ true ⌝ }
+    ensures { λ r. ⌜ r ≡ any (constraining (now (body .entry))) (expandRule (ruleAt (now (words .entry)))) ⌝ }
+{
+    if is_normal_with(words, &body[..0]) {
+        return has_body(words, body);
+    }
+    false
+}
+
+// Some normal rule has no heads and the body.
+pub fn is_constraint(table: &[i32], rules: usize, body: &[i32]) -> bool
+    requires { ⌜ ((ws : List InputRule) × HoldsRules (now table) rules ws) ⌝ }
+    ensures { λ r. ⌜ ((ws : List InputRule) → HoldsRules (now (table .entry)) rules ws
+        → r ≡ any (constraining (now (body .entry))) (expand ws)) ⌝ }
+{
+    let mut k = 0;
+    let mut i = 0;
+    while k < rules {
+        let rest = &table[i..];
+        if constrains(rest, body) {
             return true;
         }
         i = tables::next_rule(table, i);

@@ -1,6 +1,6 @@
 -- The limits of document 01, with the largest variable of Change 6, each written once.
 -- Assumes nothing.
-use Prim.Native.Nat.{ℕ, suc}
+use Prim.Native.Nat.{ℕ, suc, _+_}
 
 -- "A variable is a number from 1 to 4,095", and by Change 6 "The largest variable becomes 8,191"
 abbrev pub largest : ℕ
@@ -17,6 +17,11 @@ longest = 65535
 -- "At most 1,024 rules."
 abbrev pub mostRules : ℕ
 mostRules = 1024
+
+-- the most rules that a check is lent: those of a program, and as many more as a service puts behind them. "Questions 1, 9 and 10 are
+-- not put to added constraints."
+abbrev pub mostHeld : ℕ
+mostHeld = mostRules + 6
 
 -- "Are both counts .. 0 to 64"
 abbrev pub mostLiterals : ℕ

@@ -1,4 +1,5 @@
 use mathlib.Core.Path.{_≡_, sym, _∙_}
+use native.Mathlib.Omega.{arith}
 use lib.ListN.{length}
 use Rattle.aspif.specs.Reading.{ProgramRead}
 use Rattle.checker.proofs.Verdicts.{judged-lengths, zeros, program-refused, ReadProgram, program-read, check-read, held}
@@ -24,7 +25,7 @@ check-proof-requires : tie.Need-check-proof-requires
 check-proof-requires c κs =
     let d = c .before .before .before in
     let h = held _ _ _ _ (read d .answer) (read d .table) (found d) (search needs) in
-    (((found d .P, h .0), h .1), zeros _ (length (start d .args .store .now)) (c .before .before .before .before .before .before .before .before .before .zero-all .ensures))
+    (((found d .P, h .0), omega (arith, h .1)), zeros _ (length (start d .args .store .now)) (c .before .before .before .before .before .before .before .before .before .zero-all .ensures))
 
 returns : tie.Need-returns
 returns c =

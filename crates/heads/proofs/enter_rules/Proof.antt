@@ -6,12 +6,13 @@ use native.Mathlib.Omega.{arith}
 use lib.IntN.{ℤ}
 use lib.ListN.{length, drop, getD, length-set}
 use lib.Seq.{getD-set-same}
+use Rattle.words.specs.Limits.{mostHeld}
 use Rattle.words.specs.Literals.{sameList}
 use Rattle.words.proofs.Parts.{tail-of}
 use Rattle.aspif.specs.Tables.{bodyAt, soundAt, shapeSound, rulesAt}
 use Rattle.aspif.proofs.Readable.{rules-count}
 use Rattle.names.specs.Queries.{entry}
-use Rattle.heads.specs.Heads.{startOf, wordsFrom, hashFrom, BodyPlace}
+use Rattle.heads.specs.Heads.{bucketAt, beforeAt, startOf, wordsFrom, hashFrom, BodyPlace}
 use Rattle.names.proofs.ByRule.{ByRule}
 use Rattle.heads.proofs.Starts.{rule-here}
 use Rattle.heads.proofs.Walks.{walk-from, walk-on}
@@ -33,7 +34,7 @@ loop-holds : tie.Need-loop-holds Inv-loop μ-loop
 loop-holds c =
     let s = c .before .before .before .before in
     let h = c .before .hash-of .ensures in
-    let e = c .word-of .ensures ∙ ap (λ k. getD (s .args .index .now) (25601 + k) 0) (h .0) in
+    let e = c .word-of .ensures ∙ ap (λ k. getD (s .args .index .now) (bucketAt + k) 0) (h .0) in
     let D = s .pre .0 .entered .bodies in (
       refl,
       (λ q f. D .first _ q (omega (arith, h)) (sym e ∙ f)),
@@ -57,7 +58,7 @@ module _ (c : tie.In-loop Inv-loop μ-loop) where
   place : BodyPlace t (s .args .rules) k (hashFrom 0 (s .args .body .now))
   place = c .before .loop .inv .1 k is
 
-  few : k < 1024
+  few : k < mostHeld
   few = s .pre .0 .entered .bodies .within k _ place .0
 
   room : k < length (c .before .loop .names)
@@ -66,10 +67,10 @@ module _ (c : tie.In-loop Inv-loop μ-loop) where
   here : (startOf k t ≤ length t) × (soundAt (wordsFrom k t) ≡ true) × (shapeSound (wordsFrom k t) ≡ true)
   here = rule-here t (s .args .rules) (s .pre .1) k (place .0)
 
-  less : getD (s .args .index .now) (27649 + k) 0 ≤ k
-  less = by (getD (s .args .index .now) (27649 + k) 0) refl
+  less : getD (s .args .index .now) (beforeAt + k) 0 ≤ k
+  less = by (getD (s .args .index .now) (beforeAt + k) 0) refl
     where
-      by : (r : ℕ) → getD (s .args .index .now) (27649 + k) 0 ≡ r → r ≤ k
+      by : (r : ℕ) → getD (s .args .index .now) (beforeAt + k) 0 ≡ r → r ≤ k
       by zero e = omega arith
       by (suc r) e = omega (arith, s .pre .0 .entered .bodies .next k _ r place e .1)
 

@@ -6,6 +6,7 @@ use Prim.Native.Nat.{ℕ, suc, _-_, _≤_, _<_}
 use native.Mathlib.Omega.{arith}
 use lib.IntN.{ℤ}
 use lib.ListN.{length, take, drop}
+use Rattle.words.specs.Limits.{mostHeld}
 use Rattle.words.specs.Lists.{_∈_, any}
 use Rattle.words.proofs.Parts.{tail-of}
 use Rattle.aspif.specs.Tables.{headsAt, soundAt, shapeSound}
@@ -70,7 +71,7 @@ module _ (c : tie.After-word-of2 Inv-loop μ-loop) where
   headed : HasHead (t i) (s i .args .rules) (s i .args .v) k
   headed = subst (HasHead (t i) (s i .args .rules) (s i .args .v)) (sym owner) (head-of (t i) (s i .args .rules) (s i .args .v) (x i) (s i .pre .0 .1) (place i))
 
-  few : k < 1024
+  few : k < mostHeld
   few = omega (arith, headed .0, covers-few (s i .pre .0 .0))
 
   in-names : k < length (s i .args .names .now)

@@ -5,6 +5,7 @@ use Prim.Native.Nat.{ℕ, _-_, _≤_, _<_}
 use native.Mathlib.Omega.{arith}
 use lib.IntN.{ℤ}
 use lib.ListN.{length, drop, getD}
+use Rattle.words.specs.Limits.{mostHeld}
 use Rattle.words.proofs.Parts.{tail-of}
 use Rattle.aspif.specs.Tables.{soundAt, shapeSound}
 use Rattle.heads.specs.Heads.{startOf, wordsFrom, Completes}
@@ -34,7 +35,7 @@ module _ (c : tie.In-loop Inv-loop μ-loop) where
   low : k < s .args .rules
   low = omega (arith, c .loop-test .taken, c .before .loop .inv)
 
-  few : k < 1024
+  few : k < mostHeld
   few = omega (arith, low, covers-few (s .pre .0))
 
   in-names : k < length (s .args .names .now)

@@ -5,10 +5,11 @@ use Prim.Native.Nat.{ℕ, suc, _+_, _-_, _≤_, _<_}
 use native.Mathlib.Omega.{arith}
 use lib.IntN.{ℤ}
 use lib.ListN.{length, drop, getD}
+use Rattle.words.specs.Limits.{mostHeld}
 use Rattle.words.specs.Literals.{sameList}
 use Rattle.words.proofs.Parts.{tail-of}
 use Rattle.aspif.specs.Tables.{bodyWordsAt, shapeSound, soundAt}
-use Rattle.heads.specs.Heads.{startOf, wordsFrom, hashFrom, BodyPlace, RuleWith}
+use Rattle.heads.specs.Heads.{bucketAt, startOf, wordsFrom, hashFrom, BodyPlace, RuleWith}
 use Rattle.heads.proofs.Starts.{rule-here}
 use Rattle.heads.proofs.Walks.{Walk, walk-from, walk-on, next-less}
 use Rattle.heads.proofs.Bodies.{Other, none-with}
@@ -26,7 +27,7 @@ loop-holds : tie.Need-loop-holds Inv-loop μ-loop
 loop-holds c =
     let s = c .before .before .before in
     let h = c .before .hash-of .ensures in
-    walk-from (s .pre .0 .entered .bodies) (omega (arith, h)) (c .word-of .ensures ∙ ap (λ k. getD (s .args .index .now) (25601 + k) 0) (h .0))
+    walk-from (s .pre .0 .entered .bodies) (omega (arith, h)) (c .word-of .ensures ∙ ap (λ k. getD (s .args .index .now) (bucketAt + k) 0) (h .0))
 
 -- the rule at hand
 module _ (c : tie.In-loop Inv-loop μ-loop) where
@@ -45,7 +46,7 @@ module _ (c : tie.In-loop Inv-loop μ-loop) where
   place : BodyPlace t (s .args .rules) k (hashFrom 0 (s .args .body .now))
   place = c .before .loop .inv .ahead k is
 
-  few : k < 1024
+  few : k < mostHeld
   few = s .pre .0 .entered .bodies .within k _ place .0
 
   here : (startOf k t ≤ length t) × (soundAt (wordsFrom k t) ≡ true) × (shapeSound (wordsFrom k t) ≡ true)

@@ -4,6 +4,7 @@ use Prim.Native.Nat.{ℕ, _≤_, _<_}
 use native.Mathlib.Omega.{arith}
 use lib.IntN.{ℤ}
 use lib.ListN.{length, drop}
+use Rattle.words.specs.Limits.{mostHeld}
 use Rattle.words.proofs.Parts.{tail-of}
 use Rattle.heads.specs.Heads.{startOf, headedTo, headedAt}
 use Rattle.heads.proofs.Starts.{rule-here, head-of}
@@ -29,7 +30,7 @@ module _ (c : tie.After-word-of) where
   rule : k < s .args .rules
   rule = omega (arith, owner, head-of t (s .args .rules) _ (s .args .x) (s .pre .0 .1) (s .pre .1, refl) .0)
 
-  few : k < 1024
+  few : k < mostHeld
   few = omega (arith, rule, covers-few (s .pre .0 .0))
 
 -- and where it starts

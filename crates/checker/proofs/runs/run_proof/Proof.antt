@@ -5,13 +5,13 @@ use Rattle.checker.proofs.runs.run_proof.Tie as tie
 
 run-plain-requires : tie.Need-run-plain-requires
 run-plain-requires c κs =
-    let d = c .before .before .before in
+    let d = c .before .before .before .before in
     let m = d .before .before in
     let p = m .before .before .pre in
     (p .0, ((m .marks-to .ensures, refl), (sym (d .before .all-plain .ensures) ∙ d .if1 .taken, p .1)))
 
-run-weighted-requires : tie.Need-run-weighted-requires
-run-weighted-requires c κs =
+run-recorded-requires : tie.Need-run-recorded-requires
+run-recorded-requires c κs =
     let m = c .before .before .before .before .before in
     let p = m .before .before .pre in
     (p .0, ((m .marks-to .ensures, refl), p .1))
@@ -24,11 +24,12 @@ run-proof-spec =
     (λ c κs. search needs)
     (λ c. search needs)
     (λ c. search needs)
+    (λ c. search needs)
     run-plain-requires
     (λ c. search needs)
+    (λ c ws p. c .before .before .before .before .run-plain .ensures ws p .0)
     (λ c. search needs)
     (λ c. search needs)
+    run-recorded-requires
     (λ c. search needs)
-    run-weighted-requires
-    (λ c. search needs)
-    (λ c. search needs))
+    (λ c. c .before .before .before .run-recorded .ensures))

@@ -1,4 +1,4 @@
-use mathlib.Core.Path.{refl, sym}
+use mathlib.Core.Path.{sym}
 use mathlib.Core.Bool.{true≢false}
 use borrow.Author.Needs.{needs}
 use Rattle.checker.proofs.runs.run_weighted.Statement.{statement}
@@ -8,7 +8,7 @@ run-lines-requires : tie.Need-run-lines-requires
 run-lines-requires c κs =
     let f = c .before .before .before .before .before .before .before in
     let p = f .before .before .before .before .before .pre in
-    (p .0, (λ e. absurd (true≢false (sym e)), (f .fill .ensures, (p .1 .0, (λ w. refl, p .1 .1)))))
+    (p .0, (λ e. absurd (true≢false (sym e)), (f .fill .ensures, p .1)))
 
 pub run-weighted-spec : {M : Type 1} → statement M
 run-weighted-spec =
@@ -18,8 +18,8 @@ run-weighted-spec =
     (λ c κs. search needs)
     (λ c. search needs)
     (λ c. search needs)
-    (λ c. search needs)
     run-lines-requires
+    (λ c. search needs)
     (λ c. search needs)
     (λ c. search needs)
     (λ c. search needs)

@@ -72,7 +72,7 @@ step-requires c κs =
     (s .pre .0, (s .pre .1 .0, (s .pre .1 .1 .0, ((s .pre .1 .1 .1 .0 .0, numbered d), (good-line _ _ (good d .0) (good d .1), into-sorted (b d .read-into .ensures) (d .answer2 .given .1))))))
 
 returns : tie.Need-returns
-returns c = λ ws p z stored T K. rw (into-told (c .before .before .before .before .read-into .ensures) (c .enum-told .given .1)) (refl, K .keeps .holds)
+returns c = λ ws p z stored T K. rw (into-told (c .before .before .before .before .read-into .ensures) (c .enum-told .given .1)) (refl, K .keeps .holds, T)
 
 returns-2 : tie.Need-returns-2
 returns-2 c = λ ws p z stored T K. rw (into-told (c .before .before .before .before .before .read-into .ensures) (c .before .answer .given .1)) refl

@@ -1,10 +1,11 @@
 use mathlib.Core.Path.{_≡_, refl, ap, subst, _∙_}
 use mathlib.Core.List.{List, _∷_, map}
-use Prim.Native.Nat.{ℕ, _-_, _≤_}
+use Prim.Native.Nat.{ℕ, _+_, _-_, _≤_}
 use native.Mathlib.Omega.{arith}
 use lib.IntN.{ℤ, pos}
 use lib.ListN.{length, take, drop, getD}
 use borrow.Rule.Slice.PartMut.{putMid}
+use Rattle.words.specs.Limits.{mostHeld}
 use Rattle.words.specs.Literals.{complement}
 use Rattle.words.proofs.Words.{back}
 use Rattle.text.specs.declared.Letter.the-variants.{Loop}
@@ -54,7 +55,7 @@ module _ (c : tie.After-found) where
   others : drop 1 put ≡ row
   others = put-others (s .args .row .now) row some
 
-  long : length put ≡ 1026
+  long : length put ≡ mostHeld + 2
   long = put-size (s .args .row .now) row some ∙ search (needs, e .external-names .kept .1 .1 .1 .1 .1 .1 .0, s .pre .1 .1 .1)
 
   module _ (ws : List InputRule) (called : List ℤ → ℕ) (A : Above (s .args .table .now) (s .args .rules) (s .args .names .now) (s .args .bodies .now) (getD (s .args .numbers .now) 0 (pos 0)) ws called) where

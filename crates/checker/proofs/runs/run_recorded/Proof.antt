@@ -1,0 +1,18 @@
+use mathlib.Core.Path.{refl}
+use borrow.Author.Needs.{needs}
+use Rattle.checker.proofs.runs.run_recorded.Statement.{statement}
+use Rattle.checker.proofs.runs.run_recorded.Tie as tie
+
+run-weighted-requires : tie.Need-run-weighted-requires
+run-weighted-requires c κs = let p = c .before .before .before .before .before .before .before .pre in (p .0, (p .1 .0, (λ w. refl, p .1 .1)))
+
+pub run-recorded-spec : {M : Type 1} → statement M
+run-recorded-spec =
+    tie.close
+    (tie.spec
+    (λ c. search needs)
+    run-weighted-requires
+    (λ c. search needs)
+    (λ c. search needs)
+    (λ c. search needs)
+    (λ c ws p. c .before .before .before .before .before .before .run-weighted .ensures ws p .0))

@@ -1,0 +1,11 @@
+-- The merged proof is accepted.
+pub mod Propagates
+pub mod Lines
+pub mod Relation
+pub mod Simulation
+pub mod Runs
+pub mod Renaming
+pub mod Merged
+pub mod Sized
+pub mod AsWritten
+pub mod Examples

@@ -1,0 +1,28 @@
+use mathlib.Core.Path.{sym, _∙_, ap}
+use Rattle.words.specs.Lists.{any}
+use Rattle.aspif.specs.Rules.{isEmpty}
+use Rattle.checker.specs.Check.{course}
+use Rattle.checker.proofs.Origins.{course-live}
+use Rattle.checker.proofs.Verdicts.{ran-stopped, ran-through}
+use Rattle.splits.specs.Service.{endsEmpty}
+use borrow.Author.Needs.{needs}
+use Rattle.splits.proofs.halves.ends_empty.Statement.{statement}
+use Rattle.splits.proofs.halves.ends_empty.Tie as tie
+
+has-empty-requires : tie.Need-has-empty-requires
+has-empty-requires c κs =
+    let p = c .before .before .before .pre in
+    let t = ran-through _ (p .0) _ _ (p .1) (c .before .run .given .1) in
+    (t .1, t .3)
+
+returns : tie.Need-returns
+returns c = λ N P size text R. sym (ap endsEmpty (ran-stopped _ (course N P size text) _ R (c .enum-told .given .1)))
+
+returns-2 : tie.Need-returns-2
+returns-2 c = λ N P size text R.
+    let t = ran-through _ (course N P size text) _ _ R (c .before .before .run .given .1) in
+    c .has-empty .ensures (t .1) (t .3) ∙ ap (any isEmpty) (course-live N P size text (t .2)) ∙ sym (ap endsEmpty (t .2))
+
+pub ends-empty-spec : {M : Type 1} → statement M
+ends-empty-spec =
+    tie.close (tie.spec (λ c. search needs) (λ c. search needs) has-empty-requires returns returns-2)
