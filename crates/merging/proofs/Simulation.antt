@@ -31,6 +31,14 @@ use Rattle.merging.proofs.Propagates.{Covered, conflict-follows, rename
 use Rattle.merging.proofs.Lines.{cond-cases, Then, if-yes, if-no, if-line, line-passes, signed-renamed, renamed-nonzero, distinct-renamed, distinct-end, same-variable, steps-append, fit-append}
 use Rattle.merging.proofs.Relation.{demanding-atoms, loop-same, Defines, Within, definition-defines, covered-same, Setting, Bodies, Follows, bodies-more, half-adds, both-add, both-define, half-defines}
 
+-- a rule of a list that a `c` line names
+abbrev pub Completes : List Rule → State → ℤ → List ℤ → Type 0
+Completes Q s n hs = (q : Rule) × (q ∈ Q) × ((q .kind ≡ Normal) × ((q .heads ≡ hs) × T (isName s (variable n) (q .body))))
+
+pub completion-decides : (Q : List Rule) (s : State) (n : ℤ) (hs : List ℤ) → Decides (isCompletion Q s n hs) (Completes Q s n hs)
+completion-decides Q s n hs =
+    any-decides (λ q. and-decides (normal-decides (q .kind)) (and-decides (sameList-decides (q .heads) hs) (itself (isName s (variable n) (q .body))))) Q
+
 -- Booleans
 
 first : {A : Type 0} (b : Bool) (o p : A) → b ≡ true → cond b o p ≡ o
@@ -358,13 +366,6 @@ module _ (N : ℕ) (P : List Rule) (small : plainAtoms P ≤ N) (x : ℤ) (f : �
         one-goes _ (add w (h ∷ [])) c (map (renamed f) zs) (renamed-nonzero f (S .positive-stays) zs nz) (signed-renamed f (S .positive-stays) c zs s)
         (once-renamed zs (λ y m. known-ours (variable y) (a y m)) t) (e ∙ citing-passes (map (renamed f) zs) _ (all-known zs a))
         (both-add P x f base names F g h (λ k u. inr (from k u)))
-
-    abbrev Completes : List Rule → State → ℤ → List ℤ → Type 0
-    Completes Q s n hs = (q : Rule) × (q ∈ Q) × ((q .kind ≡ Normal) × ((q .heads ≡ hs) × T (isName s (variable n) (q .body))))
-
-    completion-decides : (Q : List Rule) (s : State) (n : ℤ) (hs : List ℤ) → Decides (isCompletion Q s n hs) (Completes Q s n hs)
-    completion-decides Q s n hs =
-        any-decides (λ q. and-decides (normal-decides (q .kind)) (and-decides (sameList-decides (q .heads) hs) (itself (isName s (variable n) (q .body))))) Q
 
     completion-goes : (n : ℤ) (hs : List ℤ) → ¬ (pos 0 ∈ n ∷ hs) → T (signed (signsOf Completion) (n ∷ hs)) → T (distinct (n ∷ hs)) → T (isPositive n) → AllKnown N z (n ∷ hs)
         → Completes (demanding P x) z n hs → Goes (add z (ascending (n ∷ map complement hs) ∷ [])) (kept P x f shared (z .named) Completion (n ∷ hs))

@@ -22,13 +22,14 @@ use Rattle.aspif.specs.declared.Kind.the-variants.{Normal}
 use Rattle.aspif.proofs.RuleTests.{normal-decides}
 use Rattle.drupe.specs.Lines.{signsOf, signed}
 use Rattle.drupe.specs.Texts.{Step}
-use Rattle.derivation.specs.States.{Named, State, start, isKnown, isName, hasName}
+use Rattle.derivation.specs.States.{Named, State, start, isKnown, hasName}
 use Rattle.derivation.specs.Steps.{Outcome, refused, next, allKnown, isCompletion, byLetter, step, steps}
 use Rattle.derivation.proofs.Questions.{name-decides, hasName-decides}
 use Rattle.merging.specs.Merge.{demand, demanding, renamed, namedBy, namedIn, isBody, isAmong, one, kept, half}
 use Rattle.merging.proofs.Lines.{Then, if-yes, if-no, if-line}
 use Rattle.merging.proofs.Runs.{Named-well, start-well, steps-keep}
 use Rattle.merging.proofs.Merged.{named-all, body-cases}
+use Rattle.merging.proofs.Simulation.{Completes, completion-decides}
 use Rattle.splits.specs.Standing.{isConstraint, HalfOf, namesAdded, nameAfter, isGone, standing, allStanding}
 
 -- A list of one literal is that list ascending
@@ -53,14 +54,6 @@ added-line x m L =
   where
     tail-of : {k l : List ℤ} → pos m ∷ k ≡ pos m ∷ l → k ≡ l
     tail-of e = cc
-
--- a rule of a list that a `c` line names
-abbrev Completes : List Rule → State → ℤ → List ℤ → Type 0
-Completes Q z n hs = (q : Rule) × (q ∈ Q) × ((q .kind ≡ Normal) × ((q .heads ≡ hs) × T (isName z (variable n) (q .body))))
-
-completes : (Q : List Rule) (z : State) (n : ℤ) (hs : List ℤ) → Decides (isCompletion Q z n hs) (Completes Q z n hs)
-completes Q z n hs =
-    any-decides (λ q. and-decides (normal-decides (q .kind)) (and-decides (sameList-decides (q .heads) hs) (itself (isName z (variable n) (q .body))))) Q
 
 always : (A : Type 0) (o : Outcome) → A → Then (λ v. A) o
 always A (refused k) a = tt
@@ -141,7 +134,7 @@ module _ (N : ℕ) (P : List Rule) (x : ℤ) (f : ℕ → ℕ) (bodies : List (L
     completion-stays : (n : ℤ) (hs : List ℤ) → 1 ≤ variable n → Completes (demanding P x) z n hs
         → isCompletion P z n hs ≡ not (isGone shared hasConstraint name Completion (n ∷ hs))
     completion-stays n hs low c =
-        same-test (completes P z n hs)
+        same-test (completion-decides P z n hs)
         (not-decides (and-decides (eqb-decides (length (n ∷ hs)) 1) (and-decides (eqb-decides (variable n) name) (not-decides (itself hasConstraint))))) to from
       where
         no-heads : (l : List ℤ) → length (n ∷ l) ≡ 1 → l ≡ []
@@ -198,7 +191,7 @@ module _ (N : ℕ) (P : List Rule) (x : ℤ) (f : ℕ → ℕ) (bodies : List (L
         by Completion [] nz g s = tt
         by Completion (n ∷ hs) nz g s =
             if-yes (λ v. Agrees z name Completion (n ∷ hs)) (itself (allKnown N z (n ∷ hs))) _ 26 (λ a.
-            if-yes (λ v. Agrees z name Completion (n ∷ hs)) (completes (demanding P x) z n hs) _ 29
+            if-yes (λ v. Agrees z name Completion (n ∷ hs)) (completion-decides (demanding P x) z n hs) _ 29
             (λ c. completion-agrees n hs (variable-positive n (λ e. nz (List·Memᴰ·head (sym e)))) c))
         by Deletion L nz g s = always (Agrees z name Deletion L) (byLetter N (demanding P x) z Deletion L) (refl, A)
         by Extension [] nz g s = tt
