@@ -176,7 +176,14 @@ pub fn step(
 {
     match letter {
         Letter::Addition => additions::addition(
-            known, store, used, index, origin, line, sorted, assignment,
+            known,
+            store,
+            used,
+            index,
+            origin,
+            line,
+            sorted,
+            assignment,
         ),
         Letter::Deletion => additions::deletion(known, store, used, index, line, sorted),
         Letter::Extension => naming::extension(known, store, used, index, origin, line),

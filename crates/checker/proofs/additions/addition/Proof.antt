@@ -27,7 +27,7 @@ returns : tie.Need-returns
 returns c =
     let s = c .before .before .before in (
       λ N ws names bodies z b T K.
-      rw (cited z T Addition _ (s .pre .1 .0) refl (sym (c .before .all-marked .ensures) ∙ not-true _ (c .if1 .taken))) refl,
+          rw (cited z T Addition _ (s .pre .1 .0) refl (sym (c .before .all-marked .ensures) ∙ not-true _ (c .if1 .taken))) refl,
       s .pre .1 .1 .1,
     )
 
@@ -36,7 +36,7 @@ returns-2 c =
     let k = c .before .before .before .before .before in
     let s = k .before .before .before in (
       λ N ws names bodies z b T K.
-      rw (cited z T Addition _ (s .pre .1 .0) refl (sym (k .before .all-marked .ensures) ∙ not-false _ (k .if1 .left)), refutes-live K (s .args .numbers .now) (c .before .refutes .ensures .0 b (K .keeps)) (not-true _ (c .if2 .taken))) refl,
+          rw (cited z T Addition _ (s .pre .1 .0) refl (sym (k .before .all-marked .ensures) ∙ not-false _ (k .if1 .left)), refutes-live K (s .args .numbers .now) (c .before .refutes .ensures .0 b (K .keeps)) (not-true _ (c .if2 .taken))) refl,
       c .before .refutes .ensures .1 .1,
     )
 
@@ -53,10 +53,10 @@ returns-3 c =
     let k = m .before .before .before .before .before in
     let s = k .before .before .before in (
       λ N ws names bodies z b T K. rw (cited z T Addition _ (s .pre .1 .0) refl (sym (k .before .all-marked .ensures) ∙ not-false _ (k .if1 .left)), refutes-live K (s .args .numbers .now) (m .before .refutes .ensures .0 b (K .keeps)) (not-false _ (m .if2 .left))) (
-      kept-more K (s .args .origin) _ _ _ _ (c .fitted .result)
-          (kept-one b (s .args .origin) _ _ _ (c .before .before .append .result) (c .fitted .ensures) (s .pre .1 .1 .0) (c .before .before .append .ensures b (m .before .refutes .ensures .1 .0 b (K .keeps)))),
-      T,
-    ),
+        kept-more K (s .args .origin) _ _ _ _ (c .fitted .result)
+            (kept-one b (s .args .origin) _ _ _ (c .before .before .append .result) (c .fitted .ensures) (s .pre .1 .1 .0) (c .before .before .append .ensures b (m .before .refutes .ensures .1 .0 b (K .keeps)))),
+        T,
+      ),
       m .before .refutes .ensures .1 .1,
     )
 

@@ -92,7 +92,7 @@ returns-3 c =
     let g = d .answer2 .given .0 in
     let zs = take (g .1 .0) (numbers d) in (
       λ ws p z stored T K.
-      rw (there d, step-is (g .0) zs (good d .0) (good d .1) (start d .args .atoms) (expand ws) z) (t .result, c .turn-of .ensures, t .ensures .0 ws p z stored T K),
+          rw (there d, step-is (g .0) zs (good d .0) (good d .1) (start d .args .atoms) (expand ws) z) (t .result, c .turn-of .ensures, t .ensures .0 ws p z stored T K),
       t .ensures .1,
     )
 
