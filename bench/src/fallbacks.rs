@@ -15,14 +15,22 @@ const COPY: &str = "target/plain";
 const CRATES: [&str; 12] =
     ["words", "marks", "text", "weights", "aspif", "drupe", "search", "nogoods", "names", "heads", "loops", "checker"];
 
-/// The replay and what follows it in crates/nogoods/src/propagation.rt, and what stands there in the copy.
-const REPLAY: &str = "    if replay::replay(nogoods, index, assignment) {\n        return true;\n    }\n";
-const COUNTED: &str = "    if replay::replay(nogoods, index, assignment) {
-        REPLAYED.fetch_add(1, std::sync::atomic::Ordering::Relaxed);
-        return true;
-    }
-    SWEPT.fetch_add(1, std::sync::atomic::Ordering::Relaxed);
-";
+/// What follows the replay in crates/nogoods/src/propagation.rt, where it comes to a conflict and where it does not, and what stands there in the
+/// copy.
+const COUNTED: [(&str, &str); 2] = [
+    (
+        "            release(assignment, last);\n",
+        "            REPLAYED.fetch_add(1, std::sync::atomic::Ordering::Relaxed);\n            release(assignment, last);\n",
+    ),
+    (
+        "        Replayed::Open => exhaust(nogoods, assignment),\n",
+        "        Replayed::Open => {
+            SWEPT.fetch_add(1, std::sync::atomic::Ordering::Relaxed);
+            exhaust(nogoods, assignment)
+        }
+",
+    ),
+];
 const COUNTERS: &str = "
 pub static REPLAYED: std::sync::atomic::AtomicUsize = std::sync::atomic::AtomicUsize::new(0);
 pub static SWEPT: std::sync::atomic::AtomicUsize = std::sync::atomic::AtomicUsize::new(0);
@@ -140,13 +148,16 @@ fn without_contracts(source: &str) -> String {
 
 fn put_counters(folder: &Path) -> Result<(), String> {
     let (path, lib) = (folder.join("propagation.rs"), folder.join("lib.rs"));
-    let source = fs::read_to_string(&path).map_err(|error| error.to_string())?;
-    if source.matches(REPLAY).count() != 1 {
-        return Err(String::from("the replay is not where it was looked for"));
+    let mut source = fs::read_to_string(&path).map_err(|error| error.to_string())?;
+    for (found, counted) in COUNTED {
+        if source.matches(found).count() != 1 {
+            return Err(String::from("the replay is not where it was looked for"));
+        }
+        source = source.replace(found, counted);
     }
     let root = fs::read_to_string(&lib).map_err(|error| error.to_string())?;
     let open = root.replace("\nmod propagation;", "\npub mod propagation;");
-    fs::write(path, source.replace(REPLAY, COUNTED) + COUNTERS).and_then(|()| fs::write(lib, open)).map_err(|error| error.to_string())
+    fs::write(path, source + COUNTERS).and_then(|()| fs::write(lib, open)).map_err(|error| error.to_string())
 }
 
 fn compile(source: &Path, name: &str, kind: &str, others: &[&str]) -> Result<(), String> {

@@ -4,7 +4,8 @@ ghost use mathlib.Core.Path.{_≡_};
 ghost use mathlib.Core.List.{List};
 ghost use Prim.Native.Nat.{ℕ, _≤_};
 ghost use lib.IntN.{ℤ};
-ghost use Rattle.words.specs.Limits.{longest};
+ghost use lib.ListN.{replicate};
+ghost use Rattle.words.specs.Limits.{longest, entries};
 ghost use Rattle.words.specs.Literals.{ascending};
 ghost use Rattle.aspif.specs.Rules.{InputRule};
 ghost use Rattle.text.specs.declared.Letter.the-variants.{Addition, Deletion};
@@ -16,8 +17,10 @@ use crate::outcomes::Stepped;
 use nogoods::INDEX;
 use nogoods::propagation;
 use nogoods::store;
+use words::ENTRIES;
 
-// `a`: literals that unit propagation refutes, or any where the empty nogood is live. Adds them as a nogood.
+// `a`: literals that unit propagation refutes, or any where the empty nogood is live. Adds them as a nogood. The lent assignment is one of all
+// variables free, before and after.
 pub fn addition(
     known: &[u8],
     store: &mut [i32],
@@ -26,18 +29,21 @@ pub fn addition(
     origin: usize,
     numbers: &[i32],
     sorted: &[i32],
+    assignment: &mut [u8; ENTRIES],
 ) -> Stepped
     requires store { ⌜ ((stored : List Stored) × Keeps (now store) (now index) used stored) × ((1 ≤ origin) × (origin ≤ longest)) ⌝ }
     requires line { ⌜ PassedLine Addition (now numbers) ⌝ }
     requires sorted { ⌜ now sorted ≡ ascending (now numbers) ⌝ }
-    ensures { λ r. ⌜ ((N : ℕ) (ws : List InputRule) (names : List ℕ) (bodies : List ℤ)
+    requires free { ⌜ now assignment ≡ replicate entries 0 ⌝ }
+    ensures stepped { λ r. ⌜ ((N : ℕ) (ws : List InputRule) (names : List ℕ) (bodies : List ℤ)
         → Stepping N ws Addition (now (numbers .entry)) used origin (now (known .entry)) names bodies (now (store .entry)) (now (index .entry))
         (now (known .entry)) names bodies (now (store .exit)) (now (index .exit)) r) ⌝ }
+    ensures free { λ _. ⌜ now (assignment .exit) ≡ replicate entries 0 ⌝ }
 {
     if !marks::all_marked(numbers, known) {
         return Stepped::Fails(26);
     }
-    if !propagation::refutes(store, used, index, numbers) {
+    if !propagation::refutes(store, used, index, assignment, numbers) {
         return Stepped::Fails(33);
     }
     outcomes::fitted(store::append(store, used, index, origin, sorted))

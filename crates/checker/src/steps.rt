@@ -4,8 +4,8 @@ ghost use mathlib.Core.Path.{_≡_};
 ghost use mathlib.Core.Logic.{_⊎_};
 ghost use mathlib.Core.List.{List};
 ghost use Prim.Native.Nat.{ℕ, _≤_};
-ghost use lib.ListN.{length};
-ghost use Rattle.words.specs.Limits.{longest};
+ghost use lib.ListN.{length, replicate};
+ghost use Rattle.words.specs.Limits.{longest, entries};
 ghost use Rattle.words.specs.Literals.{ascending};
 ghost use Rattle.text.specs.declared.Letter.the-variants.{Body, Completion, Loop, Support};
 ghost use Rattle.aspif.specs.Rules.{InputRule};
@@ -23,6 +23,7 @@ use crate::supports;
 use crate::unfounded;
 use nogoods::INDEX;
 use text::Letter;
+use words::ENTRIES;
 
 // `b` and `c`: a body of the rules, and what it gives.
 fn step_of_body(
@@ -141,7 +142,7 @@ fn step_of_heads(
 }
 
 // The step of a line that passed questions 22 to 25, which is lent as written and ascending. The origin is its number, which the
-// nogoods that it adds carry.
+// nogoods that it adds carry. The lent assignment is one of all variables free, before and after.
 pub fn step(
     table: &[i32],
     rules: usize,
@@ -158,6 +159,7 @@ pub fn step(
     used: usize,
     index: &mut [u16; INDEX],
     origin: usize,
+    assignment: &mut [u8; ENTRIES],
 ) -> Stepped
     requires state { ⌜ Tracked (now table) rules atoms (now known) (now names) (now bodies) ⌝ }
     requires index { ⌜ Indexed (now lookup) (now table) rules ⌝ }
@@ -165,13 +167,24 @@ pub fn step(
     requires store { ⌜ ((stored : List Stored) × Keeps (now store) (now index) used stored) × ((1 ≤ origin) × (origin ≤ longest)) ⌝ }
     requires line { ⌜ PassedLine letter (now line) ⌝ }
     requires sorted { ⌜ now sorted ≡ ascending (now line) ⌝ }
-    ensures { λ r. ⌜ ((ws : List InputRule) → Program (now (table .entry)) rules atoms ws
+    requires free { ⌜ now assignment ≡ replicate entries 0 ⌝ }
+    ensures stepped { λ r. ⌜ ((ws : List InputRule) → Program (now (table .entry)) rules atoms ws
         → Stepping atoms ws letter (now (line .entry)) used origin
         (now (known .entry)) (now (names .entry)) (now (bodies .entry)) (now (store .entry)) (now (index .entry))
         (now (known .exit)) (now (names .exit)) (now (bodies .exit)) (now (store .exit)) (now (index .exit)) r) ⌝ }
+    ensures free { λ _. ⌜ now (assignment .exit) ≡ replicate entries 0 ⌝ }
 {
     match letter {
-        Letter::Addition => additions::addition(known, store, used, index, origin, line, sorted),
+        Letter::Addition => additions::addition(
+            known,
+            store,
+            used,
+            index,
+            origin,
+            line,
+            sorted,
+            assignment,
+        ),
         Letter::Deletion => additions::deletion(known, store, used, index, line, sorted),
         Letter::Extension => naming::extension(known, store, used, index, origin, line),
         Letter::Body | Letter::Completion => step_of_body(

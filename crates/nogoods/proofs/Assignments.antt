@@ -1,12 +1,12 @@
 -- Assignments: what an entry says of the literals of its variable, and what one more entry changes.
 -- Assumes nothing.
-use mathlib.Core.Path.{_≡_, refl, sym, ap, _∙_}
+use mathlib.Core.Path.{_≡_, refl, sym, ap, ap₂, _∙_}
 use mathlib.Core.Logic.{_⊎_, inl, inr}
-use mathlib.Core.List.{List, [], _∷_}
+use mathlib.Core.List.{List, [], _∷_, _++_}
 use Prim.Native.Nat.{ℕ, zero, suc, _-_, _≤_, _<_}
 use native.Mathlib.Omega.{arith}
 use lib.IntN.{ℤ, pos, negsuc}
-use lib.ListN.{length, getD, set, replicate}
+use lib.ListN.{length, getD, set, drop, replicate}
 use lib.Seq.{getD-set-same, getD-set-other}
 use Rattle.words.specs.Lists.{_∈_}
 use Rattle.words.specs.Literals.{variable, complement}
@@ -14,7 +14,7 @@ use Rattle.words.proofs.Literals.{variable-complement}
 use Rattle.words.proofs.Places.{equal?, in-at, place-of, variables-differ}
 use Rattle.words.proofs.Laws.{padded}
 use Rattle.nogoods.specs.Keeps.{Literals}
-use Rattle.nogoods.specs.Propagate.{entry, Assigns, Valued, free}
+use Rattle.nogoods.specs.Propagate.{entry, Assigns, Valued, BlankFrom, free}
 use Rattle.nogoods.specs.declared.units.Value.the-variants.{Free}
 
 pub entry-cases : (z : ℤ) → (entry z ≡ 1) ⊎ (entry z ≡ 2)
@@ -61,12 +61,6 @@ free-less (suc (suc zero) ∷ m) (suc v) e h a b c = free-less m v e (omega arit
 free-less (suc (suc (suc n)) ∷ m) (suc v) e h a b c = ap suc (free-less m v e (omega arith) a b c)
 
 -- how many are free, of an entry and the others
-pub free-assigned : (x : ℕ) (m : List ℕ) → 1 ≤ x → x ≤ 2 → free (x ∷ m) ≡ free m
-free-assigned zero m h k = absurd (omega arith)
-free-assigned (suc zero) m h k = refl
-free-assigned (suc (suc zero)) m h k = refl
-free-assigned (suc (suc (suc x))) m h k = absurd (omega arith)
-
 pub free-cons : (x : ℕ) (m : List ℕ) → free (x ∷ m) ≤ suc (free m)
 free-cons zero m = omega arith
 free-cons (suc zero) m = omega arith
@@ -80,6 +74,17 @@ free-most (x ∷ m) = omega (arith, free-cons x m, free-most m)
 -- nothing is true where all are free
 pub zeros : (n k : ℕ) → _≡_ {A = ℕ} (getD (replicate n 0) k 0) 0
 zeros n k = padded 0 [] n k
+
+-- one more entry, before the end
+pub blank-set : (m : List ℕ) (v e end last : ℕ) → BlankFrom end m → end ≤ last → v < last → BlankFrom last (set m v e)
+blank-set m v e end last b h l j k = getD-set-other m v j e 0 (λ p. omega arith) ∙ b j (omega arith)
+
+-- all entries before the end become 0
+pub blanked : (end : ℕ) (m : List ℕ) → end ≤ length m → BlankFrom end m → replicate end 0 ++ drop end m ≡ replicate (length m) 0
+blanked zero [] h b = refl
+blanked zero (x ∷ m) h b = ap₂ _∷_ (b 0 (omega arith)) (blanked zero m (omega arith) (λ j k. b (suc j) (omega arith)))
+blanked (suc end) [] h b = absurd (omega arith)
+blanked (suc end) (x ∷ m) h b = ap (λ (l : List ℕ). 0 ∷ l) (blanked end m (omega arith) (λ j k. b (suc j) (omega arith)))
 
 pub none-true : (n : ℕ) (z : ℤ) → ¬ Assigns (replicate n 0) z
 none-true n z a = let e = zeros n (variable z) in elim (entry-cases z) [ inl p ↦ omega arith | inr p ↦ omega arith ]

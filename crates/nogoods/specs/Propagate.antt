@@ -8,6 +8,7 @@ use mathlib.Core.List.{List, [], _∷_}
 use Prim.Native.Nat.{ℕ, zero, suc, _+_, _≤_, _<_}
 use lib.IntN.{ℤ, pos, negsuc}
 use lib.ListN.{length, getD, set}
+use Rattle.words.specs.Limits.{entries}
 use Rattle.words.specs.Lists.{_∈_}
 use Rattle.words.specs.Literals.{variable, complement}
 use Rattle.derivation.specs.Propagation.{Closure, Conflict}
@@ -19,6 +20,8 @@ use Rattle.nogoods.specs.declared.units.Look.{Look}
 use Rattle.nogoods.specs.declared.units.Look.the-variants.{All, Unit, Idle}
 use Rattle.nogoods.specs.declared.units.Derived.{Derived}
 use Rattle.nogoods.specs.declared.units.Derived.the-variants.{Conflicting, Assigned, Nothing}
+use Rattle.nogoods.specs.declared.replay.Replayed.{Replayed}
+use Rattle.nogoods.specs.declared.replay.Replayed.the-variants.{Clashing, Open}
 use Rattle.nogoods.specs.declared.propagation.Swept.{Swept}
 use Rattle.nogoods.specs.declared.propagation.Swept.the-variants.{Refuted, Changed, Same}
 
@@ -38,6 +41,10 @@ abbrev pub Valued : List ℕ → ℤ → Value → Type 0
 Valued m z True = Assigns m z
 Valued m z False = Assigns m (complement z)
 Valued m z Free = (¬ Assigns m z) × (¬ Assigns m (complement z))
+
+-- every entry from `end` on is 0
+abbrev pub BlankFrom : ℕ → List ℕ → Type 0
+BlankFrom end m = (j : ℕ) → end ≤ j → getD m j 0 ≡ 0
 
 -- how many variables are free
 abbrev pub free : List ℕ → ℕ
@@ -73,7 +80,7 @@ Looked m g Idle = Settled m g
 
 -- what is derived from g, and the assignment afterwards
 abbrev pub Derives : List ℤ → List ℕ → List ℕ → Derived → Type 0
-Derives g m m′ Conflicting = AllTrue m g
+Derives g m m′ Conflicting = (m′ ≡ m) × AllTrue m g
 Derives g m m′ (Assigned v) = (z : ℤ) × (Last m g z) × (variable z ≡ v) × (m′ ≡ set m v (entry (complement z)))
 Derives g m m′ Nothing = (m′ ≡ m) × Settled m g
 
@@ -116,12 +123,12 @@ Settles s rounds m m′ Refuted = Clashes s m
 Settles s rounds m m′ Changed = Grows s m m′ × (rounds + free m′ ≤ free m)
 Settles s rounds m m′ Same = Grows s m m′ × AllSettled s m′
 
--- a conflict was found, or the assignment grew
-abbrev pub Saturates : List ℤ → List ℕ → List ℕ → Bool → Type 0
-Saturates s m m′ true = Clashes s m
-Saturates s m m′ false = Grows s m m′
+-- a path came to a conflict, and the entries from an end on are free; or the assignment grew
+abbrev pub Replays : List ℤ → List ℕ → List ℕ → Replayed → Type 0
+Replays s m m′ (Clashing end) = Clashes s m × ((end ≤ entries) × BlankFrom end m′)
+Replays s m m′ Open = Grows s m m′
 
--- a conflict was found, or there is none
-abbrev pub Ends : List ℤ → List ℕ → List ℕ → Bool → Type 0
-Ends s m m′ true = Clashes s m
-Ends s m m′ false = Grows s m m′ × AllSettled s m′
+-- a conflict was found, or the assignment can grow so that there is none
+abbrev pub Ends : List ℤ → List ℕ → Bool → Type 0
+Ends s m true = Clashes s m
+Ends s m false = (m′ : List ℕ) × Grows s m m′ × AllSettled s m′

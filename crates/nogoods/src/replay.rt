@@ -3,13 +3,13 @@
 ghost use mathlib.Core.Path.{_≡_};
 ghost use mathlib.Core.Bool.{true};
 ghost use mathlib.Core.List.{List};
-ghost use Prim.Native.Nat.{_+_, _<_};
+ghost use Prim.Native.Nat.{_+_, _≤_, _<_};
 ghost use lib.ListN.{length, getD};
 ghost use Rattle.words.specs.Limits.{entries};
 ghost use Rattle.nogoods.specs.Store.{Stored};
 ghost use Rattle.nogoods.specs.Records.{Encodes};
 ghost use Rattle.nogoods.specs.Index.{keys, reach, indexSize, Marked};
-ghost use Rattle.nogoods.specs.Propagate.{Saturates};
+ghost use Rattle.nogoods.specs.Propagate.{BlankFrom, Replays};
 use crate::chains::KEYS;
 use crate::chains::PROVED;
 use crate::units;
@@ -19,6 +19,12 @@ use search::MOST;
 use search::REACH;
 use search::TRAIL;
 use words::ENTRIES;
+
+// What the path came to: a conflict, with every entry from an end on free; or none.
+pub enum Replayed {
+    Clashing(usize),
+    Open,
+}
 
 // A record starts at x, by its mark.
 fn is_start(index: &[u16], x: usize) -> bool
@@ -31,13 +37,20 @@ fn is_start(index: &[u16], x: usize) -> bool
     0 < index[KEYS + x]
 }
 
-// The nogoods at the places of the path, one after another. Whether that comes to a conflict.
-pub fn replay(nogoods: &[i32], index: &[u16], assignment: &mut [u8; ENTRIES]) -> bool
+// The nogoods at the places of the path, one after another, from an assignment whose entries from an end on are free. Whether that comes to a conflict.
+pub fn replay(
+    nogoods: &[i32],
+    index: &[u16],
+    start: usize,
+    assignment: &mut [u8; ENTRIES],
+) -> Replayed
     requires encoded { ⌜ ((stored : List Stored) × Encodes (now nogoods) stored) ⌝ }
     requires index { ⌜ (length (now index) ≡ indexSize) × Marked (now nogoods) (now index) ⌝ }
     requires size { ⌜ length (now assignment) ≡ entries ⌝ }
-    ensures { λ r. ⌜ Saturates (now (nogoods .entry)) (now (assignment .entry)) (now (assignment .exit)) r ⌝ }
+    requires start { ⌜ (start ≤ entries) × BlankFrom start (now assignment) ⌝ }
+    ensures { λ r. ⌜ Replays (now (nogoods .entry)) (now (assignment .entry)) (now (assignment .exit)) r ⌝ }
 {
+    let mut end = start;
     let mut k = index[PROVED + FIRST] as usize;
     while k < MOST {
         let x = index[PROVED + TRAIL + k] as usize;
@@ -46,12 +59,14 @@ pub fn replay(nogoods: &[i32], index: &[u16], assignment: &mut [u8; ENTRIES]) ->
             let given = units::derive_at(nogoods, x, assignment);
             match given {
                 Derived::Conflicting => {
-                    return true;
+                    return Replayed::Clashing(end);
                 }
-                Derived::Assigned(_) => {}
+                Derived::Assigned(v) => {
+                    end = units::past(end, v);
+                }
                 Derived::Nothing => {}
             }
         }
     }
-    false
+    Replayed::Open
 }

@@ -1,6 +1,6 @@
 // An assignment of the variables, and what one nogood adds to it. What the functions promise is specs/Propagate.antt.
 ghost use mathlib.Core.Path.{_≡_};
-ghost use Prim.Native.Nat.{_≤_};
+ghost use Prim.Native.Nat.{_≤_, _<_};
 ghost use lib.ListN.{length, set};
 ghost use Rattle.words.specs.Limits.{largest, entries};
 ghost use Rattle.words.specs.Literals.{variable};
@@ -65,6 +65,14 @@ pub fn make_true(word: i32, assignment: &mut [u8; ENTRIES]) -> usize
     let v = words::variable_of(word);
     assignment[v] = entry_of(word);
     v
+}
+
+// The larger of an end and the one just past a variable.
+pub fn past(end: usize, v: usize) -> usize
+    requires { ⌜ (end ≤ entries) × (v < entries) ⌝ }
+    ensures { λ r. ⌜ (end ≤ r) × ((v < r) × (r ≤ entries)) ⌝ }
+{
+    if end <= v { v + 1 } else { end }
 }
 
 // A look at a nogood's literals under an assignment.

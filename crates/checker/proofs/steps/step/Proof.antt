@@ -14,7 +14,7 @@ line s e = subst (λ x. PassedLine x (s .args .line .now)) e (s .pre .1 .1 .1 .1
 
 addition-requires : tie.Need-addition-requires
 addition-requires c κs =
-    let t = c .before .before .before .before in
+    let t = c .before .before .before .before .before in
     let s = t .before .before .before .before .before .before in
     (s .pre .1 .1 .1 .0, (line s (t .enum-told .given .1), s .pre .1 .1 .1 .1 .1))
 
@@ -22,7 +22,7 @@ deletion-requires : tie.Need-deletion-requires
 deletion-requires c κs =
     let t = c .before .before .before .before in
     let s = t .before .before .before .before .before .before in
-    (s .pre .1 .1 .1 .0 .0, (line s (t .enum-told2 .given .1), s .pre .1 .1 .1 .1 .1))
+    (s .pre .1 .1 .1 .0 .0, (line s (t .enum-told2 .given .1), s .pre .1 .1 .1 .1 .1 .0))
 
 extension-requires : tie.Need-extension-requires
 extension-requires c κs =
@@ -45,27 +45,30 @@ step-of-heads-requires c κs =
 
 returns : tie.Need-returns
 returns c =
-    let t = c .before .before .before .before .before .before in
+    let t = c .before .before .before .before .before .before .before in
     let s = t .before .before .before .before .before .before in
-    λ ws p z b tracks K. rw (t .enum-told .given .1) (c .before .addition .ensures (s .args .atoms) ws (s .args .names .now) (s .args .bodies .now) z b tracks K)
+    (λ ws p z b tracks K. rw (t .enum-told .given .1) (c .before .addition .ensures .0 (s .args .atoms) ws (s .args .names .now) (s .args .bodies .now) z b tracks K), c .before .addition .ensures .1)
 
 returns-2 : tie.Need-returns-2
 returns-2 c =
     let t = c .before .before .before .before .before .before in
     let s = t .before .before .before .before .before .before in
-    λ ws p z b tracks K. rw (t .enum-told2 .given .1) (c .before .deletion .ensures (s .args .atoms) (s .args .origin) ws (s .args .names .now) (s .args .bodies .now) z b tracks K)
+    (λ ws p z b tracks K. rw (t .enum-told2 .given .1) (c .before .deletion .ensures (s .args .atoms) (s .args .origin) ws (s .args .names .now) (s .args .bodies .now) z b tracks K), s .pre .1 .1 .1 .1 .1 .1)
 
 returns-3 : tie.Need-returns-3
 returns-3 c =
     let t = c .before .before .before .before .before .before .before .before .before in
     let s = t .before .before .before .before .before .before in
-    λ ws p z b tracks K. rw (t .enum-told3 .given .1) (c .before .before .before .before .extension .ensures (s .args .atoms) ws (s .args .names .now) (s .args .bodies .now) z b tracks K)
+    (λ ws p z b tracks K. rw (t .enum-told3 .given .1) (c .before .before .before .before .extension .ensures (s .args .atoms) ws (s .args .names .now) (s .args .bodies .now) z b tracks K), s .pre .1 .1 .1 .1 .1 .1)
 
 returns-4 : tie.Need-returns-4
 returns-4 c =
     let b = c .before .before .before .before .before .before .before in
     let s = b .before .before .before .before .before .before .before .before .before .before .before .before in
-    λ ws p. b .step-of-body .ensures (s .args .atoms) ws (p .holds)
+    (λ ws p. b .step-of-body .ensures (s .args .atoms) ws (p .holds), s .pre .1 .1 .1 .1 .1 .1)
+
+returns-5 : tie.Need-returns-5
+returns-5 c = (λ ws p. c .before .before .step-of-heads .ensures ws p, c .before .before .before .before .before .before .before .before .before .before .before .before .before .before .pre .1 .1 .1 .1 .1 .1)
 
 pub step-spec : {M : Type 1} → statement M
 step-spec =
@@ -102,4 +105,4 @@ step-spec =
     (λ c. search needs)
     (λ c. search needs)
     (λ c. search needs)
-    (λ c. search needs))
+    returns-5)

@@ -2,8 +2,7 @@
 use mathlib.Core.Path.{_≡_, sym, _∙_}
 use mathlib.Core.Bool.{Bool, true, false}
 use mathlib.Core.List.{List}
-use Prim.Native.Nat.{ℕ, _-_, _≤_}
-use native.Mathlib.Omega.{arith}
+use Prim.Native.Nat.{ℕ, _-_}
 use lib.IntN.{ℤ}
 use lib.ListN.{length}
 use lib.Seq.{length-take-le}
@@ -19,22 +18,22 @@ use Rattle.nogoods.specs.Index.{Keeps, provedCells, indexSize}
 use Rattle.nogoods.specs.Propagate.{Assigns, Ends}
 use Rattle.nogoods.proofs.Live.{live-from}
 use Rattle.nogoods.proofs.Recorded.{used-words}
-use Rattle.nogoods.proofs.Indexing.{keeps-part, length-part, marked}
+use Rattle.nogoods.proofs.Indexing.{keeps-part, marked}
 use Rattle.nogoods.proofs.Closures.{no-conflict}
 use borrow.Author.Needs.{needs}
 use Rattle.nogoods.proofs.propagation.decide.Statement.{statement}
 use Rattle.nogoods.proofs.propagation.decide.Tie as tie
 
-module _ (s : List ℤ) (stored : List Stored) (enc : Encodes s stored) (L : List ℤ) (lits : Literals L) (m m′ : List ℕ)
+module _ (s : List ℤ) (stored : List Stored) (enc : Encodes s stored) (L : List ℤ) (lits : Literals L) (m : List ℕ)
     (only : (z : ℤ) → Assigns m z → z ∈ L) (all : (z : ℤ) → z ∈ L → Assigns m z) where
   live-literals : (g : List ℤ) → g ∈ live stored → Literals g
   live-literals g u = let r = live-from stored u in rw (← r .2) (enc .literals (r .0) (r .1))
 
-  answer : (r : Bool) → Ends s m m′ r → r ≡ refuted (live stored) L
+  answer : (r : Bool) → Ends s m r → r ≡ refuted (live stored) L
   answer true k = sym (passed (refuted (live stored) L) .to (refuted-decides (live stored) L .from (k stored L enc (λ z a. given (only z a)))))
   answer false k =
       sym (failed (refuted (live stored) L) (not-decides (refuted-decides (live stored) L) .from
-      (no-conflict (live stored) L m′ live-literals lits (λ z u. k .0 .kept z (all z u)) (k .1 stored enc))))
+      (no-conflict (live stored) L (k .0) live-literals lits (λ z u. k .1 .kept z (all z u)) (k .2 stored enc))))
 
 -- what is kept after the search
 module _ (c : tie.After-run) where
@@ -53,15 +52,6 @@ module _ (c : tie.After-run) where
   searched : (stored : List Stored) → Keeps (s .args .store .now) (s .args .index .now) (s .args .used) stored → Keeps (s .args .store .now) found (s .args .used) stored
   searched stored K = keeps-part index (c .run .last .1 .1 .0) long (c .run .kept .1 .1 .0) (c .before .before .before .before .cover .ensures stored K)
 
-room : (c : tie.After-slice-known2) → provedCells ≤ length (c .before .before .cover .last .1 .1 .0)
-room c = omega (arith, c .before .before .cover .kept .1 .1 .0, c .before .before .before .before .before .pre .0 .1 .size)
-
-sub-run : tie.Need-sub-run
-sub-run c = room c
-
-part-run-start : tie.Need-part-run-start
-part-run-start c = room c
-
 slice-aggregate-propagate : tie.Need-slice-aggregate-propagate
 slice-aggregate-propagate c =
     let s = c .before .before .before .before .before .before .before .before .before .before .before .before in
@@ -74,19 +64,14 @@ propagate-requires c κs =
     let K = searched r (p .0) (p .1) in
     ((p .0, used-words _ _ (p .0) (p .1 .holds)), ((K .size, marked K), c .before .before .before .assign .ensures .0))
 
-same-length : tie.Need-same-length
-same-length c =
-    let r = c .before .before .before .before .before .before .before .before in
-    length-part (index r) (r .run .last .1 .1 .0) (long r) (r .run .kept .1 .1 .0) ∙ r .before .before .before .before .cover .kept .1 .1 .0
-
 returns : tie.Need-returns
 returns c =
     let r = c .before .before .before .before .before .before .before .before in
     let a = c .before .before .before .before .assign in
     let e = a .ensures .1 in (
-      λ stored K. answer _ stored (used-words (s r .args .store .now) (s r .args .used) stored (K .holds)) (s r .args .literals .now) (s r .pre .1) _ _
-          (λ z. e z .0) (λ z. e z .1) (c .propagate .result) (c .propagate .ensures),
-      searched r,
+      λ stored K. answer _ stored (used-words (s r .args .store .now) (s r .args .used) stored (K .holds)) (s r .args .literals .now) (s r .pre .1 .1) _
+          (λ z. e z .0) (λ z. e z .1) (c .propagate .result) (c .propagate .ensures .0),
+      (searched r, c .propagate .ensures .1),
     )
 
 pub decide-spec : {M : Type 1} → statement M
@@ -94,12 +79,12 @@ decide-spec =
     tie.close
     (tie.spec
     (λ c κs. search needs)
-    sub-run
-    part-run-start
+    (λ c. search needs)
+    (λ c. search needs)
     (λ c. search needs)
     (λ c κs. search needs)
     (λ c κs. search needs)
     slice-aggregate-propagate
     propagate-requires
-    same-length
+    (λ c. search needs)
     returns)

@@ -1,56 +1,61 @@
--- What the replay gives and what the sweeps after it give, together. More sweeps than there are entries cannot each assign a
--- variable.
-use mathlib.Core.Path.{_≡_, _∙_}
-use Prim.Native.Nat.{_+_}
+-- What the replay gives, and what the sweeps after it give, together.
+use mathlib.Core.Path.{_≡_, ap, _∙_}
+use mathlib.Core.Bool.{Bool, true, false}
+use mathlib.Core.List.{List}
+use Prim.Native.Nat.{ℕ}
 use native.Mathlib.Omega.{arith}
-use Rattle.words.specs.Limits.{entries}
-use Rattle.nogoods.specs.Propagate.{Grows, Settles}
-use Rattle.nogoods.specs.declared.propagation.Swept.{Swept}
-use Rattle.nogoods.proofs.Assignments.{free-most}
+use lib.IntN.{ℤ}
+use lib.ListN.{replicate}
+use Rattle.nogoods.specs.Propagate.{Grows, Replays, Ends}
+use Rattle.nogoods.specs.declared.replay.Replayed.{Replayed}
 use Rattle.nogoods.proofs.Closures.{grows-on, clashes-before}
 use borrow.Author.Needs.{needs}
 use Rattle.nogoods.proofs.propagation.propagate.Statement.{statement}
 use Rattle.nogoods.proofs.propagation.propagate.Tie as tie
 
-returns : tie.Need-returns
-returns c = rw (c .if1 .taken) at (c .before .replay .ensures)
+-- what comes of an assignment that has grown comes of the one before
+ends-before : (s : List ℤ) (m m′ : List ℕ) → Grows s m m′ → (r : Bool) → Ends s m′ r → Ends s m r
+ends-before s m m′ g true k = clashes-before s m m′ g k
+ends-before s m m′ g false (n, h, a) = (n, grows-on g h, a)
 
 -- what the replay gave
-grew : (c : tie.Else1) → let s = c .before .before .before .before in Grows (s .args .nogoods .now) (s .args .assignment .now) (c .before .replay .last .1 .1 .0)
-grew c = rw (c .if1 .left) at (c .before .replay .ensures)
+told : (c : tie.After-replay) (x : Replayed) → c .replay .result ≡ x → let s = c .before .before .before in
+    Replays (s .args .nogoods .now) (s .args .assignment .now) (c .replay .last .1 .1 .1 .0) x
+told c x e = rw e at (c .replay .ensures)
 
-settle-requires : tie.Need-settle-requires
-settle-requires c κs = let s = c .before .before .before .before .before in (s .pre .0, grew (c .before) .size ∙ s .pre .1 .1)
+-- a conflict
+release-requires : tie.Need-release-requires
+release-requires c κs =
+    let k = c .before .before in
+    let t = told (k .before .before) _ (k .last .given .1) in
+    (omega (arith, t .1 .0, c .release-arg .given .0 .1), t .1 .1)
 
--- what the sweeps gave
-told : (c : tie.After-settle) (x : Swept) → c .settle .result ≡ x → let a = c .before .before .before in
-    Settles (a .before .before .before .args .nogoods .now) (entries + 1) (a .replay .last .1 .1 .0) (c .settle .last .1 .1 .0) x
-told c x e = rw e at (c .settle .ensures)
+returns : tie.Need-returns
+returns c =
+    let k = c .before .before .before in
+    (told (k .before .before) _ (k .last .given .1) .0, c .release .ensures ∙ ap (λ (n : ℕ). replicate n 0) (c .before .release-arg .given .0 .1))
+
+-- none
+grew : (c : tie.After-enum-told) → let o = c .before .before in let s = o .before .before .before in
+    Grows (s .args .nogoods .now) (s .args .assignment .now) (o .replay .last .1 .1 .1 .0)
+grew c = told (c .before .before) _ (c .enum-told .given .1)
+
+exhaust-requires : tie.Need-exhaust-requires
+exhaust-requires c κs =
+    let s = c .before .before .before .before .before .before in
+    (s .pre .0, grew (c .before) .size ∙ s .pre .1 .1 .0)
 
 returns-2 : tie.Need-returns-2
-returns-2 c = let o = c .before .before in clashes-before _ _ _ (grew (o .before .before)) (told o _ (c .enum-told .given .1))
-
-returns-3 : tie.Need-returns-3
-returns-3 c = let o = c .before .before in let t = told o _ (c .enum-told2 .given .1) in (grows-on (grew (o .before .before)) (t .0), t .1)
-
-returns-4 : tie.Need-returns-4
-returns-4 c =
-    let o = c .before .before in
-    let e = o .before .before in
-    let s = e .before .before .before .before in
-    absurd (omega (arith, told o _ (c .enum-told3 .given .1) .1, free-most (e .before .replay .last .1 .1 .0), grew e .size, s .pre .1 .1))
+returns-2 c = (ends-before _ _ _ (grew (c .before .before)) (c .exhaust .result) (c .exhaust .ensures .0), c .exhaust .ensures .1)
 
 pub propagate-spec : {M : Type 1} → statement M
 propagate-spec =
     tie.close
     (tie.spec
     (λ c κs. search needs)
+    (λ c. search needs)
+    release-requires
+    (λ c. search needs)
+    exhaust-requires
     returns
-    (λ c. search needs)
-    settle-requires
-    (λ c. search needs)
-    (λ c. search needs)
-    (λ c. search needs)
-    returns-2
-    returns-3
-    returns-4)
+    returns-2)

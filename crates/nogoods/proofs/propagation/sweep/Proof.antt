@@ -55,7 +55,7 @@ returns c =
     let k = o .before .before in
     let t = told o _ (c .enum-told .given .1) in
     clashes-before _ _ _ (going k .grows)
-    (conflicting _ _ (stands k) (t .0) (read k .literals) (k .before .loop .assignment) (going k .size) (t .1))
+    (conflicting _ _ (stands k) (t .0) (read k .literals) (k .before .loop .assignment) (going k .size) (t .1 .1))
 
 loop-less : tie.Need-loop-less Inv-loop μ-loop
 loop-less c = omega (arith, c .before .before .before .before .before .loop-test .taken)

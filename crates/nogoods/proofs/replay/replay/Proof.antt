@@ -1,7 +1,7 @@
--- The loop: the assignment grows by what follows.
+-- The loop: the assignment grows by what follows, and the entries from the end on are free.
 use mathlib.Core.Path.{_≡_, _∙_}
 use mathlib.Core.List.{List}
-use Prim.Native.Nat.{ℕ, _+_, _-_}
+use Prim.Native.Nat.{ℕ, _+_, _-_, _≤_, _<_}
 use native.Mathlib.Omega.{arith}
 use borrow.Author.Needs.{needs}
 use lib.IntN.{ℤ}
@@ -9,9 +9,11 @@ use lib.ListN.{length, getD}
 use Rattle.words.specs.Limits.{entries}
 use Rattle.nogoods.specs.Index.{provedCells, indexSize}
 use Rattle.nogoods.specs.Records.{Readable, Stands}
-use Rattle.nogoods.specs.Propagate.{Grows, DerivesAt}
+use Rattle.nogoods.specs.Propagate.{BlankFrom, Grows, DerivesAt}
 use Rattle.nogoods.specs.declared.units.Derived.{Derived}
+use Rattle.nogoods.specs.declared.units.Derived.the-variants.{Assigned}
 use Rattle.nogoods.proofs.Recorded.{readable}
+use Rattle.nogoods.proofs.Assignments.{blank-set}
 use Rattle.nogoods.proofs.Closures.{grows-not, grows-on, derived, conflicting, clashes-before}
 use Rattle.nogoods.proofs.replay.replay.Statement.{statement}
 use Rattle.nogoods.proofs.replay.replay.Tie as tie
@@ -21,10 +23,10 @@ abbrev trailAt : ℕ
 trailAt = provedCells + 65536
 
 abbrev Inv-loop : tie.InvT-loop
-Inv-loop nogoods index assignment₀ k₀ assignment k = Grows nogoods assignment₀ assignment
+Inv-loop nogoods index start assignment₀ end₀ k₀ assignment end k = Grows nogoods assignment₀ assignment × ((end ≤ entries) × BlankFrom end assignment)
 
 abbrev μ-loop : tie.MeasureT-loop
-μ-loop nogoods index assignment₀ k₀ assignment k = 8192 - k
+μ-loop nogoods index start assignment₀ end₀ k₀ assignment end k = 8192 - k
 
 shared-slice-read-k : tie.Need-shared-slice-read-k Inv-loop μ-loop
 shared-slice-read-k c = omega (arith, c .before .before .pre .1 .0)
@@ -62,7 +64,7 @@ module _ (d : tie.Then1 Inv-loop μ-loop) where
   read = readable words x (s .pre .0) stands
 
   size : length (l .loop .assignment) ≡ entries
-  size = l .loop .inv .size ∙ s .pre .1 .1
+  size = l .loop .inv .0 .size ∙ s .pre .1 .1 .0
 
 derive-at-requires : tie.Need-derive-at-requires Inv-loop μ-loop
 derive-at-requires c κs = let d = c .before in (read d, size d)
@@ -80,23 +82,46 @@ returns c =
     let o = c .before .before in
     let d = at o in
     let t = told o _ (c .enum-told .given .1) in
-    clashes-before _ _ _ (l d .loop .inv) (conflicting _ _ (stands d) (t .0) (read d .literals) (l d .loop .assignment) (size d) (t .1))
+    let v = l d .loop .inv in (
+      clashes-before _ _ _ (v .0) (conflicting _ _ (stands d) (t .0) (read d .literals) (l d .loop .assignment) (size d) (t .1 .1)),
+      (v .1 .0, rw (t .1 .0) (v .1 .1)),
+    )
+
+-- the variable that it assigned
+module _ (c : tie.After-known-told Inv-loop μ-loop) where
+  abbrev o : tie.After-derive-at Inv-loop μ-loop
+  o = c .before .before .before
+
+  abbrev v : ℕ
+  v = c .before .given .given .0 .0
+
+  gives : DerivesAt (words (at o)) (x (at o)) (l (at o) .loop .assignment) (o .derive-at .last .1 .1 .0) (Assigned v)
+  gives = told o _ (c .before .given .given .1)
+
+  grown : Grows (words (at o)) (l (at o) .loop .assignment) (o .derive-at .last .1 .1 .0) × (v < entries)
+  grown =
+      let d = at o in
+      let g = derived _ _ (stands d) (gives .0) (read d .literals) (l d .loop .assignment) (size d) _ _ (gives .1) in
+      (g .0, g .3)
+
+past-requires : tie.Need-past-requires Inv-loop μ-loop
+past-requires c κs = (l (at (o c)) .loop .inv .1 .0, grown c .1)
 
 loop-less : tie.Need-loop-less Inv-loop μ-loop
-loop-less c = omega (arith, at (c .before .before) .before .before .before .loop-test .taken)
+loop-less c = omega (arith, at (o (c .before)) .before .before .before .loop-test .taken)
 
 loop-again : tie.Need-loop-again Inv-loop μ-loop
 loop-again c =
-    let o = c .before .before in
-    let d = at o in
-    let t = told o _ (c .enum-told2 .given .1) in
-    grows-on (l d .loop .inv) (derived _ _ (stands d) (t .0) (read d .literals) (l d .loop .assignment) (size d) _ _ (t .1) .0)
+    let k = c .before in
+    let i = l (at (o k)) .loop in
+    let p = c .past .ensures in
+    (grows-on (i .inv .0) (grown k .0), (p .1 .1, rw (gives k .1 .3) (blank-set (i .assignment) (v k) _ (i .end) _ (i .inv .1 .1) (p .0) (p .1 .0))))
 
 loop-less-2 : tie.Need-loop-less-2 Inv-loop μ-loop
 loop-less-2 c = omega (arith, at (c .before .before) .before .before .before .loop-test .taken)
 
 loop-again-2 : tie.Need-loop-again-2 Inv-loop μ-loop
-loop-again-2 c = let o = c .before .before in rw (told o _ (c .enum-told3 .given .1) .0) (l (at o) .loop .inv)
+loop-again-2 c = let o = c .before .before in rw (told o _ (c .enum-told2 .given .1) .0) (l (at o) .loop .inv)
 
 loop-less-3 : tie.Need-loop-less-3 Inv-loop μ-loop
 loop-less-3 c = omega (arith, c .before .before .before .loop-test .taken)
@@ -114,7 +139,7 @@ replay-spec =
     (λ c. search needs)
     shared-slice-read-k
     cast-k
-    (λ c. grows-not)
+    (λ c. (grows-not, c .before .before .pre .1 .1 .1))
     (λ c. search needs)
     (λ c. search needs)
     (λ c. search needs)
@@ -126,6 +151,7 @@ replay-spec =
     (λ c. search needs)
     returns
     (λ c. search needs)
+    past-requires
     loop-less
     loop-again
     (λ c. search needs)
@@ -133,4 +159,4 @@ replay-spec =
     loop-again-2
     loop-less-3
     loop-again-3
-    (λ c. c .before .loop .inv))
+    (λ c. c .before .loop .inv .0))

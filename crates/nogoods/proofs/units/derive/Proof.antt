@@ -52,7 +52,7 @@ make-true-requires c κs =
     (rw (other (c .before), variable-complement (one k)) (small k), k .before .before .before .before .before .pre .1)
 
 returns : tie.Need-returns
-returns c = told (c .before .before) _ (c .enum-told .given .1)
+returns c = (refl, told (c .before .before) _ (c .enum-told .given .1))
 
 returns-2 : tie.Need-returns-2
 returns-2 c = (refl, told (c .before .before) _ (c .enum-told2 .given .1))
