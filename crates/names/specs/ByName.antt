@@ -22,6 +22,10 @@ width = suc mostWeighted
 abbrev pub bodyWords : ℕ
 bodyWords = width * entries + entries
 
+-- the keys by which names stand in the index are below this number
+abbrev pub keys : ℕ
+keys = 4294967296
+
 -- the record of v holds the body L
 unfoldable pub standsAt : List ℤ → ℕ → List ℤ → Bool
 standsAt m v L = sameList (take (suc (length L)) (drop (width * v) m)) (pos (suc (length L)) ∷ L)

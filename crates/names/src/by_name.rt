@@ -1,4 +1,4 @@
-// The bodies of at most 12 literals, kept by name: a record for each variable, and an index of the names in the order of their bodies.
+// The bodies of at most 12 literals, kept by name: a record for each variable, and an index of the names by a key of their bodies.
 // Where no rule has a weight body no records are lent, and of an array of another length the public functions say and do nothing.
 ghost use mathlib.Core.Path.{_≡_};
 ghost use mathlib.Core.Bool.{true, cond};
@@ -10,17 +10,23 @@ ghost use lib.Seq.{sets};
 ghost use Rattle.words.specs.Limits.{largest, entries};
 ghost use Rattle.words.specs.Literals.{sameList, top};
 ghost use Rattle.weights.specs.Weights.{mostWeighted};
-ghost use Rattle.names.specs.ByName.{width, bodyWords, standsAt, Called, Counted, Told};
+ghost use Rattle.names.specs.ByName.{width, bodyWords, keys, standsAt, Called, Counted, Told};
 use weights::MOST_WEIGHTED;
 use words::ENTRIES;
 use words::LARGEST;
 
-// The words of a record; where the index begins, which is the count of names entered and then these names; the words of all.
+// The words of a record; where the index begins, in which a name stands at the first place that was free from that of its body's key on;
+// the words of all.
 const WIDTH: usize = MOST_WEIGHTED + 1;
 
 const INDEX: usize = WIDTH * ENTRIES;
 
 pub const BODY_WORDS: usize = INDEX + ENTRIES;
+
+// Keys are below this number. The factor is 2^32 by the square of the golden ratio, so that products spread.
+const KEYS: usize = 4294967296;
+
+const FACTOR: usize = 1640531527;
 
 // The body with a name: so many literals of the row, or none of at most 12 literals.
 pub enum Recorded {
@@ -64,72 +70,41 @@ fn stands_at(bodies: &[i16], v: usize, body: &[i32]) -> bool
     false
 }
 
-// The record of v stands before the body: by the count of literals, then literal by literal as numbers.
-fn is_before(bodies: &[i16], v: usize, body: &[i32]) -> bool
-    requires { ⌜ (length (now bodies) ≡ bodyWords) × (v ≤ largest) × (length (now body) ≤ mostWeighted) ⌝ }
+// A key with one literal more.
+fn mix(key: usize, word: i32) -> usize
+    requires { ⌜ key < keys ⌝ }
+    ensures { λ r. ⌜ r < keys ⌝ }
 {
-    let at = WIDTH * v;
-    let first = word_of(bodies, at);
-    let count = (body.len() + 1) as i32;
-    if !words::is_same(first, count) {
-        return first < count;
+    let v = words::variable_of(word) % ENTRIES;
+    if word < 0 {
+        return (key + v + ENTRIES) * FACTOR % KEYS;
     }
-    let mut i = 0;
-    while i < body.len() {
-        let a = word_of(bodies, at + 1 + i);
-        let b = body[i];
-        i += 1;
-        if !words::is_same(a, b) {
-            return a < b;
-        }
-    }
-    false
+    (key + v) * FACTOR % KEYS
 }
 
-// A word of the index: the count of names entered at 0, and then these names.
-fn entry_of(bodies: &[i16], k: usize) -> usize
-    requires { ⌜ (length (now bodies) ≡ bodyWords) × (k ≤ largest) ⌝ }
+// The place of the index from which on the body's name is looked for: the high bits of its key.
+fn place_of(body: &[i32]) -> usize
+    ensures { λ r. ⌜ r < entries ⌝ }
+{
+    let mut key = 0;
+    let mut i = 0;
+    while i < body.len() {
+        key = mix(key, body[i]);
+        i += 1;
+    }
+    key / (KEYS / ENTRIES)
+}
+
+// The name at a place of the index; 0 for none.
+fn name_in(bodies: &[i16], place: usize) -> usize
+    requires { ⌜ (length (now bodies) ≡ bodyWords) × (place < entries) ⌝ }
     ensures { λ r. ⌜ r ≤ largest ⌝ }
 {
-    let v = words::variable_of(word_of(bodies, INDEX + k));
+    let v = words::variable_of(word_of(bodies, INDEX + place));
     if v <= LARGEST {
         return v;
     }
     0
-}
-
-// The count of names entered.
-fn entered(bodies: &[i16]) -> usize
-    requires { ⌜ length (now bodies) ≡ bodyWords ⌝ }
-    ensures { λ r. ⌜ r ≤ largest ⌝ }
-{
-    entry_of(bodies, 0)
-}
-
-// The name at a place of the index.
-fn name_in(bodies: &[i16], place: usize) -> usize
-    requires { ⌜ (length (now bodies) ≡ bodyWords) × (place < largest) ⌝ }
-    ensures { λ r. ⌜ r ≤ largest ⌝ }
-{
-    entry_of(bodies, place + 1)
-}
-
-// The first place of the index whose name's record is not before the body.
-fn place_of(bodies: &[i16], body: &[i32]) -> usize
-    requires { ⌜ (length (now bodies) ≡ bodyWords) × (length (now body) ≤ mostWeighted) ⌝ }
-    ensures { λ r. ⌜ r ≤ largest ⌝ }
-{
-    let mut low = 0;
-    let mut high = entered(bodies);
-    while low < high {
-        let middle = (low + high) / 2;
-        if is_before(bodies, name_in(bodies, middle), body) {
-            low = middle + 1;
-        } else {
-            high = middle;
-        }
-    }
-    low
 }
 
 // A name of the body that the index tells, or 0.
@@ -137,12 +112,18 @@ fn hinted(bodies: &[i16], body: &[i32]) -> usize
     requires { ⌜ (length (now bodies) ≡ bodyWords) × (length (now body) ≤ mostWeighted) ⌝ }
     ensures { λ r. ⌜ (r ≤ largest) × (1 ≤ r → standsAt (now (bodies .entry)) r (now (body .entry)) ≡ true) ⌝ }
 {
-    let place = place_of(bodies, body);
-    if place < entered(bodies) {
+    let mut place = place_of(body);
+    let mut left = ENTRIES;
+    while 0 < left {
         let v = name_in(bodies, place);
+        if v == 0 {
+            return 0;
+        }
         if stands_at(bodies, v, body) {
             return v;
         }
+        place = (place + 1) % ENTRIES;
+        left -= 1;
     }
     0
 }
@@ -189,22 +170,21 @@ fn put_body(bodies: &mut [i16], at: usize, body: &[i32])
     }
 }
 
-// The name stands in the index at the place, if there is room, and the names from there on move up by one; the records stay.
-fn put_name(bodies: &mut [i16], place: usize, name: usize)
-    requires { ⌜ (length (now bodies) ≡ bodyWords) × (name ≤ largest) ⌝ }
+// The name stands in the index at the first free place from this one on, if there is any; the records stay.
+fn put_name(bodies: &mut [i16], first: usize, name: usize)
+    requires { ⌜ (length (now bodies) ≡ bodyWords) × (first < entries) × (name ≤ largest) ⌝ }
     ensures { λ _. ⌜ take (width * entries) (now (bodies .exit)) ≡ take (width * entries) (now (bodies .entry)) ⌝ }
 {
-    let count = entered(bodies);
-    if count == LARGEST {
-        return;
+    let mut place = first;
+    let mut left = ENTRIES;
+    while 0 < left {
+        if name_in(bodies, place) == 0 {
+            bodies[INDEX + place] = name as i16;
+            return;
+        }
+        place = (place + 1) % ENTRIES;
+        left -= 1;
     }
-    let mut k = count;
-    while place < k {
-        bodies[INDEX + 1 + k] = bodies[INDEX + k];
-        k -= 1;
-    }
-    bodies[INDEX + 1 + k] = name as i16;
-    bodies[INDEX] = (count + 1) as i16;
 }
 
 // The body, which has no name, gets one that no body has.
@@ -216,7 +196,7 @@ pub fn enter_body(bodies: &mut [i16], name: usize, body: &[i32])
     if bodies.len() != BODY_WORDS {
         return;
     }
-    let place = place_of(bodies, body);
+    let place = place_of(body);
     let at = WIDTH * name;
     bodies[at] = (body.len() + 1) as i16;
     put_body(bodies, at + 1, body);

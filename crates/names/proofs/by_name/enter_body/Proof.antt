@@ -13,14 +13,14 @@ use Rattle.names.proofs.by_name.enter_body.Tie as tie
 
 put-body-requires : tie.Need-put-body-requires
 put-body-requires c κs =
-    let e = c .before .before .before in
+    let e = c .before .before in
     let p = e .before .pre in
     (simp length-set (omega (arith, e .if1 .left, p .1, p .2)), p .3)
 
 -- what the call has written
-wrote : (c : tie.After-put-body) → (let a = c .before .before .before .before .before .args in Written (a .bodies .now) (c .put-body .last .0) (a .name) (a .body .now))
+wrote : (c : tie.After-put-body) → (let a = c .before .before .before .before .args in Written (a .bodies .now) (c .put-body .last .0) (a .name) (a .body .now))
 wrote c =
-    let b = c .before .before .before .before in
+    let b = c .before .before .before in
     let s = b .before in
     let a = s .args in
     let count = toZ-pos w16 {n = length (a .body .now) + 1} (omega (arith, s .pre .2)) in
@@ -30,8 +30,8 @@ wrote c =
 put-name-requires : tie.Need-put-name-requires
 put-name-requires c κs =
     let d = c .before .before in
-    let e = d .before .before .before .before in
-    (wrote d .long ∙ e .if1 .left, e .before .pre .1)
+    let e = d .before .before .before in
+    (wrote d .long ∙ e .if1 .left, d .before .before .place-of .ensures, e .before .pre .1)
 
 same-length : tie.Need-same-length
 same-length c = c .before .put-name .kept .0 ∙ wrote (c .before .before .before .before) .long
@@ -43,7 +43,7 @@ returns-2 : tie.Need-returns-2
 returns-2 c =
     let n = c .before .put-name in
     let d = c .before .before .before .before in
-    let p = d .before .before .before .before .before .pre in
+    let p = d .before .before .before .before .pre in
     let W = written-on (wrote d) (n .kept .0) (n .ensures) (p .1) (p .2) in
     λ called C unnamed fresh. entered W (p .0) (p .1) C unnamed fresh
 

@@ -1,42 +1,26 @@
--- `by_name::put_name` meets its contract: every store is after the records.
+-- `by_name::put_name` meets its contract: the store is after the records.
 -- Assumes nothing.
-use mathlib.Core.Path.{_≡_, refl, _∙_}
-use mathlib.Core.List.{List}
-use Prim.Native.Nat.{ℕ, _+_, _*_, _≤_, _<_}
+use mathlib.Core.Path.{_≡_, refl, _∙_, ap}
+use Prim.Native.Nat.{_+_, _*_, _<_}
 use native.Mathlib.Omega.{arith}
-use lib.IntN.{ℤ}
-use lib.ListN.{length, take, set, length-set}
+use lib.ListN.{length, take, length-set}
 use lib.Seq.{take-set-le}
 use borrow.Author.Needs.{needs}
-use Rattle.words.specs.Limits.{largest, entries}
-use Rattle.names.specs.ByName.{width}
+use Rattle.words.specs.Limits.{entries}
+use Rattle.names.specs.ByName.{width, bodyWords}
 use Rattle.names.proofs.by_name.put_name.Statement.{statement}
 use Rattle.names.proofs.by_name.put_name.Tie as tie
 
--- two stores after the first n words
-twice : (l : List ℤ) (n i : ℕ) (x y : ℤ) → n ≤ i → take n (set (set l i x) n y) ≡ take n l
-twice l n i x y h = take-set-le n (set l i x) n y (omega arith) ∙ take-set-le n l i x h
-
 abbrev Inv-loop : tie.InvT-loop
-Inv-loop bodies₀ place name count k₀ bodies k =
-    (k < largest) × (length bodies ≡ length bodies₀) × (take (width * entries) bodies ≡ take (width * entries) bodies₀)
+Inv-loop bodies₀ first name place₀ left₀ bodies place left = (place < entries) × (bodies ≡ bodies₀) × (length bodies ≡ bodyWords)
 
 abbrev μ-loop : tie.MeasureT-loop
-μ-loop bodies₀ place name count k₀ bodies k = k
+μ-loop bodies₀ first name place₀ left₀ bodies place left = left
 
-loop-holds : tie.Need-loop-holds Inv-loop μ-loop
-loop-holds c = (omega (arith, c .before .entered .ensures, c .if1 .left), refl, refl)
-
-loop-again : tie.Need-loop-again Inv-loop μ-loop
-loop-again c =
-    let l = c .before .before .loop in (
-      omega arith,
-      simp length-set (l .inv .1),
-      take-set-le (width * entries) (l .bodies) (width * entries + 1 + l .k) _ (omega arith) ∙ l .inv .2,
-    )
-
-returns-2 : tie.Need-returns-2 Inv-loop μ-loop
-returns-2 c = let l = c .before .loop in twice (l .bodies) (width * entries) (width * entries + 1 + l .k) _ _ (omega arith) ∙ l .inv .2
+returns : tie.Need-returns Inv-loop μ-loop
+returns c =
+    let l = c .before .before .before .before .loop in
+    take-set-le (width * entries) (l .bodies) (width * entries + l .place) _ (omega arith) ∙ ap (take (width * entries)) (l .inv .1)
 
 pub put-name-spec : {M : Type 1} → statement M
 put-name-spec =
@@ -44,27 +28,17 @@ put-name-spec =
     (tie.spec
     Inv-loop
     μ-loop
+    (λ c. (c .pre .1, refl, c .pre .0))
     (λ c κs. search needs)
     (λ c. search needs)
     (λ c. search needs)
-    loop-holds
+    (λ c. search needs)
+    (λ c. search needs)
+    (λ c. simp length-set (ap length (c .before .before .before .before .loop .inv .1)))
+    returns
     (λ c. search needs)
     (λ c. search needs)
     (λ c. search needs)
-    (λ c. search needs)
-    (λ c. search needs)
-    (λ c. search needs)
-    (λ c. search needs)
-    (λ c. search needs)
-    (λ c. search needs)
-    loop-again
-    (λ c. search needs)
-    (λ c. search needs)
-    (λ c. search needs)
-    (λ c. search needs)
-    (λ c. search needs)
-    (λ c. search needs)
-    (λ c. search needs)
-    (λ c. search needs)
-    (λ c. search needs)
-    returns-2)
+    (λ c. (omega arith, c .before .before .before .before .loop .inv .1, c .before .before .before .before .loop .inv .2))
+    (λ c. ap length (c .before .loop .inv .1))
+    (λ c. ap (take (width * entries)) (c .before .loop .inv .1)))
