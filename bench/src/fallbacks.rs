@@ -12,10 +12,11 @@ use std::process::Command;
 const COPY: &str = "target/plain";
 
 /// The crates of the whole check, each after those that it depends on.
-const CRATES: [&str; 12] =
-    ["words", "marks", "text", "weights", "aspif", "drupe", "search", "nogoods", "names", "heads", "loops", "checker"];
+const CRATES: [&str; 14] =
+    ["words", "marks", "text", "weights", "aspif", "drupe", "search", "nogoods", "propagation", "names", "heads", "loops", "steps",
+    "checker"];
 
-/// What follows the replay in crates/nogoods/src/propagation.rt, where it comes to a conflict and where it does not, and what stands there in the
+/// What follows the replay in crates/propagation/src/lib.rt, where it comes to a conflict and where it does not, and what stands there in the
 /// copy.
 const COUNTED: [(&str, &str); 2] = [
     (
@@ -48,7 +49,7 @@ fn main() {
         _ => 0,
     };
     let count = |n: &std::sync::atomic::AtomicUsize| n.load(std::sync::atomic::Ordering::Relaxed);
-    println!(\"{} {} {number}\", count(&nogoods::propagation::REPLAYED), count(&nogoods::propagation::SWEPT));
+    println!(\"{} {} {number}\", count(&propagation::REPLAYED), count(&propagation::SWEPT));
 }
 ";
 
@@ -104,7 +105,7 @@ fn copied() -> Result<PathBuf, String> {
     for (place, name) in CRATES.iter().enumerate() {
         let folder = Path::new(COPY).join(name);
         copy(Path::new("crates").join(name).join("src").as_path(), &folder).map_err(|error| format!("{name}: {error}"))?;
-        if *name == "nogoods" {
+        if *name == "propagation" {
             put_counters(&folder)?;
         }
         compile(&folder.join("lib.rs"), name, "rlib", &CRATES[..place])?;
@@ -147,7 +148,7 @@ fn without_contracts(source: &str) -> String {
 }
 
 fn put_counters(folder: &Path) -> Result<(), String> {
-    let (path, lib) = (folder.join("propagation.rs"), folder.join("lib.rs"));
+    let path = folder.join("lib.rs");
     let mut source = fs::read_to_string(&path).map_err(|error| error.to_string())?;
     for (found, counted) in COUNTED {
         if source.matches(found).count() != 1 {
@@ -155,9 +156,7 @@ fn put_counters(folder: &Path) -> Result<(), String> {
         }
         source = source.replace(found, counted);
     }
-    let root = fs::read_to_string(&lib).map_err(|error| error.to_string())?;
-    let open = root.replace("\nmod propagation;", "\npub mod propagation;");
-    fs::write(path, source + COUNTERS).and_then(|()| fs::write(lib, open)).map_err(|error| error.to_string())
+    fs::write(path, source + COUNTERS).map_err(|error| error.to_string())
 }
 
 fn compile(source: &Path, name: &str, kind: &str, others: &[&str]) -> Result<(), String> {

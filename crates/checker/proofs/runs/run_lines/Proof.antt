@@ -8,8 +8,9 @@ use Rattle.aspif.specs.Rules.{InputRule}
 use Rattle.words.specs.Limits.{entries, mostNumbers}
 use Rattle.text.specs.Classes.{byteClasses}
 use Rattle.drupe.specs.Lines.{lineAt}
-use Rattle.checker.specs.Held.{Program, LineLeaves}
-use Rattle.checker.proofs.Tracking.{same-rules, rules-held, start-tracks}
+use Rattle.steps.specs.Held.{Program}
+use Rattle.checker.specs.Held.{LineLeaves}
+use Rattle.steps.proofs.Tracking.{same-rules, rules-held, start-tracks}
 use Rattle.checker.proofs.Courses.{Going, going-start, going-ends, going-fails, going-on}
 use Rattle.nogoods.specs.Index.{indexSize}
 use Rattle.nogoods.proofs.Indexing.{blank-zeros}
