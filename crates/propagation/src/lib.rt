@@ -17,12 +17,12 @@ ghost use Rattle.words.specs.Limits.{entries};
 ghost use Rattle.nogoods.specs.Records.{Encodes};
 ghost use Rattle.nogoods.specs.Index.{indexSize, Marked, Keeps};
 ghost use Rattle.propagation.specs.Propagate.{Assigns, BlankFrom, Sweeps, Settles, Ends};
+use crate::replay::Replayed;
+use crate::units::Derived;
 use nogoods::INDEX;
 use nogoods::chains;
 use nogoods::chains::PROVED;
 use nogoods::records;
-use crate::replay::Replayed;
-use crate::units::Derived;
 use words::ENTRIES;
 
 // What one pass over the nogoods gave: a conflict; variables that are assigned now; nothing.
