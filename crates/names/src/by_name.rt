@@ -5,12 +5,12 @@ ghost use mathlib.Core.Bool.{true, cond};
 ghost use mathlib.Core.List.{List, _++_};
 ghost use Prim.Native.Nat.{ℕ, _+_, _*_, _<_, _≤_};
 ghost use lib.IntN.{ℤ, pos};
-ghost use lib.ListN.{length, take, drop, getD};
+ghost use lib.ListN.{length, drop, getD};
 ghost use lib.Seq.{sets};
 ghost use Rattle.words.specs.Limits.{largest, entries};
-ghost use Rattle.words.specs.Literals.{sameList, top};
+ghost use Rattle.words.specs.Literals.{same, sameList, top};
 ghost use Rattle.weights.specs.Weights.{mostWeighted};
-ghost use Rattle.names.specs.ByName.{width, bodyWords, keys, standsAt, Called, Counted, Told};
+ghost use Rattle.names.specs.ByName.{width, bodyWords, keys, mixed, placeOf, standsAt, Called, PutName, Counted, Told};
 use weights::MOST_WEIGHTED;
 use words::ENTRIES;
 use words::LARGEST;
@@ -23,7 +23,7 @@ const INDEX: usize = WIDTH * ENTRIES;
 
 pub const BODY_WORDS: usize = INDEX + ENTRIES;
 
-// Keys are below this number. The factor is 2^32 by the square of the golden ratio, so that products spread.
+// Keys are below this number. The factor is this number divided by the square of the golden ratio, so that products spread.
 const KEYS: usize = 4294967296;
 
 const FACTOR: usize = 1640531527;
@@ -73,18 +73,18 @@ fn stands_at(bodies: &[i16], v: usize, body: &[i32]) -> bool
 // A key with one literal more.
 fn mix(key: usize, word: i32) -> usize
     requires { ⌜ key < keys ⌝ }
-    ensures { λ r. ⌜ r < keys ⌝ }
+    ensures { λ r. ⌜ (r ≡ mixed key word) × (r < keys) ⌝ }
 {
     let v = words::variable_of(word) % ENTRIES;
     if word < 0 {
         return (key + v + ENTRIES) * FACTOR % KEYS;
     }
-    (key + v) * FACTOR % KEYS
+    (key + v + 0) * FACTOR % KEYS
 }
 
 // The place of the index from which on the body's name is looked for: the high bits of its key.
 fn place_of(body: &[i32]) -> usize
-    ensures { λ r. ⌜ r < entries ⌝ }
+    ensures { λ r. ⌜ (r ≡ placeOf (now (body .entry))) × (r < entries) ⌝ }
 {
     let mut key = 0;
     let mut i = 0;
@@ -107,12 +107,20 @@ fn name_in(bodies: &[i16], place: usize) -> usize
     0
 }
 
-// A name of the body that the index tells, or 0.
-fn hinted(bodies: &[i16], body: &[i32]) -> usize
-    requires { ⌜ (length (now bodies) ≡ bodyWords) × (length (now body) ≤ mostWeighted) ⌝ }
+// No name stands at a place of the index.
+fn is_free(bodies: &[i16], place: usize) -> bool
+    requires { ⌜ (length (now bodies) ≡ bodyWords) × (place < entries) ⌝ }
+    ensures { λ r. ⌜ r ≡ same (getD (now (bodies .entry)) (width * entries + place) (pos 0)) (pos 0) ⌝ }
+{
+    words::is_same(word_of(bodies, INDEX + place), 0)
+}
+
+// A name of the body that the index tells from a place on, or 0.
+fn hinted(bodies: &[i16], first: usize, body: &[i32]) -> usize
+    requires { ⌜ (length (now bodies) ≡ bodyWords) × (first < entries) × (length (now body) ≤ mostWeighted) ⌝ }
     ensures { λ r. ⌜ (r ≤ largest) × (1 ≤ r → standsAt (now (bodies .entry)) r (now (body .entry)) ≡ true) ⌝ }
 {
-    let mut place = place_of(body);
+    let mut place = first;
     let mut left = ENTRIES;
     while 0 < left {
         let v = name_in(bodies, place);
@@ -143,7 +151,7 @@ fn found(bodies: &[i16], body: &[i32]) -> usize
     0
 }
 
-// The body's name, 0 where it has none.
+// The body's name, 0 where it has none. A place that is free tells that at once; where the index tells no name, the records do.
 pub fn name_of(bodies: &[i16], body: &[i32]) -> u16
     requires { ⌜ length (now body) ≤ mostWeighted ⌝ }
     ensures { λ r. ⌜ ((called : List ℤ → ℕ) → Called (now (bodies .entry)) called → r ≡ called (now (body .entry))) ⌝ }
@@ -151,7 +159,11 @@ pub fn name_of(bodies: &[i16], body: &[i32]) -> u16
     if bodies.len() != BODY_WORDS {
         return 0;
     }
-    let v = hinted(bodies, body);
+    let place = place_of(body);
+    if is_free(bodies, place) {
+        return 0;
+    }
+    let v = hinted(bodies, place, body);
     if 0 < v {
         return v as u16;
     }
@@ -172,13 +184,13 @@ fn put_body(bodies: &mut [i16], at: usize, body: &[i32])
 
 // The name stands in the index at the first free place from this one on, if there is any; the records stay.
 fn put_name(bodies: &mut [i16], first: usize, name: usize)
-    requires { ⌜ (length (now bodies) ≡ bodyWords) × (first < entries) × (name ≤ largest) ⌝ }
-    ensures { λ _. ⌜ take (width * entries) (now (bodies .exit)) ≡ take (width * entries) (now (bodies .entry)) ⌝ }
+    requires { ⌜ (length (now bodies) ≡ bodyWords) × (first < entries) × (1 ≤ name) × (name ≤ largest) ⌝ }
+    ensures { λ _. ⌜ PutName first (now (bodies .entry)) (now (bodies .exit)) ⌝ }
 {
     let mut place = first;
     let mut left = ENTRIES;
     while 0 < left {
-        if name_in(bodies, place) == 0 {
+        if is_free(bodies, place) {
             bodies[INDEX + place] = name as i16;
             return;
         }

@@ -9,10 +9,10 @@ use Rattle.names.proofs.by_name.hinted.Statement.{statement}
 use Rattle.names.proofs.by_name.hinted.Tie as tie
 
 abbrev Inv-loop : tie.InvT-loop
-Inv-loop bodies body place₀ left₀ place left = place < entries
+Inv-loop bodies first body place₀ left₀ place left = place < entries
 
 abbrev μ-loop : tie.MeasureT-loop
-μ-loop bodies body place₀ left₀ place left = left
+μ-loop bodies first body place₀ left₀ place left = left
 
 returns-2 : tie.Need-returns-2 Inv-loop μ-loop
 returns-2 c = (c .before .before .before .name-in .ensures, λ h. sym (c .before .stands-at .ensures) ∙ c .if2 .taken)
@@ -23,7 +23,6 @@ hinted-spec =
     (tie.spec
     Inv-loop
     μ-loop
-    (λ c κs. search needs)
     (λ c. search needs)
     (λ c κs. search needs)
     (λ c. (omega arith, λ h. absurd (omega (arith, h))))
