@@ -12,17 +12,26 @@ use std::process::Command;
 const COPY: &str = "target/plain";
 
 /// The crates of the whole check, each after those that it depends on.
-const CRATES: [&str; 12] =
-    ["words", "marks", "text", "weights", "aspif", "drupe", "search", "nogoods", "names", "heads", "loops", "checker"];
+const CRATES: [&str; 14] =
+    ["words", "marks", "text", "weights", "aspif", "drupe", "search", "nogoods", "propagation", "names", "heads", "loops", "steps",
+    "checker"];
 
-/// The replay and what follows it in crates/nogoods/src/propagation.rt, and what stands there in the copy.
-const REPLAY: &str = "    if replay::replay(nogoods, index, assignment) {\n        return true;\n    }\n";
-const COUNTED: &str = "    if replay::replay(nogoods, index, assignment) {
-        REPLAYED.fetch_add(1, std::sync::atomic::Ordering::Relaxed);
-        return true;
-    }
-    SWEPT.fetch_add(1, std::sync::atomic::Ordering::Relaxed);
-";
+/// What follows the replay in crates/propagation/src/lib.rt, where it comes to a conflict and where it does not, and what stands there in the
+/// copy.
+const COUNTED: [(&str, &str); 2] = [
+    (
+        "            release(assignment, last);\n",
+        "            REPLAYED.fetch_add(1, std::sync::atomic::Ordering::Relaxed);\n            release(assignment, last);\n",
+    ),
+    (
+        "        Replayed::Open => exhaust(nogoods, assignment),\n",
+        "        Replayed::Open => {
+            SWEPT.fetch_add(1, std::sync::atomic::Ordering::Relaxed);
+            exhaust(nogoods, assignment)
+        }
+",
+    ),
+];
 const COUNTERS: &str = "
 pub static REPLAYED: std::sync::atomic::AtomicUsize = std::sync::atomic::AtomicUsize::new(0);
 pub static SWEPT: std::sync::atomic::AtomicUsize = std::sync::atomic::AtomicUsize::new(0);
@@ -40,7 +49,7 @@ fn main() {
         _ => 0,
     };
     let count = |n: &std::sync::atomic::AtomicUsize| n.load(std::sync::atomic::Ordering::Relaxed);
-    println!(\"{} {} {number}\", count(&nogoods::propagation::REPLAYED), count(&nogoods::propagation::SWEPT));
+    println!(\"{} {} {number}\", count(&propagation::REPLAYED), count(&propagation::SWEPT));
 }
 ";
 
@@ -96,7 +105,7 @@ fn copied() -> Result<PathBuf, String> {
     for (place, name) in CRATES.iter().enumerate() {
         let folder = Path::new(COPY).join(name);
         copy(Path::new("crates").join(name).join("src").as_path(), &folder).map_err(|error| format!("{name}: {error}"))?;
-        if *name == "nogoods" {
+        if *name == "propagation" {
             put_counters(&folder)?;
         }
         compile(&folder.join("lib.rs"), name, "rlib", &CRATES[..place])?;
@@ -139,14 +148,15 @@ fn without_contracts(source: &str) -> String {
 }
 
 fn put_counters(folder: &Path) -> Result<(), String> {
-    let (path, lib) = (folder.join("propagation.rs"), folder.join("lib.rs"));
-    let source = fs::read_to_string(&path).map_err(|error| error.to_string())?;
-    if source.matches(REPLAY).count() != 1 {
-        return Err(String::from("the replay is not where it was looked for"));
+    let path = folder.join("lib.rs");
+    let mut source = fs::read_to_string(&path).map_err(|error| error.to_string())?;
+    for (found, counted) in COUNTED {
+        if source.matches(found).count() != 1 {
+            return Err(String::from("the replay is not where it was looked for"));
+        }
+        source = source.replace(found, counted);
     }
-    let root = fs::read_to_string(&lib).map_err(|error| error.to_string())?;
-    let open = root.replace("\nmod propagation;", "\npub mod propagation;");
-    fs::write(path, source.replace(REPLAY, COUNTED) + COUNTERS).and_then(|()| fs::write(lib, open)).map_err(|error| error.to_string())
+    fs::write(path, source + COUNTERS).map_err(|error| error.to_string())
 }
 
 fn compile(source: &Path, name: &str, kind: &str, others: &[&str]) -> Result<(), String> {

@@ -19,11 +19,13 @@ use Rattle.nogoods.specs.Keeps.{Holds}
 use Rattle.nogoods.specs.Index.{Blank, indexSize}
 use Rattle.nogoods.proofs.Live.{live-nil, live-few}
 use Rattle.nogoods.proofs.Indexing.{keeps-blank}
-use Rattle.checker.specs.Check.{storedAfter, Course, stopped, course}
+use Rattle.steps.specs.After.{storedAfter}
+use Rattle.checker.specs.Check.{Course, stopped, course}
 use Rattle.checker.specs.Claims.{Runs, ends, unread, unaccepted, full, good}
-use Rattle.checker.specs.Held.{Tracks, HoldsState, Leaves, proofTurn, LineLeaves, Ran, Ended}
-use Rattle.checker.specs.declared.outcomes.Stepped.{Stepped}
-use Rattle.checker.specs.declared.outcomes.Stepped.the-variants.{Uses, Fails}
+use Rattle.steps.specs.Held.{Tracks, HoldsState, Leaves}
+use Rattle.checker.specs.Held.{proofTurn, LineLeaves, Ran, Ended}
+use Rattle.steps.specs.declared.outcomes.Stepped.{Stepped}
+use Rattle.steps.specs.declared.outcomes.Stepped.the-variants.{Uses, Fails}
 use Rattle.checker.specs.declared.runs.ProofTurn.{ProofTurn}
 use Rattle.checker.specs.declared.runs.ProofTurn.the-variants as Turn
 use Rattle.checker.specs.declared.runs.Run.{Run}

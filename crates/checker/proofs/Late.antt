@@ -24,7 +24,8 @@ use Rattle.nogoods.specs.Store.{Stored, addedIn, closed, live, killed, deadOf, 
 use Rattle.nogoods.specs.Store.{originWord, storedWords, wordsOf, storeWords}
 use Rattle.nogoods.proofs.Live.{by-answer, closed-nil, closed-append, closed-added, closed-kept, closed-killed, live-closed}
 use Rattle.nogoods.proofs.Live.{target-alive, killed-nil, killed-here, killed-on}
-use Rattle.checker.specs.Check.{newIn, storedAfter, withAdded, Course, stopped, through, thenStopped, fitting}
+use Rattle.steps.specs.After.{newIn, storedAfter, withAdded}
+use Rattle.checker.specs.Check.{Course, stopped, through, thenStopped, fitting}
 use Rattle.checker.specs.Check.{runSteps, runRead, course, judged}
 use Rattle.checker.specs.Claims.{promptAfter, promptSteps, promptRead, SameLive, SameCourse, OneWord, ClosedLate}
 use Rattle.checker.proofs.Whole.{storedNext}

@@ -3,14 +3,6 @@
 pub mod Whole
 pub mod Origins
 pub mod Late
-pub mod Names
-pub mod Loops
-pub mod Tracking
-pub mod Kept
-pub mod Letters
-pub mod Gathering
-pub mod LoopSteps
-pub mod Arms
 pub mod Turns
 pub mod Courses
 pub mod Verdicts

@@ -28,12 +28,13 @@ use Rattle.derivation.specs.Steps as Steps
 use Rattle.nogoods.specs.Store.{Stored, recordOf, addedIn, closed, live, killed, isTarget, keptFor, keptWith, wordsOf, storeWords}
 use Rattle.nogoods.proofs.Live.{live-nil, live-append, live-added, live-kept, live-killed, by-answer}
 use Rattle.nogoods.proofs.Live.{closed-nil, closed-cons, closed-past, closed-from, killed-nil, killed-here, killed-on}
-use Rattle.checker.specs.Check.{newIn, withAdded, storedAfter, Course, stopped, through, thenStopped, runSteps, runRead, course}
+use Rattle.steps.specs.After.{newIn, withAdded, storedAfter}
+use Rattle.checker.specs.Check.{Course, stopped, through, thenStopped, runSteps, runRead, course}
 use Rattle.checker.specs.Check.{saying, judged, check, Checked}
 use Rattle.checker.specs.Claims.{LiveStored, Bounded, OriginsBounded, Rising, OriginsRise, OriginsService}
 use Rattle.checker.specs.declared.Counts.{Counts}
 use Rattle.checker.specs.declared.Verdict.the-variants.{Inconsistent, Open}
-use Rattle.checker.proofs.Kept.{new-only}
+use Rattle.steps.proofs.Kept.{new-only}
 use Rattle.checker.proofs.Whole.{storedNext, run-first, said, ended-course}
 
 -- One step

@@ -21,7 +21,7 @@ use Rattle.drupe.specs.Lines.{signsOf, signed, lineRefusal}
 use Rattle.drupe.proofs.Lines.{few}
 use Rattle.derivation.specs.States.{State}
 use Rattle.derivation.specs.Steps.{step, byLetter}
-use Rattle.checker.specs.Held.{PassedLine}
+use Rattle.steps.specs.Held.{PassedLine}
 
 -- A line that passed questions 22 to 25
 

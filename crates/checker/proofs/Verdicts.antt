@@ -26,7 +26,8 @@ use Rattle.derivation.specs.States.{State}
 use Rattle.nogoods.specs.Store.{Stored, live, storeWords}
 use Rattle.nogoods.specs.Keeps.{Holds}
 use Rattle.checker.specs.Check.{Course, stopped, through, course, saying, judged, judgedReading, check}
-use Rattle.checker.specs.Held.{Program, Ran}
+use Rattle.steps.specs.Held.{Program}
+use Rattle.checker.specs.Held.{Ran}
 use Rattle.checker.specs.declared.ProofRefusal.{ProofRefusal}
 use Rattle.checker.specs.declared.Verdict.{Verdict}
 use Rattle.checker.specs.declared.Verdict.the-variants.{RefusedProgram, RefusedProof}

@@ -28,7 +28,8 @@ use Rattle.derivation.specs.Steps.{Outcome, next, byLetter, step, emptyLive}
 use Rattle.derivation.specs.Steps as Steps
 use Rattle.derivation.proofs.AsWritten.{soundness-as-written}
 use Rattle.nogoods.specs.Store.{Stored, wordsFor}
-use Rattle.checker.specs.Check.{storedAfter, Course, stopped, through, thenStopped, fitting, runSteps, runRead, course}
+use Rattle.steps.specs.After.{storedAfter}
+use Rattle.checker.specs.Check.{Course, stopped, through, thenStopped, fitting, runSteps, runRead, course}
 use Rattle.checker.specs.Check.{countsOf, saying, judged, judgedReading, check, Checked}
 use Rattle.checker.specs.Claims.{Runs, ends, unread, unaccepted, full, good, StepByStep, Ended, Written, EndedWritten, VerdictExact, SoundWhole, ServiceExact, ServiceSound}
 use Rattle.checker.specs.declared.Counts.{Counts}

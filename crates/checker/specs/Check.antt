@@ -6,10 +6,7 @@ use mathlib.Core.List.{List, [], _∷_}
 use Prim.Native.Nat.{ℕ, _+_}
 use lib.Dec.{leb}
 use lib.IntN.{ℤ, pos}
-use lib.ListN.{length, drop, replicate}
-use Rattle.words.specs.Literals.{ascending}
-use Rattle.text.specs.declared.Letter.{Letter}
-use Rattle.text.specs.declared.Letter.the-variants.{Addition, Body, Completion, Deletion, Extension, Loop, Support}
+use lib.ListN.{length, replicate}
 use Rattle.aspif.specs.Rules.{Rule, InputRule, expand, atoms, tableWords}
 use Rattle.aspif.specs.Reading.{Reading, refused, program, readText}
 use Rattle.drupe.specs.Texts.{Step, StepsRead, steps, stepsOf}
@@ -17,31 +14,11 @@ use Rattle.drupe.specs.Texts as Texts
 use Rattle.derivation.specs.States.{State, start}
 use Rattle.derivation.specs.Steps.{next, step, emptyLive}
 use Rattle.derivation.specs.Steps as Steps
-use Rattle.nogoods.specs.Store.{Stored, addedIn, live, killed, keptWith, storeWords, wordsFor}
+use Rattle.nogoods.specs.Store.{Stored, storeWords, wordsFor}
+use Rattle.steps.specs.After.{storedAfter}
 use Rattle.checker.specs.declared.Counts.{Counts}
 use Rattle.checker.specs.declared.Verdict.{Verdict}
 use Rattle.checker.specs.declared.Verdict.the-variants.{Inconsistent, Open, RefusedProgram, RefusedProof}
-
--- the nogoods that step n added to those of the state that it left, with its number
-abbrev pub newIn : (n : ℕ) → (before : List Stored) → State → List Stored
-newIn n before z = addedIn n (drop (length (live before)) (z .live))
-
-module _ (n size : ℕ) where
-  -- what was stored before step n, and after it the nogoods that it added. "The store is closed up, live nogoods in their order and
-  -- 0 after them, only before a step that would not fit otherwise."
-  abbrev pub withAdded : (before : List Stored) → State → List Stored
-  withAdded before z = keptWith size (newIn n before z) before
-
-  -- what is stored after step n, by its letter and numbers and the state that it left: "A deletion now only marks its nogood dead",
-  -- "the oldest equal set, whatever its origin", of those that are live
-  abbrev pub storedAfter : Letter → List ℤ → (before : List Stored) → State → List Stored
-  storedAfter Addition zs before z = withAdded before z
-  storedAfter Body zs before z = withAdded before z
-  storedAfter Completion zs before z = withAdded before z
-  storedAfter Deletion zs before z = killed (ascending zs) before
-  storedAfter Extension zs before z = withAdded before z
-  storedAfter Loop zs before z = withAdded before z
-  storedAfter Support zs before z = withAdded before z
 
 -- what the proof comes to: a refusal with its number and step, or how many steps there were, the state that they left, and what is
 -- stored then

@@ -25,7 +25,8 @@ use Rattle.derivation.specs.Steps.{next, step, emptyLive}
 use Rattle.derivation.specs.Steps as Steps
 use Rattle.derivation.specs.Claims.{NoneAsWritten}
 use Rattle.nogoods.specs.Store.{Stored, closed, live, wordsOf, storeWords, wordsFor}
-use Rattle.checker.specs.Check.{newIn, storedAfter, Course, stopped, through, thenStopped, fitting, runSteps, course}
+use Rattle.steps.specs.After.{newIn, storedAfter}
+use Rattle.checker.specs.Check.{Course, stopped, through, thenStopped, fitting, runSteps, course}
 use Rattle.checker.specs.Check.{countsOf, judged, check, CheckedTexts}
 use Rattle.checker.specs.declared.Counts.{Counts}
 use Rattle.checker.specs.declared.Verdict.{Verdict}

@@ -11,7 +11,7 @@ ghost use Rattle.aspif.specs.Reading.{program};
 ghost use Rattle.nogoods.specs.Store.{Stored, live};
 ghost use Rattle.nogoods.specs.Keeps.{Holds};
 ghost use Rattle.checker.specs.Check.{saying, judgedReading};
-ghost use Rattle.checker.specs.Held.{Program};
+ghost use Rattle.steps.specs.Held.{Program};
 ghost use Rattle.checker.specs.declared.Verdict.the-variants.{RefusedProof};
 use crate::Counts;
 use crate::ProofRefusal;

@@ -1,15 +1,8 @@
 // The whole check over two texts: document 01, from 'The proof's seven letters' on. The public service is `check_texts`; what it
 // means is specs/Check.antt. The line that says a verdict is written by `report`.
-mod additions;
 pub mod judging;
-mod naming;
-mod outcomes;
 pub mod report;
 pub mod runs;
-mod states;
-mod steps;
-mod supports;
-mod unfounded;
 
 ghost use Rattle.checker.specs.Check.{CheckedTexts};
 use aspif::ProgramReading;

@@ -5,7 +5,7 @@ ghost use mathlib.Core.List.{List};
 ghost use Prim.Native.Nat.{_+_, _≤_};
 ghost use lib.IntN.{pos};
 ghost use lib.ListN.{length, replicate};
-ghost use Rattle.words.specs.Limits.{longest, mostNumbers, mostHeld};
+ghost use Rattle.words.specs.Limits.{longest, entries, mostNumbers, mostHeld};
 ghost use Rattle.text.specs.Classes.{byteClasses};
 ghost use Rattle.aspif.specs.Rules.{InputRule, allPlain, expand};
 ghost use Rattle.aspif.specs.Tables.{rulesAt};
@@ -17,11 +17,9 @@ ghost use Rattle.marks.specs.Marks.{Marks, upTo};
 ghost use Rattle.heads.specs.Heads.{nameWords, Indexed};
 ghost use Rattle.loops.specs.Relevance.{Relevant};
 ghost use Rattle.checker.specs.Check.{course};
-ghost use Rattle.checker.specs.Held.{Program, Tracks, Tracked, NoBodies, HoldsState, proofTurn, LineLeaves, Ran, Ended};
+ghost use Rattle.steps.specs.Held.{Program, Tracks, Tracked, NoBodies, HoldsState};
+ghost use Rattle.checker.specs.Held.{proofTurn, LineLeaves, Ran, Ended};
 use crate::ProofRefusal;
-use crate::outcomes::Stepped;
-use crate::states::CheckingState;
-use crate::steps;
 use aspif::tables;
 use drupe::LineAnswer;
 use heads::INDEX_WORDS;
@@ -29,7 +27,10 @@ use heads::NAME_WORDS;
 use loops::relevance;
 use names::by_name;
 use nogoods::INDEX;
+use steps::outcomes::Stepped;
+use steps::states::CheckingState;
 use weights::MOST_WEIGHTED;
+use words::ENTRIES;
 use words::MOST_HELD;
 
 // An entry for each pair of the weight bodies of all rules.
@@ -59,7 +60,7 @@ fn turn_of(next: usize, stepped: Stepped) -> ProofTurn
 }
 
 // The line at the position, read into the two rows, and its step. The origin is the step's number, which is at most that of the bytes
-// read.
+// read. The lent assignment is one of all variables free, before and after.
 fn turn_at(
     proof: &[u8],
     at: usize,
@@ -78,6 +79,7 @@ fn turn_at(
     used: usize,
     index: &mut [u16; INDEX],
     origin: usize,
+    assignment: &mut [u8; ENTRIES],
 ) -> ProofTurn
     requires state { ⌜ Tracked (now table) rules atoms (now known) (now names) (now bodies) ⌝ }
     requires index { ⌜ Indexed (now lookup) (now table) rules ⌝ }
@@ -86,12 +88,14 @@ fn turn_at(
     requires short { ⌜ length (now proof) ≤ longest ⌝ }
     requires classes { ⌜ now classes ≡ byteClasses ⌝ }
     requires rows { ⌜ (length (now numbers) ≡ mostNumbers) × (length (now sorted) ≡ mostNumbers) ⌝ }
-    ensures { λ r. ⌜ ((ws : List InputRule) → Program (now (table .entry)) rules atoms ws
+    requires free { ⌜ now assignment ≡ replicate entries 0 ⌝ }
+    ensures left { λ r. ⌜ ((ws : List InputRule) → Program (now (table .entry)) rules atoms ws
         → (z : State) (stored : List Stored)
         → Tracks atoms ws (now (known .entry)) (now (names .entry)) (now (bodies .entry)) (z .introduced) (z .named)
         → HoldsState (now (store .entry)) (now (index .entry)) used z stored
         → LineLeaves atoms ws (now (known .exit)) (now (names .exit)) (now (bodies .exit)) (now (store .exit)) (now (index .exit))
         used origin (length (now (store .entry))) z stored (lineAt (now (proof .entry)) at) r) ⌝ }
+    ensures free { λ _. ⌜ now (assignment .exit) ≡ replicate entries 0 ⌝ }
 {
     let answer = drupe::read_into(proof, at, classes, numbers, sorted);
     match answer {
@@ -118,6 +122,7 @@ fn turn_at(
                 used,
                 index,
                 origin,
+                assignment,
             );
             turn_of(next, stepped)
         }
@@ -152,10 +157,12 @@ fn run_lines(
     let mut numbers = [0; CheckingState::NUMBERS];
     let mut sorted = [0; CheckingState::NUMBERS];
     let mut index = [0u16; INDEX];
-    let start = CheckingState::start();
-    let mut used = start.used;
-    let mut at = start.at;
-    let mut steps = start.steps;
+    let mut assignment = [0u8; ENTRIES];
+    let CheckingState {
+        mut used,
+        mut at,
+        mut steps,
+    } = CheckingState::start();
     loop {
         let step = steps + 1;
         match turn_at(
@@ -176,6 +183,7 @@ fn run_lines(
             used,
             &mut index,
             step,
+            &mut assignment,
         ) {
             ProofTurn::Ends => return Run::Through { steps, used },
             ProofTurn::Fails(number) => return Run::Stopped(ProofRefusal { number, step }),

@@ -20,9 +20,6 @@ use Rattle.names.specs.Queries.{Kept}
 use Rattle.heads.specs.Heads.{wordsFrom, isJustNames, HasHead, Listed}
 use Rattle.heads.proofs.Starts.{any-rule, all-rules, kept-at}
 
-mentioned : (v : ℕ) (ns : List ℤ) → Decides (mentions v ns) ((x : ℤ) × (x ∈ ns) × (v ≡ variable x))
-mentioned v ns = any-decides (λ x. eqb-decides v (variable x)) ns
-
 module _ (t : List ℤ) (n : ℕ) {names : List ℕ} {bodies : List ℤ} {called : List ℤ → ℕ} (s : soundRules n t ≡ true) (p : allPlain (rulesAt n t) ≡ true)
     (K : Kept names bodies called (rulesAt n t)) (v : ℕ) (ns : List ℤ) where
   -- both parts, by rule
@@ -70,7 +67,7 @@ module _ (t : List ℤ) (n : ℕ) {names : List ℕ} {bodies : List ℤ} {called
 
       to : ((b : ℕ) → b ∈ take (length ns) hits → b ≡ 1) → Covered × Cited
       to f = (
-        λ k H. let h = L .0 k H in is-true (mentioned (getD names k 0) ns) (getD ns (h .0) (pos 0), in-at (pos 0) ns (h .0) (h .1), sym (h .2 .0)),
+        λ k H. let h = L .0 k H in is-true (any-decides (λ x. eqb-decides (getD names k 0) (variable x)) ns) (getD ns (h .0) (pos 0), in-at (pos 0) ns (h .0) (h .1), sym (h .2 .0)),
         λ x i.
             let j = place-of (pos 0) i in
             let e : getD hits (j .0) 0 ≡ 1 = sym (getD-take (length ns) hits (j .0) 0 (j .1)) ∙ f _ (in-at 0 (take (length ns) hits) (j .0) (omega (arith, j .1, long))) in

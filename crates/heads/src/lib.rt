@@ -29,7 +29,7 @@ use words::MOST_HELD;
 use words::MOST_NUMBERS;
 
 // The regions of specs/Heads.antt.
-const MOST_HEADS: usize = 8192;
+pub const MOST_HEADS: usize = 8192;
 
 const HASHES: usize = 2048;
 

@@ -6,8 +6,7 @@ use mathlib.Core.Bool.{Bool, true, _&&_, _||_, or-false}
 use mathlib.Core.List.{List, [], _∷_, List·Memᴰ·cases-cons}
 use Prim.Native.Nat.{ℕ, suc, _+_, _<_}
 use lib.IntN.{ℤ, pos}
-use lib.ListN.{length, getD, take, drop, replicate}
-use lib.Seq.{drop-cons}
+use lib.ListN.{length, getD, drop, replicate}
 use Rattle.words.specs.Limits.{mostNumbers}
 use Rattle.words.specs.Lists.{_∈_, any}
 use Rattle.words.specs.Literals.{has}
@@ -139,9 +138,5 @@ module _ (t : List ℤ) (rules : ℕ) (m : List ℕ) where
   pub number-split : (l head : List ℤ) (k : ℕ) → k < length l → head ≡ getD l k (pos 0) ∷ [] → (i j : ℕ)
       → (any (isAt m j) (drop k l) && edgesAll i j) ≡ ((any (isAt m j) head && edgesAll i j) || (any (isAt m j) (drop (k + 1) l) && edgesAll i j))
   number-split l head k h e i j =
-      body-split (isAt m j) l k h (edgesAll i j)
+      body-split (isAt m j) l k (pos 0) h (edgesAll i j)
       ∙ ap (λ (b : Bool). (b && edgesAll i j) || (any (isAt m j) (drop (k + 1) l) && edgesAll i j)) (sym (ap (any (isAt m j)) e ∙ or-false (isAt m j (getD l k (pos 0)))))
-
--- the part with the number at a place
-pub one-number : (l : List ℤ) (k n : ℕ) → k < length l → n ≡ 1 → take n (drop k l) ≡ getD l k (pos 0) ∷ []
-one-number l k n h e = rw (e, drop-cons l k (pos 0) h) refl

@@ -1,25 +1,25 @@
 -- The edges between places, marked one after another: what is marked and what is left make the whole.
 -- Assumes nothing.
 use mathlib.Core.Path.{_≡_, refl, sym, _∙_, ap}
-use mathlib.Core.Bool.{Bool, true, false, true≢false, _&&_, _||_, or-assoc, or-comm, or-false, and-or-distrib-left, and-or-distrib-right}
-use mathlib.Core.List.{List, [], _∷_}
+use mathlib.Core.Bool.{Bool, false, _&&_, _||_, or-assoc, or-comm, or-false, and-or-distrib-left, and-or-distrib-right}
+use mathlib.Core.List.{List}
 use Prim.Native.Nat.{ℕ, suc, _+_, _*_, _-_, _≤_, _<_}
 use native.Mathlib.Omega.{arith}
 use native.Mathlib.Numerals.{add-one}
-use borrow.Author.Tests.{ne-eqb, ltb-false}
+use borrow.Author.Tests.{ne-eqb}
 use lib.Dec.{eqb}
 use lib.IntN.{ℤ, pos}
 use lib.ListN.{length, getD, drop, set, replicate, length-set, length-replicate}
 use lib.Seq.{drop-cons}
 use Rattle.words.specs.Limits.{mostNumbers}
 use Rattle.words.specs.Lists.{any}
-use Rattle.words.proofs.Lists.{same-test, and-decides, eqb-decides, or-false-left, or-false-right}
+use Rattle.words.proofs.Lists.{same-test, and-decides, eqb-decides}
 use Rattle.weights.specs.Weights.{paired}
 use Rattle.weights.proofs.Matching.{pair-on}
 use Rattle.aspif.specs.Rules.{InputRule}
 use Rattle.marks.specs.Marks.{marked}
 use Rattle.marks.proofs.Sets.{marked-set, none-marked}
-use Rattle.loops.specs.Edges.{placeBy, isAt, hasPlace, cells, edgeAt, More, anyMarked, ruleEdge, Edges}
+use Rattle.loops.specs.Edges.{cells, edgeAt, More, anyMarked, ruleEdge, Edges}
 
 pub record Filling (e : List ℕ) (left whole : ℕ → ℕ → Bool) : Type 0 where
   pub long : length e ≡ cells
@@ -70,18 +70,6 @@ more-same {e} M same = record {
 pub no-place : {a : ℕ} (i : ℕ) → a ≤ 0 → eqb a (suc i) ≡ false
 no-place {a} i h = ne-eqb a (suc i) (λ e. omega (arith, e))
 
--- no literal has a place: then none has the place i
-pub none-placed : (m : List ℕ) (i : ℕ) (l : List ℤ) → any (hasPlace m) l ≡ false → any (isAt m i) l ≡ false
-none-placed m i [] e = refl
-none-placed m i (x ∷ l) e =
-    let h = or-false-left (hasPlace m x) (any (hasPlace m) l) e in
-    rw (no-place i (ltb-false 0 (placeBy m x) h)) (none-placed m i l (or-false-right (hasPlace m x) (any (hasPlace m) l) e))
-
--- where some element passes there is one
-pub some-there : (f : ℤ → Bool) (l : List ℤ) → any f l ≡ true → 0 < length l
-some-there f [] e = absurd (true≢false (sym e))
-some-there f (x ∷ l) e = omega arith
-
 module _ (a b : ℕ) (h₁ : 1 ≤ a) (h₂ : a ≤ mostNumbers) (h₃ : 1 ≤ b) (h₄ : b ≤ mostNumbers) where
   abbrev cell : ℕ
   cell = (a - 1) * mostNumbers + (b - 1)
@@ -104,15 +92,15 @@ module _ (a b : ℕ) (h₁ : 1 ≤ a) (h₂ : a ≤ mostNumbers) (h₃ : 1 ≤ b
 
 -- One element off what is left
 
-module _ (f : ℤ → Bool) (l : List ℤ) (k : ℕ) (h : k < length l) where
-  split-any : any f (drop k l) ≡ (f (getD l k (pos 0)) || any f (drop (k + 1) l))
-  split-any = rw (drop-cons l k (pos 0) h, add-one) refl
+module _ {A : Type 0} (f : A → Bool) (l : List A) (k : ℕ) (d : A) (h : k < length l) where
+  pub split-any : any f (drop k l) ≡ (f (getD l k d) || any f (drop (k + 1) l))
+  split-any = rw (drop-cons l k d h, add-one) refl
 
-  pub heads-split : (p : Bool) → (p && any f (drop k l)) ≡ ((p && f (getD l k (pos 0))) || (p && any f (drop (k + 1) l)))
-  heads-split p = ap (λ (b : Bool). p && b) split-any ∙ and-or-distrib-left p (f (getD l k (pos 0))) (any f (drop (k + 1) l))
+  pub heads-split : (p : Bool) → (p && any f (drop k l)) ≡ ((p && f (getD l k d)) || (p && any f (drop (k + 1) l)))
+  heads-split p = ap (λ (b : Bool). p && b) split-any ∙ and-or-distrib-left p (f (getD l k d)) (any f (drop (k + 1) l))
 
-  pub body-split : (p : Bool) → (any f (drop k l) && p) ≡ ((f (getD l k (pos 0)) && p) || (any f (drop (k + 1) l) && p))
-  body-split p = ap (λ (b : Bool). b && p) split-any ∙ and-or-distrib-right (f (getD l k (pos 0))) (any f (drop (k + 1) l)) p
+  pub body-split : (p : Bool) → (any f (drop k l) && p) ≡ ((f (getD l k d) && p) || (any f (drop (k + 1) l) && p))
+  body-split p = ap (λ (b : Bool). b && p) split-any ∙ and-or-distrib-right (f (getD l k d)) (any f (drop (k + 1) l)) p
 
 -- one pair
 module _ (f : ℤ → Bool) (m : List ℕ) (k : ℕ) (ws : List ℤ) (i : ℕ) (h : i + 1 < length ws) where

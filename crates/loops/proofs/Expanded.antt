@@ -21,7 +21,7 @@ use Rattle.aspif.specs.Tables.{isWeighted, boundAt, headsAt, bodyWordsAt, bodyA
 use Rattle.aspif.proofs.Expansion.{Expanded, expand→, expand←}
 use Rattle.derivation.specs.Loops.{isEdge}
 use Rattle.loops.specs.Relevance.{isRelevant, RelevantPairs, RelevantRule, Relevant}
-use Rattle.loops.specs.Edges.{placeBy, Placed, isAt, edgeAt, More, anyMarked, ruleEdge, Edges}
+use Rattle.loops.specs.Edges.{placeBy, Placed, isPlace, isAt, edgeAt, More, anyMarked, ruleEdge, Edges}
 use Rattle.loops.proofs.EdgeMarks.{more-same}
 
 -- Rules as written
@@ -116,18 +116,18 @@ weight-edge f m ws e r =
     let q : RelevantPairs m (weights (boundAt ws) l) = rw e at r in
     rw e (sym (relevant-edge f (boundAt ws) l) ∙ sym (entries-say f (λ x. isRelevant (boundAt ws) l (x .literal)) m l q))
 
--- the edges of the rule at the front, from the words of its body and of its heads
-module _ (places : List ℕ) (ws : List ℤ) {e after : List ℕ} {body heads : List ℤ} (b : body ≡ bodyWordsAt ws)
-    (h : heads ≡ headsAt ws) where
-  pub plain-more : More (λ i j. any (isAt places i) body && any (isAt places j) heads) e after → isWeighted ws ≡ false
+-- the edges of the rule at the front, from the words of its body and the places of its heads
+module _ (places : List ℕ) (ws : List ℤ) (heads : List ℕ) {e after : List ℕ} {body : List ℤ} (b : body ≡ bodyWordsAt ws)
+    (h : (j : ℕ) → any (isPlace j) heads ≡ any (isAt places j) (headsAt ws)) where
+  pub plain-more : More (λ i j. any (isAt places i) body && any (isPlace j) heads) e after → isWeighted ws ≡ false
       → More (λ i j. ruleEdge places i j (ruleAt ws)) e after
-  plain-more M t = more-same M (λ i j. rw (b, h, plain-edge (isAt places i) ws t) refl)
+  plain-more M t = more-same M (λ i j. rw (b, h j, plain-edge (isAt places i) ws t) refl)
 
   pub weight-more : (relevant : List ℕ)
-      → More (λ i j. anyMarked (isAt places i) relevant 0 (paired body) && any (isAt places j) heads) e after
+      → More (λ i j. anyMarked (isAt places i) relevant 0 (paired body) && any (isPlace j) heads) e after
       → isWeighted ws ≡ true
       → RelevantPairs relevant (bodyAt ws) → More (λ i j. ruleEdge places i j (ruleAt ws)) e after
-  weight-more relevant M t r = more-same M (λ i j. rw (b, h, weight-edge (isAt places i) relevant ws t r) refl)
+  weight-more relevant M t r = more-same M (λ i j. rw (b, h j, weight-edge (isAt places i) relevant ws t r) refl)
 
 -- What is known of the entries
 

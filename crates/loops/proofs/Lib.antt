@@ -1,6 +1,7 @@
 -- The laws that the proofs share.
 pub mod Sums
 pub mod Filling
+pub mod HeadPlaces
 pub mod WeightExamples
 pub mod Placing
 pub mod EdgeMarks

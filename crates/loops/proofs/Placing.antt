@@ -3,14 +3,16 @@
 use mathlib.Core.Path.{_≡_, refl, sym, _∙_, ap}
 use mathlib.Core.Logic.{_⊎_, inl, inr}
 use mathlib.Core.Bool.{Bool, true, false, cond}
-use mathlib.Core.List.{List, []}
+use mathlib.Core.List.{List, [], _∷_}
 use Prim.Native.Nat.{ℕ, zero, suc, _+_, _≤_, _<_}
 use native.Mathlib.Omega.{arith}
 use native.Mathlib.Numerals.{add-one}
 use lib.IntN.{ℤ, pos}
 use lib.Signed.{ltZ}
-use lib.ListN.{length, getD, set, replicate, length-set, length-replicate}
-use lib.Seq.{getD-set-same, getD-set-other}
+use lib.Dec.{ltb}
+use lib.ListN.{length, getD, take, drop, set, replicate, length-set, length-replicate, List·getD-eq-default}
+use lib.Seq.{drop-cons, getD-set-same, getD-set-other}
+use borrow.Author.Tests.{ltb-true, ltb-false}
 use Rattle.words.specs.Limits.{entries, mostNumbers}
 use Rattle.words.specs.Literals.{variable}
 use Rattle.words.proofs.Laws.{padded}
@@ -96,3 +98,22 @@ placed-low {U} {m} h p x = go (placeBy m x) refl
     go : (n : ℕ) → placeBy m x ≡ n → n ≤ mostNumbers
     go zero e = omega arith
     go (suc i) e = omega (arith, p .to x i e .0)
+
+-- an atom that has a place: its entry is there, and it is that place
+module _ (m : List ℕ) (v : ℕ) {i : ℕ} (e : placeBy m (pos v) ≡ suc i) where
+  entry : placeBy m (pos v) ≡ getD m v 0
+  entry = by (ltZ (pos 0) (pos v)) e
+    where
+      by : (t : Bool) → cond t (getD m v 0) 0 ≡ suc i → cond t (getD m v 0) 0 ≡ getD m v 0
+      by true q = refl
+      by false q = absurd (omega (arith, q))
+
+  pub place-there : v < length m
+  place-there = by (ltb v (length m)) refl
+    where
+      by : (t : Bool) → ltb v (length m) ≡ t → v < length m
+      by true q = ltb-true v (length m) q
+      by false q = absurd (omega (arith, e, entry, List·getD-eq-default m 0 (ltb-false v (length m) q)))
+
+  pub place-part : (n : ℕ) → n ≡ 1 → take n (drop v m) ≡ placeBy m (pos v) ∷ []
+  place-part n q = rw (q, entry, drop-cons m v 0 place-there) refl

@@ -5,10 +5,10 @@ use mathlib.Core.Path.{_≡_}
 use mathlib.Core.Bool.{Bool, true, false, cond, _&&_, _||_}
 use mathlib.Core.List.{List, [], _∷_}
 use Prim.Native.Nat.{ℕ, suc, _+_, _*_, _≤_, _<_}
-use lib.Dec.{eqb, ltb}
+use lib.Dec.{eqb}
 use lib.IntN.{ℤ, pos}
 use lib.Signed.{ltZ}
-use lib.ListN.{length, getD}
+use lib.ListN.{length, getD, take}
 use Rattle.words.specs.Limits.{largest, mostNumbers}
 use Rattle.words.specs.Lists.{_∈_, any}
 use Rattle.words.specs.Literals.{variable, distinct}
@@ -38,13 +38,29 @@ pub record Placed (m : List ℕ) (U : List ℤ) : Type 0 where
 abbrev pub Low : List ℕ → Type 0
 Low m = (x : ℤ) → placeBy m x ≤ mostNumbers
 
+-- of places, counted from 1: it is the place i, counted from 0; none is above the most numbers
+abbrev pub isPlace : ℕ → ℕ → Bool
+isPlace i p = eqb p (suc i)
+
+abbrev pub LowPlaces : List ℕ → Type 0
+LowPlaces l = (p : ℕ) → p ∈ l → p ≤ mostNumbers
+
 -- the literal has the place i, counted from 0
 abbrev pub isAt : List ℕ → ℕ → ℤ → Bool
-isAt m i x = eqb (placeBy m x) (suc i)
+isAt m i x = isPlace i (placeBy m x)
 
--- the literal has some place
-abbrev pub hasPlace : List ℕ → ℤ → Bool
-hasPlace m x = ltb 0 (placeBy m x)
+-- one place more behind n others, unless it is 0; r are there then
+pub record Puts (n place : ℕ) (before after : List ℕ) (r : ℕ) : Type 0 where
+  pub long : length after ≡ length before
+  pub most : r ≤ suc n
+  pub low : LowPlaces (take n before) → LowPlaces (take r after)
+  pub has : (i : ℕ) → any (isPlace i) (take r after) ≡ (any (isPlace i) (take n before) || isPlace i place)
+
+-- the first n places of the row are those of the literals
+pub record Gathered (m : List ℕ) (l : List ℤ) (row : List ℕ) (n : ℕ) : Type 0 where
+  pub most : n ≤ length l
+  pub low : LowPlaces (take n row)
+  pub has : (i : ℕ) → any (isPlace i) (take n row) ≡ any (isAt m i) l
 
 -- Edges: a mark for each two places
 

@@ -1,7 +1,7 @@
 // The numbers of an `l` line by their places in it, and the edges between the places: by the chains of the rules with these heads,
 // or in one pass over the table.
 ghost use mathlib.Core.Path.{_≡_};
-ghost use mathlib.Core.Bool.{true, false, _&&_};
+ghost use mathlib.Core.Bool.{true, _&&_};
 ghost use mathlib.Core.List.{List, [], _∷_};
 ghost use Prim.Native.Nat.{ℕ, suc, _≤_, _<_};
 ghost use lib.Dec.{eqb};
@@ -13,10 +13,14 @@ ghost use Rattle.weights.specs.Weights.{paired, mostWeighted};
 ghost use Rattle.aspif.specs.Tables.{ruleAt, shapeSound, rulesAt, soundRules};
 ghost use Rattle.heads.specs.Heads.{Covers, Indexed};
 ghost use Rattle.loops.specs.Relevance.{RelevantRule, Relevant};
-ghost use Rattle.loops.specs.Edges.{Members, placeBy, Placed, Low, isAt, hasPlace, cells, More, anyMarked, ruleEdge, Edges};
+ghost use Rattle.loops.specs.Edges.{Members, placeBy, Placed, Low, isPlace, LowPlaces, isAt, cells, More, anyMarked, ruleEdge, Edges};
+ghost use Rattle.loops.specs.Edges.{Puts, Gathered};
 use aspif::tables;
+use heads::MOST_HEADS;
 use weights::MOST_WEIGHTED;
 use words::ENTRIES;
+use words::MOST_HELD;
+use words::MOST_LITERALS;
 use words::MOST_NUMBERS;
 
 // A mark for each two places.
@@ -70,36 +74,35 @@ fn mark_edge(edges: &mut [u8], a: usize, b: usize)
     }
 }
 
-// Edges from place a, counted from 1, to each head that has a place.
-fn mark_heads(a: usize, heads: &[i32], places: &[u8], edges: &mut [u8])
-    requires { ⌜ (length (now edges) ≡ cells) × (1 ≤ a) × (a ≤ mostNumbers) × Low (now places) ⌝ }
-    ensures { λ _. ⌜ More (λ i j. eqb a (suc i) && any (isAt (now (places .entry)) j) (now (heads .entry)))
-        (now (edges .entry)) (now (edges .exit)) ⌝ }
+// Edges from place a to the places of heads, all counted from 1.
+fn mark_heads(a: usize, heads: &[u8], edges: &mut [u8])
+    requires { ⌜ (length (now edges) ≡ cells) × (1 ≤ a) × (a ≤ mostNumbers) × LowPlaces (now heads) ⌝ }
+    ensures { λ _. ⌜ More (λ i j. eqb a (suc i) && any (isPlace j) (now (heads .entry))) (now (edges .entry)) (now (edges .exit)) ⌝ }
 {
     let mut k = 0;
     while k < heads.len() {
-        mark_edge(edges, a, place_of(heads[k], places));
+        mark_edge(edges, a, words::wide(heads[k]));
         k += 1;
     }
 }
 
-// Edges from a body literal that has a place to each head that has one.
-fn mark_literal(word: i32, heads: &[i32], places: &[u8], edges: &mut [u8])
-    requires { ⌜ (length (now edges) ≡ cells) × Low (now places) ⌝ }
-    ensures { λ _. ⌜ More (λ i j. isAt (now (places .entry)) i word && any (isAt (now (places .entry)) j) (now (heads .entry)))
+// Edges from a body literal that has a place to the places of heads.
+fn mark_literal(word: i32, heads: &[u8], places: &[u8], edges: &mut [u8])
+    requires { ⌜ (length (now edges) ≡ cells) × Low (now places) × LowPlaces (now heads) ⌝ }
+    ensures { λ _. ⌜ More (λ i j. isAt (now (places .entry)) i word && any (isPlace j) (now (heads .entry)))
         (now (edges .entry)) (now (edges .exit)) ⌝ }
 {
     let a = place_of(word, places);
     if 0 < a {
-        mark_heads(a, heads, places, edges);
+        mark_heads(a, heads, edges);
     }
 }
 
-// Edges from each literal that has a place to each head that has one.
-fn mark_body(body: &[i32], heads: &[i32], places: &[u8], edges: &mut [u8])
-    requires { ⌜ (length (now edges) ≡ cells) × Low (now places) ⌝ }
-    ensures { λ _. ⌜ More (λ i j. any (isAt (now (places .entry)) i) (now (body .entry))
-        && any (isAt (now (places .entry)) j) (now (heads .entry))) (now (edges .entry)) (now (edges .exit)) ⌝ }
+// Edges from each literal that has a place to the places of heads.
+fn mark_body(body: &[i32], heads: &[u8], places: &[u8], edges: &mut [u8])
+    requires { ⌜ (length (now edges) ≡ cells) × Low (now places) × LowPlaces (now heads) ⌝ }
+    ensures { λ _. ⌜ More (λ i j. any (isAt (now (places .entry)) i) (now (body .entry)) && any (isPlace j) (now (heads .entry)))
+        (now (edges .entry)) (now (edges .exit)) ⌝ }
 {
     let mut k = 0;
     while k < body.len() {
@@ -109,10 +112,10 @@ fn mark_body(body: &[i32], heads: &[i32], places: &[u8], edges: &mut [u8])
 }
 
 // The edges of a body literal, where it is asked for.
-fn mark_if(chosen: bool, word: i32, heads: &[i32], places: &[u8], edges: &mut [u8])
-    requires { ⌜ (length (now edges) ≡ cells) × Low (now places) ⌝ }
-    ensures { λ _. ⌜ More (λ i j. (chosen && isAt (now (places .entry)) i word)
-        && any (isAt (now (places .entry)) j) (now (heads .entry))) (now (edges .entry)) (now (edges .exit)) ⌝ }
+fn mark_if(chosen: bool, word: i32, heads: &[u8], places: &[u8], edges: &mut [u8])
+    requires { ⌜ (length (now edges) ≡ cells) × Low (now places) × LowPlaces (now heads) ⌝ }
+    ensures { λ _. ⌜ More (λ i j. (chosen && isAt (now (places .entry)) i word) && any (isPlace j) (now (heads .entry)))
+        (now (edges .entry)) (now (edges .exit)) ⌝ }
 {
     if chosen {
         mark_literal(word, heads, places, edges);
@@ -120,10 +123,10 @@ fn mark_if(chosen: bool, word: i32, heads: &[i32], places: &[u8], edges: &mut [u
 }
 
 // Edges from the literal of each pair that is marked as relevant.
-fn mark_pairs(pairs: &[i32], relevant: &[u8], heads: &[i32], places: &[u8], edges: &mut [u8])
-    requires { ⌜ (length (now edges) ≡ cells) × Low (now places) ⌝ }
+fn mark_pairs(pairs: &[i32], relevant: &[u8], heads: &[u8], places: &[u8], edges: &mut [u8])
+    requires { ⌜ (length (now edges) ≡ cells) × Low (now places) × LowPlaces (now heads) ⌝ }
     ensures { λ _. ⌜ More (λ i j. anyMarked (isAt (now (places .entry)) i) (now (relevant .entry)) 0 (paired (now (pairs .entry)))
-        && any (isAt (now (places .entry)) j) (now (heads .entry))) (now (edges .entry)) (now (edges .exit)) ⌝ }
+        && any (isPlace j) (now (heads .entry))) (now (edges .entry)) (now (edges .exit)) ⌝ }
 {
     let mut k = 0;
     let mut i = 0;
@@ -140,19 +143,30 @@ fn mark_pairs(pairs: &[i32], relevant: &[u8], heads: &[i32], places: &[u8], edge
     }
 }
 
-// Some literal has a place.
-fn any_placed(literals: &[i32], places: &[u8]) -> bool
-    ensures { λ r. ⌜ r ≡ any (hasPlace (now (places .entry))) (now (literals .entry)) ⌝ }
+// One place more after the n of the row, unless it is 0. How many there are then.
+fn put_place(row: &mut [u8], n: usize, place: usize) -> usize
+    requires { ⌜ (n < length (now row)) × (place ≤ mostNumbers) ⌝ }
+    ensures { λ r. ⌜ Puts n place (now (row .entry)) (now (row .exit)) r ⌝ }
 {
+    if place == 0 {
+        return n;
+    }
+    row[n] = place as u8;
+    n + 1
+}
+
+// The places of those heads that have one, in the row. How many there are.
+fn gather(heads: &[i32], places: &[u8], row: &mut [u8]) -> usize
+    requires { ⌜ (length (now heads) ≤ length (now row)) × Low (now places) ⌝ }
+    ensures { λ n. ⌜ Gathered (now (places .entry)) (now (heads .entry)) (now (row .exit)) n ⌝ }
+{
+    let mut n = 0;
     let mut k = 0;
-    while k < literals.len() {
-        let place = place_of(literals[k], places);
-        if 0 < place {
-            return true;
-        }
+    while k < heads.len() {
+        n = put_place(row, n, place_of(heads[k], places));
         k += 1;
     }
-    false
+    n
 }
 
 // The edges of the rule at the front; `relevant` has the entries of its pairs.
@@ -162,15 +176,16 @@ fn mark_rule(words: &[i32], relevant: &[u8], places: &[u8], edges: &mut [u8])
     ensures { λ _. ⌜ More (λ i j. ruleEdge (now (places .entry)) i j (ruleAt (now (words .entry))))
         (now (edges .entry)) (now (edges .exit)) ⌝ }
 {
-    let heads = tables::heads_of(words);
-    if !any_placed(heads, places) {
+    let mut row = [0u8; MOST_LITERALS];
+    let n = gather(tables::heads_of(words), places, &mut row);
+    if n == 0 {
         return;
     }
     if tables::is_weighted(words) {
-        mark_pairs(tables::body_of(words), relevant, heads, places, edges);
+        mark_pairs(tables::body_of(words), relevant, &row[..n], places, edges);
         return;
     }
-    mark_body(tables::body_of(words), heads, places, edges);
+    mark_body(tables::body_of(words), &row[..n], places, edges);
 }
 
 // Where the entries of the next rule's pairs begin; the end where there are none.
@@ -204,20 +219,20 @@ fn scan(table: &[i32], rules: usize, relevant: &[u8], places: &[u8]) -> [u8; CEL
     edges
 }
 
-// Edges to the place of the one head, the atom v, from the bodies of the rules that have it.
+// Edges to the place of the head v, the only one lent, from the bodies of the rules that have it.
 fn mark_chain(
     table: &[i32],
     rules: usize,
     lookup: &[u16],
-    head: &[i32],
+    head: &[u8],
     v: usize,
     places: &[u8],
     edges: &mut [u8],
 )
     requires index { ⌜ Covers (now lookup) (now table) rules × (soundRules rules (now table) ≡ true) ⌝ }
-    requires head { ⌜ (now head ≡ pos v ∷ []) × (v ≤ largest) ⌝ }
+    requires head { ⌜ (now head ≡ placeBy (now places) (pos v) ∷ []) × (v ≤ largest) ⌝ }
     requires sizes { ⌜ (length (now edges) ≡ cells) × Low (now places) × ((U : List ℤ) × Placed (now places) U) ⌝ }
-    ensures { λ _. ⌜ More (λ i j. any (isAt (now (places .entry)) j) (now (head .entry))
+    ensures { λ _. ⌜ More (λ i j. any (isAt (now (places .entry)) j) (pos v ∷ [])
         && any (ruleEdge (now (places .entry)) i j) (rulesAt rules (now (table .entry)))) (now (edges .entry)) (now (edges .exit)) ⌝ }
 {
     let mut p = heads::first_head(lookup, v);
@@ -249,7 +264,7 @@ fn look_up(
             table,
             rules,
             lookup,
-            &numbers[j..j + 1],
+            &places[v..v + 1],
             v,
             places,
             &mut edges,
@@ -259,7 +274,40 @@ fn look_up(
     edges
 }
 
-// The edges between the places: by the index where it covers the program, else by all rules.
+// How many of so many steps are left after the chain of the heads that are the atom v.
+fn left_after(lookup: &[u16], v: usize, most: usize) -> usize
+    requires { ⌜ v ≤ largest ⌝ }
+{
+    let mut left = most;
+    let mut p = heads::first_head(lookup, v);
+    while 0 < left {
+        if p == 0 {
+            return left;
+        }
+        if MOST_HEADS < p {
+            return left;
+        }
+        p = heads::next_head(lookup, p - 1);
+        left -= 1;
+    }
+    left
+}
+
+// There are no more heads in the set than rules. Only time hangs on it: by the index a rule is read once for each head in the set, in the
+// pass over the table once.
+fn are_few(rules: usize, lookup: &[u16], numbers: &[i32]) -> bool
+    requires { ⌜ Members (now numbers) ⌝ }
+{
+    let mut left = weights::smaller(rules, MOST_HELD) + 1;
+    let mut j = 0;
+    while j < numbers.len() {
+        left = left_after(lookup, words::variable_of(numbers[j]), left);
+        j += 1;
+    }
+    0 < left
+}
+
+// The edges between the places: by the index where it covers the program and the set has few heads, else by all rules.
 pub fn edges_of(
     table: &[i32],
     rules: usize,
@@ -274,7 +322,9 @@ pub fn edges_of(
     ensures { λ e. ⌜ Edges (now (places .entry)) (rulesAt rules (now (table .entry))) e ⌝ }
 {
     if heads::is_covered(lookup) {
-        return look_up(table, rules, lookup, numbers, places);
+        if are_few(rules, lookup, numbers) {
+            return look_up(table, rules, lookup, numbers, places);
+        }
     }
     scan(table, rules, relevant, places)
 }

@@ -1,6 +1,6 @@
 -- Bodies kept by name: what a record says, what a new one changes, and the start.
 -- Assumes nothing.
-use mathlib.Core.Path.{_≡_, refl, sym, _∙_, ap}
+use mathlib.Core.Path.{_≡_, refl, sym, _∙_, ap, subst}
 use mathlib.Core.Logic.{_⊎_, inl, inr}
 use mathlib.Core.Bool.{Bool, true, false, cond, _&&_, true≢false}
 use mathlib.Core.List.{List, [], _∷_, _++_, append-assoc}
@@ -11,16 +11,16 @@ use borrow.Author.Tests.{eqb-true, eqb-false, eq-eqb, ne-eqb, ltb-true, ltb-fals
 use lib.Dec.{eqb, ltb}
 use lib.IntN.{ℤ, pos}
 use lib.ListN.{length, take, drop, getD, set, replicate, length-set, length-replicate, getD-replicate}
-use lib.Seq.{drop-cons, drop-set-lt, drop-set-add, take-set-le, sets, sets-eq, length-sets, drop-at, length-take-le, take-append-seam, getD-set-same, getD-take}
+use lib.Seq.{drop-cons, drop-set-lt, drop-set-add, take-set-le, sets, sets-eq, length-sets, drop-at, length-take-le, take-append-seam, getD-set-same, getD-set-other, getD-take}
 use Rattle.words.specs.Limits.{largest, entries}
 use Rattle.words.specs.Literals.{variable, same, sameList}
-use Rattle.words.proofs.Laws.{same-list-short, sets-before}
-use Rattle.words.proofs.Lists.{if-true, by-test}
+use Rattle.words.proofs.Laws.{same-list-short, sets-before, sets-after}
+use Rattle.words.proofs.Lists.{if-true, is-true, by-test}
 use Rattle.words.proofs.Literals.{same-decides, sameList-decides}
 use Rattle.words.proofs.Parts.{mid-front}
 use Rattle.words.proofs.Places.{equal?}
 use Rattle.weights.specs.Weights.{mostWeighted}
-use Rattle.names.specs.ByName.{width, bodyWords, standsAt, Called}
+use Rattle.names.specs.ByName.{width, bodyWords, placeOf, Taken, standsAt, Called, PutName}
 
 -- a record's first word is the count of literals and one more, and the literals stand after it
 module _ (m L : List ℤ) (v : ℕ) (h : width * v < length m) where
@@ -45,6 +45,14 @@ module _ {m : List ℤ} {called : List ℤ → ℕ} (C : Called m called) (L : L
       by (suc n) e =
           let h : suc n ≤ largest = rw e (C .high L) in
           absurd (true≢false (sym (eq-eqb (called L) (suc n) (sym e)) ∙ sym (C .stands (suc n) (omega arith) h L short) ∙ f (suc n) (omega arith) h))
+
+  -- its place of the index is free
+  pub called-free : getD m (width * entries + placeOf L) (pos 0) ≡ pos 0 → 0 ≡ called L
+  called-free e = by (called L) refl
+    where
+      by : (n : ℕ) → n ≡ called L → 0 ≡ n
+      by zero q = refl
+      by (suc n) q = absurd (C .taken L short (omega (arith, q)) e)
 
 -- What the record of v holds
 
@@ -124,6 +132,39 @@ module _ (m body : List ℤ) (name : ℕ) (size : length m ≡ bodyWords) (high 
           let k : v < name = omega (arith, ltb-false name v e, d) in
           part-sets body l (at + 1) (width * v) n (inr (omega arith)) ∙ part-set m at (width * v) n x (inr (omega arith))
 
+  -- the index stays
+  pub written-index : (k : ℕ) → getD (sets (set m (width * name) (pos (length body + 1))) (width * name + 1) body) (width * entries + k) (pos 0)
+      ≡ getD m (width * entries + k) (pos 0)
+  written-index k =
+      sets-after (pos 0) body (set m (width * name) (pos (length body + 1))) (width * name + 1) (width * entries + k) (omega arith)
+      ∙ getD-set-other m (width * name) (width * entries + k) (pos (length body + 1)) (pos 0) (λ e. omega arith)
+
+-- A name put at a free place of the index, from the first on
+
+-- a place that is not free
+pub not-free : (m : List ℤ) (k : ℕ) → same (getD m (width * entries + k) (pos 0)) (pos 0) ≡ false → Taken m k
+not-free m k t e = true≢false (sym (is-true (same-decides _ _) e) ∙ t)
+
+module _ (m : List ℤ) (place name : ℕ) (size : length m ≡ bodyWords) (within : place < entries) (above : 1 ≤ name) where
+  abbrev after : List ℤ
+  after = set m (width * entries + place) (pos name)
+
+  put-here : Taken after place
+  put-here e = omega (arith, ap variable (sym (getD-set-same m (width * entries + place) (pos name) (pos 0) (omega arith)) ∙ e))
+
+  put-still : (k : ℕ) → Taken m k → Taken after k
+  put-still k t = elim (equal? k place) [
+    | inl q ↦ subst (Taken after) (sym q) put-here
+    | inr n ↦ λ e. t (sym (getD-set-other m (width * entries + place) (width * entries + k) (pos name) (pos 0) (λ q. n (omega arith))) ∙ e)
+  ]
+
+  pub put-name : (first : ℕ) → (place ≡ first) ⊎ Taken m first → PutName first m after
+  put-name first s = record {
+    records = take-set-le (width * entries) m (width * entries + place) (pos name) (omega arith);
+    here = elim s [ inl q ↦ subst (Taken after) q put-here | inr t ↦ put-still first t ];
+    still = put-still;
+  }
+
 -- stores after the records
 pub written-on : {m after more body : List ℤ} {name : ℕ} → Written m after name body → length more ≡ length after
     → take (width * entries) more ≡ take (width * entries) after → name ≤ largest → length body ≤ mostWeighted → Written m more name body
@@ -160,11 +201,17 @@ module _ {m after body : List ℤ} {name : ℕ} (W : Written m after name body) 
   renamed-stands v p h L s true k = rw (eqb-true v name k) (holds-body after L name (omega (arith, W .long, C .long)) body (W .first) (W .literals))
   renamed-stands v p h L s false k = rw (W .others v (suc (length L)) (omega arith) h (eqb-false v name k)) (C .stands v p h L s)
 
-  pub entered : Called after (λ L. cond (sameList body L) name (called L))
-  entered = record {
+  renamed-taken : Taken after (placeOf body) → ((k : ℕ) → Taken m k → Taken after k) → (L : List ℤ) → length L ≤ mostWeighted
+      → (t : Bool) → sameList body L ≡ t → 1 ≤ cond t name (called L) → Taken after (placeOf L)
+  renamed-taken here still L s true e h = subst (λ l. Taken after (placeOf l)) (if-true (sameList-decides body L) e) here
+  renamed-taken here still L s false e h = still (placeOf L) (C .taken L s h)
+
+  pub entered : Taken after (placeOf body) → ((k : ℕ) → Taken m k → Taken after k) → Called after (λ L. cond (sameList body L) name (called L))
+  entered here still = record {
     long = W .long ∙ C .long;
     high = λ L. by-test (λ n. n ≤ largest) (sameList body L) (λ e. high) (λ e. C .high L);
     stands = λ v p h L s. renamed-stands v p h L s (eqb v name) refl ∙ sym (renamed-test v p L (sameList body L) refl (eqb v name) refl);
+    taken = λ L s h. renamed-taken here still L s (sameList body L) refl h;
   }
 
 -- A longer body, of which the records do not speak
@@ -174,6 +221,7 @@ entered-longer B n C h k = record {
   long = C .long;
   high = λ L. by-test (λ i. i ≤ largest) (sameList B L) (λ e. k) (λ e. C .high L);
   stands = λ v p q L s. C .stands v p q L s ∙ rw (same-list-short B L (λ e. omega arith));
+  taken = λ L s q. C .taken L s (rw (same-list-short B L (λ e. omega arith)) at q);
 }
 
 -- At the start no body has a name
@@ -186,6 +234,7 @@ none-stands n e = record {
       let first = getD-replicate n (width * v) (pos 0) (pos 0) (omega arith) in
       holds-none (replicate n (pos 0)) L v (rw (length-replicate n (pos 0)) (omega arith)) (λ q. omega (arith, ap variable (sym first ∙ q)))
       ∙ sym (ne-eqb 0 v (λ q. omega arith));
+  taken = λ L s h. absurd (omega (arith, h));
 }
 
 pub none-called : Called (replicate bodyWords (pos 0)) (λ L. 0)

@@ -1,15 +1,16 @@
 -- The bodies of at most 12 literals, by the name that a `b` step gave them: what private functions of the checker cite. A record for each
--- variable holds the body that it names; after the records stands an index that only makes lookups quick and of which nothing is said.
+-- variable holds the body that it names; after the records stands an index that makes lookups quick and of which little is said.
 -- Assumes nothing.
 use mathlib.Core.Path.{_≡_}
-use mathlib.Core.Bool.{Bool, false}
-use mathlib.Core.List.{List, _∷_}
-use Prim.Native.Nat.{ℕ, suc, _+_, _*_, _≤_, _<_}
+use mathlib.Core.Bool.{Bool, false, cond}
+use mathlib.Core.List.{List, [], _∷_}
+use Prim.Native.Nat.{ℕ, suc, _+_, _*_, _/_, _%_, _≤_, _<_}
 use lib.Dec.{eqb}
 use lib.IntN.{ℤ, pos}
-use lib.ListN.{length, take, drop}
+use lib.Signed.{ltZ}
+use lib.ListN.{length, take, drop, getD}
 use Rattle.words.specs.Limits.{largest, entries}
-use Rattle.words.specs.Literals.{sameList}
+use Rattle.words.specs.Literals.{variable, sameList}
 use Rattle.weights.specs.Weights.{mostWeighted}
 use Rattle.names.specs.declared.by_name.Recorded.{Recorded}
 use Rattle.names.specs.declared.by_name.Recorded.the-variants.{Body, Nothing}
@@ -22,6 +23,25 @@ width = suc mostWeighted
 abbrev pub bodyWords : ℕ
 bodyWords = width * entries + entries
 
+-- a key with one literal more; keys are below this number
+abbrev pub keys : ℕ
+keys = 4294967296
+
+unfoldable pub mixed : ℕ → ℤ → ℕ
+mixed k z = (k + variable z % entries + cond (ltZ z (pos 0)) entries 0) * 1640531527 % keys
+
+unfoldable pub keyFrom : ℕ → List ℤ → ℕ
+keyFrom k [] = k
+keyFrom k (z ∷ zs) = keyFrom (mixed k z) zs
+
+-- the place of the index from which on a body's name is looked for
+unfoldable pub placeOf : List ℤ → ℕ
+placeOf L = keyFrom 0 L / 524288
+
+-- some name stands at a place of the index
+abbrev pub Taken : List ℤ → ℕ → Type 0
+Taken m k = ¬ (getD m (width * entries + k) (pos 0) ≡ pos 0)
+
 -- the record of v holds the body L
 unfoldable pub standsAt : List ℤ → ℕ → List ℤ → Bool
 standsAt m v L = sameList (take (suc (length L)) (drop (width * v) m)) (pos (suc (length L)) ∷ L)
@@ -31,6 +51,13 @@ pub record Called (m : List ℤ) (called : List ℤ → ℕ) : Type 0 where
   pub long : length m ≡ bodyWords
   pub high : (L : List ℤ) → called L ≤ largest
   pub stands : (v : ℕ) → 1 ≤ v → v ≤ largest → (L : List ℤ) → length L ≤ mostWeighted → standsAt m v L ≡ eqb (called L) v
+  pub taken : (L : List ℤ) → length L ≤ mostWeighted → 1 ≤ called L → Taken m (placeOf L)
+
+-- a name that was put into the index from a place on: the records stay, that place is taken, and so is each that was
+pub record PutName (first : ℕ) (before after : List ℤ) : Type 0 where
+  pub records : take (width * entries) after ≡ take (width * entries) before
+  pub here : Taken after first
+  pub still : (k : ℕ) → Taken before k → Taken after k
 
 -- what is told of a record by its first word: the count of literals and one more, or 0 where it holds no body of at most 12 literals
 pub record Counted (first : ℤ) (count : ℕ) : Type 0 where

@@ -1,26 +1,32 @@
-// The bodies of at most 12 literals, kept by name: a record for each variable, and an index of the names in the order of their bodies.
+// The bodies of at most 12 literals, kept by name: a record for each variable, and an index of the names by a key of their bodies.
 // Where no rule has a weight body no records are lent, and of an array of another length the public functions say and do nothing.
 ghost use mathlib.Core.Path.{_≡_};
 ghost use mathlib.Core.Bool.{true, cond};
 ghost use mathlib.Core.List.{List, _++_};
 ghost use Prim.Native.Nat.{ℕ, _+_, _*_, _<_, _≤_};
 ghost use lib.IntN.{ℤ, pos};
-ghost use lib.ListN.{length, take, drop, getD};
+ghost use lib.ListN.{length, drop, getD};
 ghost use lib.Seq.{sets};
 ghost use Rattle.words.specs.Limits.{largest, entries};
-ghost use Rattle.words.specs.Literals.{sameList, top};
+ghost use Rattle.words.specs.Literals.{same, sameList, top};
 ghost use Rattle.weights.specs.Weights.{mostWeighted};
-ghost use Rattle.names.specs.ByName.{width, bodyWords, standsAt, Called, Counted, Told};
+ghost use Rattle.names.specs.ByName.{width, bodyWords, keys, mixed, placeOf, standsAt, Called, PutName, Counted, Told};
 use weights::MOST_WEIGHTED;
 use words::ENTRIES;
 use words::LARGEST;
 
-// The words of a record; where the index begins, which is the count of names entered and then these names; the words of all.
+// The words of a record; where the index begins, in which a name stands at the first place that was free from that of its body's key on;
+// the words of all.
 const WIDTH: usize = MOST_WEIGHTED + 1;
 
 const INDEX: usize = WIDTH * ENTRIES;
 
 pub const BODY_WORDS: usize = INDEX + ENTRIES;
+
+// Keys are below this number. The factor is this number divided by the square of the golden ratio, so that products spread.
+const KEYS: usize = 4294967296;
+
+const FACTOR: usize = 1640531527;
 
 // The body with a name: so many literals of the row, or none of at most 12 literals.
 pub enum Recorded {
@@ -64,85 +70,68 @@ fn stands_at(bodies: &[i16], v: usize, body: &[i32]) -> bool
     false
 }
 
-// The record of v stands before the body: by the count of literals, then literal by literal as numbers.
-fn is_before(bodies: &[i16], v: usize, body: &[i32]) -> bool
-    requires { ⌜ (length (now bodies) ≡ bodyWords) × (v ≤ largest) × (length (now body) ≤ mostWeighted) ⌝ }
+// A key with one literal more.
+fn mix(key: usize, word: i32) -> usize
+    requires { ⌜ key < keys ⌝ }
+    ensures { λ r. ⌜ (r ≡ mixed key word) × (r < keys) ⌝ }
 {
-    let at = WIDTH * v;
-    let first = word_of(bodies, at);
-    let count = (body.len() + 1) as i32;
-    if !words::is_same(first, count) {
-        return first < count;
+    let v = words::variable_of(word) % ENTRIES;
+    if word < 0 {
+        return (key + v + ENTRIES) * FACTOR % KEYS;
     }
-    let mut i = 0;
-    while i < body.len() {
-        let a = word_of(bodies, at + 1 + i);
-        let b = body[i];
-        i += 1;
-        if !words::is_same(a, b) {
-            return a < b;
-        }
-    }
-    false
+    (key + v + 0) * FACTOR % KEYS
 }
 
-// A word of the index: the count of names entered at 0, and then these names.
-fn entry_of(bodies: &[i16], k: usize) -> usize
-    requires { ⌜ (length (now bodies) ≡ bodyWords) × (k ≤ largest) ⌝ }
+// The place of the index from which on the body's name is looked for: the high bits of its key.
+fn place_of(body: &[i32]) -> usize
+    ensures { λ r. ⌜ (r ≡ placeOf (now (body .entry))) × (r < entries) ⌝ }
+{
+    let mut key = 0;
+    let mut i = 0;
+    while i < body.len() {
+        key = mix(key, body[i]);
+        i += 1;
+    }
+    key / (KEYS / ENTRIES)
+}
+
+// The name at a place of the index; 0 for none.
+fn name_in(bodies: &[i16], place: usize) -> usize
+    requires { ⌜ (length (now bodies) ≡ bodyWords) × (place < entries) ⌝ }
     ensures { λ r. ⌜ r ≤ largest ⌝ }
 {
-    let v = words::variable_of(word_of(bodies, INDEX + k));
+    let v = words::variable_of(word_of(bodies, INDEX + place));
     if v <= LARGEST {
         return v;
     }
     0
 }
 
-// The count of names entered.
-fn entered(bodies: &[i16]) -> usize
-    requires { ⌜ length (now bodies) ≡ bodyWords ⌝ }
-    ensures { λ r. ⌜ r ≤ largest ⌝ }
+// No name stands at a place of the index.
+fn is_free(bodies: &[i16], place: usize) -> bool
+    requires { ⌜ (length (now bodies) ≡ bodyWords) × (place < entries) ⌝ }
+    ensures { λ r. ⌜ r ≡ same (getD (now (bodies .entry)) (width * entries + place) (pos 0)) (pos 0) ⌝ }
 {
-    entry_of(bodies, 0)
+    words::is_same(word_of(bodies, INDEX + place), 0)
 }
 
-// The name at a place of the index.
-fn name_in(bodies: &[i16], place: usize) -> usize
-    requires { ⌜ (length (now bodies) ≡ bodyWords) × (place < largest) ⌝ }
-    ensures { λ r. ⌜ r ≤ largest ⌝ }
-{
-    entry_of(bodies, place + 1)
-}
-
-// The first place of the index whose name's record is not before the body.
-fn place_of(bodies: &[i16], body: &[i32]) -> usize
-    requires { ⌜ (length (now bodies) ≡ bodyWords) × (length (now body) ≤ mostWeighted) ⌝ }
-    ensures { λ r. ⌜ r ≤ largest ⌝ }
-{
-    let mut low = 0;
-    let mut high = entered(bodies);
-    while low < high {
-        let middle = (low + high) / 2;
-        if is_before(bodies, name_in(bodies, middle), body) {
-            low = middle + 1;
-        } else {
-            high = middle;
-        }
-    }
-    low
-}
-
-// A name of the body that the index tells, or 0.
-fn hinted(bodies: &[i16], body: &[i32]) -> usize
-    requires { ⌜ (length (now bodies) ≡ bodyWords) × (length (now body) ≤ mostWeighted) ⌝ }
+// A name of the body that the index tells from a place on, or 0.
+fn hinted(bodies: &[i16], first: usize, body: &[i32]) -> usize
+    requires { ⌜ (length (now bodies) ≡ bodyWords) × (first < entries) × (length (now body) ≤ mostWeighted) ⌝ }
     ensures { λ r. ⌜ (r ≤ largest) × (1 ≤ r → standsAt (now (bodies .entry)) r (now (body .entry)) ≡ true) ⌝ }
 {
-    let place = place_of(bodies, body);
-    if place < entered(bodies) {
+    let mut place = first;
+    let mut left = ENTRIES;
+    while 0 < left {
         let v = name_in(bodies, place);
+        if v == 0 {
+            return 0;
+        }
         if stands_at(bodies, v, body) {
             return v;
         }
+        place = (place + 1) % ENTRIES;
+        left -= 1;
     }
     0
 }
@@ -162,7 +151,7 @@ fn found(bodies: &[i16], body: &[i32]) -> usize
     0
 }
 
-// The body's name, 0 where it has none.
+// The body's name, 0 where it has none. A place that is free tells that at once; where the index tells no name, the records do.
 pub fn name_of(bodies: &[i16], body: &[i32]) -> u16
     requires { ⌜ length (now body) ≤ mostWeighted ⌝ }
     ensures { λ r. ⌜ ((called : List ℤ → ℕ) → Called (now (bodies .entry)) called → r ≡ called (now (body .entry))) ⌝ }
@@ -170,7 +159,11 @@ pub fn name_of(bodies: &[i16], body: &[i32]) -> u16
     if bodies.len() != BODY_WORDS {
         return 0;
     }
-    let v = hinted(bodies, body);
+    let place = place_of(body);
+    if is_free(bodies, place) {
+        return 0;
+    }
+    let v = hinted(bodies, place, body);
     if 0 < v {
         return v as u16;
     }
@@ -189,22 +182,21 @@ fn put_body(bodies: &mut [i16], at: usize, body: &[i32])
     }
 }
 
-// The name stands in the index at the place, if there is room, and the names from there on move up by one; the records stay.
-fn put_name(bodies: &mut [i16], place: usize, name: usize)
-    requires { ⌜ (length (now bodies) ≡ bodyWords) × (name ≤ largest) ⌝ }
-    ensures { λ _. ⌜ take (width * entries) (now (bodies .exit)) ≡ take (width * entries) (now (bodies .entry)) ⌝ }
+// The name stands in the index at the first free place from this one on, if there is any; the records stay.
+fn put_name(bodies: &mut [i16], first: usize, name: usize)
+    requires { ⌜ (length (now bodies) ≡ bodyWords) × (first < entries) × (1 ≤ name) × (name ≤ largest) ⌝ }
+    ensures { λ _. ⌜ PutName first (now (bodies .entry)) (now (bodies .exit)) ⌝ }
 {
-    let count = entered(bodies);
-    if count == LARGEST {
-        return;
+    let mut place = first;
+    let mut left = ENTRIES;
+    while 0 < left {
+        if is_free(bodies, place) {
+            bodies[INDEX + place] = name as i16;
+            return;
+        }
+        place = (place + 1) % ENTRIES;
+        left -= 1;
     }
-    let mut k = count;
-    while place < k {
-        bodies[INDEX + 1 + k] = bodies[INDEX + k];
-        k -= 1;
-    }
-    bodies[INDEX + 1 + k] = name as i16;
-    bodies[INDEX] = (count + 1) as i16;
 }
 
 // The body, which has no name, gets one that no body has.
@@ -216,7 +208,7 @@ pub fn enter_body(bodies: &mut [i16], name: usize, body: &[i32])
     if bodies.len() != BODY_WORDS {
         return;
     }
-    let place = place_of(bodies, body);
+    let place = place_of(body);
     let at = WIDTH * name;
     bodies[at] = (body.len() + 1) as i16;
     put_body(bodies, at + 1, body);

@@ -48,11 +48,14 @@ pub fn write(free: &mut [i32], origin: usize, literals: &[i32])
     words::copy(&mut free[HEADER..], literals);
 }
 
-// n words from `from` on are moved down to `to`.
+// n words from `from` on are moved down to `to`, where that is another place.
 fn move_down(words: &mut [i32], to: usize, from: usize, n: usize)
     requires { ⌜ (to ≤ from) × (from + n ≤ length (now words)) ⌝ }
     ensures { λ _. ⌜ MovedDown to from n (now (words .entry)) (now (words .exit)) ⌝ }
 {
+    if to == from {
+        return;
+    }
     let mut k = 0;
     while k < n {
         words[to + k] = words[from + k];
@@ -184,7 +187,7 @@ fn delete_near(
 {
     chains::unlink(index, chains::hash_of(literals), x, over);
     kill(store, x);
-    search::forget(store, x, &mut index[PROVED..]);
+    search::forget(x, &mut index[PROVED..]);
 }
 
 // The oldest live nogood that is the list of literals is dead.

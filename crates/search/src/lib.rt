@@ -41,7 +41,7 @@ pub const FIRST: usize = 82051;
 // All cells.
 pub const CELLS: usize = 82052;
 
-// What is added to a literal's order where the path needs it.
+// What is added to the place that gave a literal where the path needs that.
 const NEEDED: usize = 32768;
 
 // As many literals in their order are counted together.
@@ -111,7 +111,7 @@ fn opposite(c: usize) -> usize
     requires { ⌜ c ≤ 65535 ⌝ }
     ensures { λ r. ⌜ r ≤ 65535 ⌝ }
 {
-    if c < 8192 { c + 8192 } else { c - 8192 }
+    (c + 8192) % 16384
 }
 
 // The literal is true.
@@ -386,10 +386,11 @@ fn need(cells: &mut [u16], c: usize)
     if at == 0 {
         return;
     }
-    if at < NEEDED {
+    let reason = get(cells, REASON + at - 1);
+    if reason < NEEDED {
         let block = BLOCKS + (at - 1) / BLOCK;
         put(cells, block, get(cells, block) + 1);
-        put(cells, ORDER + c, at + NEEDED);
+        put(cells, REASON + at - 1, reason + NEEDED);
     }
 }
 
@@ -432,14 +433,13 @@ fn follow(store: &[i32], cells: &mut [u16], i: usize, first: usize) -> usize
     requires { ⌜ (i ≤ 8192) × (first ≤ 8192) ⌝ }
     ensures { λ r. ⌜ r ≤ 8192 ⌝ }
 {
-    let code = get(cells, TRAIL + i);
-    let at = get(cells, ORDER + code);
-    if at < NEEDED {
+    let reason = get(cells, REASON + i);
+    if reason < NEEDED {
         return first;
     }
-    put(cells, ORDER + code, at - NEEDED);
+    let x = reason - NEEDED;
+    put(cells, REASON + i, x);
     met(cells, i / BLOCK);
-    let x = get(cells, REASON + i);
     if x == 0 {
         return first;
     }
@@ -673,8 +673,8 @@ fn unhint(cells: &mut [u16], x: usize)
     }
 }
 
-// Nothing of the root rests on the nogood at x, which is dead now.
-pub fn forget(store: &[i32], x: usize, cells: &mut [u16]) {
+// Nothing of the root rests on the nogood at x, which is dead now. What it gave is the complement of a literal that it watches.
+pub fn forget(x: usize, cells: &mut [u16]) {
     if REACH <= x {
         return;
     }
@@ -682,15 +682,12 @@ pub fn forget(store: &[i32], x: usize, cells: &mut [u16]) {
     if count(cells) <= 1 {
         return;
     }
-    let end = end_of(store, x);
-    let mut j = x + 2;
-    while j < end {
-        let c = opposite(code_of(words::word_at(store, j)));
-        j += 1;
-        if withdraw(cells, x, c) {
-            return;
-        }
+    let first = get(cells, WATCHED + x);
+    if withdraw(cells, x, opposite(first)) {
+        return;
     }
+    let second = get(cells, WATCHED + x + 1);
+    withdraw(cells, x, opposite(second));
 }
 
 // The cells become 0.

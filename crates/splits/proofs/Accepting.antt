@@ -11,7 +11,8 @@ use Rattle.aspif.specs.Rules.{InputRule, expand, atoms}
 use Rattle.derivation.specs.States.{State, isAtom}
 use Rattle.nogoods.specs.Store.{Stored}
 use Rattle.checker.specs.Check.{Course, stopped, through, course}
-use Rattle.checker.specs.Held.{Tracks, Ended}
+use Rattle.steps.specs.Held.{Tracks}
+use Rattle.checker.specs.Held.{Ended}
 use Rattle.merging.specs.Claims.{demandingAsWritten}
 use Rattle.merging.proofs.AsWritten.{demanding-same-atoms}
 use Rattle.splits.specs.Service.{endsEmpty, isAccepted, areHalves}

@@ -26,7 +26,7 @@ use Rattle.aspif.proofs.Readable.{front-words, rules-back, all-zero, rules-form
 use Rattle.drupe.proofs.Lines.{drop-replicate}
 use Rattle.derivation.specs.States.{isAtom}
 use Rattle.names.specs.Queries.{HoldsRules}
-use Rattle.checker.specs.Held.{Program, NoBodies}
+use Rattle.steps.specs.Held.{Program, NoBodies}
 use Rattle.merging.specs.Claims.{demandingAsWritten}
 use Rattle.merging.proofs.AsWritten.{demanding-same-atoms}
 use Rattle.splits.specs.Halves.{demandWords}

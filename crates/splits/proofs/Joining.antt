@@ -28,9 +28,9 @@ use Rattle.derivation.specs.Steps as Steps
 use Rattle.nogoods.specs.Store.{Stored}
 use Rattle.names.specs.Queries.{entry, Kept, constraining}
 use Rattle.checker.specs.Check.{Course, stopped, through, thenStopped, runSteps, runRead, course}
-use Rattle.checker.specs.Held.{Program, nameOf}
-use Rattle.checker.proofs.Names.{name-high}
-use Rattle.checker.proofs.Tracking.{rules-held}
+use Rattle.steps.specs.Held.{Program, nameOf}
+use Rattle.steps.proofs.Names.{name-high}
+use Rattle.steps.proofs.Tracking.{rules-held}
 use Rattle.checker.proofs.Whole.{run-through}
 use Rattle.merging.specs.Merge.{demanding, namedIn, isBody, half, secondNames, merged, one, fits, allFit}
 use Rattle.merging.specs.Claims.{demandingAsWritten}

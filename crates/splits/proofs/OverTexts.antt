@@ -19,7 +19,8 @@ use Rattle.drupe.specs.Texts as Texts
 use Rattle.derivation.specs.States.{State, start, isAtom}
 use Rattle.derivation.specs.Steps.{Outcome, refused, next, step, emptyLive}
 use Rattle.nogoods.specs.Store.{Stored, storeWords}
-use Rattle.checker.specs.Check.{storedAfter, Course, stopped, through, thenStopped, fitting, runSteps, runRead, course, countsOf, judged, check}
+use Rattle.steps.specs.After.{storedAfter}
+use Rattle.checker.specs.Check.{Course, stopped, through, thenStopped, fitting, runSteps, runRead, course, countsOf, judged, check}
 use Rattle.checker.specs.declared.Counts.{Counts}
 use Rattle.checker.specs.declared.Verdict.the-variants.{Inconsistent, RefusedProof}
 use Rattle.checker.proofs.Whole.{course-written, steps-pass}

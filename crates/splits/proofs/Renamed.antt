@@ -29,8 +29,8 @@ use Rattle.derivation.specs.States.{Named, State, start, isAtom, isKnown}
 use Rattle.derivation.specs.Steps.{Outcome, refused, next, step}
 use Rattle.derivation.specs.Steps as Steps
 use Rattle.derivation.proofs.Questions.{known-decides}
-use Rattle.checker.specs.Held.{nameOf}
-use Rattle.checker.proofs.Names.{name-found}
+use Rattle.steps.specs.Held.{nameOf}
+use Rattle.steps.proofs.Names.{name-found}
 use Rattle.checker.proofs.Turns.{good-line}
 use Rattle.checker.proofs.Whole.{steps-pass}
 use Rattle.merging.specs.Merge.{demanding, isBody, namedBy, namedIn, introducedBy, introducedIn, Renamed, newName, free, otherName, bodyName, renamedBy, renaming, secondNames, isAmong, renamed, one, kept, half, allFit}

@@ -11,7 +11,8 @@ use Rattle.marks.specs.Marks.{marked}
 use Rattle.derivation.specs.States.{State, isKnown}
 use Rattle.nogoods.specs.Store.{Stored}
 use Rattle.checker.specs.Check.{through, course}
-use Rattle.checker.specs.Held.{Tracks, Ended}
+use Rattle.steps.specs.Held.{Tracks}
+use Rattle.checker.specs.Held.{Ended}
 use Rattle.merging.specs.Claims.{demandingAsWritten}
 use Rattle.splits.specs.Service.{endsEmpty, areHalves}
 

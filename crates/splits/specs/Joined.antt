@@ -12,7 +12,7 @@ use Rattle.text.specs.declared.Letter.the-variants.{Addition}
 use Rattle.aspif.specs.Rules.{Rule, InputRule}
 use Rattle.drupe.specs.Texts.{Step, textOf}
 use Rattle.derivation.specs.States.{isAtom}
-use Rattle.checker.specs.Held.{Program}
+use Rattle.steps.specs.Held.{Program}
 use Rattle.merging.specs.Merge.{isBody, half, one}
 use Rattle.splits.specs.Service.{areHalves, mergedSteps, isWritable}
 use Rattle.splits.specs.Standing.{isConstraint, HalfOf}

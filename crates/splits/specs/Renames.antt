@@ -22,7 +22,7 @@ use Rattle.derivation.specs.States.{Named, State, start, isAtom, isKnown}
 use Rattle.derivation.specs.Steps.{next}
 use Rattle.derivation.specs.Steps as Steps
 use Rattle.names.specs.Queries.{HoldsRules, Kept}
-use Rattle.checker.specs.Held.{nameOf}
+use Rattle.steps.specs.Held.{nameOf}
 use Rattle.merging.specs.Merge.{demanding, namedIn, secondNames, isAmong, half, allFit}
 use Rattle.splits.specs.declared.renames.RenameTurn.{RenameTurn}
 use Rattle.splits.specs.declared.renames.RenameTurn.the-variants.{Ends, Over, Goes}

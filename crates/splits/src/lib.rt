@@ -15,7 +15,7 @@ ghost use Rattle.words.specs.Limits.{longest, mostRules};
 ghost use Rattle.aspif.specs.Rules.{InputRule, programWords, tableWords};
 ghost use Rattle.aspif.specs.Reading.{program};
 ghost use Rattle.aspif.specs.Tables.{rulesAt};
-ghost use Rattle.checker.specs.Held.{Program};
+ghost use Rattle.steps.specs.Held.{Program};
 ghost use Rattle.splits.specs.Service.{leavesNothing, mergedReading, MergedHalves};
 ghost use Rattle.splits.specs.Joined.{WrittenBy};
 ghost use Rattle.splits.specs.Judging.{isInconsistent, judgedAs};

@@ -16,7 +16,7 @@ ghost use Rattle.derivation.specs.States.{State};
 ghost use Rattle.marks.specs.Marks.{marked};
 ghost use Rattle.names.specs.Queries.{HoldsRules, Kept};
 ghost use Rattle.heads.specs.Heads.{Indexed};
-ghost use Rattle.checker.specs.Held.{PassedLine};
+ghost use Rattle.steps.specs.Held.{PassedLine};
 ghost use Rattle.splits.specs.Renames.{Halves, RenamedAll, NextFree, OtherNamed, BodyNamed, LineRenamed, renameTurn, TurnRenamed, TurnBounds};
 use drupe::LineAnswer;
 use text::Letter;

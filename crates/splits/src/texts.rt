@@ -11,7 +11,7 @@ ghost use Rattle.aspif.specs.Rules.{InputRule, allPlain, programWords, expand};
 ghost use Rattle.aspif.specs.Tables.{rulesAt};
 ghost use Rattle.names.specs.Queries.{HoldsRules, Kept};
 ghost use Rattle.heads.specs.Heads.{Indexed};
-ghost use Rattle.checker.specs.Held.{Program, NoBodies};
+ghost use Rattle.steps.specs.Held.{Program, NoBodies};
 ghost use Rattle.splits.specs.Service.{mergedSteps};
 ghost use Rattle.splits.specs.Writing.{Writes};
 ghost use Rattle.splits.specs.Joined.{AddedTo, WrittenBy, writtenIn, HalfText, linesOf, closing, HalvesHeld};

@@ -5,7 +5,7 @@ use lib.IntN.{ℤ}
 use lib.ListN.{length}
 use Rattle.aspif.specs.Rules.{InputRule}
 use Rattle.drupe.specs.Texts.{textOf}
-use Rattle.checker.specs.Held.{Program}
+use Rattle.steps.specs.Held.{Program}
 use Rattle.checker.proofs.Verdicts.{zeros}
 use Rattle.aspif.specs.Reading.{program}
 use Rattle.splits.specs.Service.{mergedSteps, leavesNothing, mergedReading}

@@ -5,8 +5,9 @@ use lib.IntN.{ℤ, pos}
 use lib.ListN.{length, replicate}
 use Rattle.aspif.specs.Rules.{InputRule, expand, atoms}
 use Rattle.checker.specs.Check.{Course, course}
-use Rattle.checker.specs.Held.{Program, Ran}
-use Rattle.checker.proofs.Tracking.{rules-held}
+use Rattle.steps.specs.Held.{Program}
+use Rattle.checker.specs.Held.{Ran}
+use Rattle.steps.proofs.Tracking.{rules-held}
 use Rattle.checker.proofs.Origins.{course-live}
 use Rattle.checker.proofs.Verdicts.{too-long, ran-stopped, ran-through, judged-stopped, judged-through}
 use borrow.Author.Needs.{needs}

@@ -3,13 +3,14 @@ use mathlib.Core.List.{List, []}
 use Prim.Native.Nat.{ℕ, _+_, _-_, _<_}
 use native.Mathlib.Omega.{arith}
 use lib.IntN.{ℤ, pos}
-use lib.ListN.{length, length-replicate}
+use lib.ListN.{length, replicate, length-replicate}
 use Rattle.aspif.specs.Rules.{InputRule}
-use Rattle.words.specs.Limits.{mostNumbers}
+use Rattle.words.specs.Limits.{entries, mostNumbers}
 use Rattle.text.specs.Classes.{byteClasses}
 use Rattle.drupe.specs.Lines.{lineAt}
-use Rattle.checker.specs.Held.{Program, LineLeaves}
-use Rattle.checker.proofs.Tracking.{same-rules, rules-held, start-tracks}
+use Rattle.steps.specs.Held.{Program}
+use Rattle.checker.specs.Held.{LineLeaves}
+use Rattle.steps.proofs.Tracking.{same-rules, rules-held, start-tracks}
 use Rattle.checker.proofs.Courses.{Going, going-start, going-ends, going-fails, going-on}
 use Rattle.nogoods.specs.Index.{indexSize}
 use Rattle.nogoods.proofs.Indexing.{blank-zeros}
@@ -18,17 +19,17 @@ use Rattle.checker.proofs.runs.run_lines.Statement.{statement}
 use Rattle.checker.proofs.runs.run_lines.Tie as tie
 
 abbrev Inv-loop : tie.InvT-loop
-Inv-loop proof table rules lookup relevant atoms known₀ names₀ bodies₀ store₀ classes numbers₀ sorted₀ index₀ used₀ at₀ steps₀ known names bodies store numbers sorted index used at steps =
+Inv-loop proof table rules lookup relevant atoms known₀ names₀ bodies₀ store₀ classes numbers₀ sorted₀ index₀ assignment₀ used₀ at₀ steps₀ known names bodies store numbers sorted index assignment used at steps =
     (ws : List InputRule) × Program table rules atoms ws × Going atoms ws (length store₀) proof store index known names bodies used at steps × (length known ≡ length known₀) × (length names ≡ length names₀)
-    × (length bodies ≡ length bodies₀) × (length numbers ≡ mostNumbers) × (length sorted ≡ mostNumbers)
+    × (length bodies ≡ length bodies₀) × (length numbers ≡ mostNumbers) × (length sorted ≡ mostNumbers) × (assignment ≡ replicate entries 0)
 
 abbrev μ-loop : tie.MeasureT-loop
-μ-loop proof table rules lookup relevant atoms known₀ names₀ bodies₀ store₀ classes numbers₀ sorted₀ index₀ used₀ at₀ steps₀ known names bodies store numbers sorted index used at steps = length proof - at
+μ-loop proof table rules lookup relevant atoms known₀ names₀ bodies₀ store₀ classes numbers₀ sorted₀ index₀ assignment₀ used₀ at₀ steps₀ known names bodies store numbers sorted index assignment used at steps = length proof - at
 
 -- where the loop stands, and what the turn there left
 module _ (c : tie.After-turn-at Inv-loop μ-loop) where
   abbrev l : tie.At-loop Inv-loop μ-loop
-  l = c .before .before .before .before .before .before .before .before .before
+  l = c .before .before .before .before .before .before .before .before .before .before
 
   abbrev start : tie.Start Inv-loop μ-loop
   start = l .before .before .before .before .before .before .before
@@ -57,7 +58,7 @@ module _ (c : tie.After-turn-at Inv-loop μ-loop) where
   turned : LineLeaves (start .args .atoms) ws known′ names′ bodies′ store′ index′ (l .loop .used) (l .loop .steps + 1) (length (start .args .store .now)) (G .z) (G .stored) (lineAt (start .args .proof .now) (l .loop .at)) (c .turn-at .result)
   turned =
       subst (λ n. LineLeaves (start .args .atoms) ws known′ names′ bodies′ store′ index′ (l .loop .used) (l .loop .steps + 1) n (G .z) (G .stored) (lineAt (start .args .proof .now) (l .loop .at)) (c .turn-at .result))
-      (G .long) (c .turn-at .ensures ws (l .loop .inv .1) (G .z) (G .stored) (G .tracks) (G .keeps))
+      (G .long) (c .turn-at .ensures .0 ws (l .loop .inv .1) (G .z) (G .stored) (G .tracks) (G .keeps))
 
   -- as many words as were lent
   same-known : length known′ ≡ length (start .args .known .now)
@@ -85,7 +86,7 @@ loop-holds c =
     let p = q .0 .0 .1 in
     let b = q .1 .1 .1 in
     let s = c .start .ensures in
-    rw (s .0, s .1, s .2) (q .0 .0 .0, p, going-start _ _ _ _ (rw (b .0 .1) (start-tracks (b .0 .0) (omega (arith, q .0 .1, rules-held (p .holds))) (rw (← p .holds .are) (b .1 .0)))) (b .1 .1 .1) refl (length-replicate {A = ℕ} indexSize 0) (blank-zeros indexSize), refl, refl, refl, length-replicate {A = ℤ} mostNumbers (pos 0), length-replicate {A = ℤ} mostNumbers (pos 0))
+    rw (s .0, s .1, s .2) (q .0 .0 .0, p, going-start _ _ _ _ (rw (b .0 .1) (start-tracks (b .0 .0) (omega (arith, q .0 .1, rules-held (p .holds))) (rw (← p .holds .are) (b .1 .0)))) (b .1 .1 .1) refl (length-replicate {A = ℕ} indexSize 0) (blank-zeros indexSize), refl, refl, refl, length-replicate {A = ℤ} mostNumbers (pos 0), length-replicate {A = ℤ} mostNumbers (pos 0), refl)
 
 -- the number of the next step
 add-step : tie.Need-add-step Inv-loop μ-loop
@@ -103,9 +104,9 @@ slice-aggregate-turn-at-2 c = let p = c .before .before .before .loop .inv .7 in
 turn-at-requires : tie.Need-turn-at-requires Inv-loop μ-loop
 unfolding byteClasses
 turn-at-requires c κs =
-    let i = c .before .before .before .before .before .before .before .before .loop .inv in
-    let p = c .before .before .before .before .before .before .before .before .before .before .before .before .before .before .before .pre in
-    ((i .0, i .2 .z, i .1, i .2 .tracks), (p .1 .0, (p .1 .1 .0, (((i .2 .stored, i .2 .keeps .keeps), omega (arith, i .2 .count)), (p .1 .1 .1 .1 .1 .0, (refl, (i .6, i .7)))))))
+    let i = c .before .before .before .before .before .before .before .before .before .loop .inv in
+    let p = c .before .before .before .before .before .before .before .before .before .before .before .before .before .before .before .before .pre in
+    ((i .0, i .2 .z, i .1, i .2 .tracks), (p .1 .0, (p .1 .1 .0, (((i .2 .stored, i .2 .keeps .keeps), omega (arith, i .2 .count)), (p .1 .1 .1 .1 .1 .0, (refl, ((i .6, i .7), i .8)))))))
 
 enum-told : tie.Need-enum-told Inv-loop μ-loop
 enum-told c = search needs
@@ -134,7 +135,7 @@ loop-again : tie.Need-loop-again Inv-loop μ-loop
 loop-again c =
     let t = c .before .before .before .before .before .before .before .before .before .before .before in
     let i = l t .loop .inv in
-    (i .0, i .1, onward c .0, same-known t, same-names t, same-bodies t, same-numbers t, same-sorted t)
+    (i .0, i .1, onward c .0, same-known t, same-names t, same-bodies t, same-numbers t, same-sorted t, t .turn-at .ensures .1)
 
 pub run-lines-spec : {M : Type 1} → statement M
 run-lines-spec =

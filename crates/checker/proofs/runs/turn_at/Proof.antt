@@ -5,9 +5,9 @@ use mathlib.Core.Option.{none}
 use Prim.Native.Nat.{_≤_}
 use native.Mathlib.Omega.{arith}
 use lib.IntN.{ℤ, pos}
-use lib.ListN.{length, take}
+use lib.ListN.{length, take, replicate}
 use lib.Seq.{length-take-le}
-use Rattle.words.specs.Limits.{longest}
+use Rattle.words.specs.Limits.{longest, entries}
 use Rattle.words.specs.Literals.{has}
 use Rattle.aspif.specs.Rules.{expand}
 use Rattle.drupe.specs.Lines.{lineRefusal, line, lineAt}
@@ -40,7 +40,7 @@ module _ (c : tie.After-answer2) where
   room =
       let u = into-room (b .read-into .ensures) (c .answer2 .given .1) in
       let k = b .read-into .kept in
-      let r = start .pre .1 .1 .1 .1 .1 .1 in
+      let r = start .pre .1 .1 .1 .1 .1 .1 .0 in
       (omega (arith, u .2, k .1 .1 .1 .0, r .0), omega (arith, u .2, k .1 .1 .1 .1 .0, r .1))
 
   -- the step's number is at most that of the bytes
@@ -67,23 +67,34 @@ slice-aggregate-step-2 c = sym (length-take-le _ _ (room (c .before .before .bef
 
 step-requires : tie.Need-step-requires
 step-requires c κs =
-    let d = c .before .before .before .before .before .before .before .before in
+    let d = c .before .before .before .before .before .before .before .before .before in
     let s = start d in
-    (s .pre .0, (s .pre .1 .0, (s .pre .1 .1 .0, ((s .pre .1 .1 .1 .0 .0, numbered d), (good-line _ _ (good d .0) (good d .1), into-sorted (b d .read-into .ensures) (d .answer2 .given .1))))))
+    (s .pre .0, (s .pre .1 .0, (s .pre .1 .1 .0, ((s .pre .1 .1 .1 .0 .0, numbered d), (good-line _ _ (good d .0) (good d .1), (into-sorted (b d .read-into .ensures) (d .answer2 .given .1), s .pre .1 .1 .1 .1 .1 .1 .1))))))
+
+-- where there is no step the assignment is as it was
+free : (c : tie.After-read-into) → c .before .before .before .before .before .before .before .before .args .assignment .now ≡ replicate entries 0
+free c = c .before .before .before .before .before .before .before .before .pre .1 .1 .1 .1 .1 .1 .1
 
 returns : tie.Need-returns
-returns c = λ ws p z stored T K. rw (into-told (c .before .before .before .before .read-into .ensures) (c .enum-told .given .1)) (refl, K .keeps .holds, T)
+returns c =
+    let o = c .before .before .before .before in
+    (λ ws p z stored T K. rw (into-told (o .read-into .ensures) (c .enum-told .given .1)) (refl, K .keeps .holds, T), free o)
 
 returns-2 : tie.Need-returns-2
-returns-2 c = λ ws p z stored T K. rw (into-told (c .before .before .before .before .before .read-into .ensures) (c .before .answer .given .1)) refl
+returns-2 c =
+    let o = c .before .before .before .before .before in
+    (λ ws p z stored T K. rw (into-told (o .read-into .ensures) (c .before .answer .given .1)) refl, free o)
 
 returns-3 : tie.Need-returns-3
-returns-3 c = λ ws p z stored T K.
+returns-3 c =
     let t = c .before .before .before .before .before .before .before .before .step in
-    let d = c .before .before .before .before .before .before .before .before .before .before .before .before .before .before .before .before .before in
+    let d = c .before .before .before .before .before .before .before .before .before .before .before .before .before .before .before .before .before .before in
     let g = d .answer2 .given .0 in
-    let zs = take (g .1 .0) (numbers d) in
-    rw (there d, step-is (g .0) zs (good d .0) (good d .1) (start d .args .atoms) (expand ws) z) (t .result, c .turn-of .ensures, t .ensures ws p z stored T K)
+    let zs = take (g .1 .0) (numbers d) in (
+      λ ws p z stored T K.
+          rw (there d, step-is (g .0) zs (good d .0) (good d .1) (start d .args .atoms) (expand ws) z) (t .result, c .turn-of .ensures, t .ensures .0 ws p z stored T K),
+      t .ensures .1,
+    )
 
 pub turn-at-spec : {M : Type 1} → statement M
 turn-at-spec =

@@ -1,7 +1,7 @@
 use mathlib.Core.Path.{_≡_, refl, sym, ap, _∙_}
 use mathlib.Core.Bool.{_&&_}
 use mathlib.Core.List.{List, [], _∷_}
-use Prim.Native.Nat.{ℕ, _+_, _-_, _≤_, _<_}
+use Prim.Native.Nat.{ℕ, suc, _+_, _-_, _≤_, _<_}
 use native.Mathlib.Omega.{arith}
 use lib.IntN.{ℤ, pos}
 use lib.ListN.{length, take, drop, getD}
@@ -12,10 +12,10 @@ use Rattle.words.proofs.Lists.{passed}
 use Rattle.words.proofs.Places.{in-at}
 use Rattle.words.proofs.Words.{back}
 use Rattle.derivation.proofs.Questions.{positive-is}
-use Rattle.loops.specs.Edges.{isAt}
-use Rattle.loops.proofs.Placing.{placed-low}
+use Rattle.loops.specs.Edges.{placeBy, isAt}
+use Rattle.loops.proofs.Placing.{placed-low, place-there, place-part}
 use Rattle.loops.proofs.EdgeMarks.{Filling, filling-on, filled}
-use Rattle.loops.proofs.Chained.{edgesAll, numbers-left, number-split, one-number}
+use Rattle.loops.proofs.Chained.{edgesAll, numbers-left, number-split}
 use borrow.Author.Needs.{needs}
 use Rattle.loops.proofs.edges.look_up.Statement.{statement}
 use Rattle.loops.proofs.edges.look_up.Tie as tie
@@ -62,16 +62,26 @@ module _ (c : tie.After-variable-of Inv-loop μ-loop) where
   atom : x ≡ pos (c .variable-of .result)
   atom = positive-is x (passed _ .from (s .pre .1 .0 .positive x among)) ∙ ap pos (sym tells)
 
-  part : take (j + 1 - j) (drop j U) ≡ x ∷ []
-  part = one-number U j (j + 1 - j) taken (omega arith)
+  abbrev m : List ℕ
+  m = s .args .places .now
+
+  placed : placeBy m (pos (c .variable-of .result)) ≡ suc j
+  placed = sym (ap (placeBy m) atom) ∙ s .pre .1 .1 .from j taken
+
+  there : c .variable-of .result < length m
+  there = place-there m (c .variable-of .result) placed
+
+  part : (n : ℕ) → n ≡ 1 → take n (drop (c .variable-of .result) m) ≡ placeBy m (pos (c .variable-of .result)) ∷ []
+  part n e = place-part m (c .variable-of .result) placed n e
 
 mark-chain-requires : tie.Need-mark-chain-requires Inv-loop μ-loop
 mark-chain-requires c κs =
     let v = c .before .before in
-    let p = s v .pre in (
+    let p = s v .pre in
+    let a = v .variable-of .result in (
       p .0,
       (
-        (part v ∙ ap (λ y. y ∷ []) (atom v), omega (arith, tells v, p .1 .0 .high (x v) (among v))),
+        (part v (a + 1 - a) (omega arith), omega (arith, tells v, p .1 .0 .high (x v) (among v))),
         (i v .before .loop .inv .1 .long, placed-low (p .1 .0 .few) (p .1 .1), (U v, p .1 .1)),
       ),
     )
@@ -82,7 +92,7 @@ loop-again c =
     let a = s v .args in (
       omega (arith, taken v),
       filling-on (i v .before .loop .inv .1) (c .before .mark-chain .ensures)
-          (number-split (a .table .now) (a .rules) (a .places .now) (U v) _ (j v) (taken v) (part v)),
+          (number-split (a .table .now) (a .rules) (a .places .now) (U v) _ (j v) (taken v) (ap (λ y. y ∷ []) (sym (atom v)))),
     )
 
 returns : tie.Need-returns Inv-loop μ-loop
@@ -101,11 +111,10 @@ look-up-spec =
     (λ c. search needs)
     (λ c. search needs)
     (λ c κs. search needs)
-    (λ c. let r = taken c in search needs)
-    (λ c. let r = taken c in search needs)
+    (λ c. let r = there c in search needs)
     (λ c. search needs)
-    (λ c. search needs)
-    (λ c. let r = taken c in search needs)
+    (λ c. let r = there c in search needs)
+    (λ c. let r = there c in search needs)
     (λ c. sym (c .before .before .before .before .before .loop .inv .1 .long))
     mark-chain-requires
     (λ c. search needs)

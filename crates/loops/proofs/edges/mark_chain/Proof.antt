@@ -1,14 +1,16 @@
 -- The walk along the chain of the atom: the edges of each rule of it that is not ahead are marked.
-use mathlib.Core.Path.{_≡_, sym, ap, subst, _∙_}
+use mathlib.Core.Path.{_≡_, refl, sym, ap, subst, _∙_}
 use mathlib.Core.Bool.{true}
-use mathlib.Core.List.{List}
+use mathlib.Core.List.{List, [], _∷_, List·Memᴰ·eq-of-singleton}
 use Prim.Native.Nat.{ℕ, suc, _-_, _<_}
 use native.Mathlib.Omega.{arith}
-use lib.IntN.{ℤ}
+use lib.IntN.{ℤ, pos}
+use Rattle.words.specs.Lists.{_∈_}
 use Rattle.aspif.specs.Tables.{bodyWordsAt, shapeSound}
 use Rattle.heads.specs.Heads.{wordsFrom, Headed, headedTo, headedAt, Place, HasHead}
 use Rattle.heads.proofs.Starts.{rule-here, head-of, all-seen}
 use Rattle.heads.proofs.Walks.{Walk, walk-from, walk-on, next-less}
+use Rattle.loops.specs.Edges.{LowPlaces}
 use Rattle.loops.proofs.Chained.{Drawn, Drawing, drawing-start, drawing-on, drawn-keeps, drawn-here, drawing-end}
 use borrow.Author.Needs.{needs}
 use Rattle.loops.proofs.edges.mark_chain.Statement.{statement}
@@ -16,24 +18,24 @@ use Rattle.loops.proofs.edges.mark_chain.Tie as tie
 
 abbrev Inv-loop : tie.InvT-loop
 Inv-loop table rules lookup head v places edges₀ p₀ edges p =
-    Drawing table rules places head edges₀ edges
-    × Walk (Place (headedTo rules table)) (Place (headedTo rules table)) v (λ x. Drawn table rules places head edges (headedAt (headedTo rules table) x .rule)) p
+    Drawing table rules places (pos v ∷ []) edges₀ edges
+    × Walk (Place (headedTo rules table)) (Place (headedTo rules table)) v (λ x. Drawn table rules places (pos v ∷ []) edges (headedAt (headedTo rules table) x .rule)) p
 
 abbrev μ-loop : tie.MeasureT-loop
 μ-loop table rules lookup head v places edges₀ p₀ edges p = p
 
 loop-holds : tie.Need-loop-holds Inv-loop μ-loop
 loop-holds c =
-    let s = c .before .before .before .before in
+    let s = c .before .before .before .before .before in
     let a = s .args in (
-      drawing-start (a .table .now) (a .rules) (a .places .now) (a .head .now) (a .edges .now) (s .pre .1 .1 .0),
+      drawing-start (a .table .now) (a .rules) (a .places .now) (pos (a .v) ∷ []) (a .edges .now) (s .pre .1 .1 .0),
       walk-from (s .pre .0 .0 .entered .heads .chains) (omega (arith, s .pre .1 .0)) (c .first-head .ensures),
     )
 
 -- the place at hand, and its rule
 module _ (c : tie.In-loop Inv-loop μ-loop) where
   abbrev s : tie.Start Inv-loop μ-loop
-  s = c .before .before .before .before .before .before
+  s = c .before .before .before .before .before .before .before
 
   abbrev t : List ℤ
   t = s .args .table .now
@@ -71,7 +73,9 @@ body-of-requires c κs = subst (λ ws. shapeSound ws ≡ true) (sym (c .words-of
 mark-body-requires : tie.Need-mark-body-requires Inv-loop μ-loop
 mark-body-requires c κs =
     let i = c .before .before .before in
-    (i .before .loop .inv .0 .long, s i .pre .1 .1 .1)
+    let low : LowPlaces (s i .args .head .now) = λ p m.
+    rw (List·Memᴰ·eq-of-singleton (subst (λ l. p ∈ l) (s i .pre .1 .0 .0) m)) (s i .pre .1 .1 .1 (pos (s i .args .v))) in
+    (i .before .loop .inv .0 .long, s i .pre .1 .1 .1, low)
 
 -- what the call marks
 module _ (c : tie.After-mark-body Inv-loop μ-loop) where
@@ -102,24 +106,23 @@ loop-again c =
     let i = d m in
     let a = s i .args in
     let p = s i .pre .0 .0 .plain in
-    let one = s i .pre .1 .0 .0 in
-    let M = m .mark-body .ensures in (
-      drawing-on (t i) (a .rules) (a .places .now) p one (headed i) (body m) M (i .before .loop .inv .0),
+    let M = rw (s i .pre .1 .0 .0) at (m .mark-body .ensures) in (
+      drawing-on (t i) (a .rules) (a .places .now) p refl (headed i) (body m) M (i .before .loop .inv .0),
       walk-on (s i .pre .0 .0 .entered .heads .chains) (i .before .loop .inv .1) (is i) (c .next-head .ensures)
-          (λ y f. drawn-keeps (t i) (a .rules) (a .places .now) p one (headed i) (body m) M _ f)
-          (λ q. drawn-here (t i) (a .rules) (a .places .now) p one (headed i) (body m) M),
+          (λ y f. drawn-keeps (t i) (a .rules) (a .places .now) p refl (headed i) (body m) M _ f)
+          (λ q. drawn-here (t i) (a .rules) (a .places .now) p refl (headed i) (body m) M),
     )
 
 same-length : tie.Need-same-length Inv-loop μ-loop
-same-length c = c .before .loop .inv .0 .long ∙ sym (c .before .before .before .before .before .before .pre .1 .1 .0)
+same-length c = c .before .loop .inv .0 .long ∙ sym (c .before .before .before .before .before .before .before .pre .1 .1 .0)
 
 returns : tie.Need-returns Inv-loop μ-loop
 returns c =
-    let s = c .before .before .before .before .before .before in
+    let s = c .before .before .before .before .before .before .before in
     let a = s .args in
     let l = c .before .loop in
-    drawing-end (a .table .now) (a .rules) (a .places .now) (s .pre .0 .0 .plain) (s .pre .1 .0 .0) (s .pre .1 .1 .2 .1) (l .inv .0)
-    (all-seen (a .table .now) (a .rules) (a .v) (Drawn (a .table .now) (a .rules) (a .places .now) (a .head .now) (l .edges)) (l .p) (c .loop-test .left) (l .inv .1))
+    drawing-end (a .table .now) (a .rules) (a .places .now) (s .pre .0 .0 .plain) refl (s .pre .1 .1 .2 .1) (l .inv .0)
+    (all-seen (a .table .now) (a .rules) (a .v) (Drawn (a .table .now) (a .rules) (a .places .now) (pos (a .v) ∷ []) (l .edges)) (l .p) (c .loop-test .left) (l .inv .1))
 
 pub mark-chain-spec : {M : Type 1} → statement M
 mark-chain-spec =

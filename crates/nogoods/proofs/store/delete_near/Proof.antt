@@ -24,7 +24,7 @@ kill-requires c κs =
 
 module _ (c : tie.After-slice-known3) where
   abbrev u : tie.After-unlink
-  u = c .before .before .before .before .before .before .before .before .before .before
+  u = c .before .before .before .before .before .before .before .before .before
 
   abbrev s : tie.Start
   s = u .before .before .before .before
@@ -32,9 +32,9 @@ module _ (c : tie.After-slice-known3) where
   long : length (u .unlink .last .0) ≡ indexSize
   long = u .unlink .kept .0 ∙ s .pre .1 .size
 
-room : (c : tie.After-forget-arg) → provedCells ≤ length (c .before .before .before .before .before .before .unlink .last .0)
+room : (c : tie.After-store) → provedCells ≤ length (c .before .before .before .before .before .unlink .last .0)
 room c =
-    let k = c .before .before .before .before .before .before in
+    let k = c .before .before .before .before .before in
     omega (arith, k .unlink .kept .0, k .before .before .before .before .pre .1 .size)
 
 sub-forget : tie.Need-sub-forget
@@ -44,13 +44,13 @@ part-forget-start : tie.Need-part-forget-start
 part-forget-start c = room c
 
 same-length-2 : tie.Need-same-length-2
-same-length-2 c = length-part (u c .unlink .last .0) (c .before .before .forget .last .1 .1 .0) (long c) (c .before .before .forget .kept .1 .1 .0) ∙ u c .unlink .kept .0
+same-length-2 c = length-part (u c .unlink .last .0) (c .before .before .forget .last .1 .0) (long c) (c .before .before .forget .kept .1 .0) ∙ u c .unlink .kept .0
 
 returns : tie.Need-returns
 returns c stored K t =
-    let k = c .before .before .before .before .before .before .kill in
+    let k = c .before .before .before .before .before .kill in
     let H = hit 0 _ (s c .args .literals .now) stored (near-found _ K _ _ t) in
-    keeps-part (u c .unlink .last .0) (c .before .before .forget .last .1 .1 .0) (long c) (c .before .before .forget .kept .1 .1 .0)
+    keeps-part (u c .unlink .last .0) (c .before .before .forget .last .1 .0) (long c) (c .before .before .forget .kept .1 .0)
     (keeps-near _ K _ _ t (k .last .0) (u c .unlink .last .0) _ (u c .before .hash-of .ensures .0) (u c .unlink .ensures) (rw (k .ensures) (hit-killed (K .holds) H)))
 
 pub delete-near-spec : {M : Type 1} → statement M

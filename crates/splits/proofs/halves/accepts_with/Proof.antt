@@ -7,7 +7,7 @@ use lib.ListN.{length, replicate, length-replicate}
 use mir.Facts.{toZ-ofZ}
 use Rattle.words.specs.Literals.{complement}
 use Rattle.aspif.specs.Rules.{InputRule}
-use Rattle.checker.specs.Held.{Program}
+use Rattle.steps.specs.Held.{Program}
 use Rattle.merging.specs.Claims.{demandingAsWritten}
 use Rattle.splits.proofs.Demands.{demanded, demanded-bodies}
 use borrow.Author.Needs.{needs}

@@ -9,7 +9,7 @@ use Rattle.text.specs.Classes.{byteClasses}
 use Rattle.aspif.specs.Rules.{InputRule}
 use Rattle.drupe.specs.Texts.{Step}
 use Rattle.derivation.specs.States.{State}
-use Rattle.checker.specs.Held.{nameOf}
+use Rattle.steps.specs.Held.{nameOf}
 use Rattle.merging.specs.Merge.{namedIn}
 use Rattle.splits.specs.Renames.{Halves, TurnBounds}
 use Rattle.splits.proofs.Renamed.{Walked, walked-start, turn-ends, turn-over, turn-on}

@@ -6,8 +6,8 @@ use Rattle.words.specs.Literals.{variable}
 use Rattle.words.proofs.Words.{back}
 use Rattle.text.specs.declared.Letter.{Letter}
 use Rattle.text.specs.declared.Letter.the-variants.{Body, Extension}
-use Rattle.checker.specs.Held.{PassedLine}
-use Rattle.checker.proofs.Letters.{first, some-number, first-high}
+use Rattle.steps.specs.Held.{PassedLine}
+use Rattle.steps.proofs.Letters.{first, some-number, first-high}
 use borrow.Author.Needs.{needs}
 use Rattle.splits.proofs.renames.rename_line.Statement.{statement}
 use Rattle.splits.proofs.renames.rename_line.Tie as tie

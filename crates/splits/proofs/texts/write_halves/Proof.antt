@@ -7,7 +7,7 @@ use borrow.Author.Tests.{not-true, not-false}
 use lib.ListN.{length, length-replicate}
 use Rattle.words.specs.Limits.{entries}
 use Rattle.aspif.specs.Rules.{InputRule}
-use Rattle.checker.specs.Held.{Program}
+use Rattle.steps.specs.Held.{Program}
 use Rattle.splits.specs.Halves.{HalvesChecked}
 use Rattle.splits.specs.Joined.{WrittenBy, HalvesHeld}
 use Rattle.splits.proofs.Joining.{halves-kept, text-written}

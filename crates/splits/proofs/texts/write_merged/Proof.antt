@@ -13,7 +13,7 @@ use Rattle.words.specs.Limits.{largest, entries}
 use Rattle.words.specs.Literals.{complement}
 use Rattle.marks.proofs.Sets.{none-marked}
 use Rattle.aspif.specs.Rules.{expand}
-use Rattle.checker.specs.Held.{nameOf}
+use Rattle.steps.specs.Held.{nameOf}
 use Rattle.merging.specs.Merge.{namedIn}
 use Rattle.splits.specs.Service.{stepsIn}
 use Rattle.splits.specs.Writing.{Writes}
