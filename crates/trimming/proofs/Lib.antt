@@ -1,0 +1,4 @@
+-- What trimming leaves.
+pub mod Passes
+pub mod Proofs
+pub mod Examples
