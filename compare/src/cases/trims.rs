@@ -1,6 +1,7 @@
 //! Proofs to be trimmed: the worked cases of Change 10 of document 02 with what is left of each, cases at the limits, and random refutations
-//! with steps put in that they do not need.
+//! with steps put in that they do not need, or only for room in the store.
 
+use inputs::lines::line_of;
 use inputs::random::Random;
 use inputs::rules::program_text;
 use inputs::{Pair, ROOM};
@@ -9,7 +10,9 @@ use super::fixed::{program, proof, PROOF_1, RULE_1};
 use super::halves::{any_rules, with_more};
 use super::merges::{closed, refused_texts};
 use super::refutations::{refute, Author, Found};
-use crate::reference::program::read;
+use crate::reference::lines::{lines_of, Line};
+use crate::reference::program::{read, Program};
+use crate::reference::trim::is_accepted;
 use crate::reference::trim::Answer::{self, Refused, RefusedProgram, Trimmed};
 use crate::reference::{filled, LINE_LIMIT, TEXT_LIMIT};
 
@@ -143,8 +146,29 @@ pub fn refutation(random: &mut Random) -> Option<Pair> {
         let mut author = Author::of(&program);
         let at_first = if program.plain.len() > 100 { 0 } else { *random.pick(&[100, 100, 60, 0]) };
         let found = refute(&mut author, random, at_first);
-        (found == Found::Refutation).then(|| Pair::of(&text, with_more(&program, &author.text(), random)))
+        let put_in = if random.percent(30) { with_deletions } else { with_more };
+        (found == Found::Refutation).then(|| Pair::of(&text, put_in(&program, &author.text(), random)))
     })
+}
+
+/// The proof with deletions of nogoods that no later line needs, so that it takes less of the store.
+fn with_deletions(program: &Program, text: &[u8], random: &mut Random) -> Vec<u8> {
+    let lines = lines_of(text).unwrap_or_default();
+    let line_text = |line: &Line| line_of(line.letter, &line.numbers).into_bytes();
+    let mut author = Author::of(program);
+    for (place, line) in lines.iter().enumerate() {
+        let _ = author.write(line.letter, &line.numbers);
+        let rest: Vec<u8> = lines[place + 1..].iter().flat_map(line_text).collect();
+        while random.percent(70) {
+            let live: Vec<Vec<i32>> = author.state.live().into_iter().map(<[i32]>::to_vec).collect();
+            let Some(nogood) = (!live.is_empty()).then(|| random.pick(&live)) else { break };
+            let whole = [author.text(), line_of(b'd', nogood).into_bytes(), rest.clone()].concat();
+            if is_accepted(program, &whole, ROOM) {
+                let _ = author.write(b'd', nogood);
+            }
+        }
+    }
+    author.text()
 }
 
 #[cfg(test)]

@@ -48,7 +48,7 @@ pub fn trim(program_text: &[u8], proof_text: &[u8], table_room: usize, store_roo
 }
 
 /// "a proof with verdict "inconsistent" (called accepted from here on)", with the lent store.
-fn is_accepted(program: &Program, text: &[u8], store_room: usize) -> bool {
+pub fn is_accepted(program: &Program, text: &[u8], store_room: usize) -> bool {
     run(program, text, store_room).is_ok_and(|ran| ran.state.has_empty())
 }
 
