@@ -25,13 +25,8 @@ pub struct Trimming {
 /// The service, lent a table and a store of so many words. "An input that isn't accepted itself is handed back untouched with 60, asked right
 /// after the program's own questions; a program refusal leaves the text untouched too."
 pub fn trim(program_text: &[u8], proof_text: &[u8], table_room: usize, store_room: usize) -> Trimming {
-    let untouched = |answer| Trimming {
-        answer,
-        text: proof_text.to_vec(),
-        table: vec![0; table_room],
-        store: vec![0; store_room],
-        passes: 0,
-    };
+    let untouched =
+        |answer| Trimming { answer, text: proof_text.to_vec(), table: vec![0; table_room], store: vec![0; store_room], passes: 0 };
     let program = match read(program_text, table_room) {
         Ok(program) => program,
         Err((number, line)) => return untouched(Answer::RefusedProgram { number, line }),
@@ -80,6 +75,23 @@ fn needed<'a>(mut steps: Vec<&'a [u8]>, accepted: impl Fn(&[&'a [u8]]) -> bool) 
 #[cfg(test)]
 mod tests {
     use super::*;
+
+    const PROGRAM: &[u8] = b"asp 1 0 0\n1 0 1 1 0 1 -1\n0\n";
+
+    /// The pass does not start again with the last step after a removal: `a -2` is left, and not `a 1`.
+    #[test]
+    fn worked_case_by_its_bytes_and_words() {
+        let proof = b"b 2 -1 0\nc 2 1 0\ns 1 2 0\na 1 0\nd 1 0\na -2 0\na 0\n";
+        let left = b"b 2 -1 0\nc 2 1 0\ns 1 2 0\na -2 0\na 0\n";
+        let trimming = trim(PROGRAM, proof, 7, 24);
+        assert_eq!((trimming.answer, trimming.passes), (Answer::Trimmed(36), 2));
+        assert_eq!(trimming.text, filled(left.to_vec(), 48));
+        assert_eq!(trimming.table, [0, 1, 0, 1, 1, -1, 0]);
+        assert_eq!(trimming.store, [1, 2, -1, -2, 1, 2, 1, 2, 2, 2, -1, 2, 3, 2, 1, -2, 4, 1, -2, 5, 0, 0, 0, 0]);
+        let open = [&left[..], b"d 0\n"].concat();
+        let untouched = Trimming { answer: Answer::Refused(60), text: open.clone(), table: vec![0; 6], store: vec![0; 99], passes: 0 };
+        assert_eq!(trim(PROGRAM, &open, 6, 99), untouched);
+    }
 
     /// Of a list that is accepted where it has a `c`, or an `a` before a `b`; each pass goes from the last to the first.
     #[test]
