@@ -109,21 +109,21 @@ within-line front t i h k e =
 
 -- Going back to it
 
-module _ (text : List ℕ) (end : ℕ) (inside : end ≤ length text) where
-  -- the line that ends at `end` begins at `start` or before
-  abbrev pub NoLater : ℕ → Type 0
-  NoLater start = (front : List Step) (t : Step) → take end text ≡ textOf (front ++ (t ∷ [])) → length (textOf front) ≤ start
+-- the line that ends at `end` begins at `start` or before
+abbrev pub NoLater : (text : List ℕ) → (end start : ℕ) → Type 0
+NoLater text end start = (front : List Step) (t : Step) → take end text ≡ textOf (front ++ (t ∷ [])) → length (textOf front) ≤ start
 
+module _ (text : List ℕ) (end : ℕ) (inside : end ≤ length text) where
   long : (front : List Step) (t : Step) → take end text ≡ textOf (front ++ (t ∷ [])) → end ≡ length (textOf front ++ stepText t)
   long front t p = sym (length-take-le end text inside) ∙ ap length (p ∙ text-last front t)
 
   byte : (front : List Step) (t : Step) → take end text ≡ textOf (front ++ (t ∷ [])) → (i : ℕ) → i < end → getD text i 0 ≡ getD (textOf front ++ stepText t) i 0
   byte front t p i h = sym (getD-take end text i 0 h) ∙ ap (λ (l : List ℕ). getD l i 0) (p ∙ text-last front t)
 
-  pub later-none : NoLater (end - 1)
+  pub later-none : NoLater text end (end - 1)
   later-none front t p = omega (arith, long front t p, length-append (textOf front) (stepText t), some-byte t)
 
-  pub later-on : (start : ℕ) → 0 < start → start < end → ¬ (getD text (start - 1) 0 ≡ 10) → NoLater start → NoLater (start - 1)
+  pub later-on : (start : ℕ) → 0 < start → start < end → ¬ (getD text (start - 1) 0 ≡ 10) → NoLater text end start → NoLater text end (start - 1)
   later-on start z h f g front t p = by (ltb (length (textOf front)) start) refl
     where
       by : (b : Bool) → ltb (length (textOf front)) start ≡ b → length (textOf front) ≤ start - 1
@@ -132,7 +132,7 @@ module _ (text : List ℕ) (end : ℕ) (inside : end ≤ length text) where
           let s : length (textOf front) ≡ start = omega (arith, ltb-false (length (textOf front)) start e, g front t p) in
           absurd (f (byte front t p (start - 1) (omega arith) ∙ rw (← s) (ends-line front (stepText t) (omega (arith, s, z)))))
 
-  pub line-found : (start : ℕ) → 0 < start → start < end → getD text (start - 1) 0 ≡ 10 → NoLater start → LastLine text end start
+  pub line-found : (start : ℕ) → 0 < start → start < end → getD text (start - 1) 0 ≡ 10 → NoLater text end start → LastLine text end start
   line-found start z h f g front t p = by (ltb (length (textOf front)) start) refl
     where
       by : (b : Bool) → ltb (length (textOf front)) start ≡ b → start ≡ length (textOf front)
@@ -141,5 +141,5 @@ module _ (text : List ℕ) (end : ℕ) (inside : end ≤ length text) where
           (sym (byte front t p (start - 1) (omega (arith, h, z))) ∙ f))
       by false e = omega (arith, ltb-false (length (textOf front)) start e, g front t p)
 
-  pub line-first : NoLater 0 → LastLine text end 0
+  pub line-first : NoLater text end 0 → LastLine text end 0
   line-first g front t p = omega (arith, g front t p)

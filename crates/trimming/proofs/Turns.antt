@@ -6,12 +6,13 @@ use mathlib.Core.List.{List, [], _∷_, _++_, append-nil, List·Memᴰ·head, Li
 use Prim.Native.Nat.{ℕ, zero, suc, _+_, _-_, _<_, _≤_}
 use native.Mathlib.Omega.{arith}
 use lib.Dec.{eqb}
-use lib.ListN.{length, take, drop, length-append}
-use lib.Seq.{length-take-le, take-take, take-add, take-at, drop-at, append-snoc}
+use lib.ListN.{length, take, drop, length-append, length-drop}
+use lib.Seq.{length-take-le, take-take, take-add, take-at, drop-at, append-snoc, sets-eq}
 use Rattle.words.specs.Limits.{longest}
 use Rattle.words.specs.Lists.{_∈_}
 use Rattle.words.proofs.Lists.{passed, eqb-decides, is-true}
 use Rattle.aspif.specs.Rules.{InputRule, expand, atoms}
+use Rattle.text.specs.Writing.{Put}
 use Rattle.drupe.specs.Texts.{Step, steps, stepText, textOf, stepsOf}
 use Rattle.drupe.proofs.Texts.{AllPass, some-byte, text-append, read-back}
 use Rattle.checker.specs.Check.{endsEmpty, isAccepted}
@@ -54,6 +55,27 @@ module _ {ts : List Step} (good : AllPass ts) (short : length (textOf ts) ≤ lo
   sub-accepted size ws {us} a =
       ap endsEmpty (course-written (atoms ws) (expand ws) size us (λ t i. good t (sub-in a i)) (omega (arith, sub-shorter a, short)))
 
+-- A trial
+
+-- what was put at the front of a buffer that holds it
+pub front-put : (vs before after : List ℕ) (r : ℕ) → Put vs before after 0 r → length vs ≤ length before → (r ≡ length vs) × (take r after ≡ vs)
+front-put vs before after r p h =
+    let n : r ≡ length vs = omega (arith, p .ends) in
+    (n, ap (take r) (p .stands ∙ sets-eq vs before 0 (omega (arith, h))) ∙ take-at vs (drop (0 + length vs) before) r (sym n))
+
+pub without-size : (text : List ℕ) (a e n : ℕ) → a ≤ e → e ≤ n → n ≤ length text → length (without text a e n) ≡ a + (n - e)
+without-size text a e n h k l =
+    let s = length-take-le a text (omega (arith, h, k, l)) in
+    let d : n - e ≤ length (drop e text) = omega (arith, length-drop e text, l) in
+    length-append (take a text) (take (n - e) (drop e text)) ∙ ap₂ _+_ s (length-take-le (n - e) (drop e text) d)
+
+module _ (size : ℕ) (ws : List InputRule) (text : List ℕ) (a e n : ℕ) where
+  pub goes-out : {l : List ℕ} → l ≡ without text a e n → isAccepted size ws l ≡ true → l ≡ triedText size ws text a e n
+  goes-out p q = let t : isAccepted size ws (without text a e n) ≡ true = rw (← p) q in rw t p
+
+  pub stays-in : {l : List ℕ} → l ≡ without text a e n → isAccepted size ws l ≡ false → take n text ≡ triedText size ws text a e n
+  stays-in p q = let t : isAccepted size ws (without text a e n) ≡ false = rw (← p) q in rw t refl
+
 -- One pass
 
 module _ (size : ℕ) (ws : List InputRule) (ts : List Step) where
@@ -85,7 +107,7 @@ module _ (size : ℕ) (ws : List InputRule) (ts : List Step) where
       by [] s p e = e ∙ ap (λ (l : List Step). textOf (pass (accepted size ws) [] l)) (sym s)
       by (t ∷ front) s p e = absurd (omega (arith, z, p, some-byte t, length-append (stepText t) (textOf front)))
 
-  module _ (good : AllPass ts) (short : length (textOf ts) ≤ longest) {text text′ : List ℕ} {at left start r : ℕ} (some : 0 < at) (inside : (at ≤ left) × (left ≤ length text))
+  module _ (good : AllPass ts) (short : length (textOf ts) ≤ longest) (text text′ : List ℕ) (at left start r : ℕ) (some : 0 < at) (inside : (at ≤ left) × (left ≤ length text))
       (line : LastLine text at start) (tells : take r text′ ≡ triedText size ws text start at left) where
     turn : (front : List Step) (t : Step) (done : List Step) → ts ≡ (front ++ (t ∷ [])) ++ done → at ≡ length (textOf (front ++ (t ∷ [])))
         → take left text ≡ textOf ((front ++ (t ∷ [])) ++ pass (accepted size ws) (front ++ (t ∷ [])) done) → Trying text′ start r
@@ -159,7 +181,7 @@ module _ (size : ℕ) (ws : List InputRule) (ts : List Step) where
   pub repeat-start : {text : List ℕ} {len : ℕ} → take len text ≡ textOf ts → Repeating text len
   repeat-start e = record { steps = ts; turns = length ts; from = whole ts; stands = e; enough = omega arith; same = refl }
 
-  module _ {text : List ℕ} {len : ℕ} (R : Repeating text len) (inside : len ≤ length text) {text′ : List ℕ} {r : ℕ} (inside′ : r ≤ length text′)
+  module _ {text : List ℕ} {len : ℕ} (R : Repeating text len) (inside : len ≤ length text) (text′ : List ℕ) (r : ℕ) (inside′ : r ≤ length text′)
       (pass-leaves : take r text′ ≡ textOf (pass (accepted size ws) [] (R .steps))) where
     abbrev us : List Step
     us = pass (accepted size ws) [] (R .steps)
@@ -173,13 +195,10 @@ module _ (size : ℕ) (ws : List InputRule) (ts : List Step) where
     -- a pass that leaves the length as it was removed nothing
     pub repeat-end : r ≡ len → take r text′ ≡ textOf (trimmed (accepted size ws) ts)
     unfolding passes
-    repeat-end e = pass-leaves ∙ ap textOf (w .0 ∙ by (R .turns) (R .same))
+    repeat-end e = pass-leaves ∙ ap textOf (pass-whole (accepted size ws) [] (R .steps) l .0 ∙ by (R .turns) (R .same))
       where
         l : length us ≡ length (R .steps)
         l = omega (arith, sub-text (pass-order (accepted size ws) [] (R .steps)), shorter (pass-order (accepted size ws) [] (R .steps)), e, size-before, size-after)
-
-        w : (us ≡ R .steps) × _
-        w = pass-whole (accepted size ws) [] (R .steps) l
 
         by : (n : ℕ) → passes (accepted size ws) n (R .steps) ≡ trimmed (accepted size ws) ts → R .steps ≡ trimmed (accepted size ws) ts
         by zero p = p
