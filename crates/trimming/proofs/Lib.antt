@@ -1,4 +1,6 @@
 -- What trimming leaves.
 pub mod Passes
 pub mod Proofs
+pub mod Newlines
+pub mod Turns
 pub mod Examples

@@ -11,23 +11,23 @@ use Rattle.trimming.specs.Trims.{tried, pass, passes, trimmed, Sublist, 
 use Rattle.trimming.specs.Claims.{TrimmedOrder, TrimmedMinimal, TrimmedAgain}
 
 module _ {A : Type 0} where
-  whole : (ts : List A) → Sublist ts ts
+  pub whole : (ts : List A) → Sublist ts ts
   whole [] = none
   whole (t ∷ ts) = stays t (whole ts)
 
-  through : {ks ls ms : List A} → Sublist ks ls → Sublist ls ms → Sublist ks ms
+  pub through : {ks ls ms : List A} → Sublist ks ls → Sublist ls ms → Sublist ks ms
   through a none = a
   through a (struck x b) = struck x (through a b)
   through (struck x a) (stays y b) = struck y (through a b)
   through (stays x a) (stays y b) = stays y (through a b)
 
-  shorter : {ks ls : List A} → Sublist ks ls → length ks ≤ length ls
+  pub shorter : {ks ls : List A} → Sublist ks ls → length ks ≤ length ls
   shorter none = omega arith
   shorter (struck x a) = omega (arith, shorter a)
   shorter (stays x a) = omega (arith, shorter a)
 
 module _ {A : Type 0} (accepted : List A → Bool) where
-  pass-order : (front ts : List A) → Sublist (pass accepted front ts) ts
+  pub pass-order : (front ts : List A) → Sublist (pass accepted front ts) ts
   unfolding pass
   pass-order front [] = none
   pass-order front (t ∷ ts) = go (accepted (front ++ pass accepted (front ++ (t ∷ [])) ts)) (pass-order (front ++ (t ∷ [])) ts)
@@ -51,7 +51,7 @@ module _ {A : Type 0} (accepted : List A → Bool) where
       go false p q = q
 
   -- a pass that removes nothing has tried every step in vain
-  pass-whole : (front ts : List A) → length (pass accepted front ts) ≡ length ts → (pass accepted front ts ≡ ts) × ((a : List A) (t : A) (b : List A) → ts ≡ a ++ (t ∷ b) → accepted (front ++ (a ++ b)) ≡ false)
+  pub pass-whole : (front ts : List A) → length (pass accepted front ts) ≡ length ts → (pass accepted front ts ≡ ts) × ((a : List A) (t : A) (b : List A) → ts ≡ a ++ (t ∷ b) → accepted (front ++ (a ++ b)) ≡ false)
   unfolding pass
   pass-whole front [] e = (refl, λ a t b p. absurd (empty a t b p))
     where

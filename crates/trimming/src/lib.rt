@@ -1,5 +1,5 @@
 // Trimmed proofs: document 02, Change 10. The public service is `trim_proof`; what it leaves is specs/Service.antt.
-mod passes;
+mod trials;
 
 ghost use mathlib.Core.Path.{_≡_};
 ghost use mathlib.Core.List.{List};
@@ -41,7 +41,7 @@ fn trim_read(
         words::zero_all(table);
         return TrimAnswer::Refused(60);
     }
-    let n = passes::passes(text, table, rules, atoms, store);
+    let n = trials::passes(text, table, rules, atoms, store);
     marks::zero_marks(&mut text[n..]);
     judging::check_proof(&text[..n], table, atoms, rules, store);
     TrimAnswer::Trimmed(n)
