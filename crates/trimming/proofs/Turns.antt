@@ -6,7 +6,8 @@ use mathlib.Core.List.{List, [], _∷_, _++_, append-nil, List·Memᴰ·head, Li
 use Prim.Native.Nat.{ℕ, zero, suc, _+_, _-_, _<_, _≤_}
 use native.Mathlib.Omega.{arith}
 use lib.Dec.{eqb}
-use lib.ListN.{length, take, drop, length-append, length-drop}
+use lib.IntN.{ℤ, pos}
+use lib.ListN.{length, take, drop, replicate, length-append, length-drop}
 use lib.Seq.{length-take-le, take-take, take-add, take-at, drop-at, append-snoc, sets-eq}
 use Rattle.words.specs.Limits.{longest}
 use Rattle.words.specs.Lists.{_∈_}
@@ -16,10 +17,11 @@ use Rattle.text.specs.Writing.{Put}
 use Rattle.drupe.specs.Texts.{Step, steps, stepText, textOf, stepsOf}
 use Rattle.drupe.proofs.Texts.{AllPass, some-byte, text-append, read-back}
 use Rattle.checker.specs.Check.{endsEmpty, isAccepted}
+use Rattle.checker.specs.Held.{Program}
 use Rattle.checker.proofs.Whole.{course-written}
 use Rattle.trimming.specs.Trims.{pass, passes, trimmed, Sublist, none, struck, stays}
 use Rattle.trimming.specs.Service.{accepted}
-use Rattle.trimming.specs.Passing.{LastLine, without, triedText}
+use Rattle.trimming.specs.Passing.{Reads, LastLine, without, triedText}
 use Rattle.trimming.proofs.Passes.{whole, through, shorter, pass-order, pass-whole}
 use Rattle.trimming.proofs.Newlines.{text-last, last-step}
 
@@ -237,3 +239,23 @@ module _ (size : ℕ) (ws : List InputRule) (ts : List Step) where
           enough = omega (arith, fewer, h);
           same = rw differ at p;
         }
+
+-- The loops
+
+-- between two turns of a pass
+pub record Passing (text₀ : List ℕ) (len : ℕ) (trial₀ : List ℕ) (table : List ℤ) (rules N : ℕ) (store₀ : List ℤ) (text trial : List ℕ) (store : List ℤ) (at left : ℕ) : Type 0 where
+  pub same-text : length text ≡ length text₀
+  pub same-trial : length trial ≡ length trial₀
+  pub same-store : length store ≡ length store₀
+  pub zeros : store ≡ replicate (length store₀) (pos 0)
+  pub ahead : at ≤ left
+  pub within : left ≤ len
+  pub trying : (ws : List InputRule) (ts : List Step) → Program table rules N ws → Reads text₀ len ts → Trying (length store₀) ws ts text at left
+
+-- between two passes
+pub record Repeated (text₀ : List ℕ) (table : List ℤ) (rules N : ℕ) (store₀ : List ℤ) (text : List ℕ) (store : List ℤ) (len : ℕ) : Type 0 where
+  pub same-text : length text ≡ length text₀
+  pub same-store : length store ≡ length store₀
+  pub zeros : store ≡ replicate (length store₀) (pos 0)
+  pub within : len ≤ length text
+  pub repeating : (ws : List InputRule) (ts : List Step) → Program table rules N ws → stepsOf text₀ ≡ steps ts → Repeating (length store₀) ws ts text len
