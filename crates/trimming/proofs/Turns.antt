@@ -16,11 +16,11 @@ use Rattle.aspif.specs.Rules.{InputRule, expand, atoms}
 use Rattle.text.specs.Writing.{Put}
 use Rattle.drupe.specs.Texts.{Step, steps, stepText, textOf, stepsOf}
 use Rattle.drupe.proofs.Texts.{AllPass, some-byte, text-append, read-back, steps-exact, spelled}
-use Rattle.checker.specs.Check.{endsEmpty, isAccepted}
+use Rattle.checker.specs.Check.{course, endsEmpty, isAccepted}
 use Rattle.checker.specs.Held.{Program}
 use Rattle.checker.proofs.Whole.{course-written}
 use Rattle.trimming.specs.Trims.{pass, passes, trimmed, Sublist, none, struck, stays}
-use Rattle.trimming.specs.Service.{accepted}
+use Rattle.trimming.specs.Service.{courseOf, accepted}
 use Rattle.trimming.specs.Passing.{Reads, LastLine, without, triedText}
 use Rattle.trimming.proofs.Passes.{whole, through, shorter, pass-order, pass-whole, trimmed-order}
 use Rattle.trimming.proofs.Newlines.{text-last, last-step}
@@ -53,9 +53,11 @@ module _ {ts : List Step} (good : AllPass ts) (short : length (textOf ts) ≤ lo
   pub sub-read : {us : List Step} → Sublist us ts → stepsOf (textOf us) ≡ steps us
   sub-read {us} a = read-back us (λ t i. good t (sub-in a i)) (omega (arith, sub-shorter a, short))
 
+  pub sub-course : (size : ℕ) (ws : List InputRule) {us : List Step} → Sublist us ts → course (atoms ws) (expand ws) size (textOf us) ≡ courseOf size ws us
+  sub-course size ws {us} a = course-written (atoms ws) (expand ws) size us (λ t i. good t (sub-in a i)) (omega (arith, sub-shorter a, short))
+
   pub sub-accepted : (size : ℕ) (ws : List InputRule) {us : List Step} → Sublist us ts → isAccepted size ws (textOf us) ≡ accepted size ws us
-  sub-accepted size ws {us} a =
-      ap endsEmpty (course-written (atoms ws) (expand ws) size us (λ t i. good t (sub-in a i)) (omega (arith, sub-shorter a, short)))
+  sub-accepted size ws a = ap endsEmpty (sub-course size ws a)
 
 -- A trial
 

@@ -108,7 +108,7 @@ passes-spec =
     Inv-loop
     μ-loop
     loop-holds
-    (λ c. c .before .before .loop .inv .room)
+    (λ c. sym (c .before .before .loop .inv .room))
     pass-requires
     (λ c. same-text (c .before .before .before .before .before))
     (λ c. (c .before .before .before .before .before .pass .kept .1 .1 .1 .1 .1 .1 .0) ∙ (c .before .before .before .before .before .before .before .before .before .loop .inv .same-store))
