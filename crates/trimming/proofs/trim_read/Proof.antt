@@ -8,7 +8,7 @@ use lib.IntN.{ℤ}
 use lib.ListN.{length, take, replicate}
 use lib.Seq.{length-take-le}
 use Rattle.words.specs.Limits.{longest}
-use Rattle.words.proofs.Lists.{not-true, not-false}
+use borrow.Author.Tests.{not-true, not-false}
 use Rattle.aspif.specs.Rules.{InputRule}
 use Rattle.aspif.specs.Reading.{program}
 use Rattle.drupe.proofs.Texts.{steps-exact}
