@@ -3,4 +3,5 @@ pub mod Passes
 pub mod Proofs
 pub mod Newlines
 pub mod Turns
+pub mod Answers
 pub mod Examples

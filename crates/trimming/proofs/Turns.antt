@@ -6,21 +6,23 @@ use mathlib.Core.List.{List, [], _∷_, _++_, append-nil, List·Memᴰ·head, Li
 use Prim.Native.Nat.{ℕ, zero, suc, _+_, _-_, _<_, _≤_}
 use native.Mathlib.Omega.{arith}
 use lib.Dec.{eqb}
-use lib.ListN.{length, take, drop, length-append, length-drop}
-use lib.Seq.{length-take-le, take-take, take-add, take-at, drop-at, append-snoc, sets-eq}
+use lib.IntN.{ℤ, pos}
+use lib.ListN.{length, take, drop, replicate, length-append, length-drop}
+use lib.Seq.{length-take-le, take-length, take-take, take-add, take-at, drop-at, append-snoc, sets-eq}
 use Rattle.words.specs.Limits.{longest}
 use Rattle.words.specs.Lists.{_∈_}
 use Rattle.words.proofs.Lists.{passed, eqb-decides, is-true}
 use Rattle.aspif.specs.Rules.{InputRule, expand, atoms}
 use Rattle.text.specs.Writing.{Put}
 use Rattle.drupe.specs.Texts.{Step, steps, stepText, textOf, stepsOf}
-use Rattle.drupe.proofs.Texts.{AllPass, some-byte, text-append, read-back}
-use Rattle.checker.specs.Check.{endsEmpty, isAccepted}
+use Rattle.drupe.proofs.Texts.{AllPass, some-byte, text-append, read-back, steps-exact, spelled}
+use Rattle.checker.specs.Check.{course, endsEmpty, isAccepted}
+use Rattle.checker.specs.Held.{Program}
 use Rattle.checker.proofs.Whole.{course-written}
 use Rattle.trimming.specs.Trims.{pass, passes, trimmed, Sublist, none, struck, stays}
-use Rattle.trimming.specs.Service.{accepted}
-use Rattle.trimming.specs.Passing.{LastLine, without, triedText}
-use Rattle.trimming.proofs.Passes.{whole, through, shorter, pass-order, pass-whole}
+use Rattle.trimming.specs.Service.{courseOf, accepted}
+use Rattle.trimming.specs.Passing.{Reads, LastLine, without, triedText}
+use Rattle.trimming.proofs.Passes.{whole, through, shorter, pass-order, pass-whole, trimmed-order}
 use Rattle.trimming.proofs.Newlines.{text-last, last-step}
 
 -- Steps struck out
@@ -51,9 +53,11 @@ module _ {ts : List Step} (good : AllPass ts) (short : length (textOf ts) ≤ lo
   pub sub-read : {us : List Step} → Sublist us ts → stepsOf (textOf us) ≡ steps us
   sub-read {us} a = read-back us (λ t i. good t (sub-in a i)) (omega (arith, sub-shorter a, short))
 
+  pub sub-course : (size : ℕ) (ws : List InputRule) {us : List Step} → Sublist us ts → course (atoms ws) (expand ws) size (textOf us) ≡ courseOf size ws us
+  sub-course size ws {us} a = course-written (atoms ws) (expand ws) size us (λ t i. good t (sub-in a i)) (omega (arith, sub-shorter a, short))
+
   pub sub-accepted : (size : ℕ) (ws : List InputRule) {us : List Step} → Sublist us ts → isAccepted size ws (textOf us) ≡ accepted size ws us
-  sub-accepted size ws {us} a =
-      ap endsEmpty (course-written (atoms ws) (expand ws) size us (λ t i. good t (sub-in a i)) (omega (arith, sub-shorter a, short)))
+  sub-accepted size ws a = ap endsEmpty (sub-course size ws a)
 
 -- A trial
 
@@ -166,6 +170,13 @@ module _ (size : ℕ) (ws : List InputRule) (ts : List Step) where
             let l = last-step t front in
             turn (l .0) (l .1) (T .done) (rw (← l .2) s) (rw (← l .2) p) (rw (← l .2) e)
 
+  -- what a pass leaves is read back
+  pub try-reads : (text₀ : List ℕ) (len : ℕ) → Reads text₀ len ts → (text : List ℕ) (left : ℕ) → take left text ≡ textOf (pass (accepted size ws) [] ts)
+      → Reads text left (pass (accepted size ws) [] ts)
+  try-reads text₀ len r text left e =
+      let x = steps-exact (take len text₀) ts .0 r in
+      ap stepsOf e ∙ sub-read (x .2) (rw (← x .0) (x .1)) (pass-order (accepted size ws) [] ts)
+
 -- Passes
 
 module _ (size : ℕ) (ws : List InputRule) (ts : List Step) where
@@ -237,3 +248,48 @@ module _ (size : ℕ) (ws : List InputRule) (ts : List Step) where
           enough = omega (arith, fewer, h);
           same = rw differ at p;
         }
+
+-- the same of what is read
+module _ (size : ℕ) (ws : List InputRule) (ts : List Step) (text₀ : List ℕ) (read : stepsOf text₀ ≡ steps ts) where
+  good : AllPass ts
+  good = steps-exact text₀ ts .0 read .2
+
+  short : length (textOf ts) ≤ longest
+  short = let x = steps-exact text₀ ts .0 read in rw (← x .0) (x .1)
+
+  pub reads-start : Repeating size ws ts text₀ (length text₀)
+  reads-start = repeat-start size ws ts (take-length text₀ ∙ spelled text₀ ts read)
+
+  module _ (text : List ℕ) (len : ℕ) (R : Repeating size ws ts text len) where
+    pub reads-now : Reads text len (R .steps)
+    reads-now = ap stepsOf (R .stands) ∙ sub-read good short (R .from)
+
+    module _ (inside : len ≤ length text) (text′ : List ℕ) (r : ℕ) (inside′ : r ≤ length text′) (after : Reads text′ r (pass (accepted size ws) [] (R .steps))) where
+      pub reads-end : r ≡ len → Reads text′ r (trimmed (accepted size ws) ts)
+      reads-end e =
+          ap stepsOf (repeat-end size ws ts R inside text′ r inside′ (spelled (take r text′) _ after) e)
+          ∙ sub-read good short (trimmed-order Step (accepted size ws) ts)
+
+      pub reads-on : ¬ (r ≡ len) → Repeating size ws ts text′ r
+      reads-on d = repeat-on size ws ts R inside text′ r inside′ (spelled (take r text′) _ after) d
+
+-- The loops
+
+-- between two turns of a pass
+pub record Passing (text₀ : List ℕ) (len : ℕ) (trial₀ : List ℕ) (table : List ℤ) (rules N : ℕ) (store₀ : List ℤ) (text trial : List ℕ) (store : List ℤ) (at left : ℕ) : Type 0 where
+  pub same-text : length text ≡ length text₀
+  pub same-trial : length trial ≡ length trial₀
+  pub same-store : length store ≡ length store₀
+  pub zeros : store ≡ replicate (length store₀) (pos 0)
+  pub ahead : at ≤ left
+  pub within : left ≤ len
+  pub trying : (ws : List InputRule) (ts : List Step) → Program table rules N ws → Reads text₀ len ts → Trying (length store₀) ws ts text at left
+
+-- between two passes
+pub record Repeated (text₀ : List ℕ) (table : List ℤ) (rules N : ℕ) (store₀ : List ℤ) (text : List ℕ) (store : List ℤ) (trial : List ℕ) (len : ℕ) : Type 0 where
+  pub same-text : length text ≡ length text₀
+  pub same-store : length store ≡ length store₀
+  pub zeros : store ≡ replicate (length store₀) (pos 0)
+  pub room : length trial ≡ longest
+  pub within : len ≤ length text
+  pub repeating : (ws : List InputRule) (ts : List Step) → Program table rules N ws → stepsOf text₀ ≡ steps ts → Repeating (length store₀) ws ts text len
