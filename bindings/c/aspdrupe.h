@@ -33,8 +33,8 @@ extern "C" {
 /* The same for aspdrupe_merge_halves, which checks the halves over a table of its own beside the one lent: 865 KB were measured. */
 #define ASPDRUPE_MERGE_STACK 1048576
 
-/* The same for aspdrupe_trim_proof, which tries each step on a copy of the text: 579 KB were measured. */
-#define ASPDRUPE_TRIM_STACK 655360
+/* The same for aspdrupe_trim_proof, which tries each step on a copy of the text: 804 KB were measured. */
+#define ASPDRUPE_TRIM_STACK 1048576
 
 /* The most numbers that an answer has. */
 #define ASPDRUPE_ANSWER 4

@@ -45,7 +45,7 @@ pub const STACK: usize = 524_288;
 pub const MERGE_STACK: usize = 1_048_576;
 
 /// The same for [`trim_proof`].
-pub const TRIM_STACK: usize = 655_360;
+pub const TRIM_STACK: usize = 1_048_576;
 
 // Each call below hands over what its slices point to, with their lengths. A slice is valid for its length, an empty one has a
 // pointer that is aligned and not null, and Rust lets no other argument overlap one that is written: nothing more is asked.
