@@ -1,0 +1,7 @@
+-- What trimming leaves.
+pub mod Passes
+pub mod Proofs
+pub mod Newlines
+pub mod Turns
+pub mod Answers
+pub mod Examples
