@@ -158,10 +158,11 @@ fn run_lines(
     let mut sorted = [0; CheckingState::NUMBERS];
     let mut index = [0u16; INDEX];
     let mut assignment = [0u8; ENTRIES];
-    let start = CheckingState::start();
-    let mut used = start.used;
-    let mut at = start.at;
-    let mut steps = start.steps;
+    let CheckingState {
+        mut used,
+        mut at,
+        mut steps,
+    } = CheckingState::start();
     loop {
         let step = steps + 1;
         match turn_at(

@@ -23,6 +23,7 @@ ghost use Rattle.names.specs.Queries.{HoldsRules};
 ghost use Rattle.heads.specs.Heads.{Indexed};
 ghost use Rattle.loops.specs.Relevance.{Relevant};
 ghost use Rattle.steps.specs.Held.{PassedLine, Program, Tracked, Stepping};
+use crate::additions::addition;
 use crate::outcomes::Stepped;
 use nogoods::INDEX;
 use text::Letter;
@@ -178,16 +179,7 @@ pub fn step(
     ensures free { λ _. ⌜ now (assignment .exit) ≡ replicate entries 0 ⌝ }
 {
     match letter {
-        Letter::Addition => additions::addition(
-            known,
-            store,
-            used,
-            index,
-            origin,
-            line,
-            sorted,
-            assignment,
-        ),
+        Letter::Addition => addition(known, store, used, index, origin, line, sorted, assignment),
         Letter::Deletion => additions::deletion(known, store, used, index, line, sorted),
         Letter::Extension => naming::extension(known, store, used, index, origin, line),
         Letter::Body | Letter::Completion => step_of_body(
