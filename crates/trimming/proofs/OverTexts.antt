@@ -1,28 +1,25 @@
 -- What the service's contract says of the text that it writes. Assumes nothing.
-use mathlib.Core.Path.{_≡_, refl, sym, ap, ap₂, _∙_, subst}
+use mathlib.Core.Path.{_≡_, refl, sym, ap, _∙_, subst}
 use mathlib.Core.Bool.{Bool, true, false, cond, true≢false}
-use mathlib.Core.List.{List, [], _∷_, _++_, append-nil}
-use Prim.Native.Nat.{ℕ, zero, suc, _-_, _≤_}
+use mathlib.Core.List.{List, _∷_, _++_, append-nil}
+use Prim.Native.Nat.{ℕ, _-_, _≤_}
 use native.Mathlib.Omega.{arith}
 use lib.IntN.{ℤ, pos}
-use lib.ListN.{length, take, replicate, length-replicate}
+use lib.ListN.{length, take, replicate}
 use lib.Seq.{take-at}
 use Rattle.words.specs.Limits.{longest}
-use Rattle.words.proofs.Lists.{zero-one}
-use Rattle.aspif.specs.Rules.{InputRule, expand, atoms, tableWords}
+use Rattle.aspif.specs.Rules.{InputRule, atoms, tableWords}
 use Rattle.aspif.specs.Reading.{Reading, program, readText}
 use Rattle.aspif.specs.Reading as Reading
 use Rattle.drupe.specs.Texts.{Step, StepsRead, steps, textOf, stepsOf}
 use Rattle.drupe.specs.Texts as Texts
 use Rattle.drupe.proofs.Texts.{AllPass, steps-exact}
-use Rattle.derivation.specs.Steps.{emptyLive}
-use Rattle.nogoods.specs.Store.{storeWords}
-use Rattle.checker.specs.Check.{Course, stopped, through, course, endsEmpty, isAccepted, countsOf, judged, check}
+use Rattle.checker.specs.Check.{Course, stopped, through, endsEmpty, isAccepted, countsOf, check}
 use Rattle.checker.specs.declared.Counts.{Counts}
 use Rattle.checker.specs.declared.Verdict.the-variants.{Inconsistent}
-use Rattle.trimming.specs.Trims.{trimmed, Sublist, none, struck, stays}
+use Rattle.trimming.specs.Trims.{Sublist, struck}
 use Rattle.trimming.specs.Service.{courseOf, accepted, trimmedSteps, TrimLeft, untouched, storeAfter, trimmedTo, trimmedRead, trimmedReading, trim}
-use Rattle.trimming.specs.Claims.{Demand3Trimmed, WrittenText, TrimmedText, TrimmedTwice, Untouched}
+use Rattle.trimming.specs.Claims.{Demand3Trimmed, TrimmedText, TrimmedTwice, Untouched}
 use Rattle.trimming.specs.declared.TrimAnswer.{TrimAnswer}
 use Rattle.trimming.specs.declared.TrimAnswer.the-variants.{Trimmed, RefusedProgram, Refused}
 use Rattle.trimming.proofs.Passes.{whole, through as onto, trimmed-settles, trimmed-order, trimmed-minimal, trimmed-stays}
@@ -100,7 +97,7 @@ module _ (t s : ℕ) (text proof : List ℕ) (T : Told t s proof (readText t tex
       let z : length (textOf us) - length (textOf us) ≡ 0 = omega arith in
       let p : textOf us ≡ textOf us ++ replicate (length (textOf us) - length (textOf us)) 0 = rw z (sym (append-nil (textOf us))) in
       let q : trimmedTo t s (textOf us) ws us ≡ trimmedReading t s (textOf us) (program ws) =
-        ap (trimmedTo t s (textOf us) ws) (sym (trimmed-stays (accepted s ws) (T .before) (T .good))) ∙ rw (r, left-good) refl in
+      ap (trimmedTo t s (textOf us) ws) (sym (trimmed-stays (accepted s ws) (T .before) (T .good))) ∙ rw (r, left-good) refl in
       ap (λ (l : List ℕ). record { answer = Trimmed (length (textOf us)); text = l; table = tableWords t ws; store = storeAfter t s proof (courseOf s ws us) }) p
       ∙ q ∙ ap (trimmedReading t s (textOf us)) (sym (T .read))
 
