@@ -115,10 +115,12 @@ fn proof_of_length(bytes: usize) -> Vec<u8> {
     while text.len() + wide.len() < bytes {
         text.extend(&wide);
     }
-    for line in [&b"a -2 0\n"[..], b"a 1 0\n"] {
-        if (bytes - text.len()) % 2 == line.len() % 2 && (bytes - text.len()) % 4 != 0 {
-            text.extend(line);
-        }
+    // One of 7 bytes and one of 6, where the rest does not fall into lines of 4.
+    if (bytes - text.len()) % 2 == 1 {
+        text.extend(b"a -2 0\n");
+    }
+    if (bytes - text.len()) % 4 == 2 {
+        text.extend(b"a 1 0\n");
     }
     while text.len() < bytes {
         text.extend(b"a 0\n");

@@ -1,14 +1,12 @@
 -- What the service leaves, from what its parts leave. Assumes nothing.
 use mathlib.Core.Path.{_≡_, refl, sym, ap, _∙_}
-use mathlib.Core.Bool.{Bool, true, false, cond, true≢false}
+use mathlib.Core.Bool.{true, false, true≢false}
 use mathlib.Core.List.{List, [], _++_}
 use Prim.Native.Nat.{ℕ, _-_, _≤_}
-use native.Mathlib.Omega.{arith}
 use borrow.Rule.Slice.PartMut.{putMid}
 use lib.IntN.{ℤ, pos}
 use lib.ListN.{length, replicate, take, drop, length-drop}
 use lib.Seq.{length-take-le, take-at}
-use Rattle.words.specs.Limits.{longest}
 use Rattle.words.proofs.Lists.{zero-one}
 use Rattle.words.proofs.Parts.{tail-of, put-tail}
 use Rattle.aspif.specs.Rules.{InputRule, expand, atoms, tableWords}
@@ -23,10 +21,8 @@ use Rattle.drupe.proofs.Texts.{steps-exact, spelled}
 use Rattle.derivation.specs.States.{start}
 use Rattle.checker.specs.Check.{Course, stopped, through, thenStopped, runSteps, runRead, course, endsEmpty, isAccepted, Checked, judged, judgedReading}
 use Rattle.checker.specs.declared.Verdict.{Verdict}
-use Rattle.trimming.specs.Trims.{trimmed}
-use Rattle.trimming.specs.Service.{courseOf, accepted, trimmedSteps, TrimLeft, untouched, storeAfter, trimmedTo, trimmedRead, trimmedReading, trim}
+use Rattle.trimming.specs.Service.{courseOf, accepted, trimmedSteps, untouched, storeAfter, trimmedRead, trimmedReading, trim}
 use Rattle.trimming.specs.Passing.{Reads}
-use Rattle.trimming.specs.declared.TrimAnswer.{TrimAnswer}
 use Rattle.trimming.specs.declared.TrimAnswer.the-variants.{Trimmed, RefusedProgram, Refused}
 use Rattle.trimming.proofs.Passes.{trimmed-settles, trimmed-order}
 use Rattle.trimming.proofs.Turns.{sub-course}

@@ -4,4 +4,5 @@ pub mod Proofs
 pub mod Newlines
 pub mod Turns
 pub mod Answers
+pub mod OverTexts
 pub mod Examples

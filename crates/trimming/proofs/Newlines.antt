@@ -62,8 +62,8 @@ unfolding stepText
 line-of t = record {
   bytes = byteOf (t .letter) ∷ (spaced (t .numbers) ++ (32 ∷ 48 ∷ []));
   unbroken = each-cons (letter-byte (t .letter))
-    (unbroken-append (spaced (t .numbers)) (32 ∷ 48 ∷ []) (unbroken-spaced (t .numbers))
-    (each-cons (λ e. omega (arith, e)) (each-cons (λ e. omega (arith, e)) (λ b i. elim i [ ]))));
+      (unbroken-append (spaced (t .numbers)) (32 ∷ 48 ∷ []) (unbroken-spaced (t .numbers))
+      (each-cons (λ e. omega (arith, e)) (each-cons (λ e. omega (arith, e)) (λ b i. elim i [ ]))));
   is = ap (λ (l : List ℕ). byteOf (t .letter) ∷ l) (sym (append-assoc (spaced (t .numbers)) (32 ∷ 48 ∷ []) (10 ∷ [])));
 }
 
@@ -85,7 +85,7 @@ ends-line (t ∷ ts) rest h =
     let r = last-step t ts in
     let l = line-of (r .1) in
     let p : textOf (t ∷ ts) ≡ (textOf (r .0) ++ l .bytes) ++ (10 ∷ []) =
-      ap textOf (r .2) ∙ text-last (r .0) (r .1) ∙ ap (λ (k : List ℕ). textOf (r .0) ++ k) (l .is) ∙ sym (append-assoc (textOf (r .0)) (l .bytes) (10 ∷ [])) in
+    ap textOf (r .2) ∙ text-last (r .0) (r .1) ∙ ap (λ (k : List ℕ). textOf (r .0) ++ k) (l .is) ∙ sym (append-assoc (textOf (r .0)) (l .bytes) (10 ∷ [])) in
     by (textOf (t ∷ ts)) (textOf (r .0) ++ l .bytes) p
   where
     by : (whole front : List ℕ) → whole ≡ front ++ (10 ∷ []) → getD (whole ++ rest) (length whole - 1) 0 ≡ 10
@@ -103,8 +103,8 @@ within-line front t i h k e =
     let j : i ≡ length (textOf front) + (i - length (textOf front)) = omega (arith, h) in
     let s : i - length (textOf front) < length (l .bytes) = omega (arith, h, k, n, m) in
     let q : getD (textOf front ++ stepText t) i 0 ≡ getD (l .bytes) (i - length (textOf front)) 0 =
-      ap (λ (x : ℕ). getD (textOf front ++ stepText t) x 0) j ∙ getD-append-add (textOf front) (stepText t) (i - length (textOf front)) 0
-      ∙ ap (λ (x : List ℕ). getD x (i - length (textOf front)) 0) (l .is) ∙ List·getD-append (l .bytes) (10 ∷ []) 0 (i - length (textOf front)) s in
+    ap (λ (x : ℕ). getD (textOf front ++ stepText t) x 0) j ∙ getD-append-add (textOf front) (stepText t) (i - length (textOf front)) 0
+    ∙ ap (λ (x : List ℕ). getD x (i - length (textOf front)) 0) (l .is) ∙ List·getD-append (l .bytes) (10 ∷ []) 0 (i - length (textOf front)) s in
     l .unbroken _ (in-at 0 (l .bytes) (i - length (textOf front)) s) (sym q ∙ e)
 
 -- Going back to it

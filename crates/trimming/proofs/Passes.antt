@@ -2,12 +2,12 @@
 use mathlib.Core.Path.{_≡_, refl, sym, _∙_, ap, subst}
 use mathlib.Core.Bool.{Bool, true, false, cond, true≢false}
 use mathlib.Core.List.{List, [], _∷_, _++_, append-assoc, head-eq-of-cons-eq, tail-eq-of-cons-eq, nil≢cons}
-use Prim.Native.Nat.{ℕ, zero, suc, _≤_, _<_}
+use Prim.Native.Nat.{ℕ, zero, suc, _≤_}
 use native.Mathlib.Omega.{arith}
-use lib.Dec.{T, eqb}
+use lib.Dec.{eqb}
 use lib.ListN.{length}
-use Rattle.words.proofs.Lists.{passed, failed, eqb-decides, not-decides, answered, is-true}
-use Rattle.trimming.specs.Trims.{tried, pass, passes, trimmed, Sublist, none, struck, stays}
+use Rattle.words.proofs.Lists.{passed, eqb-decides, is-true}
+use Rattle.trimming.specs.Trims.{pass, passes, trimmed, Sublist, none, struck, stays}
 use Rattle.trimming.specs.Claims.{TrimmedOrder, TrimmedMinimal, TrimmedAgain}
 
 module _ {A : Type 0} where

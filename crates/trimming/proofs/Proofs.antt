@@ -1,5 +1,5 @@
 -- Trimmed proofs are accepted, and what they are of has no answer set. Assumes nothing.
-use mathlib.Core.Path.{_≡_, refl, sym, ap, _∙_}
+use mathlib.Core.Path.{_≡_, refl, sym}
 use mathlib.Core.Bool.{true, true≢false}
 use mathlib.Core.List.{List, []}
 use Prim.Native.Nat.{ℕ}
@@ -15,7 +15,7 @@ use Rattle.trimming.specs.Claims.{TrimmedAccepted}
 use Rattle.trimming.proofs.Passes.{trimmed-settles}
 
 -- demand 3 of steps that are accepted
-no-answer-set : (size : ℕ) (ws : List InputRule) (ts : List Step) → accepted size ws ts ≡ true → NoneAsWritten ws
+pub no-answer-set : (size : ℕ) (ws : List InputRule) (ts : List Step) → accepted size ws ts ≡ true → NoneAsWritten ws
 no-answer-set size ws ts e = by (courseOf size ws ts) refl e
   where
     by : (c : Course) → courseOf size ws ts ≡ c → endsEmpty c ≡ true → NoneAsWritten ws

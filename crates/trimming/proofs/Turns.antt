@@ -28,7 +28,7 @@ use Rattle.trimming.proofs.Newlines.{text-last, last-step}
 -- Steps struck out
 
 module _ {A : Type 0} where
-  sub-append : (front : List A) {ks ls : List A} → Sublist ks ls → Sublist (front ++ ks) (front ++ ls)
+  pub sub-append : (front : List A) {ks ls : List A} → Sublist ks ls → Sublist (front ++ ks) (front ++ ls)
   sub-append [] a = a
   sub-append (x ∷ front) a = stays x (sub-append front a)
 

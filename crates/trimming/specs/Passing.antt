@@ -3,10 +3,10 @@
 use mathlib.Core.Path.{_≡_}
 use mathlib.Core.Bool.{cond}
 use mathlib.Core.List.{List, [], _∷_, _++_}
-use Prim.Native.Nat.{ℕ, _-_, _≤_}
+use Prim.Native.Nat.{ℕ, _-_}
 use lib.ListN.{length, take, drop}
 use Rattle.aspif.specs.Rules.{InputRule}
-use Rattle.drupe.specs.Texts.{Step, steps, stepText, textOf, stepsOf}
+use Rattle.drupe.specs.Texts.{Step, steps, textOf, stepsOf}
 use Rattle.checker.specs.Check.{isAccepted}
 
 -- the steps ts stand in the text's first n bytes

@@ -95,9 +95,7 @@ fn pass(
     let mut left = len;
     while 0 < at {
         let start = line_start(text, at);
-        left = try_without(
-            text, start, at, left, trial, table, rules, atoms, store,
-        );
+        left = try_without(text, start, at, left, trial, table, rules, atoms, store);
         at = start;
     }
     left

@@ -15,7 +15,7 @@ use Rattle.drupe.proofs.Texts.{steps-exact}
 use Rattle.checker.specs.Check.{isAccepted, judgedReading}
 use Rattle.steps.specs.Held.{Program}
 use Rattle.checker.proofs.Verdicts.{zeros}
-use Rattle.trimming.specs.Service.{TrimLeft, trimmedSteps}
+use Rattle.trimming.specs.Service.{trimmedSteps}
 use Rattle.trimming.specs.Passing.{Reads}
 use Rattle.trimming.specs.declared.TrimAnswer.the-variants.{Trimmed}
 use Rattle.trimming.proofs.Answers.{zeros-behind, front-kept, accepted-steps, not-accepted, written}

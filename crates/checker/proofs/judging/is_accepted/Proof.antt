@@ -30,7 +30,7 @@ returns-2 c =
     let same : length (q .run-proof .last .1 .1 .1 .1 .0) ≡ length (s .args .store .now) = search needs in (
       c .before .zero-all .ensures ∙ ap (λ (n : ℕ). replicate n (pos 0)) same,
       λ ws p. c .before .before .before .ends-empty .ensures _ (expand ws) _ _ (q .run-proof .ensures ws p)
-      ∙ ap (λ (n : ℕ). endsEmpty (course n (expand ws) (length (s .args .store .now)) (s .args .text .now))) (p .top),
+          ∙ ap (λ (n : ℕ). endsEmpty (course n (expand ws) (length (s .args .store .now)) (s .args .text .now))) (p .top),
     )
 
 pub is-accepted-spec : {M : Type 1} → statement M

@@ -1,7 +1,6 @@
 use mathlib.Core.Path.{_≡_}
-use Prim.Native.Nat.{_-_, _<_, _≤_}
+use Prim.Native.Nat.{_<_}
 use native.Mathlib.Omega.{arith}
-use lib.ListN.{length}
 use borrow.Author.Needs.{needs}
 use Rattle.trimming.proofs.Newlines.{NoLater, later-none, later-on, line-found, line-first}
 use Rattle.trimming.proofs.trials.line_start.Statement.{statement}

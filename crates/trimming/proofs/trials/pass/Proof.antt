@@ -1,4 +1,4 @@
-use mathlib.Core.Path.{_≡_, sym, _∙_, ap}
+use mathlib.Core.Path.{_∙_, ap}
 use Prim.Native.Nat.{ℕ, _<_, _≤_}
 use native.Mathlib.Omega.{arith}
 use lib.IntN.{pos}
@@ -86,9 +86,12 @@ returns c =
     let I = c .before .loop .inv in
     let a = c .before .before .before .before .args in (
       I .within,
-      (I .zeros, λ ws ts p r.
-          try-reads (length (a .store .now)) ws ts (a .text .now) (a .len) r (c .before .loop .text) (c .before .loop .left)
-          (try-end (length (a .store .now)) ws ts (I .trying ws ts p r) (omega (arith, c .loop-test .left)))),
+      (
+        I .zeros,
+        λ ws ts p r.
+            try-reads (length (a .store .now)) ws ts (a .text .now) (a .len) r (c .before .loop .text) (c .before .loop .left)
+            (try-end (length (a .store .now)) ws ts (I .trying ws ts p r) (omega (arith, c .loop-test .left))),
+      ),
     )
 
 pub pass-spec : {M : Type 1} → statement M

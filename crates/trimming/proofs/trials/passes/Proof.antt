@@ -78,8 +78,11 @@ returns c =
     let a = s d .args in
     let I = l d .loop .inv in (
       omega (arith, inside d, same-text d),
-      (d .pass .ensures .1 .0 ∙ ap (λ (n : ℕ). replicate n (pos 0)) (I .same-store), λ ws ts p r.
-          reads-end (length (a .store .now)) ws ts (a .text .now) r (l d .loop .text) (l d .loop .len) (R d ws ts p r) (I .within) (text′ d) (d .pass .result) (inside d) (after d ws ts p r) (c .if1 .taken)),
+      (
+        d .pass .ensures .1 .0 ∙ ap (λ (n : ℕ). replicate n (pos 0)) (I .same-store),
+        λ ws ts p r.
+            reads-end (length (a .store .now)) ws ts (a .text .now) r (l d .loop .text) (l d .loop .len) (R d ws ts p r) (I .within) (text′ d) (d .pass .result) (inside d) (after d ws ts p r) (c .if1 .taken),
+      ),
     )
 
 loop-less : tie.Need-loop-less Inv-loop μ-loop

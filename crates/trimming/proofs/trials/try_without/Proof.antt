@@ -1,4 +1,4 @@
-use mathlib.Core.Path.{_≡_, sym, _∙_, ap}
+use mathlib.Core.Path.{_≡_, sym, _∙_}
 use mathlib.Core.List.{List}
 use Prim.Native.Nat.{ℕ, _≤_}
 use native.Mathlib.Omega.{arith}
@@ -47,9 +47,12 @@ returns c =
     let a = s w .args in
     let f = front-put (take (n w) (buffer w)) (a .text .now) _ _ (c .before .before .put-bytes .ensures) (omega (arith, size w, most w, s w .pre .0 .1)) in (
       (omega (arith, f .0, size w, least w), omega (arith, f .0, size w, most w)),
-      (q .is-accepted .ensures .0, λ ws p.
-          f .1 ∙ goes-out (length (a .store .now)) ws (a .text .now) (a .start) (a .end) (a .len) (w .write-without .ensures .1)
-          (sym (q .is-accepted .ensures .1 ws p) ∙ c .before .before .before .before .before .if1 .taken)),
+      (
+        q .is-accepted .ensures .0,
+        λ ws p.
+            f .1 ∙ goes-out (length (a .store .now)) ws (a .text .now) (a .start) (a .end) (a .len) (w .write-without .ensures .1)
+            (sym (q .is-accepted .ensures .1 ws p) ∙ c .before .before .before .before .before .if1 .taken),
+      ),
     )
 
 returns-2 : tie.Need-returns-2
@@ -59,9 +62,12 @@ returns-2 c =
     let a = s w .args in
     let b = s w .pre .0 in (
       (omega (arith, b .0 .0, b .0 .1), omega arith),
-      (q .is-accepted .ensures .0, λ ws p.
-          stays-in (length (a .store .now)) ws (a .text .now) (a .start) (a .end) (a .len) (w .write-without .ensures .1)
-          (sym (q .is-accepted .ensures .1 ws p) ∙ c .if1 .left)),
+      (
+        q .is-accepted .ensures .0,
+        λ ws p.
+            stays-in (length (a .store .now)) ws (a .text .now) (a .start) (a .end) (a .len) (w .write-without .ensures .1)
+            (sym (q .is-accepted .ensures .1 ws p) ∙ c .if1 .left),
+      ),
     )
 
 pub try-without-spec : {M : Type 1} → statement M
