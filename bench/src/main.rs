@@ -1,8 +1,8 @@
 //! The benchmark: the whole check through the static library beside an unverified checker, on inputs made from fixed seeds. Both
 //! must give the same verdict on each input. Then the packet of the longest proof, written and read back, two halves merged into one proof,
-//! and reading alone. The last line is 'N passed, M failed'; the exit status is 0 where none failed.
+//! refutations trimmed, and reading alone. The last line is 'N passed, M failed'; the exit status is 0 where none failed.
 //!
-//! With `--once` each input is run once by each checker. Without arguments the times are medians of 31 repetitions; a number as
+//! With `--once` each input is run once by each checker, and only small ones are trimmed. Without arguments the times are medians of 31 repetitions; a number as
 //! the argument says how many others there are to be. With `--slow` the inputs that were made to be slow are run once in place of the others.
 //! With `--beside OTHER`, and a number where it is not to be 31, this program and OTHER, a build of it over another library, are run in turn;
 //! each does a `--round`. With `--growth`, and OTHER where there is one, both run refutations of growing size, each in a `--growth-round`; the
@@ -20,6 +20,7 @@ mod packets;
 mod picture;
 mod reading;
 mod report;
+mod trimming;
 mod unverified;
 
 use cases::Input;
@@ -68,19 +69,23 @@ fn run_slow() -> usize {
     failed
 }
 
-/// Runs all inputs, the packet of the longest proof, the merge and reading alone; on how many inputs the checkers differ, one more where the
-/// packet is not read back, one more where the halves are not merged, and one more where a text is refused that should be read.
+/// Runs all inputs, the packet of the longest proof, the merge, trimming and reading alone; on how many inputs the checkers differ, one more
+/// where the packet is not read back, one more where the halves are not merged, one more for each proof of which other steps are left than must
+/// be, and one more where a text is refused that should be read.
 fn run_all(repetitions: usize) -> usize {
     let inputs = cases::all();
     let measured = measure::measure(&inputs, repetitions);
     let packed = packets::measure(&inputs, repetitions);
     let merged = merging::measure(&cases::split(), repetitions);
+    let trimmed = trimming::measure(&inputs, repetitions);
     let read = reading::measure(&inputs, repetitions);
     report::heading(repetitions);
-    let others = [packed.is_none(), merged.is_none(), read.is_none()];
+    let mut others = vec![packed.is_none(), merged.is_none(), read.is_none()];
+    others.extend(trimmed.iter().map(Result::is_err));
     let failed = report_inputs(&inputs, &measured) + others.iter().filter(|failed| **failed).count();
     report::packet(packed.as_ref());
     report::merging(merged.as_ref());
+    trimmed.iter().for_each(report::trimming);
     report::reading(read.as_ref());
     println!("{} passed, {failed} failed", inputs.len() + others.len() - failed);
     failed

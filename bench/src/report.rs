@@ -1,5 +1,5 @@
-//! What is printed: a row for each input, lines on the packet, on the merge and on reading, the rows of two programs side by side, and those
-//! on growth.
+//! What is printed: a row for each input, lines on the packet, on the merge, on trimming and on reading, the rows of two programs side by side,
+//! and those on growth.
 
 use crate::cases::{Goal, Input};
 use crate::growth::Row;
@@ -7,6 +7,7 @@ use crate::measure::{Answer, Measured, Times};
 use crate::merging::Merged;
 use crate::packets::Packed;
 use crate::reading::{Amount, Reading};
+use crate::trimming::Trimmed;
 use aspdrupe::{Counts, Verdict};
 use std::time::Duration;
 
@@ -104,6 +105,24 @@ pub fn merging(merged: Option<&Merged>) {
         milliseconds(merged.checking.median),
         milliseconds(merged.checking.least),
     );
+}
+
+/// The line on a proof that was trimmed.
+pub fn trimming(trimmed: &Result<Trimmed, String>) {
+    match trimmed {
+        Ok(trimmed) => println!(
+            "trimming of {}: {} of {} steps, {} bytes, are left after {:.3} s (least {:.3}); the whole proof is checked in {:.3} ms (least {:.3})",
+            trimmed.name,
+            trimmed.left,
+            trimmed.steps,
+            trimmed.size,
+            trimmed.trimming.median.as_secs_f64(),
+            trimmed.trimming.least.as_secs_f64(),
+            milliseconds(trimmed.checking.median),
+            milliseconds(trimmed.checking.least),
+        ),
+        Err(name) => println!("FAILED: {name} is not trimmed, or to another number of steps"),
+    }
 }
 
 /// The lines on reading.

@@ -1,13 +1,14 @@
-/* The seven services of the proof checker for C: the program reader, the set test, the proof-line reader, the whole check over two texts,
- * the writer and the reader of packets, and the merge of two halves' proofs. The functions are in target/staticlib/libexports.a, which
- * `rt staticlib exports` writes, for x86-64 Linux.
+/* The eight services of the proof checker for C: the program reader, the set test, the proof-line reader, the whole check over two texts,
+ * the writer and the reader of packets, the merge of two halves' proofs, and the trimming of a proof. The functions are in
+ * target/staticlib/libexports.a, which `rt staticlib exports` writes, for x86-64 Linux.
  *
  * Each function is proved to meet its contract (crates/exports/src/lib.rt and crates/exports/specs/) on every input: no text, no
  * number and no length is asked to be good. What the caller must see to is what C cannot say:
  *   - each pointer is valid for its length, counted in elements: readable where it is const, readable and writable where not;
  *     where the length is 0 it is not followed, and any pointer that is not null and is aligned for its type will do;
  *   - a buffer that is written overlaps no other argument;
- *   - the thread has ASPDRUPE_STACK bytes of stack for the call, and ASPDRUPE_MERGE_STACK for aspdrupe_merge_halves.
+ *   - the thread has ASPDRUPE_STACK bytes of stack for the call, ASPDRUPE_MERGE_STACK for aspdrupe_merge_halves, and ASPDRUPE_TRIM_STACK
+ *     for aspdrupe_trim_proof.
  * Nothing else: no function allocates, keeps a pointer, has a state of its own, or fails to return. Calls with buffers of their
  * own may run at the same time.
  *
@@ -23,14 +24,17 @@
 extern "C" {
 #endif
 
-/* A thread with a stack of so many bytes has enough for any call but a merge, with what the C library takes of a thread's stack for itself.
+/* A thread with a stack of so many bytes has enough for any call but those below, with what the C library takes of a thread's stack for itself.
  * What your own code and its thread-local variables take comes on top. The need does not grow with the texts: the whole check was measured
- * at 503 KB, the services other than it and the merge at 63 KB or less (bindings/c/stack.c). Some C libraries give a thread less by default:
+ * at 503 KB, the services other than it and those below at 63 KB or less (bindings/c/stack.c). Some C libraries give a thread less by default:
  * musl 128 KB. */
 #define ASPDRUPE_STACK 524288
 
 /* The same for aspdrupe_merge_halves, which checks the halves over a table of its own beside the one lent: 865 KB were measured. */
 #define ASPDRUPE_MERGE_STACK 1048576
+
+/* The same for aspdrupe_trim_proof, which tries each step on a copy of the text: 804 KB were measured. */
+#define ASPDRUPE_TRIM_STACK 1048576
 
 /* The most numbers that an answer has. */
 #define ASPDRUPE_ANSWER 4
@@ -130,6 +134,20 @@ uint32_t aspdrupe_read_packet(const uint8_t *packet, size_t packet_len, int32_t 
 uint32_t aspdrupe_merge_halves(const uint8_t *program, size_t program_len, uint64_t atom, const uint8_t *first, size_t first_len,
                                const uint8_t *second, size_t second_len, int32_t *table, size_t table_len, int32_t *store,
                                size_t store_len, uint8_t *output, size_t output_len, uint64_t *answer, size_t answer_len);
+
+/* Leaves of a proof only what it needs. The lent text is the proof, all of it: a zero byte after it is part of it. Steps are tried for removal
+ * from the last to the first, and one goes where the proof without it still comes to ASPDRUPE_INCONSISTENT with the store lent; passes
+ * over all steps repeat until one removes none.
+ * Returns 0 where the proof came to ASPDRUPE_INCONSISTENT: answer[0] is how many bytes are left; the text begins with them, the steps in
+ * their old order, and is 0 after them. Table and store are as aspdrupe_check_texts leaves them for the program and that text, which comes to
+ * ASPDRUPE_INCONSISTENT, and without any single one of its steps it does not.
+ * Returns the number of the question that the program fails, 1 to 11, 54 or 55: answer[0] is the line and answer[1] is 0, as
+ * aspdrupe_read_program has them.
+ * Otherwise returns 60 (the proof is refused or open when it is checked with the store lent): `answer` stays as it was.
+ * After a refusal, the program's too, the text is as it was, and table and store are 0 throughout.
+ * The time grows with the square of the number of steps: a trial is a whole check. */
+uint32_t aspdrupe_trim_proof(const uint8_t *program, size_t program_len, uint8_t *text, size_t text_len, int32_t *table, size_t table_len,
+                             int32_t *store, size_t store_len, uint64_t *answer, size_t answer_len);
 
 #ifdef __cplusplus
 }

@@ -1,7 +1,7 @@
 /* How much stack the services need. Every service is called, on inputs that reach its deepest paths, each call in a thread of its own:
  *
- *   stack           in threads with a stack of ASPDRUPE_STACK bytes, or ASPDRUPE_MERGE_STACK for merges: the test, which bindings/c/run
- *                   builds and runs
+ *   stack           in threads with a stack of ASPDRUPE_STACK bytes, ASPDRUPE_MERGE_STACK for merges, or ASPDRUPE_TRIM_STACK for trimming:
+ *                   the test, which bindings/c/run builds and runs
  *   stack SIZE      in threads with a stack of SIZE bytes
  *   stack measure   in threads with more than enough; prints how many bytes of it each has used, with what the thread itself takes
  *
@@ -245,6 +245,23 @@ static void make_full_split(void) {
     put(&split->second, "b 9 -1 0\nb 10 1 0\nc 10 0\nc 9 1 0\ns 1 9 0\ne 8001 9 0\na 0\n");
 }
 
+static struct text weight_proof, open_proof, full_proof;
+
+/* Proofs for the programs of the splits themselves: with weights, the same with its empty nogood deleted, and one that nearly fills the text
+ * with lines of 65 numbers that it does not need. */
+static void make_proofs(void) {
+    put_weight_half(&weight_proof, 13);
+    open_proof = weight_proof;
+    put(&open_proof, "d 0\n");
+    put(&full_proof, "b 9 -1 0\nc 9 1 0\ns 1 9 0\na 1 0\na 0\n");
+    for (int name = 8001; name <= 8001 + PART; name++) put(&full_proof, "e %d 0\n", name);
+    while (full_proof.size < TEXT - 400) {
+        put(&full_proof, "a");
+        put_range(&full_proof, 8001, 8001 + PART);
+        put(&full_proof, " 0\n");
+    }
+}
+
 static void make_inputs(void) {
     make_chain();
     make_wide();
@@ -254,6 +271,7 @@ static void make_inputs(void) {
     make_packets();
     make_weight_split();
     make_full_split();
+    make_proofs();
     for (int i = 0; i < TEXT; i++) put(&newlines, "\n");
     put(&long_line, "a");
     while (long_line.size < TEXT - 10) put(&long_line, " -8191");
@@ -264,7 +282,7 @@ static void make_inputs(void) {
 
 /* What a call is lent, apart from the texts. */
 static int32_t table[WORDS], store[WORDS], numbers[ASPDRUPE_NUMBERS];
-static uint8_t marks[ASPDRUPE_MARKS], bytes[PACKET], proof_text[TEXT];
+static uint8_t marks[ASPDRUPE_MARKS], bytes[PACKET], proof_text[TEXT + 1];
 static uint64_t answer[ASPDRUPE_ANSWER];
 
 static uint32_t read_program(const struct text *text) {
@@ -292,6 +310,11 @@ static uint32_t merge(const struct split *split, size_t store_size, size_t size)
     return aspdrupe_merge_halves(split->program.bytes, split->program.size, split->atom, split->first.bytes, split->first.size,
                                  split->second.bytes, split->second.size, table, WORDS, store, store_size, bytes, size, answer,
                                  ASPDRUPE_ANSWER);
+}
+
+static uint32_t trim(const struct text *program, const struct text *proof, size_t size, size_t store_size) {
+    memcpy(proof_text, proof->bytes, size);
+    return aspdrupe_trim_proof(program->bytes, program->size, proof_text, size, table, WORDS, store, store_size, answer, ASPDRUPE_ANSWER);
 }
 
 static uint32_t read_full(void) { return read_program(&full_rules); }
@@ -339,6 +362,17 @@ static uint32_t merge_many(void) {
     return aspdrupe_merge_halves(many_weights.bytes, many_weights.size, 1, chain.bytes, chain.size, chain.bytes, chain.size, table, WORDS,
                                  store, WORDS, bytes, TEXT, answer, ASPDRUPE_ANSWER);
 }
+
+/* The bytes that are left of the proofs. */
+#define WEIGHT_TRIMMED 143
+#define FULL_TRIMMED 35
+
+static uint32_t trim_weights(void) { return trim(&weight_split.program, &weight_proof, weight_proof.size, WORDS); }
+static uint32_t trim_full(void) { return trim(&full_split.program, &full_proof, full_proof.size, WORDS); }
+static uint32_t trim_open(void) { return trim(&weight_split.program, &open_proof, open_proof.size, WORDS); }
+static uint32_t trim_small(void) { return trim(&full_split.program, &full_proof, full_proof.size, FULL_TRIMMED); }
+static uint32_t trim_long(void) { return trim(&one_rule, &long_line, TEXT + 1, WORDS); }
+static uint32_t trim_many(void) { return trim(&many_weights, &chain, chain.size, WORDS); }
 
 /* A chain of rules against their order: the least model takes as many rounds as there are rules. It is the set that is tested. */
 static uint32_t test_chain(void) {
@@ -410,13 +444,26 @@ static const struct call merges[] = {
     {"merge_halves: 64 heads, 64 weights", merge_many, 55, {2, 0, 0, 0}},
 };
 
+static const struct call trims[] = {
+    {"trim_proof: rules with 12 weights", trim_weights, 0, {WEIGHT_TRIMMED, 0, 0, 0}},
+    {"trim_proof: full text, 1,024 rules", trim_full, 0, {FULL_TRIMMED, 0, 0, 0}},
+    {"trim_proof: an open proof", trim_open, 60, {0, 0, 0, 0}},
+    {"trim_proof: a store too short", trim_small, 60, {0, 0, 0, 0}},
+    {"trim_proof: a text of 65,536 bytes", trim_long, 60, {0, 0, 0, 0}},
+    {"trim_proof: 64 heads, 64 weights", trim_many, 55, {2, 0, 0, 0}},
+};
+
 #define COUNT(list) (sizeof list / sizeof *list)
 
 /* Calls, and the stack that the header names for them. */
 static const struct {
     const struct call *calls;
     size_t count, stack;
-} groups[] = {{calls, COUNT(calls), ASPDRUPE_STACK}, {merges, COUNT(merges), ASPDRUPE_MERGE_STACK}};
+} groups[] = {
+    {calls, COUNT(calls), ASPDRUPE_STACK},
+    {merges, COUNT(merges), ASPDRUPE_MERGE_STACK},
+    {trims, COUNT(trims), ASPDRUPE_TRIM_STACK},
+};
 
 /* ---- The threads ---- */
 

@@ -14,6 +14,7 @@ use crate::reference::models::{self, every_set};
 use crate::reference::program::{read, table_words, Program};
 use crate::reference::{filled, MARKS};
 use crate::tables;
+use crate::trims;
 
 /// A family: its name, how many inputs it has for a count of 100, and what is done with one.
 pub struct Family {
@@ -51,6 +52,8 @@ pub fn families() -> Vec<Family> {
         family("packet-pairs", 100, packets::run_pairs),
         listed("merges", cases::merges::cases().len(), merges::run_worked),
         family("splits", 50, merges::run_random),
+        listed("trims", cases::trims::cases().len(), trims::run_worked),
+        family("trimmed", 10, trims::run_random),
     ]
 }
 

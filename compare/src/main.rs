@@ -19,6 +19,7 @@ mod reference;
 mod shrink;
 mod tables;
 mod tally;
+mod trims;
 
 use std::process::ExitCode;
 

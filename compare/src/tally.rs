@@ -4,6 +4,7 @@ use std::collections::BTreeMap;
 
 use crate::reference::check::{verdict_line, Verdict};
 use crate::reference::merge::Turn;
+use crate::trims;
 
 #[derive(Default)]
 pub struct Tally {
@@ -87,6 +88,8 @@ fn wanted(with_binary: bool) -> Vec<String> {
     wanted.extend(["read", "refused 51", "refused 52", "refused 53"].map(|word| format!("read_packet: {word}")));
     wanted.extend(["merged", "refused 57", "refused 58", "refused 59"].map(|word| format!("merge_halves: {word}")));
     wanted.extend(PROGRAM_QUESTIONS.map(|number| format!("merge_halves: refused program {number:02}")));
+    wanted.extend(trims::WANTED.map(|what| format!("trim_proof: {what}")));
+    wanted.extend(PROGRAM_QUESTIONS.map(|number| format!("trim_proof: refused program {number:02}")));
     wanted.extend(Turn::ALL.map(|turn| format!("merge_halves: {}", turn.told())));
     wanted.extend("abcdels".chars().map(|letter| format!("inconsistent by a proof with {letter}")));
     wanted.extend(["refuted", "answer set"].map(|word| format!("search: {word}")));

@@ -1,6 +1,6 @@
 //! What the services answer.
 
-use crate::questions::{Letter, MergeQuestion, PacketQuestion, ProgramQuestion, ProofQuestion, SetQuestion};
+use crate::questions::{Letter, MergeQuestion, PacketQuestion, ProgramQuestion, ProofQuestion, SetQuestion, TrimQuestion};
 use std::fmt;
 
 /// Why a program text is refused. It is displayed as `refused program NUMBER LINE`.
@@ -124,6 +124,17 @@ pub enum Merging {
     RefusedProgram(ProgramRefusal),
     /// The merge is refused.
     Refused(MergeQuestion),
+}
+
+/// What trimming says of a program and a proof.
+#[derive(Debug, Clone, Copy, PartialEq, Eq, Hash)]
+pub enum Trimming {
+    /// So many bytes are left of the proof: the program has no answer set.
+    Trimmed(usize),
+    /// The program is refused.
+    RefusedProgram(ProgramRefusal),
+    /// The proof is refused.
+    Refused(TrimQuestion),
 }
 
 impl fmt::Display for ProgramRefusal {

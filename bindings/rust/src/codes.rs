@@ -1,9 +1,9 @@
 //! From what a function of the library returns and leaves, a code and numbers, to the answer of its service.
 
 use crate::answers::{
-    Counts, LineAnswer, Merging, PacketReading, PacketWriting, ProgramReading, ProgramRefusal, ProofRefusal, SetAnswer, Verdict,
+    Counts, LineAnswer, Merging, PacketReading, PacketWriting, ProgramReading, ProgramRefusal, ProofRefusal, SetAnswer, Trimming, Verdict,
 };
-use crate::questions::{Letter, MergeQuestion, PacketQuestion, ProgramQuestion, ProofQuestion, SetQuestion, UnknownAnswer};
+use crate::questions::{Letter, MergeQuestion, PacketQuestion, ProgramQuestion, ProofQuestion, SetQuestion, TrimQuestion, UnknownAnswer};
 
 /// What the program reader returns.
 #[derive(Debug, Clone, Copy, PartialEq, Eq)]
@@ -58,6 +58,14 @@ enum MergeCode {
     Merged,
     RefusedProgram(ProgramQuestion),
     Refused(MergeQuestion),
+}
+
+/// What trimming returns.
+#[derive(Debug, Clone, Copy, PartialEq, Eq)]
+enum TrimCode {
+    Trimmed,
+    RefusedProgram(ProgramQuestion),
+    Refused(TrimQuestion),
 }
 
 fn unknown(wanted: &'static str, code: u32) -> UnknownAnswer {
@@ -156,6 +164,19 @@ impl TryFrom<u32> for MergeCode {
     }
 }
 
+impl TryFrom<u32> for TrimCode {
+    type Error = UnknownAnswer;
+
+    fn try_from(code: u32) -> Result<Self, UnknownAnswer> {
+        match code {
+            0 => Ok(TrimCode::Trimmed),
+            1..=11 | 54 | 55 => ProgramQuestion::try_from(u64::from(code)).map(TrimCode::RefusedProgram),
+            60 => Ok(TrimCode::Refused(TrimQuestion::Accepted)),
+            _ => Err(unknown("code of trimming", code)),
+        }
+    }
+}
+
 /// The program reader's answer.
 pub fn program_reading(code: u32, answer: [u64; 2]) -> Result<ProgramReading, UnknownAnswer> {
     let [first, second] = answer.map(|number| number as usize);
@@ -230,6 +251,16 @@ pub fn merging(code: u32, answer: u64) -> Result<Merging, UnknownAnswer> {
     })
 }
 
+/// The answer of trimming.
+pub fn trimming(code: u32, answer: u64) -> Result<Trimming, UnknownAnswer> {
+    let number = answer as usize;
+    Ok(match TrimCode::try_from(code)? {
+        TrimCode::Trimmed => Trimming::Trimmed(number),
+        TrimCode::RefusedProgram(question) => Trimming::RefusedProgram(ProgramRefusal { question, line: number }),
+        TrimCode::Refused(question) => Trimming::Refused(question),
+    })
+}
+
 #[cfg(test)]
 mod tests {
     use super::*;
@@ -251,6 +282,7 @@ mod tests {
         assert_eq!(known::<WritingCode>(), [0, 52, 53]);
         assert_eq!(known::<ReadingCode>(), [0, 51, 52, 53]);
         assert_eq!(known::<MergeCode>(), (0..=11).chain([54, 55, 57, 58, 59]).collect::<Vec<_>>());
+        assert_eq!(known::<TrimCode>(), (0..=11).chain([54, 55, 60]).collect::<Vec<_>>());
     }
 
     #[test]
@@ -262,6 +294,7 @@ mod tests {
         assert_eq!(packet_writing(51, 0), Err(UnknownAnswer { wanted: "code of the writer of packets", number: 51 }));
         assert_eq!(packet_reading(54, [0; 2]), Err(UnknownAnswer { wanted: "code of the reader of packets", number: 54 }));
         assert_eq!(merging(34, 0), Err(UnknownAnswer { wanted: "code of the merge", number: 34 }));
+        assert_eq!(trimming(57, 0), Err(UnknownAnswer { wanted: "code of trimming", number: 57 }));
     }
 
     #[test]
@@ -286,6 +319,9 @@ mod tests {
         assert_eq!(merging(0, 66), Ok(Merging::Merged(66)));
         assert_eq!(merging(5, 7), Ok(Merging::RefusedProgram(refusal)));
         assert_eq!(merging(59, 9), Ok(Merging::Refused(MergeQuestion::Store)));
+        assert_eq!(trimming(0, 35), Ok(Trimming::Trimmed(35)));
+        assert_eq!(trimming(5, 7), Ok(Trimming::RefusedProgram(refusal)));
+        assert_eq!(trimming(60, 9), Ok(Trimming::Refused(TrimQuestion::Accepted)));
         for (code, answer, line) in
             [(0, [1, 2, 3, 4], "inconsistent 1 2 3 4"), (1, [5, 6, 7, 8], "open 5 6 7 8"), (2, [10, 3, 0, 0], "refused program 10 3")]
         {

@@ -1,6 +1,7 @@
-//! The seven services of the proof checker for Rust: the program reader, the set test, the proof-line reader, the whole check over two
-//! texts, the writer and the reader of packets, and the merge of two halves' proofs. The work is done by functions that are proved to meet
-//! their contracts on every input (`crates/exports`); here they are declared and wrapped, and their codes become enums. No input panics.
+//! The eight services of the proof checker for Rust: the program reader, the set test, the proof-line reader, the whole check over two
+//! texts, the writer and the reader of packets, the merge of two halves' proofs, and the trimming of a proof. The work is done by functions
+//! that are proved to meet their contracts on every input (`crates/exports`); here they are declared and wrapped, and their codes become
+//! enums. No input panics.
 //!
 //! Each function answers an [`UnknownAnswer`] where the library returns what its contract does not allow, which a library of the
 //! same version never does.
@@ -26,9 +27,9 @@ mod questions;
 mod raw;
 
 pub use answers::{
-    Counts, LineAnswer, Merging, PacketReading, PacketWriting, ProgramReading, ProgramRefusal, ProofRefusal, SetAnswer, Verdict,
+    Counts, LineAnswer, Merging, PacketReading, PacketWriting, ProgramReading, ProgramRefusal, ProofRefusal, SetAnswer, Trimming, Verdict,
 };
-pub use questions::{Letter, MergeQuestion, PacketQuestion, ProgramQuestion, ProofQuestion, SetQuestion, UnknownAnswer};
+pub use questions::{Letter, MergeQuestion, PacketQuestion, ProgramQuestion, ProofQuestion, SetQuestion, TrimQuestion, UnknownAnswer};
 
 /// The most numbers of a proof line.
 pub const MOST_NUMBERS: usize = 65;
@@ -36,12 +37,15 @@ pub const MOST_NUMBERS: usize = 65;
 /// The marks that the set test asks for.
 pub const MARKS: usize = 8192;
 
-/// The bytes of stack with which a thread has enough for any call but [`merge_halves`], as `std::thread::Builder::stack_size` takes them.
-/// What your own code takes comes on top.
+/// The bytes of stack with which a thread has enough for any call but [`merge_halves`] and [`trim_proof`], as
+/// `std::thread::Builder::stack_size` takes them. What your own code takes comes on top.
 pub const STACK: usize = 524_288;
 
 /// The same for [`merge_halves`].
 pub const MERGE_STACK: usize = 1_048_576;
+
+/// The same for [`trim_proof`].
+pub const TRIM_STACK: usize = 1_048_576;
 
 // Each call below hands over what its slices point to, with their lengths. A slice is valid for its length, an empty one has a
 // pointer that is aligned and not null, and Rust lets no other argument overlap one that is written: nothing more is asked.
@@ -251,4 +255,42 @@ pub fn merge_halves(
         )
     };
     codes::merging(code, answer[0])
+}
+
+/// Leaves of a proof only what it needs. The text is the proof, all of it, and must be inconsistent when it is checked with the store. Steps
+/// are tried for removal from the last to the first, and passes repeat until one removes none: without any single one of the steps that are
+/// left, the proof is no longer inconsistent. The text then begins with them and has 0 after them, and table and store are as
+/// [`check_texts`] leaves them for the program and what is left. Where anything is refused the text is as it was, and table and store are 0
+/// throughout. A trial is a whole check, so the time grows with the square of the number of steps. A thread needs [`TRIM_STACK`] bytes of
+/// stack.
+///
+/// ```
+/// use aspdrupe::{trim_proof, Trimming};
+///
+/// // 1 where not 1
+/// let program = b"asp 1 0 0\n1 0 1 1 0 1 -1\n0\n";
+/// let mut text = *b"b 2 -1 0\nc 2 1 0\ns 1 2 0\ne 3 2 0\na 1 0\na 0\n";
+/// let (mut table, mut store) = ([0; 6], [0; 40]);
+/// assert_eq!(trim_proof(program, &mut text, &mut table, &mut store)?, Trimming::Trimmed(35));
+/// assert_eq!(&text, b"b 2 -1 0\nc 2 1 0\ns 1 2 0\na 1 0\na 0\n\0\0\0\0\0\0\0\0");
+/// # Ok::<(), aspdrupe::UnknownAnswer>(())
+/// ```
+pub fn trim_proof(program: &[u8], text: &mut [u8], table: &mut [i32], store: &mut [i32]) -> Result<Trimming, UnknownAnswer> {
+    let mut answer = [0; 2];
+    // SAFETY: as said above.
+    let code = unsafe {
+        raw::aspdrupe_trim_proof(
+            program.as_ptr(),
+            program.len(),
+            text.as_mut_ptr(),
+            text.len(),
+            table.as_mut_ptr(),
+            table.len(),
+            store.as_mut_ptr(),
+            store.len(),
+            answer.as_mut_ptr(),
+            answer.len(),
+        )
+    };
+    codes::trimming(code, answer[0])
 }

@@ -127,6 +127,13 @@ numbered! {
 }
 
 numbered! {
+    /// The question put by the trimming of a proof, after those put to the program.
+    TrimQuestion, "question put to a proof that is trimmed" {
+        Accepted = 60, "Is the proof inconsistent when it is checked with the store?";
+    }
+}
+
+numbered! {
     /// The letter of a proof line; its number is its byte.
     Letter, "letter of a proof line" {
         Addition = b'a', "a";
@@ -156,6 +163,7 @@ mod tests {
         assert_eq!(known(SetQuestion::number), (41..=43).collect::<Vec<_>>());
         assert_eq!(known(PacketQuestion::number), (51..=53).collect::<Vec<_>>());
         assert_eq!(known(MergeQuestion::number), (57..=59).collect::<Vec<_>>());
+        assert_eq!(known(TrimQuestion::number), [60]);
         assert_eq!(known(Letter::number), b"abcdels".map(u64::from));
         assert_eq!(Letter::ALL.iter().map(Letter::to_string).collect::<String>(), "abcdels");
     }

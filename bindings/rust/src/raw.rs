@@ -79,6 +79,18 @@ extern "C" {
         answer: *mut u64,
         answer_len: usize,
     ) -> u32;
+    pub fn aspdrupe_trim_proof(
+        program: *const u8,
+        program_len: usize,
+        text: *mut u8,
+        text_len: usize,
+        table: *mut i32,
+        table_len: usize,
+        store: *mut i32,
+        store_len: usize,
+        answer: *mut u64,
+        answer_len: usize,
+    ) -> u32;
 }
 
 // What does not fit is not written, and what stands after an answer stays.
@@ -245,6 +257,41 @@ mod tests {
     fn merge_refusals_tell_no_numbers() {
         for (store, output, code) in [(20, 64, 57), (35, 63, 58), (34, 64, 59)] {
             assert_eq!(merged(6, store, output, 3), (code, [9; 3]));
+        }
+    }
+
+    /// The proof trimmed with a table and a store of so many words: the code, and what is left in an answer of so many numbers.
+    fn trimmed(table: usize, store: usize, size: usize) -> (u32, [u64; 3]) {
+        let (mut table, mut store, mut text) = (vec![7; table], vec![7; store], PROOF.to_vec());
+        let mut answer = [9u64; 3];
+        // SAFETY: as above.
+        let code = unsafe {
+            aspdrupe_trim_proof(
+                PROGRAM.as_ptr(),
+                PROGRAM.len(),
+                text.as_mut_ptr(),
+                text.len(),
+                table.as_mut_ptr(),
+                table.len(),
+                store.as_mut_ptr(),
+                store.len(),
+                answer.as_mut_ptr(),
+                size,
+            )
+        };
+        (code, answer)
+    }
+
+    #[test]
+    fn trim_counts_that_do_not_fit() {
+        for size in 0..=3 {
+            let mut left = [35, 9, 9];
+            left[size.min(1)..].fill(9);
+            assert_eq!(trimmed(6, 21, size), (0, left));
+            let mut left = [2, 0, 9];
+            left[size.min(2)..].fill(9);
+            assert_eq!(trimmed(5, 21, size), (10, left));
+            assert_eq!(trimmed(6, 20, size), (60, [9; 3]));
         }
     }
 }

@@ -15,11 +15,12 @@ fn defined(name: &str) -> usize {
 fn same_constants() {
     assert_eq!(STACK, defined("STACK"));
     assert_eq!(MERGE_STACK, defined("MERGE_STACK"));
+    assert_eq!(TRIM_STACK, defined("TRIM_STACK"));
     assert_eq!(MARKS, defined("MARKS"));
     assert_eq!(MOST_NUMBERS, defined("NUMBERS"));
 }
 
-/// Every service but the merge once. The inputs that go deepest are those of bindings/c/stack.c.
+/// Every service that needs no more stack than a check, once. The inputs that go deepest are those of bindings/c/stack.c.
 fn call_all() -> [String; 6] {
     let program = b"asp 1 0 0\n1 0 1 1 0 1 2\n1 0 1 2 0 1 1\n1 0 0 0 1 -1\n0\n";
     let proof = b"b 3 -1 0\nb 4 2 0\ns 1 4 0\nc 3 0\nl 1 2 0\na 0\n";
@@ -58,4 +59,15 @@ fn stack_of_a_thread_that_merges() {
     };
     let thread = std::thread::Builder::new().stack_size(MERGE_STACK).spawn(merge).unwrap();
     assert_eq!(thread.join().unwrap(), Ok(Merging::Merged(64)));
+}
+
+#[test]
+fn stack_of_a_thread_that_trims() {
+    let trim = || {
+        let program = b"asp 1 0 0\n1 0 1 1 0 1 -1\n0\n";
+        let mut text = *b"b 2 -1 0\nc 2 1 0\ns 1 2 0\na 1 0\na 0\n";
+        trim_proof(program, &mut text, &mut [0; 6], &mut [0; 21])
+    };
+    let thread = std::thread::Builder::new().stack_size(TRIM_STACK).spawn(trim).unwrap();
+    assert_eq!(thread.join().unwrap(), Ok(Trimming::Trimmed(35)));
 }

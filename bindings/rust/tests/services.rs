@@ -1,4 +1,4 @@
-//! The seven services on document 01's starred examples, on rules with weights, and on buffers that are too small or empty.
+//! The eight services on document 01's starred examples, on rules with weights, and on buffers that are too small or empty.
 
 use aspdrupe::*;
 
@@ -370,4 +370,35 @@ fn halves_that_are_not_merged() {
     let refusal = ProgramRefusal { question: ProgramQuestion::Table, line: 2 };
     let zeros = (Merging::RefusedProgram(refusal), vec![0; 5], vec![0; 40], vec![0; 66]);
     assert_eq!(merged(PROGRAM, 1, halves, [5, 40, 66]), zeros);
+}
+
+/// What trimming says, with every byte of the text and every word of buffers of so many.
+fn trimmed(program: &[u8], proof: &[u8], table: usize, store: usize) -> (Trimming, Vec<u8>, Vec<i32>, Vec<i32>) {
+    let (mut text, mut table, mut store) = (proof.to_vec(), vec![7; table], vec![7; store]);
+    let trimming = trim_proof(program, &mut text, &mut table, &mut store).unwrap();
+    (trimming, text, table, store)
+}
+
+#[test]
+fn trimmed_to_starred_1() {
+    for lines in ["b 2 -1;c 2 1;s 1 2;a 1;a", "b 2 -1;c 2 1;e 3 2;s 1 2;a 1;d 3 2;a 1;a;a 1", "b 2 -1;c 2 1;s 1 2;a 1;d 1 2;a"] {
+        let proof: Vec<u8> = lines.split(';').flat_map(|line| format!("{line} 0\n").into_bytes()).collect();
+        let (_, table, store) = checked(PROGRAM, PROOF, 7, 99);
+        assert_eq!(trimmed(PROGRAM, &proof, 7, 99), (Trimming::Trimmed(35), and_zeros(PROOF, proof.len() - 35), table, store));
+    }
+}
+
+#[test]
+fn not_trimmed() {
+    let refused = |proof: &[u8], store| (Trimming::Refused(TrimQuestion::Accepted), proof.to_vec(), vec![0; 6], vec![0; store]);
+    assert_eq!(trimmed(PROGRAM, PROOF, 6, 21), (Trimming::Trimmed(35), PROOF.to_vec(), RULES.to_vec(), STORE.to_vec()));
+    assert_eq!(trimmed(PROGRAM, PROOF, 6, 20), refused(PROOF, 20));
+    for proof in [&[PROOF, b"d 0\n"].concat()[..], &[PROOF, &[0]].concat(), b"", &[b'a'; 65_536]] {
+        assert_eq!(trimmed(PROGRAM, proof, 6, 99), refused(proof, 99));
+    }
+    let refusal = |question, line| Trimming::RefusedProgram(ProgramRefusal { question, line });
+    let short = refusal(ProgramQuestion::Table, 2);
+    assert_eq!(trimmed(PROGRAM, PROOF, 5, 21), (short, PROOF.to_vec(), vec![0; 5], vec![0; 21]));
+    let cut = refusal(ProgramQuestion::Numbers, 3);
+    assert_eq!(trimmed(&PROGRAM[..PROGRAM.len() - 1], PROOF, 6, 21), (cut, PROOF.to_vec(), vec![0; 6], vec![0; 21]));
 }

@@ -23,7 +23,7 @@ pub fn split(random: &mut Random) -> Option<Split> {
 }
 
 /// Small programs of every flavour, now and then with weights, and some that take a longer search.
-fn any_rules(random: &mut Random) -> Vec<Rule> {
+pub fn any_rules(random: &mut Random) -> Vec<Rule> {
     let mut rules = match random.below(60) {
         0 => return programs::pigeons(2),
         1 => return programs::crowded(random),
@@ -102,7 +102,7 @@ fn with_other_names(text: &[u8], atoms: i32, random: &mut Random) -> Vec<u8> {
 }
 
 /// The proof with lines put in between its own and after them.
-fn with_more(wider: &Program, text: &[u8], random: &mut Random) -> Vec<u8> {
+pub fn with_more(wider: &Program, text: &[u8], random: &mut Random) -> Vec<u8> {
     let lines = lines_of(text).unwrap_or_default();
     let later = introduced(&lines);
     let mut author = Author::of(wider);

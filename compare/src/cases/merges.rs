@@ -200,11 +200,11 @@ fn further_lines() -> Vec<Case> {
     ]
 }
 
-/// Every refusal of a program, also where all else is wrong too.
-fn refused_programs() -> Vec<Case> {
+/// Programs that are refused, with the number and the line; question 10 is about the table that is lent.
+pub fn refused_texts() -> [(u8, usize, Vec<u8>); 12] {
     let of = |rule: &str| program(&[rule]);
     let many = format!("1 0 0 1 6 13{}", (1..=13).map(|atom| format!(" {atom} 1")).collect::<String>());
-    let texts = [
+    [
         (1, 0, vec![b'\n'; 65_536]),
         (2, 1, Vec::new()),
         (3, 2, of("1 0 1 1 0 1 -0")),
@@ -217,10 +217,14 @@ fn refused_programs() -> Vec<Case> {
         (11, 3, [program(&[RULE_1]), b"0\n".to_vec()].concat()),
         (54, 2, of("1 0 0 1 4096 1 1 1")),
         (55, 2, of(&many)),
-    ];
+    ]
+}
+
+/// Every refusal of a program, also where all else is wrong too.
+fn refused_programs() -> Vec<Case> {
     let refused =
         |(number, line, program)| case(format!("program {number}"), Split { program, ..worked() }, RefusedProgram { number, line });
-    let mut cases: Vec<Case> = texts.into_iter().map(refused).collect();
+    let mut cases: Vec<Case> = refused_texts().into_iter().map(refused).collect();
     let bad = Split { program: Vec::new(), atom: 0, first: b"x".to_vec(), second: Vec::new() };
     cases.push(Case { rooms: Rooms { table: 0, store: 0, output: 0 }, ..case("nothing", bad, RefusedProgram { number: 2, line: 1 }) });
     cases

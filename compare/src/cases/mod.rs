@@ -1,4 +1,4 @@
-//! Where the texts, packets and splits come from: fixed cases, cases at the limits, random proofs for programs, changes of them, and noise.
+//! Where the texts, packets, splits and proofs to be trimmed come from: fixed cases, cases at the limits, random proofs for programs, changes of them, and noise.
 
 pub mod bytes;
 pub mod changes;
@@ -13,4 +13,5 @@ pub mod merges;
 pub mod noise;
 pub mod packets;
 pub mod refutations;
+pub mod trims;
 pub mod weights;

@@ -1,5 +1,5 @@
-//! The slow and plain reference: every service of document 01, and the packets and the merge of document 02, once more, written from their
-//! words.
+//! The slow and plain reference: every service of document 01, and the packets, the merge and the trimming of document 02, once more, written
+//! from their words.
 //!
 //! Where its words left room for doubt, this is how they are read here:
 //! - A refused proof zeroes the table too: the whole check "is lent both texts and a table and a store to fill", and every refusal
@@ -33,6 +33,8 @@
 //! - "that neither half uses" counts every name that a half introduces, also by a line that goes.
 //! - Only `a` lines are widened or skipped. A line that is skipped is not asked for its length.
 //! - All lines stay as often as they stand, but for the second `b` of a body that both halves name. `a 0` is added also after an `a 0`.
+//! - A pass of Change 10 tries each step once, against what is left at that moment; after a removal it goes on with the step before. "accepted"
+//!   is with the lent store, and the lent text is the proof to its last byte, zero bytes too.
 
 pub mod check;
 pub mod closure;
@@ -44,6 +46,7 @@ pub mod numbers;
 pub mod packets;
 pub mod program;
 pub mod steps;
+pub mod trim;
 pub mod weights;
 
 /// The largest variable and the largest atom: "The largest variable becomes 8,191".

@@ -48,6 +48,25 @@ pub fn before(text: &[u8], mark: u8) -> usize
     i
 }
 
+// How many bytes end with the first `mark`, or all of them.
+pub fn through(text: &[u8], mark: u8) -> usize
+    ensures { λ r. ⌜ r ≤ length (now (text .entry)) ⌝ }
+{
+    let n = before(text, mark);
+    if n < text.len() {
+        return n + 1;
+    }
+    n
+}
+
+// The bytes before the first 0, if they are no more than 600.
+pub fn say_text(text: &[u8]) {
+    let end = before(text, 0);
+    if end <= 600 {
+        say(&text[..end]);
+    }
+}
+
 // 1 where it is so.
 fn one_if(so: bool) -> usize
     ensures { λ r. ⌜ r ≤ 1 ⌝ }

@@ -2,16 +2,17 @@
 ghost use mathlib.Core.Path.{_≡_};
 ghost use mathlib.Core.List.{List};
 ghost use lib.IntN.{pos};
-ghost use Prim.Native.Nat.{_≤_};
+ghost use Prim.Native.Nat.{ℕ, _≤_};
 ghost use lib.ListN.{length, replicate};
 ghost use Rattle.words.specs.Limits.{mostHeld};
 ghost use Rattle.words.specs.Lists.{any};
-ghost use Rattle.aspif.specs.Rules.{InputRule, isEmpty, tableWords};
+ghost use Rattle.aspif.specs.Rules.{Rule, InputRule, isEmpty, tableWords};
 ghost use Rattle.aspif.specs.Reading.{program};
 ghost use Rattle.nogoods.specs.Store.{Stored, live};
 ghost use Rattle.nogoods.specs.Keeps.{Holds};
-ghost use Rattle.checker.specs.Check.{saying, judgedReading};
+ghost use Rattle.checker.specs.Check.{Course, course, endsEmpty, isAccepted, saying, judgedReading};
 ghost use Rattle.steps.specs.Held.{Program};
+ghost use Rattle.checker.specs.Held.{Ran};
 ghost use Rattle.checker.specs.declared.Verdict.the-variants.{RefusedProof};
 use crate::Counts;
 use crate::ProofRefusal;
@@ -47,6 +48,41 @@ fn conclude(store: &[i32], used: usize, atoms: usize, rules: usize, steps: usize
         return Verdict::Inconsistent(counts);
     }
     Verdict::Open(counts)
+}
+
+// The lines that came to this end with the empty nogood live.
+pub fn ends_empty(run: Run, store: &[i32]) -> bool
+    requires { ⌜ ((c : Course) × Ran (now store) c run) ⌝ }
+    ensures { λ r. ⌜ ((N : ℕ) (P : List Rule) (size : ℕ) (text : List ℕ) → Ran (now (store .entry)) (course N P size text) run
+        → r ≡ endsEmpty (course N P size text)) ⌝ }
+{
+    match run {
+        Run::Stopped(_) => false,
+        Run::Through { steps, used } => nogoods::store::has_empty(store, used),
+    }
+}
+
+// The proof text is accepted for the rules in the table. The store is 0 throughout, before and after.
+pub fn is_accepted(
+    text: &[u8],
+    table: &[i32],
+    rules: usize,
+    atoms: usize,
+    store: &mut [i32],
+) -> bool
+    requires program { ⌜ ((ws : List InputRule) × Program (now table) rules atoms ws) × (rules ≤ mostHeld) ⌝ }
+    requires empty { ⌜ now store ≡ replicate (length (now store)) (pos 0) ⌝ }
+    ensures empty { λ r. ⌜ now (store .exit) ≡ replicate (length (now (store .entry))) (pos 0) ⌝ }
+    ensures accepted { λ r. ⌜ ((ws : List InputRule) → Program (now (table .entry)) rules atoms ws
+        → r ≡ isAccepted (length (now (store .entry))) ws (now (text .entry))) ⌝ }
+{
+    if words::LONGEST < text.len() {
+        return false;
+    }
+    let run = runs::run_proof(text, table, rules, atoms, store);
+    let accepted = ends_empty(run, store);
+    words::zero_all(store);
+    accepted
 }
 
 // The proof against a program that was read into the table. The store is 0 throughout.

@@ -20,6 +20,8 @@ use Rattle.checker.specs.declared.Verdict.{Verdict}
 use Rattle.checker.specs.declared.Verdict.the-variants.{Inconsistent, Open, RefusedProgram, RefusedProof}
 use Rattle.splits.specs.declared.MergeAnswer.{MergeAnswer}
 use Rattle.splits.specs.declared.MergeAnswer.the-variants as Merge
+use Rattle.trimming.specs.declared.TrimAnswer.{TrimAnswer}
+use Rattle.trimming.specs.declared.TrimAnswer.the-variants as Trim
 
 -- the code is returned, and the numbers stand at the front of the lent buffer, as many as fit; no other number of it has changed
 pub record Told (code : ℕ) (numbers before after : List ℕ) (result : ℕ) : Type 0 where
@@ -114,3 +116,15 @@ abbrev pub mergeNumbers : MergeAnswer → List ℕ
 mergeNumbers (Merge.Merged n) = n ∷ []
 mergeNumbers (Merge.RefusedProgram r) = r .line ∷ 0 ∷ []
 mergeNumbers (Merge.Refused k) = []
+
+-- The trimming of a proof: 0 with the bytes of the text that is left; the program's number and line, as its reader tells them; 60
+
+abbrev pub trimCode : TrimAnswer → ℕ
+trimCode (Trim.Trimmed n) = 0
+trimCode (Trim.RefusedProgram r) = r .number
+trimCode (Trim.Refused k) = k
+
+abbrev pub trimNumbers : TrimAnswer → List ℕ
+trimNumbers (Trim.Trimmed n) = n ∷ []
+trimNumbers (Trim.RefusedProgram r) = r .line ∷ 0 ∷ []
+trimNumbers (Trim.Refused k) = []

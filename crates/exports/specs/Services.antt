@@ -1,5 +1,5 @@
--- What the seven functions for C return and leave: an answer told by its code and numbers. Of the program reader, of the whole check and of
--- the merge it is the one for which the service's own contract holds, which is an equation; of the others it is said outright. A primed name is what a lent slice holds afterwards; `answer` is the buffer for the numbers.
+-- What the eight functions for C return and leave: an answer told by its code and numbers. Of the program reader, of the whole check, of
+-- the merge and of trimming it is the one for which the service's own contract holds, which is an equation; of the others it is said outright. A primed name is what a lent slice holds afterwards; `answer` is the buffer for the numbers.
 -- Assumes nothing.
 use mathlib.Core.Path.{_≡_}
 use mathlib.Core.List.{List}
@@ -16,7 +16,9 @@ use Rattle.checker.specs.Check.{CheckedTexts}
 use Rattle.checker.specs.declared.Verdict.{Verdict}
 use Rattle.splits.specs.Service.{MergedHalves}
 use Rattle.splits.specs.declared.MergeAnswer.{MergeAnswer}
-use Rattle.exports.specs.Codes.{Told, programCode, programNumbers, setCode, setNumbers, lineCode, lineNumbers, writingCode, writingNumbers, readingCode, readingNumbers, verdictCode, verdictNumbers, mergeCode, mergeNumbers}
+use Rattle.trimming.specs.Service.{TrimmedProof}
+use Rattle.trimming.specs.declared.TrimAnswer.{TrimAnswer}
+use Rattle.exports.specs.Codes.{Told, programCode, programNumbers, setCode, setNumbers, lineCode, lineNumbers, writingCode, writingNumbers, readingCode, readingNumbers, verdictCode, verdictNumbers, mergeCode, mergeNumbers, trimCode, trimNumbers}
 
 -- the program reader's answer and every word of the table
 pub record ProgramService (text : List ℕ) (table table′ : List ℤ) (answer answer′ : List ℕ) (result : ℕ) : Type 0 where
@@ -58,3 +60,9 @@ pub record MergeService (program : List ℕ) (atom : ℕ) (first second : List �
   pub answered : MergeAnswer
   pub merged : MergedHalves program atom first second table store table′ store′ output output′ answered
   pub told : Told (mergeCode answered) (mergeNumbers answered) answer answer′ result
+
+-- the answer of trimming, every byte of the text, and every word of the table and of the store
+pub record TrimService (program text text′ : List ℕ) (table store table′ store′ : List ℤ) (answer answer′ : List ℕ) (result : ℕ) : Type 0 where
+  pub answered : TrimAnswer
+  pub trimmed : TrimmedProof program text text′ table store table′ store′ answered
+  pub told : Told (trimCode answered) (trimNumbers answered) answer answer′ result

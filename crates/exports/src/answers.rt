@@ -9,11 +9,12 @@ use packets::PacketReading;
 use packets::PacketWriting;
 use splits::MergeAnswer;
 use text::writing;
+use trimming::TrimAnswer;
 ghost use mathlib.Core.Path.{_≡_};
 ghost use mathlib.Core.List.{[], _∷_};
 ghost use lib.ListN.{set};
 ghost use lib.Seq.{sets};
-ghost use Rattle.exports.specs.Codes.{Told, programCode, programNumbers, setCode, setNumbers, lineCode, lineNumbers, writingCode, writingNumbers, readingCode, readingNumbers, verdictCode, verdictNumbers, countNumbers, mergeCode, mergeNumbers};
+ghost use Rattle.exports.specs.Codes.{Told, programCode, programNumbers, setCode, setNumbers, lineCode, lineNumbers, writingCode, writingNumbers, readingCode, readingNumbers, verdictCode, verdictNumbers, countNumbers, mergeCode, mergeNumbers, trimCode, trimNumbers};
 
 // The codes of the cases to which document 01 gives no number.
 const READ: u32 = 0;
@@ -177,5 +178,22 @@ pub fn tell_merge(merged: MergeAnswer, answer: &mut [u64]) -> u32
             refusal.number as u32
         }
         MergeAnswer::Refused(number) => number as u32,
+    }
+}
+
+// The answer of the trimming of a proof.
+pub fn tell_trim(trimmed: TrimAnswer, answer: &mut [u64]) -> u32
+    ensures { λ r. ⌜ Told (trimCode trimmed) (trimNumbers trimmed) (now (answer .entry)) (now (answer .exit)) r ⌝ }
+{
+    match trimmed {
+        TrimAnswer::Trimmed(bytes) => {
+            put(answer, 0, bytes);
+            WRITTEN
+        }
+        TrimAnswer::RefusedProgram(refusal) => {
+            put_two(answer, refusal.line, 0);
+            refusal.number as u32
+        }
+        TrimAnswer::Refused(number) => number as u32,
     }
 }

@@ -1,9 +1,9 @@
-// The seven services for programs in C and Rust, on numbers and slices. An answer's case is the code that is returned, and its
+// The eight services for programs in C and Rust, on numbers and slices. An answer's case is the code that is returned, and its
 // numbers are put at the front of the lent `answer`, as many as fit; what the codes and numbers are is specs/Codes.antt, and what
 // each function returns and leaves is specs/Services.antt. bindings/c/aspdrupe.h declares the functions for C.
 mod answers;
 
-ghost use Rattle.exports.specs.Services.{ProgramService, SetService, LineService, WriteService, ReadService, CheckService, MergeService};
+ghost use Rattle.exports.specs.Services.{ProgramService, SetService, LineService, WriteService, ReadService, CheckService, MergeService, TrimService};
 
 // Reads a program text into the table.
 #[no_mangle]
@@ -114,4 +114,20 @@ pub extern "C" fn aspdrupe_merge_halves(
 {
     let merged = splits::merge_halves(program, atom as usize, first, second, table, store, output);
     answers::tell_merge(merged, answer)
+}
+
+// Takes the steps out of a proof text that it does not need.
+#[no_mangle]
+pub extern "C" fn aspdrupe_trim_proof(
+    program: &[u8],
+    text: &mut [u8],
+    table: &mut [i32],
+    store: &mut [i32],
+    answer: &mut [u64],
+) -> u32
+    ensures { λ r. ⌜ TrimService (now (program .entry)) (now (text .entry)) (now (text .exit)) (now (table .entry)) (now (store .entry))
+        (now (table .exit)) (now (store .exit)) (now (answer .entry)) (now (answer .exit)) r ⌝ }
+{
+    let trimmed = trimming::trim_proof(program, text, table, store);
+    answers::tell_trim(trimmed, answer)
 }

@@ -10,12 +10,12 @@ use Rattle.words.proofs.Literals.{complement-twice, variable-complement}
 use Rattle.aspif.specs.Rules.{InputRule, expand, atoms}
 use Rattle.derivation.specs.States.{State, isAtom}
 use Rattle.nogoods.specs.Store.{Stored}
-use Rattle.checker.specs.Check.{Course, stopped, through, course}
+use Rattle.checker.specs.Check.{Course, stopped, through, course, endsEmpty, isAccepted}
 use Rattle.steps.specs.Held.{Tracks}
 use Rattle.checker.specs.Held.{Ended}
 use Rattle.merging.specs.Claims.{demandingAsWritten}
 use Rattle.merging.proofs.AsWritten.{demanding-same-atoms}
-use Rattle.splits.specs.Service.{endsEmpty, isAccepted, areHalves}
+use Rattle.splits.specs.Service.{areHalves}
 use Rattle.splits.specs.Halves.{HalfChecked, HalvesLeft, HalvesChecked}
 
 -- a course that ends with the empty nogood went through, and the arrays hold the state that it left

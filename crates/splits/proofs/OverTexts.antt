@@ -20,7 +20,7 @@ use Rattle.derivation.specs.States.{State, start, isAtom}
 use Rattle.derivation.specs.Steps.{Outcome, refused, next, step, emptyLive}
 use Rattle.nogoods.specs.Store.{Stored, storeWords}
 use Rattle.steps.specs.After.{storedAfter}
-use Rattle.checker.specs.Check.{Course, stopped, through, thenStopped, fitting, runSteps, runRead, course, countsOf, judged, check}
+use Rattle.checker.specs.Check.{Course, stopped, through, thenStopped, fitting, runSteps, runRead, course, endsEmpty, isAccepted, countsOf, judged, check}
 use Rattle.checker.specs.declared.Counts.{Counts}
 use Rattle.checker.specs.declared.Verdict.the-variants.{Inconsistent, RefusedProof}
 use Rattle.checker.proofs.Whole.{course-written, steps-pass}
@@ -30,7 +30,7 @@ use Rattle.merging.specs.Claims as Claims
 use Rattle.merging.proofs.AsWritten.{unsized-as-written, merged-as-written}
 use Rattle.splits.specs.declared.MergeAnswer.{MergeAnswer}
 use Rattle.splits.specs.declared.MergeAnswer.the-variants.{Merged, RefusedProgram, Refused}
-use Rattle.splits.specs.Service.{endsEmpty, isAccepted, areHalves, stepsIn, mergedSteps, isWritable, MergeLeft, leavesNothing, judgedText, mergedReading, merge}
+use Rattle.splits.specs.Service.{areHalves, stepsIn, mergedSteps, isWritable, MergeLeft, leavesNothing, judgedText, mergedReading, merge}
 use Rattle.splits.specs.Claims.{MergedText, Demand3Merged, AsChecked}
 
 -- Steps with question 34, as a course

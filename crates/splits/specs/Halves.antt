@@ -10,11 +10,11 @@ use Rattle.aspif.specs.Rules.{InputRule, expand}
 use Rattle.marks.specs.Marks.{marked}
 use Rattle.derivation.specs.States.{State, isKnown}
 use Rattle.nogoods.specs.Store.{Stored}
-use Rattle.checker.specs.Check.{through, course}
+use Rattle.checker.specs.Check.{through, course, endsEmpty}
 use Rattle.steps.specs.Held.{Tracks}
 use Rattle.checker.specs.Held.{Ended}
 use Rattle.merging.specs.Claims.{demandingAsWritten}
-use Rattle.splits.specs.Service.{endsEmpty, areHalves}
+use Rattle.splits.specs.Service.{areHalves}
 
 -- the words of a constraint with just the literal in its body: normal, no head, a plain body of one literal
 abbrev pub demandWords : ℤ → List ℤ

@@ -1,7 +1,7 @@
 -- What `merge_halves` answers and leaves, of the texts, the atom and the lengths of what it is lent: document 02, Change 9.
 -- Assumes nothing.
 use mathlib.Core.Path.{_≡_}
-use mathlib.Core.Bool.{Bool, false, cond, _&&_}
+use mathlib.Core.Bool.{Bool, cond, _&&_}
 use mathlib.Core.List.{List, _++_}
 use Prim.Native.Nat.{ℕ, _-_}
 use lib.Dec.{leb}
@@ -15,22 +15,14 @@ use Rattle.drupe.specs.Texts as Texts
 use Rattle.derivation.specs.States.{isAtom}
 use Rattle.derivation.specs.Steps.{emptyLive}
 use Rattle.nogoods.specs.Store.{storeWords}
-use Rattle.checker.specs.Check.{Course, stopped, through, course}
+use Rattle.checker.specs.Check.{Course, stopped, through, course, isAccepted}
 use Rattle.merging.specs.Merge.{allFit}
 use Rattle.merging.specs.Claims.{demandingAsWritten, mergedAsWritten}
 use Rattle.splits.specs.declared.MergeAnswer.{MergeAnswer}
 use Rattle.splits.specs.declared.MergeAnswer.the-variants.{Merged, RefusedProgram, Refused}
 
--- "A half that its check, with the lent store, refuses or finds open" is none
-
--- the verdict is "inconsistent"
-abbrev pub endsEmpty : Course → Bool
-endsEmpty (stopped k n) = false
-endsEmpty (through n z stored) = emptyLive z
-
--- the proof text is accepted for the rules with a store of so many words; "Questions 1, 9 and 10 are not put to added constraints"
-abbrev pub isAccepted : (size : ℕ) → List InputRule → List ℕ → Bool
-isAccepted size ws text = endsEmpty (course (atoms ws) (expand ws) size text)
+-- "A half that its check, with the lent store, refuses or finds open" is none, and "Questions 1, 9 and 10 are not put to added
+-- constraints": isAccepted
 
 -- "The split atom must be one of the program's", and each half is accepted for its program
 abbrev pub areHalves : (size : ℕ) → List InputRule → (atom : ℕ) → (first second : List ℕ) → Bool

@@ -2,26 +2,22 @@
 ghost use mathlib.Core.Path.{_≡_};
 ghost use mathlib.Core.Bool.{true};
 ghost use mathlib.Core.List.{List};
-ghost use Prim.Native.Nat.{ℕ, _≤_};
+ghost use Prim.Native.Nat.{_≤_};
 ghost use lib.IntN.{pos};
 ghost use lib.ListN.{length, replicate};
 ghost use Rattle.words.specs.Limits.{largest, entries, longest, mostRules, mostHeld};
 ghost use Rattle.words.specs.Literals.{variable, complement};
-ghost use Rattle.aspif.specs.Rules.{Rule, InputRule, programWords};
+ghost use Rattle.aspif.specs.Rules.{InputRule, programWords};
 ghost use Rattle.aspif.specs.Tables.{rulesAt};
 ghost use Rattle.marks.specs.Marks.{Marks, upTo};
 ghost use Rattle.derivation.specs.States.{isAtom};
 ghost use Rattle.heads.specs.Heads.{nameWords};
-ghost use Rattle.checker.specs.Check.{Course, course};
 ghost use Rattle.steps.specs.Held.{Program, NoBodies};
-ghost use Rattle.checker.specs.Held.{Ran};
 ghost use Rattle.merging.specs.Claims.{demandingAsWritten};
-ghost use Rattle.splits.specs.Service.{endsEmpty};
 ghost use Rattle.splits.specs.Halves.{HalfChecked, HalvesChecked};
 use crate::tables;
+use checker::judging;
 use checker::runs;
-use checker::runs::Run;
-use nogoods::store;
 use words::LONGEST;
 
 // The words of a program, and of a constraint behind it.
@@ -69,18 +65,6 @@ fn zero_bodies(bodies: &mut [i16])
     }
 }
 
-// The lines that came to this end with the empty nogood live.
-fn ends_empty(run: Run, store: &[i32]) -> bool
-    requires { ⌜ ((c : Course) × Ran (now store) c run) ⌝ }
-    ensures { λ r. ⌜ ((N : ℕ) (P : List Rule) (size : ℕ) (text : List ℕ) → Ran (now (store .entry)) (course N P size text) run
-        → r ≡ endsEmpty (course N P size text)) ⌝ }
-{
-    match run {
-        Run::Stopped(_) => false,
-        Run::Through { steps, used } => store::has_empty(store, used),
-    }
-}
-
 // The proof text is accepted for the rules in the table. The store is 0 throughout, before and after.
 fn accepts(
     text: &[u8],
@@ -105,7 +89,7 @@ fn accepts(
     }
     know_atoms(known, atoms);
     let run = runs::run_half(text, table, rules, atoms, known, names, bodies, store);
-    let accepted = ends_empty(run, store);
+    let accepted = judging::ends_empty(run, store);
     words::zero_all(store);
     accepted
 }

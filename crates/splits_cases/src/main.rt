@@ -11,10 +11,10 @@ use cases::nonzero_bytes;
 use cases::number_of;
 use cases::say;
 use cases::say_number;
+use cases::say_text;
+use cases::through;
 use libc::STDIN_FILENO;
 use splits::MergeAnswer;
-ghost use Prim.Native.Nat.{_≤_};
-ghost use lib.ListN.{length};
 
 fn say_answer(answer: MergeAnswer) {
     match answer {
@@ -31,14 +31,6 @@ fn say_answer(answer: MergeAnswer) {
             say(b"refused");
             say_number(number as usize);
         }
-    }
-}
-
-// The bytes before the first 0, if they are few.
-fn say_text(text: &[u8]) {
-    let end = before(text, 0);
-    if end <= 600 {
-        say(&text[..end]);
     }
 }
 
@@ -89,17 +81,6 @@ fn merge_case(
             }
         }
     }
-}
-
-// How many bytes end with the first `mark`, or all of them.
-fn through(text: &[u8], mark: u8) -> usize
-    ensures { λ r. ⌜ r ≤ length (now (text .entry)) ⌝ }
-{
-    let n = before(text, mark);
-    if n < text.len() {
-        return n + 1;
-    }
-    n
 }
 
 // The case of three texts with their parts repeated.

@@ -4,9 +4,8 @@ use lib.IntN.{pos}
 use lib.ListN.{length, replicate}
 use Rattle.words.specs.Limits.{longest}
 use Rattle.aspif.specs.Rules.{expand}
-use Rattle.checker.specs.Check.{course}
+use Rattle.checker.specs.Check.{course, endsEmpty}
 use Rattle.checker.proofs.Verdicts.{too-long}
-use Rattle.splits.specs.Service.{endsEmpty}
 use borrow.Author.Needs.{needs}
 use Rattle.splits.proofs.halves.accepts.Statement.{statement}
 use Rattle.splits.proofs.halves.accepts.Tie as tie

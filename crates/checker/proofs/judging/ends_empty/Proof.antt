@@ -1,13 +1,12 @@
 use mathlib.Core.Path.{sym, _∙_, ap}
 use Rattle.words.specs.Lists.{any}
 use Rattle.aspif.specs.Rules.{isEmpty}
-use Rattle.checker.specs.Check.{course}
+use Rattle.checker.specs.Check.{course, endsEmpty}
 use Rattle.checker.proofs.Origins.{course-live}
 use Rattle.checker.proofs.Verdicts.{ran-stopped, ran-through}
-use Rattle.splits.specs.Service.{endsEmpty}
 use borrow.Author.Needs.{needs}
-use Rattle.splits.proofs.halves.ends_empty.Statement.{statement}
-use Rattle.splits.proofs.halves.ends_empty.Tie as tie
+use Rattle.checker.proofs.judging.ends_empty.Statement.{statement}
+use Rattle.checker.proofs.judging.ends_empty.Tie as tie
 
 has-empty-requires : tie.Need-has-empty-requires
 has-empty-requires c κs =

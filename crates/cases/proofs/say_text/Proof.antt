@@ -1,10 +1,10 @@
--- `splits_cases::say_text` is safe and ends. Assumes nothing.
+-- `cases::say_text` is safe and ends. Assumes nothing.
 use mathlib.Core.Path.{sym}
 use native.Mathlib.Omega.{arith}
 use lib.Seq.{length-take-le}
 use borrow.Author.Needs.{needs}
-use Rattle.splits_cases.proofs.say_text.Statement.{statement}
-use Rattle.splits_cases.proofs.say_text.Tie as tie
+use Rattle.cases.proofs.say_text.Statement.{statement}
+use Rattle.cases.proofs.say_text.Tie as tie
 
 slice-aggregate-say : tie.Need-slice-aggregate-say
 slice-aggregate-say c = sym (length-take-le _ _ (omega arith))

@@ -1,0 +1,115 @@
+-- What the service leaves, from what its parts leave. Assumes nothing.
+use mathlib.Core.Path.{_≡_, refl, sym, ap, _∙_}
+use mathlib.Core.Bool.{true, false, true≢false}
+use mathlib.Core.List.{List, [], _++_}
+use Prim.Native.Nat.{ℕ, _-_, _≤_}
+use borrow.Rule.Slice.PartMut.{putMid}
+use lib.IntN.{ℤ, pos}
+use lib.ListN.{length, replicate, take, drop, length-drop}
+use lib.Seq.{length-take-le, take-at}
+use Rattle.words.proofs.Lists.{zero-one}
+use Rattle.words.proofs.Parts.{tail-of, put-tail}
+use Rattle.aspif.specs.Rules.{InputRule, expand, atoms, tableWords}
+use Rattle.aspif.specs.Reading.{Reading, program, readText, programAnswer, tableOf}
+use Rattle.aspif.specs.Reading as Reading
+use Rattle.aspif.specs.declared.ProgramReading.{ProgramReading}
+use Rattle.aspif.specs.declared.ProgramReading.the-variants as Answer
+use Rattle.aspif.specs.declared.ProgramRefusal.{ProgramRefusal}
+use Rattle.drupe.specs.Texts.{Step, StepsRead, steps, textOf, stepsOf}
+use Rattle.drupe.specs.Texts as Texts
+use Rattle.drupe.proofs.Texts.{steps-exact, spelled}
+use Rattle.derivation.specs.States.{start}
+use Rattle.checker.specs.Check.{Course, stopped, through, thenStopped, runSteps, runRead, course, endsEmpty, isAccepted, Checked, judged, judgedReading}
+use Rattle.checker.specs.declared.Verdict.{Verdict}
+use Rattle.trimming.specs.Service.{courseOf, accepted, trimmedSteps, untouched, storeAfter, trimmedRead, trimmedReading, trim}
+use Rattle.trimming.specs.Passing.{Reads}
+use Rattle.trimming.specs.declared.TrimAnswer.the-variants.{Trimmed, RefusedProgram, Refused}
+use Rattle.trimming.proofs.Passes.{trimmed-settles, trimmed-order}
+use Rattle.trimming.proofs.Turns.{sub-course}
+
+-- zeros from n on
+pub zeros-behind : (n : ℕ) (xs ys : List ℕ) → n ≤ length xs → ys ≡ replicate (length (take (length xs - n) (drop n xs))) 0
+    → putMid n (length xs - n) xs ys ≡ take n xs ++ replicate (length xs - n) 0
+zeros-behind n xs ys h e =
+    put-tail n xs ys h ∙ ap (λ (l : List ℕ). take n xs ++ l) (e ∙ ap (λ (k : ℕ). replicate k 0) (ap length (tail-of n xs) ∙ length-drop n xs))
+
+-- The proof
+
+-- the front is as it was
+pub front-kept : (n k : ℕ) (xs : List ℕ) → n ≤ length xs → {ys : List ℕ} → ys ≡ take n xs ++ replicate k 0 → take n ys ≡ take n xs
+front-kept n k xs h e = ap (take n) e ∙ take-at (take n xs) (replicate k 0) n (length-take-le n xs h)
+
+-- a text of which a line is refused is not accepted
+unread : (k n : ℕ) (c : Course) → endsEmpty (thenStopped k n c) ≡ false
+unread k n (stopped j m) = refl
+unread k n (through m z b) = refl
+
+module _ (size : ℕ) (ws : List InputRule) (text : List ℕ) where
+  -- a text is accepted as its steps are
+  text-accepted : (r : StepsRead) → stepsOf text ≡ r → isAccepted size ws text ≡ endsEmpty (runRead (atoms ws) (expand ws) size 0 start [] r)
+  unfolding course
+  text-accepted r e = ap (λ (x : StepsRead). endsEmpty (runRead (atoms ws) (expand ws) size 0 start [] x)) e
+
+  pub accepted-steps : isAccepted size ws text ≡ true → (ts : List Step) × (stepsOf text ≡ steps ts) × (accepted size ws ts ≡ true)
+  accepted-steps a = by (stepsOf text) refl
+    where
+      by : (r : StepsRead) → stepsOf text ≡ r → (ts : List Step) × (stepsOf text ≡ steps ts) × (accepted size ws ts ≡ true)
+      by (steps ts) e = (ts, e, sym (text-accepted (steps ts) e) ∙ a)
+      by (Texts.refused ts k n) e = absurd (true≢false (sym a ∙ text-accepted (Texts.refused ts k n) e ∙ unread k n (runSteps (atoms ws) (expand ws) size 0 start [] ts)))
+
+-- what a check leaves of steps that are accepted
+left-by : (t s : ℕ) (proof : List ℕ) (ws : List InputRule) (c : Course) → endsEmpty c ≡ true
+    → (judged t s ws c .table ≡ tableWords t ws) × (judged t s ws c .store ≡ storeAfter t s proof c)
+left-by t s proof ws (stopped k n) e = absurd (true≢false (sym e))
+left-by t s proof ws (through n z b) e = (refl, refl)
+
+module _ (t s : ℕ) (proof : List ℕ) (ws : List InputRule) {table store : List ℤ} where
+  -- 60
+  pub not-accepted : isAccepted s ws proof ≡ false → table ≡ replicate t (pos 0) → store ≡ replicate s (pos 0)
+      → record { answer = Refused 60; text = proof; table = table; store = store } ≡ trimmedReading t s proof (program ws)
+  not-accepted a p q = rw (p, q) (by (stepsOf proof) refl)
+    where
+      by : (r : StepsRead) → stepsOf proof ≡ r → untouched t s proof (Refused 60) ≡ trimmedRead t s proof ws r
+      by (steps ts) e = let f : accepted s ws ts ≡ false = sym (text-accepted s ws proof (steps ts) e) ∙ a in rw f refl
+      by (Texts.refused ts k n) e = refl
+
+  -- the text written, and its check
+  pub written : isAccepted s ws proof ≡ true → (text : List ℕ) (n : ℕ) → n ≤ length text → length text ≡ length proof
+      → ((ts : List Step) → stepsOf proof ≡ steps ts → Reads text n (trimmedSteps s ws ts))
+      → {v : Verdict} → record { verdict = v; table = table; store = store } ≡ judgedReading t s (take n text) (program ws)
+      → record { answer = Trimmed n; text = take n text ++ replicate (length text - n) 0; table = table; store = store } ≡ trimmedReading t s proof (program ws)
+  written a text n h l f {v} c = by (accepted-steps s ws proof a)
+    where
+      by : (ts : List Step) × (stepsOf proof ≡ steps ts) × (accepted s ws ts ≡ true)
+          → record { answer = Trimmed n; text = take n text ++ replicate (length text - n) 0; table = table; store = store } ≡ trimmedReading t s proof (program ws)
+      by (ts, e, b) =
+          let us = trimmedSteps s ws ts in
+          let x = steps-exact proof ts .0 e in
+          let p : take n text ≡ textOf us = spelled (take n text) us (f ts e) in
+          let m : n ≡ length (textOf us) = sym (length-take-le n text h) ∙ ap length p in
+          let q : course (atoms ws) (expand ws) s (textOf us) ≡ courseOf s ws us = sub-course (x .2) (rw (← x .0) (x .1)) s ws (trimmed-order Step (accepted s ws) ts) in
+          let k = left-by t s proof ws (courseOf s ws us) (trimmed-settles (accepted s ws) ts b .good) in
+          let g = c ∙ ap (λ (l : List ℕ). judged t s ws (course (atoms ws) (expand ws) s l)) p ∙ ap (judged t s ws) q in
+          let i : table ≡ tableWords t ws = ap (λ (y : Checked). y .table) g ∙ k .0 in
+          let j : store ≡ storeAfter t s proof (courseOf s ws us) = ap (λ (y : Checked). y .store) g ∙ k .1 in
+          rw (e, b, i, j, p, l, m) refl
+
+-- The program
+
+module _ (t s : ℕ) (text proof : List ℕ) {r : ProgramReading} (answer : r ≡ programAnswer (readText t text)) {table : List ℤ} (words : table ≡ tableOf t (readText t text)) where
+  pub program-unread : (x : ProgramRefusal) {store : List ℤ} → r ≡ Answer.Refused x → store ≡ replicate s (pos 0)
+      → record { answer = RefusedProgram x; text = proof; table = table; store = store } ≡ trim t s proof text
+  unfolding trim
+  program-unread x {store} e z = by (readText t text) (sym answer ∙ e) words
+    where
+      by : (d : Reading) → programAnswer d ≡ Answer.Refused x → table ≡ tableOf t d
+          → record { answer = RefusedProgram x; text = proof; table = table; store = store } ≡ trimmedReading t s proof d
+      by (Reading.refused k n) e w = let p : x ≡ record { number = k; line = n } = cc in rw (p, w, z)
+      by (program ws) e w = absurd (zero-one (cc))
+
+  pub program-trimmed : (ws : List InputRule) → readText t text ≡ program ws → trimmedReading t s proof (program ws) ≡ trim t s proof text
+  unfolding trim
+  program-trimmed ws e = rw e
+
+pub trimmed-same : (proof : List ℕ) (r : Reading) {t t′ s s′ : ℕ} → t ≡ t′ → s ≡ s′ → trimmedReading t s proof r ≡ trimmedReading t′ s′ proof r
+trimmed-same proof r a b = rw (a, b)

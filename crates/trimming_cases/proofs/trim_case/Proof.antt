@@ -1,0 +1,27 @@
+-- `trimming_cases::trim_case` is safe and ends. Assumes nothing.
+use mathlib.Core.Path.{sym}
+use native.Mathlib.Omega.{arith}
+use lib.Seq.{length-take-le}
+use borrow.Author.Needs.{needs}
+use Rattle.trimming_cases.proofs.trim_case.Statement.{statement}
+use Rattle.trimming_cases.proofs.trim_case.Tie as tie
+
+slice-aggregate-answer : tie.Need-slice-aggregate-answer
+slice-aggregate-answer c = sym (length-take-le _ _ (omega arith))
+
+slice-aggregate-answer-2 : tie.Need-slice-aggregate-answer-2
+slice-aggregate-answer-2 c = sym (length-take-le _ _ (omega arith))
+
+pub trim-case-spec : {M : Type 1} → statement M
+trim-case-spec =
+    tie.close
+    (tie.spec
+    (λ c. search needs)
+    slice-aggregate-answer
+    (λ c. search needs)
+    slice-aggregate-answer-2
+    (λ c κs. search needs)
+    (λ c. search needs)
+    (λ c. search needs)
+    (λ c. search needs)
+    (λ c. search needs))
