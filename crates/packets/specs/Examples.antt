@@ -12,7 +12,8 @@ use Rattle.aspif.specs.declared.Kind.the-variants.{Normal}
 use Rattle.aspif.specs.Rules.{plain, InputRule}
 use Rattle.aspif.specs.Tables.{soundTable}
 use Rattle.drupe.specs.Texts.{Step}
-use Rattle.packets.specs.Packets.{mark, packetOf, refused, pair, reading, unwritten, written, writing}
+use Rattle.packets.specs.Packets.{mark, packetOf, refused, pair, reading, unwritten, written, writing, up, down}
+use Rattle.packets.specs.declared.Version.the-variants.{One, Two}
 
 -- "1 0 1 1 0 1 -1"
 abbrev pub rules1 : List InputRule
@@ -42,19 +43,19 @@ packet1 =
     ++ (98 ∷ 2 ∷ 2 ∷ 0 ∷ 255 ∷ 255 ∷ 99 ∷ 2 ∷ 2 ∷ 0 ∷ 1 ∷ 0 ∷ 115 ∷ 2 ∷ 1 ∷ 0 ∷ 2 ∷ 0 ∷ 97 ∷ 1 ∷ 1 ∷ 0 ∷ 97 ∷ 0 ∷ []))
 
 pub record Example1 : Type 0 where
-  pub bytes : packetOf rules1 steps1 ≡ packet1
+  pub bytes : packetOf One rules1 steps1 ≡ packet1
   pub size : length packet1 ≡ 57
   -- it reads back with 6 words of table and 35 bytes of text
-  pub read : reading packet1 6 35 ≡ pair rules1 steps1
-  pub table-short : reading packet1 5 35 ≡ refused 52
-  pub text-short : reading packet1 6 34 ≡ refused 52
-  pub wrote : writing tableWords1 1 text1 57 ≡ written packet1
-  pub short : writing tableWords1 1 text1 56 ≡ unwritten 52
-  pub count-0 : writing tableWords1 0 text1 57 ≡ unwritten 53
+  pub read : reading One packet1 6 35 ≡ pair rules1 steps1
+  pub table-short : reading One packet1 5 35 ≡ refused 52
+  pub text-short : reading One packet1 6 34 ≡ refused 52
+  pub wrote : writing One tableWords1 1 text1 57 ≡ written packet1
+  pub short : writing One tableWords1 1 text1 56 ≡ unwritten 52
+  pub count-0 : writing One tableWords1 0 text1 57 ≡ unwritten 53
   -- the rule alone has the bytes that it had before the table's body kind
-  pub rule-size : length (packetOf rules1 []) ≡ 33
-  pub rule-read : reading (packetOf rules1 []) 6 0 ≡ pair rules1 []
-  pub rule-short : reading (packetOf rules1 []) 5 0 ≡ refused 52
+  pub rule-size : length (packetOf One rules1 []) ≡ 33
+  pub rule-read : reading One (packetOf One rules1 []) 6 0 ≡ pair rules1 []
+  pub rule-short : reading One (packetOf One rules1 []) 5 0 ≡ refused 52
 
 -- the table's words of "1 0 0 1 1 1 1 1", a constraint with a weight body
 abbrev pub weightWords : List ℤ
@@ -63,18 +64,18 @@ weightWords = pos 0 ∷ pos 0 ∷ pos 1 ∷ pos 1 ∷ pos 1 ∷ pos 1 ∷ pos 1 
 -- question 41 lets them pass, and the writer refuses them, whatever the output's length
 pub record WeightRule : Type 0 where
   pub passes : soundTable weightWords 1 ≡ true
-  pub refused-53 : writing weightWords 1 [] 100 ≡ unwritten 53
-  pub no-output : writing weightWords 1 [] 0 ≡ unwritten 53
+  pub refused-53 : writing One weightWords 1 [] 100 ≡ unwritten 53
+  pub no-output : writing One weightWords 1 [] 0 ≡ unwritten 53
 
 -- the reader's refusals, after the mark and the version: a zero tail; a length that lacks; a letter that is none; two words that are
 -- no rule
 pub record Refusals : Type 0 where
-  pub nothing : reading [] 9 9 ≡ refused 51
-  pub version : reading (82 ∷ 86 ∷ 80 ∷ 2 ∷ 0 ∷ replicate 8 0) 9 9 ≡ refused 51
-  pub lengths : reading (mark ++ replicate 7 0) 9 9 ≡ refused 52
-  pub tail : reading (mark ++ replicate 9 0) 9 9 ≡ refused 52
-  pub empty : reading (mark ++ replicate 8 0) 0 0 ≡ pair [] []
-  pub many : reading (mark ++ (255 ∷ 255 ∷ 255 ∷ 255 ∷ 0 ∷ 0 ∷ 0 ∷ 0 ∷ [])) 9 9 ≡ refused 52
-  pub numbers : reading (mark ++ (0 ∷ 0 ∷ 0 ∷ 0 ∷ 1 ∷ 0 ∷ 0 ∷ 0 ∷ 97 ∷ 1 ∷ 5 ∷ [])) 9 9 ≡ refused 52
-  pub letter : reading (mark ++ (0 ∷ 0 ∷ 0 ∷ 0 ∷ 1 ∷ 0 ∷ 0 ∷ 0 ∷ 120 ∷ 0 ∷ [])) 9 9 ≡ refused 53
-  pub rule : reading (mark ++ (2 ∷ replicate 15 0)) 0 0 ≡ refused 53
+  pub nothing : reading One [] 9 9 ≡ refused 51
+  pub version : reading One (82 ∷ 86 ∷ 80 ∷ 2 ∷ 0 ∷ replicate 8 0) 9 9 ≡ refused 51
+  pub lengths : reading One (mark One ++ replicate 7 0) 9 9 ≡ refused 52
+  pub tail : reading One (mark One ++ replicate 9 0) 9 9 ≡ refused 52
+  pub empty : reading One (mark One ++ replicate 8 0) 0 0 ≡ pair [] []
+  pub many : reading One (mark One ++ (255 ∷ 255 ∷ 255 ∷ 255 ∷ 0 ∷ 0 ∷ 0 ∷ 0 ∷ [])) 9 9 ≡ refused 52
+  pub numbers : reading One (mark One ++ (0 ∷ 0 ∷ 0 ∷ 0 ∷ 1 ∷ 0 ∷ 0 ∷ 0 ∷ 97 ∷ 1 ∷ 5 ∷ [])) 9 9 ≡ refused 52
+  pub letter : reading One (mark One ++ (0 ∷ 0 ∷ 0 ∷ 0 ∷ 1 ∷ 0 ∷ 0 ∷ 0 ∷ 120 ∷ 0 ∷ [])) 9 9 ≡ refused 53
+  pub rule : reading One (mark One ++ (2 ∷ replicate 15 0)) 0 0 ≡ refused 53
