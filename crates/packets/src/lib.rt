@@ -1,15 +1,15 @@
 // Case packets: a program's table and a proof in one sequence of bytes, in two versions. The services are `write_packet` and
 // `read_packet`; what they mean is specs/Packets.antt.
 
-mod numbers;
-mod reader;
-mod versions;
-mod writer;
+pub mod numbers;
+pub mod reader;
+pub mod versions;
+pub mod writer;
 
 ghost use Rattle.packets.specs.Packets.{ReadPacket, WrittenPacket};
 
 // The header's bytes: the mark with the version, and two counts.
-const HEADER: usize = 13;
+pub const HEADER: usize = 13;
 
 // The versions of packets. The first has no words for weight bodies.
 pub enum Version {
