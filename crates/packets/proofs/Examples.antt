@@ -7,11 +7,11 @@ use Rattle.aspif.specs.Tables.{sizeAt, headsAt, bodyWordsAt, boundAt, bodyAt, s
 use Rattle.aspif.specs.Reading.{allWeights}
 use Rattle.drupe.specs.Texts.{stepText, textOf, stepsAt, stepsOf}
 use Rattle.packets.specs.Bytes.{little, value, signedBytes, highest, signedValue, bytesOf, numbersFrom}
-use Rattle.packets.specs.Packets.{packetOf, fills, lengthsFit, withKind, rulesFrom, rulesIn, stepPasses, stepsFrom, stepsIn, partsRead, reading, writing}
+use Rattle.packets.specs.Packets.{packetOf, fills, lengthsFit, withKind, rulesFrom, rulesIn, stepPasses, stepsFrom, stepsIn, partsRead, pairIn, reading, writing}
 use Rattle.packets.specs.Examples.{Example1, WeightRule, Refusals}
 
 pub example1 : Example1
-unfolding decimals decimal numberBytes spaced lineOf sizeAt headsAt bodyWordsAt boundAt bodyAt shapeSound weightsSound bodySound soundAt soundTable stepText textOf stepsAt stepsOf little value signedBytes highest signedValue bytesOf numbersFrom packetOf fills lengthsFit withKind rulesFrom rulesIn stepPasses stepsFrom stepsIn partsRead reading writing
+unfolding decimals decimal numberBytes spaced lineOf sizeAt headsAt bodyWordsAt boundAt bodyAt shapeSound weightsSound bodySound soundAt soundTable stepText textOf stepsAt stepsOf little value signedBytes highest signedValue bytesOf numbersFrom packetOf fills lengthsFit withKind rulesFrom rulesIn stepPasses stepsFrom stepsIn partsRead pairIn reading writing
 example1 = record {
   bytes = refl;
   size = refl;
@@ -31,7 +31,7 @@ unfolding sizeAt headsAt bodyWordsAt boundAt bodyAt shapeSound weightsSound body
 weight-rule = record { passes = refl; refused-53 = refl; no-output = refl }
 
 pub refusals : Refusals
-unfolding decimals decimal numberBytes spaced lineOf sizeAt headsAt bodyWordsAt boundAt bodyAt shapeSound weightsSound bodySound soundAt soundTable stepText textOf stepsAt stepsOf little value signedBytes highest signedValue bytesOf numbersFrom packetOf fills lengthsFit withKind rulesFrom rulesIn stepPasses stepsFrom stepsIn partsRead reading writing
+unfolding decimals decimal numberBytes spaced lineOf sizeAt headsAt bodyWordsAt boundAt bodyAt shapeSound weightsSound bodySound soundAt soundTable stepText textOf stepsAt stepsOf little value signedBytes highest signedValue bytesOf numbersFrom packetOf fills lengthsFit withKind rulesFrom rulesIn stepPasses stepsFrom stepsIn partsRead pairIn reading writing
 refusals = record {
   nothing = refl;
   version = refl;

@@ -46,7 +46,7 @@ table-words One r t = by (r .body)
     by : (b : Body) → isPlainBody b ≡ true → withKind (packetRule One (having r b) ++ t) ≡ ruleWords (having r b) ++ t
     by (plain ls) e = refl
     by (weights b l) e = absurd (true≢false (sym e))
-table-words Two r t e = refl
+table-words Two r t = λ _. refl
 
 -- of which there are so many more
 pub words-more : (v : Version) (r : InputRule) → hasWords v r ≡ true → length (ruleWords r) ≡ length (packetRule v r) + fewer v
@@ -55,7 +55,12 @@ words-more One r = by (r .body)
     by : (b : Body) → isPlainBody b ≡ true → length (ruleWords (having r b)) ≡ length (packetRule One (having r b)) + 1
     by (plain ls) e = omega arith
     by (weights b l) e = absurd (true≢false (sym e))
-words-more Two r e = omega arith
+words-more Two r = λ _. omega arith
+
+-- three words at least
+pub some-words : (v : Version) (r : InputRule) → 3 ≤ length (packetRule v r)
+some-words One r = omega arith
+some-words Two r = omega arith
 
 size-fits : (ws : List ℤ) → shapeSound ws ≡ true → sizeAt ws ≤ length ws
 unfolding sizeAt
@@ -81,13 +86,15 @@ pub size-large : (ws : List ℤ) → 4 ≤ sizeAt ws
 unfolding sizeAt
 size-large ws = by-test (λ n. 4 ≤ n + headCount ws + bodyLength ws) (isWeighted ws) (λ e. omega arith) (λ e. omega arith)
 
-pub rule-part : (ws : List ℤ) → soundAt ws ≡ true → take (sizeAt ws) ws ≡ ruleWords (ruleAt ws)
-rule-part ws e =
+pub rule-long : (ws : List ℤ) → soundAt ws ≡ true → length (ruleWords (ruleAt ws)) ≡ sizeAt ws
+rule-long ws e =
     let r = ruleWords (ruleAt ws) in
     let t = drop (sizeAt ws) ws in
-    let f = front-words ws e in
-    let n : length r ≡ sizeAt ws = omega (arith, size-fits ws (shape-of ws e), ap length f, length-append r t, length-drop (sizeAt ws) ws) in
-    ap (take (sizeAt ws)) f ∙ take-at r t (sizeAt ws) n
+    omega (arith, size-fits ws (shape-of ws e), ap length (front-words ws e), length-append r t, length-drop (sizeAt ws) ws)
+
+pub rule-part : (ws : List ℤ) → soundAt ws ≡ true → take (sizeAt ws) ws ≡ ruleWords (ruleAt ws)
+rule-part ws e =
+    ap (take (sizeAt ws)) (front-words ws e) ∙ take-at (ruleWords (ruleAt ws)) (drop (sizeAt ws) ws) (sizeAt ws) (rule-long ws e)
 
 -- words that pass are those of such a rule, and what comes after it
 pub record FrontRule (v : Version) (ws : List ℤ) : Type 0 where
@@ -178,30 +185,26 @@ module _ (v : Version) (ws : List ℤ) where
 abbrev pub AllFormed : List InputRule → Type 0
 AllFormed P = (r : InputRule) → r ∈ P → Formed r
 
+-- one turn
+rules-turn : (v : Version) (n : ℕ) (ws : List ℤ) → 0 < length ws
+    → rulesFrom v (suc n) ws ≡ cond (rulePasses v ws) (prepend (ruleIn v ws) (rulesFrom v n (drop (ruleSize v ws) ws))) none
+unfolding rulesFrom
+rules-turn v n [] h = absurd (omega arith)
+rules-turn v n (w ∷ ws) h = refl
+
 pub rules-back : (v : Version) (n : ℕ) (P : List InputRule) → AllFormed P → all (hasWords v) P ≡ true → length P ≤ n
     → rulesFrom v n (packetWords v P) ≡ some P
 unfolding rulesFrom
 rules-back v zero [] f p h = refl
 rules-back v (suc n) [] f p h = refl
 rules-back v zero (r ∷ P) f p h = absurd (omega arith)
-rules-back v (suc n) (r ∷ P) f p h = by (packetRule v r) refl
-  where
-    g : Formed r
-    g = f r (List·Memᴰ·head refl)
-
-    q : hasWords v r ≡ true
-    q = and-left (hasWords v r) _ p
-
-    t : List ℤ
-    t = packetWords v P
-
-    d : drop (ruleSize v (packetRule v r ++ t)) (packetRule v r ++ t) ≡ t
-    d = drop-at (packetRule v r) t _ (sym (size-in v r g q t))
-
-    -- a rule has words
-    by : (l : List ℤ) → packetRule v r ≡ l → rulesFrom v (suc n) (packetRule v r ++ t) ≡ some (r ∷ P)
-    by [] e = absurd (omega (arith, ap length e, size-large (asTable v (packetRule v r ++ t)), size-in v r g q t))
-    by (w ∷ l) e = rw e (rw (← e) (rw (passes v r g q t, rule-in v r g q t, d, rules-back v n P (λ s m. f s (List·Memᴰ·tail m)) (and-right (hasWords v r) _ p) (omega arith))))
+rules-back v (suc n) (r ∷ P) f p h =
+    let g = f r (List·Memᴰ·head refl) in
+    let q = and-left (hasWords v r) _ p in
+    let t = packetWords v P in
+    let d : drop (ruleSize v (packetRule v r ++ t)) (packetRule v r ++ t) ≡ t = drop-at (packetRule v r) t _ (sym (size-in v r g q t)) in
+    rules-turn v n (packetRule v r ++ t) (omega (arith, some-words v r, length-append (packetRule v r) t))
+    ∙ rw (passes v r g q t, rule-in v r g q t, d, rules-back v n P (λ s m. f s (List·Memᴰ·tail m)) (and-right (hasWords v r) _ p) (omega arith))
 
 pub record RulesThere (v : Version) (n : ℕ) (ws : List ℤ) (P : List InputRule) : Type 0 where
   pub few : length P ≤ n
@@ -274,7 +277,7 @@ module _ (r : InputRule) (f : Formed r) where
           each-cons (kind-small (r .kind)) (each-cons (counted _ (f .heads-few)) (each-cons (counted 0 (omega arith)) (each-cons (counted _ h) (heads-then ls (inside-small ls o)))))
       by (weights b l) h o w =
           each-cons (kind-small (r .kind)) (each-cons (counted _ (f .heads-few)) (each-cons (counted 1 (omega arith)) (each-cons (counted _ h)
-          (each-cons (let k = w .1 .0 in omega arith) (heads-then (pairWords l) (pairs-small l (w .1 .1) o))))))
+          (each-cons (let k = w .1 in omega arith) (heads-then (pairWords l) (pairs-small l (w .2) o))))))
 
 -- every word of a packet is in the range of 4 bytes
 pub words-range : (v : Version) (P : List InputRule) → AllFormed P → InRange 3 (packetWords v P)
