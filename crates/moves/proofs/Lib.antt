@@ -1,2 +1,2 @@
 -- What the functions that move a packet cite.
-pub mod Moves
+pub mod Moving

@@ -36,6 +36,7 @@ PairTold v (pair P ts) r = (n : ℕ) × ((r ≡ Taken n (fits v P ts)) × (fits 
 -- the rule at the front of a packet's words stands in the output from `at` on
 pub record RuleMovedAs (v w : Version) (ws : List ℤ) (before after : List ℕ) (at : ℕ) (r : RuleMoved) : Type 0 where
   pub size : r .size ≡ sizeIfSound v ws
+  pub within : r .size ≤ length ws
   pub put : Put (bytesOf 4 (packetRule w (ruleIn v ws))) before after at (r .end)
   pub near : r .end ≤ at + ruleRoom
 
