@@ -19,7 +19,7 @@ use Rattle.text.specs.Strings.{startsWith}
 use Rattle.drupe.specs.Texts.{Step, textOf}
 use Rattle.drupe.proofs.Lines.{drop-replicate}
 use Rattle.packets.specs.Bytes.{numbersFrom}
-use Rattle.packets.specs.Packets.{limit, hasWords, mark, stepsTop, pairTop, fits, versionOf, wordCount, stepCount, wordPart, stepPart, lengthsFit, rulesIn, stepsIn, PacketRead, refused, pair, paired, ifFits, partsRead, pairIn, ifHeld, reading, filled, ReadLeaves}
+use Rattle.packets.specs.Packets.{limit, hasWords, mark, stepsTop, pairTop, fits, versionOf, wordCount, stepCount, wordPart, stepPart, lengthsFit, rulesIn, stepsIn, PacketRead, refused, pair, paired, ifFits, partsRead, pairIn, ifHeld, reading, readingOf, filled, ReadLeaves}
 use Rattle.packets.specs.Parts.{TableTold, TextTold, Parts, Given, Zeros}
 use Rattle.packets.specs.declared.PacketReading.{PacketReading}
 use Rattle.packets.specs.declared.Version.{Version}
@@ -169,9 +169,10 @@ module _ (v : Version) (packet : List ℕ) where
     unfolding pairIn
     no-lengths e = rw (m, e)
 
-    pub parts-left : lengthsFit packet ≡ true → pairIn v packet ≡ partsRead v (wordCount packet) (wordPart packet) (stepCount packet) (stepPart packet)
+    pub parts-left : lengthsFit packet ≡ true → (count : ℕ) (part : List ℕ) (steps : ℕ) (bytes : List ℕ) → count ≡ wordCount packet → part ≡ wordPart packet
+        → steps ≡ stepCount packet → bytes ≡ stepPart packet → pairIn v packet ≡ partsRead v count part steps bytes
     unfolding pairIn
-    parts-left e = rw (m, e)
+    parts-left e count part steps bytes a b c d = rw (m, e, a, b, c, d)
 
 -- the packet is refused before the outputs are asked
 pub early : (v : Version) (packet : List ℕ) (k : ℕ) {table : List ℤ} {proof : List ℕ} → pairIn v packet ≡ refused k → Zeros (pos 0) table → Zeros 0 proof
@@ -203,3 +204,15 @@ told-two e = rw e
 
 pub told-other : {n : ℕ} → (n ≡ 1 → ⊥) → (n ≡ 2 → ⊥) → versionOf n ≡ none
 told-other {n} p q = rw (ne-eqb n 1 p, ne-eqb n 2 q)
+
+-- what is left by the reader of that version, of outputs of the same lengths
+pub told-read : (o : Option Version) (v : Version) (packet : List ℕ) {table table₁ table′ : List ℤ} {proof proof₁ proof′ : List ℕ} {r : PacketReading} → o ≡ some v
+    → length table₁ ≡ length table → length proof₁ ≡ length proof → ReadLeaves (reading v packet (length table₁) (length proof₁)) table₁ table′ proof₁ proof′ r
+    → ReadLeaves (readingOf o packet (length table) (length proof)) table table′ proof proof′ r
+told-read o v packet {table} {proof = proof} e p q l = rw e (read-kept {table = table} {proof = proof} p q (rw (p, q) at l))
+
+-- no version
+pub told-nothing : (o : Option Version) (packet : List ℕ) {table table′ : List ℤ} {proof proof′ : List ℕ} → o ≡ none
+    → table′ ≡ replicate (length table) (pos 0) → proof′ ≡ replicate (length proof) 0
+    → ReadLeaves (readingOf o packet (length table) (length proof)) table table′ proof proof′ (PacketReading.Refused 51)
+told-nothing o packet e p q = rw e (record { answer = refl; words = p; text = q })

@@ -2,7 +2,7 @@
 -- Assumes nothing.
 use mathlib.Core.Path.{_≡_, refl, sym, _∙_, ap, ap₂, subst}
 use mathlib.Core.Bool.{Bool, true, false, cond, _&&_, true≢false}
-use mathlib.Core.Option.{some}
+use mathlib.Core.Option.{Option, none, some}
 use mathlib.Core.Logic.{inl}
 use mathlib.Core.List.{List, [], _∷_, _++_, map, append-nil, append-assoc}
 use Prim.Native.Nat.{ℕ, zero, suc, _+_, _-_, _*_, _/_, _%_, _<_, _≤_, max}
@@ -36,7 +36,7 @@ use Rattle.drupe.proofs.Rows.{lineTold}
 use Rattle.drupe.proofs.Texts.{Walked, walked-start, walked-on, walked-end, walked-refused, refused-exact}
 use Rattle.packets.specs.Bytes.{little, flipIf, signedBytes, bytesOf}
 use Rattle.packets.specs.Packets as Packets
-use Rattle.packets.specs.Packets.{limit, mark, packetRule, hasWords, packetWords, stepBytes, stepsBytes, packetOf, stepsTop, pairTop, ifFits, PacketWritten, unwritten, written, stepsTaken, held, writing, writingAnswer, packetLeft, WritingLeaves}
+use Rattle.packets.specs.Packets.{limit, mark, packetRule, hasWords, packetWords, stepBytes, stepsBytes, packetOf, stepsTop, pairTop, ifFits, PacketWritten, unwritten, written, stepsTaken, held, writing, writingOf, writingAnswer, packetLeft, WritingLeaves}
 use Rattle.packets.specs.declared.Version.{Version}
 use Rattle.packets.specs.declared.Version.the-variants.{One, Two}
 use Rattle.packets.specs.Writes.{stepRoom, isRead, stepsRead, StepsPutAs, writingTold}
@@ -328,10 +328,16 @@ module _ (good fits : Bool) (bs packet after : List ℕ) {w : PacketWritten} {r 
       by true false n a h = absurd (zero-one (cc))
       by false f n a h = absurd (zero-one (cc))
 
--- of an output that was filled with zeros before: only its length counts
-pub written-again : (w : ℕ → PacketWritten) (packet zeros : List ℕ) {after : List ℕ} {r : PacketWriting} → length zeros ≡ length packet
-    → WritingLeaves (w (length zeros)) zeros after r → WritingLeaves (w (length packet)) packet after r
-written-again w packet zeros e l = record {
-  answer = l .answer ∙ ap (λ (n : ℕ). writingAnswer (w n)) e;
-  bytes = l .bytes ∙ ap (λ (n : ℕ). packetLeft n (w n)) e;
-}
+-- what is left by the writer of the version that is told, of an output of the same length
+pub told-written : (o : Option Version) (v : Version) (table : List ℤ) (rules : ℕ) (proof packet zeros : List ℕ) {after : List ℕ} {r : PacketWriting} → o ≡ some v
+    → length zeros ≡ length packet → WritingLeaves (writing v table rules proof (length zeros)) zeros after r
+    → WritingLeaves (writingOf o table rules proof (length packet)) packet after r
+told-written o v table rules proof packet zeros e n l = rw e (record {
+  answer = l .answer ∙ ap (λ (k : ℕ). writingAnswer (writing v table rules proof k)) n;
+  bytes = l .bytes ∙ ap (λ (k : ℕ). packetLeft k (writing v table rules proof k)) n;
+})
+
+-- no version
+pub told-unwritten : (o : Option Version) (table : List ℤ) (rules : ℕ) (proof packet : List ℕ) {after : List ℕ} → o ≡ none → after ≡ replicate (length packet) 0
+    → WritingLeaves (writingOf o table rules proof (length packet)) packet after (Writing.Refused 51)
+told-unwritten o table rules proof packet e z = rw e (record { answer = refl; bytes = z })

@@ -1,77 +1,62 @@
+-- `packets::read_packet` meets its contract.
+-- Assumes nothing.
+use mathlib.Core.List.{List}
+use Prim.Native.Nat.{ℕ}
+use lib.IntN.{pos}
+use lib.ListN.{length}
+use borrow.Author.Needs.{needs}
+use Rattle.packets.specs.Packets.{versionOf}
+use Rattle.packets.specs.declared.Version.the-variants.{One, Two}
+use Rattle.packets.proofs.Given.{zeros-made, told-one, told-two, told-other, told-read, told-nothing}
 use Rattle.packets.proofs.read_packet.Statement.{statement}
 use Rattle.packets.proofs.read_packet.Tie as tie
-use Rattle.packets.proofs.read_packet.Reads as reads
-use Rattle.packets.proofs.read_packet.Lts as lts
-use Rattle.packets.proofs.numbers.zero_all.Reads as numbers-zero-all-reads
-use Rattle.packets.proofs.reader.read_as.Reads as read-as-reads
-use Rattle.words.proofs.zero_all.Reads as zero-all-reads
 
--- src/lib.rt:62:5
-zero-all-requires : tie.Need-zero-all-requires
-zero-all-requires c κs = ?
-
--- src/lib.rt:63:5
-zero-all-requires-2 : tie.Need-zero-all-requires-2
-zero-all-requires-2 c κs = ?
-
--- src/lib.rt:65:14
 read-as-requires : tie.Need-read-as-requires
-read-as-requires c κs = ?
+read-as-requires c κs =
+    let a = c .before .before .before .before .before .before .before .before .before .before .before .before .args in
+    (zeros-made (pos 0) {n = length (a .table .now)} (c .before .before .before .before .before .before .before .before .zero-all .ensures) .0, zeros-made 0 {n = length (a .proof .now)} (c .before .before .before .before .before .zero-all2 .ensures) .0)
 
--- src/lib.rt:66:14
 read-as-requires-2 : tie.Need-read-as-requires-2
-read-as-requires-2 c κs = ?
+read-as-requires-2 c κs =
+    let a = c .before .before .before .before .before .before .before .before .before .before .before .before .args in
+    (zeros-made (pos 0) {n = length (a .table .now)} (c .before .before .before .before .before .before .before .before .zero-all .ensures) .0, zeros-made 0 {n = length (a .proof .now)} (c .before .before .before .before .before .zero-all2 .ensures) .0)
 
--- src/lib.rt:53:1
-same-length : tie.Need-same-length
-same-length c = ?
-
--- src/lib.rt:53:1
-same-length-2 : tie.Need-same-length-2
-same-length-2 c = ?
-
--- src/lib.rt:53:1
 returns : tie.Need-returns
-returns c = ?
+returns c =
+    let a = c .before .before .before .before .before .before .before .before .before .before .before .before .before .before .before .before .args in
+    told-read (versionOf (a .version)) One (a .packet .now) {table = a .table .now} {proof = a .proof .now} (told-one (c .before .before .before .before .before .before .match .keys1))
+    (zeros-made (pos 0) {n = length (a .table .now)} (c .before .before .before .before .before .before .before .before .before .before .before .before .zero-all .ensures) .1)
+    (zeros-made 0 {n = length (a .proof .now)} (c .before .before .before .before .before .before .before .before .before .zero-all2 .ensures) .1)
+    (c .before .before .before .read-as .ensures)
 
--- src/lib.rt:53:1
-same-length-3 : tie.Need-same-length-3
-same-length-3 c = ?
-
--- src/lib.rt:53:1
-same-length-4 : tie.Need-same-length-4
-same-length-4 c = ?
-
--- src/lib.rt:53:1
 returns-2 : tie.Need-returns-2
-returns-2 c = ?
+returns-2 c =
+    let a = c .before .before .before .before .before .before .before .before .before .before .before .before .before .before .before .before .args in
+    told-read (versionOf (a .version)) Two (a .packet .now) {table = a .table .now} {proof = a .proof .now} (told-two (c .before .before .before .before .before .before .match .keys2))
+    (zeros-made (pos 0) {n = length (a .table .now)} (c .before .before .before .before .before .before .before .before .before .before .before .before .zero-all .ensures) .1)
+    (zeros-made 0 {n = length (a .proof .now)} (c .before .before .before .before .before .before .before .before .before .zero-all2 .ensures) .1)
+    (c .before .before .before .read-as2 .ensures)
 
--- src/lib.rt:53:1
-same-length-5 : tie.Need-same-length-5
-same-length-5 c = ?
-
--- src/lib.rt:53:1
-same-length-6 : tie.Need-same-length-6
-same-length-6 c = ?
-
--- src/lib.rt:53:1
 returns-3 : tie.Need-returns-3
-returns-3 c = ?
+returns-3 c =
+    let a = c .before .before .before .before .before .before .before .before .before .before .args in
+    told-nothing (versionOf (a .version)) (a .packet .now) {table = a .table .now} {proof = a .proof .now} (told-other (c .match .rest .0 .1) (c .match .rest .1)) (c .before .before .before .before .before .before .zero-all .ensures)
+    (c .before .before .before .zero-all2 .ensures)
 
 pub read-packet-spec : {M : Type 1} → statement M
 read-packet-spec =
     tie.close
     (tie.spec
-    zero-all-requires
-    zero-all-requires-2
+    (λ c κs. search needs)
+    (λ c κs. search needs)
     read-as-requires
     read-as-requires-2
-    same-length
-    same-length-2
+    (λ c. search needs)
+    (λ c. search needs)
     returns
-    same-length-3
-    same-length-4
+    (λ c. search needs)
+    (λ c. search needs)
     returns-2
-    same-length-5
-    same-length-6
+    (λ c. search needs)
+    (λ c. search needs)
     returns-3)

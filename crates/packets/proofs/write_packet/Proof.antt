@@ -1,57 +1,47 @@
+-- `packets::write_packet` meets its contract.
+-- Assumes nothing.
+use lib.ListN.{length}
 use borrow.Author.Needs.{needs}
+use Rattle.packets.specs.Packets.{versionOf}
+use Rattle.packets.specs.declared.Version.the-variants.{One, Two}
+use Rattle.packets.proofs.Given.{zeros-made, told-one, told-two, told-other}
+use Rattle.packets.proofs.Writes.{told-written, told-unwritten}
 use Rattle.packets.proofs.write_packet.Statement.{statement}
 use Rattle.packets.proofs.write_packet.Tie as tie
-use Rattle.packets.proofs.write_packet.Reads as reads
-use Rattle.packets.proofs.write_packet.Lts as lts
-use Rattle.packets.proofs.numbers.zero_all.Reads as zero-all-reads
-use Rattle.packets.proofs.writer.write_as.Reads as write-as-reads
 
--- src/lib.rt:43:5
-zero-all-requires : tie.Need-zero-all-requires
-zero-all-requires c κs = search needs
-
--- src/lib.rt:45:14
 write-as-requires : tie.Need-write-as-requires
-write-as-requires c κs = ?
+write-as-requires c κs = zeros-made 0 {n = length (c .before .before .before .before .before .before .before .before .args .packet .now)} (c .before .before .before .before .zero-all .ensures) .0
 
--- src/lib.rt:46:14
 write-as-requires-2 : tie.Need-write-as-requires-2
-write-as-requires-2 c κs = ?
+write-as-requires-2 c κs = zeros-made 0 {n = length (c .before .before .before .before .before .before .before .before .args .packet .now)} (c .before .before .before .before .zero-all .ensures) .0
 
--- src/lib.rt:33:1
-same-length : tie.Need-same-length
-same-length c = search needs
-
--- src/lib.rt:33:1
 returns : tie.Need-returns
-returns c = ?
+returns c =
+    let a = c .before .before .before .before .before .before .before .before .before .before .before .args in
+    told-written (versionOf (a .version)) One (a .table .now) (a .rules) (a .proof .now) (a .packet .now) _ (told-one (c .before .before .before .before .match .keys1))
+    (zeros-made 0 {n = length (a .packet .now)} (c .before .before .before .before .before .before .before .zero-all .ensures) .1) (c .before .before .write-as .ensures)
 
--- src/lib.rt:33:1
-same-length-2 : tie.Need-same-length-2
-same-length-2 c = search needs
-
--- src/lib.rt:33:1
 returns-2 : tie.Need-returns-2
-returns-2 c = ?
+returns-2 c =
+    let a = c .before .before .before .before .before .before .before .before .before .before .before .args in
+    told-written (versionOf (a .version)) Two (a .table .now) (a .rules) (a .proof .now) (a .packet .now) _ (told-two (c .before .before .before .before .match .keys2))
+    (zeros-made 0 {n = length (a .packet .now)} (c .before .before .before .before .before .before .before .zero-all .ensures) .1) (c .before .before .write-as2 .ensures)
 
--- src/lib.rt:33:1
-same-length-3 : tie.Need-same-length-3
-same-length-3 c = search needs
-
--- src/lib.rt:33:1
 returns-3 : tie.Need-returns-3
-returns-3 c = ?
+returns-3 c =
+    let a = c .before .before .before .before .before .before .before .args in
+    told-unwritten (versionOf (a .version)) (a .table .now) (a .rules) (a .proof .now) (a .packet .now) (told-other (c .match .rest .0 .1) (c .match .rest .1)) (c .before .before .before .zero-all .ensures)
 
 pub write-packet-spec : {M : Type 1} → statement M
 write-packet-spec =
     tie.close
     (tie.spec
-    zero-all-requires
+    (λ c κs. search needs)
     write-as-requires
     write-as-requires-2
-    same-length
+    (λ c. search needs)
     returns
-    same-length-2
+    (λ c. search needs)
     returns-2
-    same-length-3
+    (λ c. search needs)
     returns-3)
