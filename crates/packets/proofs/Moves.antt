@@ -22,16 +22,13 @@ use Rattle.packets.specs.Packets.{limit, hasWords, mark, packetOf, pairT
 use Rattle.packets.specs.Claims.{OneTwo, UpDown, DownUp, TooNew, DownRefused}
 use Rattle.packets.specs.declared.Version.{Version}
 use Rattle.packets.specs.declared.Version.the-variants.{One, Two}
+use Rattle.packets.proofs.RuleParts.{all-worded}
 use Rattle.packets.proofs.Claims.{Sound, packet-pair, fits-pair, taken, sound, form, read-pair, held-bytes}
 
 pub one-two : OneTwo
 one-two P ts e =
     let h = leb-true (pairTop P ts) (limit One) (and-right (all (hasWords One) P) _ e) in
-    rw (every P, le-leb (pairTop P ts) largest (omega arith))
-  where
-    every : (Q : List InputRule) → all (hasWords Two) Q ≡ true
-    every [] = refl
-    every (r ∷ Q) = every Q
+    rw (all-worded P, le-leb (pairTop P ts) largest (omega arith))
 
 -- a pair that passes for one version passes for another that can hold it
 also : (v w : Version) (P : List InputRule) (ts : List Step) → Sound v P ts → fits w P ts ≡ true → Sound w P ts

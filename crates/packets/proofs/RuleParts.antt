@@ -38,6 +38,11 @@ use Rattle.packets.proofs.StepParts.{small}
 abbrev having : InputRule → Body → InputRule
 having r b = record { kind = r .kind; heads = r .heads; body = b }
 
+-- in version 2 every rule has words
+pub all-worded : (P : List InputRule) → all (hasWords Two) P ≡ true
+all-worded [] = refl
+all-worded (r ∷ P) = all-worded P
+
 -- as the table has them, its words are those of the table
 pub table-words : (v : Version) (r : InputRule) (t : List ℤ) → hasWords v r ≡ true → asTable v (packetRule v r ++ t) ≡ ruleWords r ++ t
 unfolding withKind

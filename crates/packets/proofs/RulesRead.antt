@@ -202,7 +202,7 @@ module _ {A : Type 0} where
   onto-some (y ∷ l) k = ap (prepend y) (onto-some l k)
 
 -- a rule of the table has a word more at most
-one-more : (v : Version) → fewer v ≤ 1
+pub one-more : (v : Version) → fewer v ≤ 1
 one-more One = omega arith
 one-more Two = omega arith
 

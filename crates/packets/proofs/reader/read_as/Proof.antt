@@ -1,103 +1,120 @@
+-- `packets::reader::read_as` meets its contract.
+-- Assumes nothing.
+use mathlib.Core.Path.{_≡_, refl, sym, _∙_, ap}
+use mathlib.Core.Bool.{true}
+use mathlib.Core.List.{List}
+use Prim.Native.Nat.{ℕ, _+_, _-_, _*_, _≤_}
+use native.Mathlib.Omega.{arith}
+use lib.ListN.{length, take, drop, length-drop}
+use lib.Seq.{length-take-le}
+use borrow.Author.Tests.{not-true, not-false}
+use borrow.Author.Needs.{needs}
+use Rattle.words.proofs.Parts.{tail-of}
+use Rattle.packets.specs.Packets.{wordCount, stepCount, wordPart, stepPart, lengthsFit, fills, partsRead, pairIn}
+use Rattle.packets.proofs.Littles.{part-is}
+use Rattle.packets.proofs.Decoded.{fit-parts}
+use Rattle.packets.proofs.Given.{no-mark, no-lengths, parts-left, early, parts-given}
 use Rattle.packets.proofs.reader.read_as.Statement.{statement}
 use Rattle.packets.proofs.reader.read_as.Tie as tie
-use Rattle.packets.proofs.reader.read_as.Reads as reads
-use Rattle.packets.proofs.reader.read_as.Lts as lts
-use Rattle.packets.proofs.reader.count_at.Reads as count-at-reads
-use Rattle.packets.proofs.reader.lengths_fit.Reads as lengths-fit-reads
-use Rattle.packets.proofs.reader.read_parts.Reads as read-parts-reads
-use Rattle.packets.proofs.versions.is_marked.Reads as is-marked-reads
 
--- src/reader.rt:406:9
-is-marked-requires : tie.Need-is-marked-requires
-is-marked-requires c κs = ?
-
--- src/reader.rt:407:9
 returns : tie.Need-returns
-returns c = ?
+returns c =
+    let b = c .before .before .before .before in
+    let a = b .args in
+    let m = sym (c .before .is-marked .ensures) ∙ not-true _ (c .if1 .taken) in
+    early (a .version) (a .packet .now) 51 (no-mark (a .version) (a .packet .now) m) (b .pre .0) (b .pre .1)
 
--- src/reader.rt:409:9
-lengths-fit-requires : tie.Need-lengths-fit-requires
-lengths-fit-requires c κs = ?
-
--- src/reader.rt:410:9
 returns-2 : tie.Need-returns-2
-returns-2 c = ?
+returns-2 c =
+    let b = c .before .before .before .before .before .before in
+    let a = b .args in
+    let m = sym (c .before .before .before .is-marked .ensures) ∙ not-false _ (c .before .before .if1 .left) in
+    let l = sym (c .before .lengths-fit .ensures) ∙ not-true _ (c .if2 .taken) in
+    early (a .version) (a .packet .now) 52 (no-lengths (a .version) (a .packet .now) m l) (b .pre .0) (b .pre .1)
 
--- src/reader.rt:412:9
+-- past the lengths
+module _ (c : tie.Else2) where
+  abbrev packet : List ℕ
+  packet = c .before .before .before .before .before .before .args .packet .now
+
+  fit : lengthsFit packet ≡ true
+  fit = sym (c .before .lengths-fit .ensures) ∙ not-false _ (c .if2 .left)
+
+  known : (13 ≤ length packet) × ((13 + 4 * wordCount packet ≤ length packet) × (fills (stepCount packet) (stepPart packet) ≡ true))
+  known = fit-parts packet fit
+
 count-at-requires : tie.Need-count-at-requires
-count-at-requires c κs = ?
+count-at-requires c κs = omega (arith, known c .0)
 
--- src/reader.rt:413:27
-mul-middle : tie.Need-mul-middle
-mul-middle c = ?
-
--- src/reader.rt:413:18
-add-middle : tie.Need-add-middle
-add-middle c = ?
-
--- src/reader.rt:414:9
 count-at-requires-2 : tie.Need-count-at-requires-2
-count-at-requires-2 c κs = ?
+count-at-requires-2 c κs = omega (arith, known (c .before) .0)
 
--- src/reader.rt:417:9
-sub-read-parts : tie.Need-sub-read-parts
-sub-read-parts c = ?
+-- the words end within the packet, and the parts are those of the packet
+module _ (c : tie.After-count-at2) where
+  abbrev p : List ℕ
+  p = packet (c .before .before)
 
--- src/reader.rt:417:9
-part-read-parts-start : tie.Need-part-read-parts-start
-part-read-parts-start c = ?
+  abbrev n : ℕ
+  n = c .before .count-at .result
 
--- src/reader.rt:417:9
+  abbrev v-parts : List ℕ × List ℕ
+  v-parts = (take (13 + 4 * n - 13) (drop 13 p), take (length p - (13 + 4 * n)) (drop (13 + 4 * n) p))
+
+  room : 13 + 4 * n ≤ length p
+  room = omega (arith, c .before .count-at .ensures .0, known (c .before .before) .1 .0)
+
+  words-there : v-parts .0 ≡ wordPart p
+  words-there = part-is (4 * n) 13 p ∙ ap (λ (w : ℕ). take (4 * w) (drop 13 p)) (c .before .count-at .ensures .0)
+
+  steps-there : v-parts .1 ≡ stepPart p
+  steps-there = tail-of (13 + 4 * n) p ∙ ap (λ (w : ℕ). drop (13 + 4 * w) p) (c .before .count-at .ensures .0)
+
+  comes-to : (let v = c .before .before .before .before .before .before .before .before .args .version in pairIn v p ≡ partsRead v n (v-parts .0) (c .count-at2 .result) (v-parts .1))
+  comes-to =
+      let v = c .before .before .before .before .before .before .before .before .args .version in
+      let m = sym (c .before .before .before .before .before .is-marked .ensures) ∙ not-false _ (c .before .before .before .before .if1 .left) in
+      parts-left v p m (fit (c .before .before)) _ _ _ _ (c .before .count-at .ensures .0) words-there (c .count-at2 .ensures .0) steps-there
+
 part-read-parts-end : tie.Need-part-read-parts-end
-part-read-parts-end c = ?
+part-read-parts-end c = let r = room c in search needs
 
--- src/reader.rt:419:9
 sub-read-parts-2 : tie.Need-sub-read-parts-2
-sub-read-parts-2 c = ?
+sub-read-parts-2 c = room (c .before)
 
--- src/reader.rt:419:9
 part-read-parts-start-2 : tie.Need-part-read-parts-start-2
-part-read-parts-start-2 c = ?
+part-read-parts-start-2 c = let r = room (c .before) in search needs
 
--- src/reader.rt:419:9
-part-read-parts-end-2 : tie.Need-part-read-parts-end-2
-part-read-parts-end-2 c = ?
-
--- src/reader.rt:415:5
 read-parts-requires : tie.Need-read-parts-requires
-read-parts-requires c κs = ?
+read-parts-requires c κs =
+    let d = c .before .before .before .before in
+    let m = known (c .before .before .before .before .before .before) in
+    let l = length-take-le (4 * wordCount (p d)) (drop 13 (p d)) (omega (arith, length-drop 13 (p d), m .1 .0)) in
+    ((rw (words-there d) (omega (arith, l, d .before .count-at .ensures .0)), rw (steps-there d, d .count-at2 .ensures .0) (m .1 .1)), c .before .before .before .before .before .before .before .before .before .before .before .before .pre)
 
--- src/reader.rt:396:1
-same-length : tie.Need-same-length
-same-length c = ?
-
--- src/reader.rt:396:1
-same-length-2 : tie.Need-same-length-2
-same-length-2 c = ?
-
--- src/reader.rt:396:1
 returns-3 : tie.Need-returns-3
-returns-3 c = ?
+returns-3 c =
+    let a = c .before .before .before .before .before .before .before .before .before .before .before .before .before .before .before .before .args in
+    parts-given (a .version) (a .packet .now) {table = a .table .now} {proof = a .proof .now} _ _ _ _ (comes-to (c .before .before .before .before .before .before .before .before)) (c .before .before .before .read-parts .ensures)
 
 pub read-as-spec : {M : Type 1} → statement M
 read-as-spec =
     tie.close
     (tie.spec
-    is-marked-requires
+    (λ c κs. search needs)
     returns
-    lengths-fit-requires
+    (λ c κs. search needs)
     returns-2
     count-at-requires
-    mul-middle
-    add-middle
+    (λ c. search needs)
+    (λ c. search needs)
     count-at-requires-2
-    sub-read-parts
-    part-read-parts-start
+    (λ c. search needs)
+    (λ c. search needs)
     part-read-parts-end
     sub-read-parts-2
     part-read-parts-start-2
-    part-read-parts-end-2
+    (λ c. search needs)
     read-parts-requires
-    same-length
-    same-length-2
+    (λ c. search needs)
+    (λ c. search needs)
     returns-3)

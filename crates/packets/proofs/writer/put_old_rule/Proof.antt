@@ -1,44 +1,48 @@
+-- `packets::writer::put_old_rule` meets its contract: in version 1 the kind and the counts, the heads, and the body.
+-- Assumes nothing.
+use mathlib.Core.Path.{_∙_, ap}
+use native.Mathlib.Omega.{arith}
+use lib.ListN.{length}
+use Rattle.aspif.specs.Tables.{ruleAt}
+use Rattle.aspif.proofs.Cursors.{shape-of}
+use Rattle.aspif.proofs.Readable.{rule-formed}
+use borrow.Author.Needs.{needs}
+use Rattle.packets.proofs.Writes.{plain-literals, rule-put}
 use Rattle.packets.proofs.writer.put_old_rule.Statement.{statement}
 use Rattle.packets.proofs.writer.put_old_rule.Tie as tie
-use Rattle.packets.proofs.writer.put_old_rule.Reads as reads
-use Rattle.packets.proofs.writer.put_old_rule.Lts as lts
-use Rattle.aspif.proofs.tables.body_of.Reads as body-of-reads
-use Rattle.aspif.proofs.tables.heads_of.Reads as heads-of-reads
-use Rattle.aspif.proofs.tables.kind_of.Reads as kind-of-reads
-use Rattle.packets.proofs.writer.put_all.Reads as put-all-reads
-use Rattle.packets.proofs.writer.put_counts.Reads as put-counts-reads
 
--- src/writer.rt:120:9
 heads-of-requires : tie.Need-heads-of-requires
-heads-of-requires c κs = ?
+heads-of-requires c κs = shape-of _ (c .before .pre .0)
 
--- src/writer.rt:121:9
 body-of-requires : tie.Need-body-of-requires
-body-of-requires c κs = ?
+body-of-requires c κs = shape-of _ (c .before .before .pre .0)
 
--- src/writer.rt:122:9
-kind-of-requires : tie.Need-kind-of-requires
-kind-of-requires c κs = ?
-
--- src/writer.rt:123:9
-put-counts-requires : tie.Need-put-counts-requires
-put-counts-requires c κs = ?
-
--- src/writer.rt:124:9
 put-all-requires : tie.Need-put-all-requires
-put-all-requires c κs = ?
+put-all-requires c κs =
+    let a = c .before .before .before .before .before .before .before .before .before in
+    let f = rule-formed (a .args .rule .now) (a .pre .0) in
+    let h = c .before .before .before .before .before .before .before .heads-of .ensures in
+    (omega arith, rw h (omega (arith, c .before .before .before .put-counts .ensures .1, a .pre .1 .1, f .heads-few)))
 
--- src/writer.rt:125:5
 put-all-requires-2 : tie.Need-put-all-requires-2
-put-all-requires-2 c κs = ?
+put-all-requires-2 c κs =
+    let a = c .before .before .before .before .before .before .before .before .before .before .before .before .before in
+    let f = rule-formed (a .args .rule .now) (a .pre .0) in
+    let h = ap length (c .before .before .before .before .before .before .before .before .before .before .before .heads-of .ensures) in
+    let b = c .before .before .before .before .before .before .before .before .before .before .body-of .ensures ∙ plain-literals (a .args .rule .now) (a .pre .1 .0) in
+    (omega arith, rw b (omega (arith, h, c .before .before .before .put-all .ensures .1, c .before .before .before .before .before .before .before .put-counts .ensures .1, a .pre .1 .1, f .heads-few, f .body-few)))
 
--- src/writer.rt:115:1
-same-length : tie.Need-same-length
-same-length c = ?
-
--- src/writer.rt:115:1
 returns : tie.Need-returns
-returns c = ?
+returns c =
+    let a = c .before .before .before .before .before .before .before .before .before .before .before .before .before .before .before .before in
+    let f = rule-formed (a .args .rule .now) (a .pre .0) in
+    let h = c .before .before .before .before .before .before .before .before .before .before .before .before .before .before .heads-of .ensures in
+    let b = c .before .before .before .before .before .before .before .before .before .before .before .before .before .body-of .ensures ∙ plain-literals (a .args .rule .now) (a .pre .1 .0) in
+    let k = c .before .before .before .before .before .before .before .before .before .before .before .before .kind-of .ensures in
+    let p = rw (h, b, k) at (c .before .before .before .before .before .before .before .before .before .before .put-counts .ensures) in
+    let q = rw h at (c .before .before .before .before .before .before .put-all .ensures) in
+    let t = rw b at (c .before .before .put-all2 .ensures) in
+    (rule-put (ruleAt (a .args .rule .now)) (p .0) (q .0) (t .0), omega (arith, p .1, q .1, t .1, f .heads-few, f .body-few))
 
 pub put-old-rule-spec : {M : Type 1} → statement M
 put-old-rule-spec =
@@ -46,9 +50,9 @@ put-old-rule-spec =
     (tie.spec
     heads-of-requires
     body-of-requires
-    kind-of-requires
-    put-counts-requires
+    (λ c κs. search needs)
+    (λ c κs. search needs)
     put-all-requires
     put-all-requires-2
-    same-length
+    (λ c. search needs)
     returns)

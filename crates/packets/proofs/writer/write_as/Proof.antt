@@ -1,47 +1,53 @@
+-- `packets::writer::write_as` meets its contract.
+-- Assumes nothing.
+use mathlib.Core.Path.{_≡_, refl, sym, _∙_}
+use mathlib.Core.Bool.{true}
+use lib.ListN.{length}
+use borrow.Author.Needs.{needs}
+use borrow.Author.Tests.{not-true, not-false}
+use Rattle.aspif.specs.Tables.{soundTable}
+use Rattle.aspif.proofs.Cursors.{sound-rules}
+use Rattle.packets.proofs.Writes.{no-table, no-packet, refusal-written}
 use Rattle.packets.proofs.writer.write_as.Statement.{statement}
 use Rattle.packets.proofs.writer.write_as.Tie as tie
-use Rattle.packets.proofs.writer.write_as.Reads as reads
-use Rattle.packets.proofs.writer.write_as.Lts as lts
-use Rattle.aspif.proofs.tables.is_readable.Reads as is-readable-reads
-use Rattle.packets.proofs.versions.all_have_words.Reads as all-have-words-reads
-use Rattle.packets.proofs.writer.write_pair.Reads as write-pair-reads
 
--- src/writer.rt:305:9
-is-readable-requires : tie.Need-is-readable-requires
-is-readable-requires c κs = ?
-
--- src/writer.rt:306:9
 returns : tie.Need-returns
-returns c = ?
+returns c =
+    let b = c .before .before .before .before in
+    let a = b .args in
+    let t = sym (c .before .is-readable .ensures) ∙ not-true _ (c .if1 .taken) in
+    refusal-written (a .packet .now) _ (no-table (a .version) (a .table .now) (a .rules) (a .proof .now) (length (a .packet .now)) t) refl (b .pre)
 
--- src/writer.rt:308:9
+-- question 41 lets the table pass
+sound : (c : tie.Else1) → soundTable (c .before .before .before .before .args .table .now) (c .before .before .before .before .args .rules) ≡ true
+sound c = sym (c .before .is-readable .ensures) ∙ not-false _ (c .if1 .left)
+
 all-have-words-requires : tie.Need-all-have-words-requires
-all-have-words-requires c κs = ?
+all-have-words-requires c κs = let a = c .before .before .before .before .args in sound-rules (a .table .now) (a .rules) (sound c)
 
--- src/writer.rt:309:9
 returns-2 : tie.Need-returns-2
-returns-2 c = ?
+returns-2 c =
+    let b = c .before .before .before .before .before .before in
+    let a = b .args in
+    let p = sym (c .before .all-have-words .ensures) ∙ not-true _ (c .if2 .taken) in
+    refusal-written (a .packet .now) _ (no-packet (a .version) (a .table .now) (a .rules) (a .proof .now) (length (a .packet .now)) (sound (c .before .before)) p) refl (b .pre)
 
--- src/writer.rt:311:5
 write-pair-requires : tie.Need-write-pair-requires
-write-pair-requires c κs = ?
+write-pair-requires c κs =
+    let p = sym (c .before .before .all-have-words .ensures) ∙ not-false _ (c .before .if2 .left) in
+    ((sound (c .before .before .before), p), c .before .before .before .before .before .before .before .pre)
 
--- src/writer.rt:294:1
-same-length : tie.Need-same-length
-same-length c = ?
-
--- src/writer.rt:294:1
 returns-3 : tie.Need-returns-3
-returns-3 c = ?
+returns-3 c = c .before .before .write-pair .ensures
 
 pub write-as-spec : {M : Type 1} → statement M
 write-as-spec =
     tie.close
     (tie.spec
-    is-readable-requires
+    (λ c κs. search needs)
     returns
     all-have-words-requires
     returns-2
     write-pair-requires
-    same-length
+    (λ c. search needs)
     returns-3)
