@@ -161,7 +161,7 @@ fits-pair v number (pair Q us) P ts e = by (fits v Q us) refl e
         let q : us ≡ ts = cc in
         (e, sym (ap₂ (fits v) p q) ∙ f)
 
-both-there : (o : Option (List InputRule)) (q : Option (List Step)) (P : List InputRule) (ts : List Step) → paired o q ≡ pair P ts
+pub both-there : (o : Option (List InputRule)) (q : Option (List Step)) (P : List InputRule) (ts : List Step) → paired o q ≡ pair P ts
     → (o ≡ some P) × (q ≡ some ts)
 both-there none q P ts e = absurd (zero-one (cc))
 both-there (some Q) none P ts e = absurd (zero-one (cc))
@@ -170,7 +170,7 @@ both-there (some Q) (some us) P ts e =
     let q : us ≡ ts = cc in
     (ap some p, ap some q)
 
-short-steps : (q : Option (List Step)) (ts : List Step) → ifShort q ≡ some ts → (q ≡ some ts) × (length (textOf ts) ≤ longest)
+pub short-steps : (q : Option (List Step)) (ts : List Step) → ifShort q ≡ some ts → (q ≡ some ts) × (length (textOf ts) ≤ longest)
 short-steps none ts e = absurd (Option·none-ne-some ts e)
 short-steps (some us) ts e = by (leb (length (textOf us)) longest) refl e
   where
