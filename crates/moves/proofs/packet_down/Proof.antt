@@ -7,7 +7,7 @@ use Rattle.moves.proofs.packet_down.Tie as tie
 
 returns : tie.Need-returns
 unfolding down
-returns c = ?
+returns c = c .before .before .move-packet .ensures
 
 pub packet-down-spec : {M : Type 1} → statement M
 packet-down-spec = tie.close (tie.spec (λ c κs. search needs) (λ c. search needs) returns)
