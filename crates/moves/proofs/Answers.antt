@@ -1,13 +1,12 @@
 -- What is told of a pair, and what the services then answer.
 -- Assumes nothing.
-use mathlib.Core.Path.{_≡_, refl, sym, _∙_, ap, ap₂, subst}
-use mathlib.Core.Bool.{Bool, true, false, cond, _&&_}
-use mathlib.Core.Option.{Option, none, some}
-use mathlib.Core.List.{List, [], _∷_, _++_}
-use Prim.Native.Nat.{ℕ, zero, suc, _+_, _-_, _*_, _<_, _≤_, max}
+use mathlib.Core.Path.{_≡_, refl, sym, _∙_, ap, ap₂}
+use mathlib.Core.Bool.{Bool, true, false}
+use mathlib.Core.Option.{some}
+use mathlib.Core.List.{List, [], _∷_}
+use Prim.Native.Nat.{ℕ, _+_, _-_, _*_, _<_, _≤_, max}
 use native.Mathlib.Omega.{arith}
 use borrow.Author.Tests.{le-leb, lt-leb}
-use lib.Dec.{leb}
 use lib.IntN.{ℤ}
 use lib.ListN.{length, replicate, length-append}
 use lib.Seq.{sets}
@@ -19,7 +18,7 @@ use Rattle.text.specs.Writing.{farthest}
 use Rattle.aspif.specs.Rules.{InputRule, allPlain, ruleWords, programWords}
 use Rattle.drupe.specs.Texts.{Step, stepText, textOf}
 use Rattle.packets.specs.Bytes.{little, bytesOf, numbersFrom}
-use Rattle.packets.specs.Packets.{limit, hasWords, packetRule, mark, packetWords, stepBytes, stepsBytes, packetOf, stepsTop, pairTop, fits, fills, fewer, rulesIn, stepsFrom, stepsIn, PacketRead, refused, pair, paired, ifFits, partsRead, pairIn, held, up}
+use Rattle.packets.specs.Packets.{limit, hasWords, packetRule, packetWords, stepBytes, stepsBytes, packetOf, pairTop, fits, fills, fewer, rulesIn, stepsFrom, stepsIn, PacketRead, refused, pair, paired, ifFits, partsRead, pairIn, held, up}
 use Rattle.packets.specs.Parts.{mostWords, TableTold, TextTold, Zeros}
 use Rattle.packets.specs.Writes.{lastRuleEnd}
 use Rattle.packets.specs.Claims.{Bytes}
@@ -32,7 +31,8 @@ use Rattle.packets.specs.declared.reader.RulesPart.{RulesPart}
 use Rattle.packets.proofs.Littles.{length-bytes}
 use Rattle.packets.proofs.StepParts.{StepsThere, steps-there}
 use Rattle.packets.proofs.RuleParts.{words-more, some-words, RulesThere, rules-there, words-few}
-use Rattle.packets.proofs.Given.{zeros-front, TableTaken, table-some, text-some}
+use Rattle.packets.proofs.Given.{zeros-front, table-some, text-some}
+use Rattle.packets.proofs.Writes.{packet-length}
 use Rattle.packets.proofs.Claims.{fits-pair, both-there, short-steps, taken}
 use Rattle.packets.proofs.Moves.{one-two}
 use Rattle.moves.specs.Moves.{Holds, PairTold, Movable, PairWritten, Moved}
@@ -89,7 +89,7 @@ both-read v count part steps bytes table filled proof after p c q t o =
     }
 
 module _ (w : Version) {v : Version} {count : ℕ} {part : List ℕ} {steps : ℕ} {bytes : List ℕ} {rules size largest : ℕ} {plain : Bool}
-  (a : BothRead v count part steps bytes rules size largest plain) where
+    (a : BothRead v count part steps bytes rules size largest plain) where
   there : RulesThere v mostRules (numbersFrom 4 count part) (a .P)
   unfolding rulesIn
   there = rules-there v mostRules (numbersFrom 4 count part) (a .P) (a .rules-read)
@@ -165,15 +165,9 @@ unfolding textOf
 steps-short [] = omega arith
 steps-short (t ∷ ts) = omega (arith, step-short t, steps-short ts, length-append (stepBytes t) (stepsBytes ts), length-append (stepText t) (textOf ts))
 
--- how long a packet is
-packet-size : (w : Version) (P : List InputRule) (ts : List Step) → length (packetOf w P ts) ≡ 13 + 4 * length (packetWords w P) + length (stepsBytes ts)
-unfolding packetOf little
-packet-size One P ts = omega (arith, length-bytes 4 (packetWords One P), length-append (bytesOf 4 (packetWords One P)) (stepsBytes ts))
-packet-size Two P ts = omega (arith, length-bytes 4 (packetWords Two P), length-append (bytesOf 4 (packetWords Two P)) (stepsBytes ts))
-
 -- The other version can hold it
 module _ (v w : Version) (count : ℕ) (part : List ℕ) (steps : ℕ) (bytes : List ℕ) {n : ℕ} {b : Bool} (B : Bytes bytes) (f : fills steps bytes ≡ true)
-  (a : PairTaken w (partsRead v count part steps bytes) n b) (g : b ≡ true) where
+    (a : PairTaken w (partsRead v count part steps bytes) n b) (g : b ≡ true) where
   abbrev ws : List ℤ
   ws = numbersFrom 4 count part
 
@@ -208,7 +202,7 @@ module _ (v w : Version) (count : ℕ) (part : List ℕ) (steps : ℕ) (bytes : 
   few-words = omega (arith, a .words g, words-few w (a .P) (rules-are .formed), rules-are .few)
 
   pub size-is : 13 + 4 * n + length bytes ≡ length (packetOf w (a .P) (a .ts))
-  size-is = omega (arith, a .words g, ap length bytes-are, packet-size w (a .P) (a .ts))
+  size-is = omega (arith, packet-length w (a .P) (a .ts), a .words g, ap length bytes-are)
 
   module _ (output : List ℕ) (z : Zeros 0 output) where
     pub moved-52 : length output < 13 + 4 * n + length bytes → Moved w (partsRead v count part steps bytes) output output (Writing.Refused 52)

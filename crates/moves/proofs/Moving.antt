@@ -1,15 +1,15 @@
 -- What the functions that move a packet cite.
 -- Assumes nothing.
-use mathlib.Core.Path.{_≡_, refl, sym, _∙_, ap, ap₂}
-use mathlib.Core.Bool.{Bool, true, false, _&&_}
+use mathlib.Core.Path.{_≡_, refl, sym, _∙_, ap}
+use mathlib.Core.Bool.{Bool, true, _&&_}
 use mathlib.Core.Option.{Option, none, some, Option·some-injective, Option·none-ne-some}
 use mathlib.Core.List.{List, [], _∷_, _++_}
 use Prim.Native.Nat.{ℕ, zero, suc, _+_, _-_, _*_, _<_, _≤_}
 use native.Mathlib.Omega.{arith}
 use lib.Dec.{leb}
 use lib.IntN.{ℤ, pos}
-use lib.ListN.{length, drop, replicate, length-append, length-drop}
-use lib.Seq.{sets, drop-drop}
+use lib.ListN.{length, drop, replicate, length-drop}
+use lib.Seq.{drop-drop}
 use Rattle.words.specs.Limits.{mostRules}
 use Rattle.words.specs.Lists.{all}
 use Rattle.words.proofs.Lists.{and-left, and-right}

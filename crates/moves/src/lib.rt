@@ -115,13 +115,7 @@ fn move_rule(
 }
 
 // The rules that the words fall into go to the output after its header, and the position after them is told.
-fn move_rules(
-    from: Version,
-    to: Version,
-    bytes: &[u8],
-    count: usize,
-    output: &mut [u8],
-) -> usize
+fn move_rules(from: Version, to: Version, bytes: &[u8], count: usize, output: &mut [u8]) -> usize
     requires { ⌜ (4 * count ≤ length (now bytes)) × Movable from to (numbersFrom 4 count (now bytes)) ⌝ }
     ensures { λ r. ⌜ RulesMoved from to (numbersFrom 4 count (now (bytes .entry))) (now (output .entry)) (now (output .exit)) r ⌝ }
 {
