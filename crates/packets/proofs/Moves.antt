@@ -1,19 +1,19 @@
 -- The claims of moves between the versions (specs/Claims.antt): `one-two`, `up-down`, `down-up`, `down-refused`. All come from what is read
 -- and written in either version.
 -- Assumes nothing.
-use mathlib.Core.Path.{_≡_, refl, sym, _∙_, ap, subst}
+use mathlib.Core.Path.{_≡_, refl, sym, _∙_, ap}
 use mathlib.Core.Bool.{Bool, true, false, cond, _&&_, true≢false}
 use mathlib.Core.Option.{Option, none, some}
-use mathlib.Core.Logic.{_⊎_, inl, inr}
+use mathlib.Core.Logic.{inl, inr}
 use mathlib.Core.List.{List, [], _∷_, List·Memᴰ·head, List·Memᴰ·tail}
-use Prim.Native.Nat.{ℕ, _≤_, _<_}
+use Prim.Native.Nat.{ℕ, _≤_}
 use native.Mathlib.Omega.{arith}
 use borrow.Author.Tests.{le-leb, lt-leb, leb-true, leb-false}
 use lib.Dec.{leb}
 use lib.ListN.{length}
 use Rattle.words.specs.Limits.{largest}
 use Rattle.words.specs.Lists.{_∈_, all}
-use Rattle.words.proofs.Lists.{and-left, and-right, by-test, zero-one}
+use Rattle.words.proofs.Lists.{and-right, by-test, zero-one}
 use Rattle.text.specs.Strings.{startsWith}
 use Rattle.aspif.specs.Rules.{InputRule, isPlain, allPlain}
 use Rattle.drupe.specs.Texts.{Step}
