@@ -31,6 +31,7 @@ use Rattle.packets.specs.declared.Version.the-variants.{One, Two}
 use Rattle.packets.proofs.Littles.{bytes-part, value-little, little-value, length-bytes, numbers-back, length-numbers, numbers-whole}
 use Rattle.packets.proofs.StepParts.{fills-back, steps-back, steps-there}
 use Rattle.packets.proofs.Decoded.{fit-parts}
+use Rattle.packets.proofs.Writes.{packet-length}
 use Rattle.packets.proofs.RuleParts.{AllFormed, rules-back, rules-there, words-range, words-few}
 
 -- The mark
@@ -97,10 +98,6 @@ module _ (v : Version) (P : List InputRule) (ts : List Step) (s : Sound v P ts) 
   unfolding little
   after = sym (drop-drop 8 5 packet) ∙ ap (drop 8) off
 
-  size : length packet ≡ 13 + length body
-  unfolding little
-  size = omega (arith, ap length whole, length-append (mark v) (counts ++ body), mark-size v)
-
   word-part : wordPart packet ≡ bytesOf 4 ws
   word-part = rw (words-stated, after) (take-at (bytesOf 4 ws) (stepsBytes ts) (4 * length ws) (length-bytes 4 ws))
 
@@ -110,9 +107,7 @@ module _ (v : Version) (P : List InputRule) (ts : List Step) (s : Sound v P ts) 
   lengths : lengthsFit packet ≡ true
   unfolding lengthsFit
   lengths =
-      let l = length-append (bytesOf 4 ws) (stepsBytes ts) in
-      let k = length-bytes 4 ws in
-      let n = size in
+      let n = packet-length v P ts in
       rw (step-part, words-stated, steps-stated, le-leb 13 (length packet) (omega arith), le-leb (13 + 4 * length ws) (length packet) (omega arith)) (fills-back ts)
 
   rules-read : rulesIn v (numbersFrom 4 (wordCount packet) (wordPart packet)) ≡ some P

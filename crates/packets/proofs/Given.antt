@@ -1,7 +1,7 @@
 -- What the reader gives, and what stands in its outputs.
 -- Assumes nothing.
 use mathlib.Core.Path.{_≡_, refl, sym, _∙_, ap, ap₂, subst}
-use mathlib.Core.Bool.{Bool, true, false, cond, _&&_}
+use mathlib.Core.Bool.{Bool, true, false, and-false}
 use mathlib.Core.Option.{Option, none, some}
 use mathlib.Core.List.{List, _++_}
 use Prim.Native.Nat.{ℕ, _+_, _-_, _<_, _≤_, max}
@@ -53,11 +53,7 @@ module _ (v : Version) (P : List InputRule) (ts : List Step) (worded : all (hasW
       table-short h = rw (fitting k, lt-leb (length (programWords P)) tableSize h)
 
       pub text-short : textSize < length (textOf ts) → ifHeld tableSize textSize (ifFits v 53 (pair P ts)) ≡ refused 52
-      text-short h = rw (fitting k, lt-leb (length (textOf ts)) textSize h) (by (leb (length (programWords P)) tableSize))
-        where
-          by : (t : Bool) → cond (t && false) (pair P ts) (refused 52) ≡ refused 52
-          by true = refl
-          by false = refl
+      text-short h = rw (fitting k, lt-leb (length (textOf ts)) textSize h, and-false (leb (length (programWords P)) tableSize))
 
       both-held : length (programWords P) ≤ tableSize → length (textOf ts) ≤ textSize
           → ifHeld tableSize textSize (ifFits v 53 (pair P ts)) ≡ pair P ts

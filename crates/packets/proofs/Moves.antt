@@ -1,19 +1,19 @@
 -- The claims of moves between the versions (specs/Claims.antt): `one-two`, `up-down`, `down-up`, `down-refused`. All come from what is read
 -- and written in either version.
 -- Assumes nothing.
-use mathlib.Core.Path.{_≡_, refl, sym, _∙_, ap, subst}
-use mathlib.Core.Bool.{Bool, true, false, cond, _&&_, true≢false}
+use mathlib.Core.Path.{_≡_, refl, sym, _∙_, ap}
+use mathlib.Core.Bool.{Bool, true, false, cond, _&&_, and-false, true≢false}
 use mathlib.Core.Option.{Option, none, some}
-use mathlib.Core.Logic.{_⊎_, inl, inr}
+use mathlib.Core.Logic.{inl, inr}
 use mathlib.Core.List.{List, [], _∷_, List·Memᴰ·head, List·Memᴰ·tail}
-use Prim.Native.Nat.{ℕ, _≤_, _<_}
+use Prim.Native.Nat.{ℕ, _≤_}
 use native.Mathlib.Omega.{arith}
 use borrow.Author.Tests.{le-leb, lt-leb, leb-true, leb-false}
 use lib.Dec.{leb}
 use lib.ListN.{length}
 use Rattle.words.specs.Limits.{largest}
 use Rattle.words.specs.Lists.{_∈_, all}
-use Rattle.words.proofs.Lists.{and-left, and-right, by-test, zero-one}
+use Rattle.words.proofs.Lists.{and-right, by-test, zero-one}
 use Rattle.text.specs.Strings.{startsWith}
 use Rattle.aspif.specs.Rules.{InputRule, isPlain, allPlain}
 use Rattle.drupe.specs.Texts.{Step}
@@ -86,11 +86,7 @@ some-new (r ∷ P) e = by (isPlain r) refl e (λ d. some-new P d)
 
 no-longer-plain : {r : InputRule} {P : List InputRule} → r ∈ P → isPlain r ≡ false → allPlain P ≡ false
 no-longer-plain (List·Memᴰ·head {x = x} {xs = P} e) p = let q : isPlain x ≡ false = rw e at p in rw q
-no-longer-plain (List·Memᴰ·tail {x = x} m) p = rw (no-longer-plain m p) (by (isPlain x))
-  where
-    by : (b : Bool) → (b && false) ≡ false
-    by true = refl
-    by false = refl
+no-longer-plain (List·Memᴰ·tail {x = x} m) p = rw (no-longer-plain m p) (and-false (isPlain x))
 
 too-new : (P : List InputRule) (ts : List Step) → fits One P ts ≡ false → TooNew P ts
 too-new P ts e = by (allPlain P) refl e
@@ -101,11 +97,7 @@ too-new P ts e = by (allPlain P) refl e
 
 not-held : (P : List InputRule) (ts : List Step) → TooNew P ts → fits One P ts ≡ false
 not-held P ts (inl n) = rw (no-longer-plain (n .1 .0) (n .1 .1))
-not-held P ts (inr h) = rw (lt-leb (pairTop P ts) (limit One) h) (by (allPlain P))
-  where
-    by : (b : Bool) → (b && false) ≡ false
-    by true = refl
-    by false = refl
+not-held P ts (inr h) = rw (lt-leb (pairTop P ts) (limit One) h) (and-false (allPlain P))
 
 -- the numbers of the refusals before it are lower
 abbrev Lower : PacketRead → Type 0

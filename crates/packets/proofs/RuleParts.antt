@@ -15,9 +15,9 @@ use lib.Seq.{take-at, drop-at, take-add}
 use Rattle.words.specs.Lists.{_∈_, all}
 use Rattle.words.specs.Limits.{mostLiterals}
 use Rattle.words.proofs.Lists.{and-left, and-right, or-false-right, each-cons, by-test}
-use Rattle.weights.specs.Weights.{Weighted, literals, pairWords, mostWeight}
+use Rattle.weights.specs.Weights.{Weighted, literals, pairWords}
 use Rattle.text.specs.Line.{outside, anyOutside}
-use Rattle.aspif.specs.Rules.{Body, plain, weights, InputRule, isPlainBody, isPlain, literalsOf, kindWord, ruleWords, programWords}
+use Rattle.aspif.specs.Rules.{Body, plain, weights, InputRule, isPlainBody, literalsOf, kindWord, ruleWords}
 use Rattle.aspif.specs.Tables.{isWeighted, headCount, bodyLength, sizeAt, bodyAt, ruleAt, shapeSound, soundAt}
 use Rattle.aspif.specs.declared.Kind.{Kind}
 use Rattle.aspif.specs.declared.Kind.the-variants.{Normal, Choice}

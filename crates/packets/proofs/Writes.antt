@@ -4,7 +4,7 @@ use mathlib.Core.Path.{_≡_, refl, sym, _∙_, ap, ap₂, subst}
 use mathlib.Core.Bool.{Bool, true, false, cond, _&&_, true≢false}
 use mathlib.Core.Option.{Option, none, some}
 use mathlib.Core.Logic.{inl}
-use mathlib.Core.List.{List, [], _∷_, _++_, map, append-nil, append-assoc}
+use mathlib.Core.List.{List, [], _∷_, _++_, map, append-nil}
 use Prim.Native.Nat.{ℕ, zero, suc, _+_, _-_, _*_, _/_, _%_, _<_, _≤_, max}
 use native.Mathlib.Omega.{arith}
 use borrow.Author.Tests.{ltb-true, leb-true}
@@ -14,7 +14,7 @@ use lib.Signed.{ltZ}
 use lib.ListN.{length, set, take, drop, getD, replicate, drop-of-length-le, length-append, length-replicate}
 use lib.Seq.{drop-cons, take-append-seam, set-comm, sets, sets-eq, length-sets}
 use Rattle.words.specs.Limits.{longest, mostNumbers}
-use Rattle.words.specs.Lists.{concat, all}
+use Rattle.words.specs.Lists.{all}
 use Rattle.words.specs.Literals.{variable, top}
 use Rattle.words.proofs.Lists.{zero-one, concat-append}
 use Rattle.weights.specs.Weights.{paired}

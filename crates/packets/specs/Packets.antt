@@ -133,10 +133,11 @@ prepend x (some l) = some (x ∷ l)
 -- Rules. "a table that 41 .. would refuse": a rule stands at the front of a packet's words, so many words long. Question 41's tests of
 -- one rule are asked of the words as the table has them.
 
--- words with the table's "body kind after the head count", which is 0
+-- words of version 1 with the table's "body kind after the head count", which is 0
 unfoldable pub withKind : List ℤ → List ℤ
 withKind ws = take 2 ws ++ (pos 0 ∷ drop 2 ws)
 
+-- a packet's words as the table has them
 abbrev pub asTable : Version → List ℤ → List ℤ
 asTable One ws = withKind ws
 asTable Two ws = ws

@@ -141,13 +141,7 @@ pub fn put_rule(version: Version, buffer: &mut [u8], at: usize, rule: &[i32]) ->
 }
 
 // The rules of a table, one after another.
-fn put_rules(
-    version: Version,
-    buffer: &mut [u8],
-    at: usize,
-    table: &[i32],
-    rules: usize,
-) -> usize
+fn put_rules(version: Version, buffer: &mut [u8], at: usize, table: &[i32], rules: usize) -> usize
     requires { ⌜ (soundRules rules (now table) ≡ true) × (all (hasWords version) (rulesAt rules (now table)) ≡ true) ⌝ }
     requires { ⌜ (rules ≤ mostRules) × (at ≤ 13) ⌝ }
     ensures { λ r. ⌜ Put (bytesOf 4 (packetWords version (rulesAt rules (now (table .entry))))) (now (buffer .entry))

@@ -1,6 +1,6 @@
 -- `packets::reader::read_as` meets its contract.
 -- Assumes nothing.
-use mathlib.Core.Path.{_≡_, refl, sym, _∙_, ap}
+use mathlib.Core.Path.{_≡_, sym, _∙_, ap}
 use mathlib.Core.Bool.{true}
 use mathlib.Core.List.{List}
 use Prim.Native.Nat.{ℕ, _+_, _-_, _*_, _≤_}
@@ -57,19 +57,20 @@ module _ (c : tie.After-count-at2) where
   abbrev n : ℕ
   n = c .before .count-at .result
 
-  abbrev v-parts : List ℕ × List ℕ
-  v-parts = (take (13 + 4 * n - 13) (drop 13 p), take (length p - (13 + 4 * n)) (drop (13 + 4 * n) p))
+  -- the bytes of the words, and of the steps
+  abbrev parts : List ℕ × List ℕ
+  parts = (take (13 + 4 * n - 13) (drop 13 p), take (length p - (13 + 4 * n)) (drop (13 + 4 * n) p))
 
   room : 13 + 4 * n ≤ length p
   room = omega (arith, c .before .count-at .ensures .0, known (c .before .before) .1 .0)
 
-  words-there : v-parts .0 ≡ wordPart p
+  words-there : parts .0 ≡ wordPart p
   words-there = part-is (4 * n) 13 p ∙ ap (λ (w : ℕ). take (4 * w) (drop 13 p)) (c .before .count-at .ensures .0)
 
-  steps-there : v-parts .1 ≡ stepPart p
+  steps-there : parts .1 ≡ stepPart p
   steps-there = tail-of (13 + 4 * n) p ∙ ap (λ (w : ℕ). drop (13 + 4 * w) p) (c .before .count-at .ensures .0)
 
-  comes-to : (let v = c .before .before .before .before .before .before .before .before .args .version in pairIn v p ≡ partsRead v n (v-parts .0) (c .count-at2 .result) (v-parts .1))
+  comes-to : (let v = c .before .before .before .before .before .before .before .before .args .version in pairIn v p ≡ partsRead v n (parts .0) (c .count-at2 .result) (parts .1))
   comes-to =
       let v = c .before .before .before .before .before .before .before .before .args .version in
       let m = sym (c .before .before .before .before .before .is-marked .ensures) ∙ not-false _ (c .before .before .before .before .if1 .left) in

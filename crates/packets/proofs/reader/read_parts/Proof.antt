@@ -1,7 +1,5 @@
 -- `packets::reader::read_parts` meets its contract.
 -- Assumes nothing.
-use native.Mathlib.Omega.{arith}
-use lib.ListN.{length}
 use borrow.Author.Needs.{needs}
 use Rattle.text.specs.Classes.{byteClasses}
 use Rattle.packets.proofs.Given.{read-kept, no-rules, no-steps, both}

@@ -1,6 +1,5 @@
 -- `packets::versions::put_mark` meets its contract.
 -- Assumes nothing.
-use mathlib.Core.Path.{_≡_}
 use native.Mathlib.Omega.{arith}
 use borrow.Author.Needs.{needs}
 use Rattle.packets.proofs.versions.put_mark.Statement.{statement}
