@@ -1,12 +1,13 @@
--- What is told of a pair, and what the services then answer.
+-- What the first walk tells of a pair, and what the services then answer.
 -- Assumes nothing.
 use mathlib.Core.Path.{_≡_, refl, sym, _∙_, ap, ap₂}
-use mathlib.Core.Bool.{Bool, true, false}
+use mathlib.Core.Bool.{Bool, true, false, _&&_}
 use mathlib.Core.Option.{some}
 use mathlib.Core.List.{List, [], _∷_}
 use Prim.Native.Nat.{ℕ, _+_, _-_, _*_, _<_, _≤_, max}
 use native.Mathlib.Omega.{arith}
 use borrow.Author.Tests.{le-leb, lt-leb}
+use lib.Dec.{leb}
 use lib.IntN.{ℤ}
 use lib.ListN.{length, replicate, length-append}
 use lib.Seq.{sets}
@@ -30,7 +31,7 @@ use Rattle.packets.specs.declared.reader.Part.{Part}
 use Rattle.packets.specs.declared.reader.RulesPart.{RulesPart}
 use Rattle.packets.proofs.Littles.{length-bytes}
 use Rattle.packets.proofs.StepParts.{StepsThere, steps-there}
-use Rattle.packets.proofs.RuleParts.{words-more, some-words, RulesThere, rules-there, words-few}
+use Rattle.packets.proofs.RuleParts.{all-worded, words-more, some-words, RulesThere, rules-there, words-few}
 use Rattle.packets.proofs.Given.{zeros-front, table-some, text-some}
 use Rattle.packets.proofs.Writes.{packet-length}
 use Rattle.packets.proofs.Claims.{fits-pair, both-there, short-steps, taken}
@@ -38,6 +39,15 @@ use Rattle.packets.proofs.Moves.{one-two}
 use Rattle.moves.specs.Moves.{Holds, PairTold, Movable, PairWritten, Moved}
 use Rattle.moves.specs.declared.Measured.{Measured}
 use Rattle.moves.specs.declared.Measured.the-variants.{Taken, Refused}
+
+-- What a version can hold
+
+module _ {v : Version} (largest n : ℕ) (plain : Bool) (l : n ≡ limit v) where
+  pub holds-one : v ≡ One → Holds v largest plain (plain && leb largest n)
+  holds-one e P ts p q = rw (l, e, p, q)
+
+  pub holds-two : v ≡ Two → Holds v largest plain (leb largest n)
+  holds-two e P ts p q = rw (l, e, p, all-worded P)
 
 -- How many words the rules take
 
@@ -48,11 +58,11 @@ more-words One (r ∷ P) e =
     omega (arith, words-more One r (and-left _ _ e), more-words One P (and-right (hasWords One r) _ e), length-append (ruleWords r) (programWords P), length-append (packetRule One r) (packetWords One P))
 more-words Two P e = omega arith
 
--- each has words
-pub some-more : (w : Version) (P : List InputRule) → fewer w * length P ≤ length (programWords P)
-some-more Two P = omega arith
-some-more One [] = omega arith
-some-more One (r ∷ P) = omega (arith, some-words Two r, some-more One P, length-append (ruleWords r) (programWords P))
+-- so many words are there, since each has some
+pub fewer-within : (w : Version) (P : List InputRule) → fewer w * length P ≤ length (programWords P)
+fewer-within Two P = omega arith
+fewer-within One [] = omega arith
+fewer-within One (r ∷ P) = omega (arith, some-words Two r, fewer-within One P, length-append (ruleWords r) (programWords P))
 
 -- What is told of a pair
 
@@ -104,7 +114,7 @@ module _ (w : Version) {v : Version} {count : ℕ} {part : List ℕ} {steps : �
 
     -- the words that the rules take can be counted
     pub words-room : (less * rules ≤ size) × (size ≤ mostWords * mostRules)
-    words-room = (omega (arith, fewer-all, some-more w (a .P), a .words-of), omega (arith, a .words-of, words-few Two (a .P) (there .formed), there .few))
+    words-room = (omega (arith, fewer-all, fewer-within w (a .P), a .words-of), omega (arith, a .words-of, words-few Two (a .P) (there .formed), there .few))
 
     pub pair-told : {b : Bool} → largest ≤ limit v → Holds w largest plain b → PairTold w (partsRead v count part steps bytes) (Taken (size - less * rules) b)
     unfolding partsRead

@@ -1,3 +1,3 @@
--- What the functions that move a packet cite.
+-- Laws that the functions of moves cite.
 pub mod Moving
 pub mod Answers

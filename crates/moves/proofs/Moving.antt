@@ -1,12 +1,11 @@
--- What the functions that move a packet cite.
+-- What the second walk, which writes, cites: one rule in a row, and rules one after another.
 -- Assumes nothing.
 use mathlib.Core.Path.{_≡_, refl, sym, _∙_, ap}
-use mathlib.Core.Bool.{Bool, true, _&&_}
+use mathlib.Core.Bool.{true}
 use mathlib.Core.Option.{Option, none, some, Option·some-injective, Option·none-ne-some}
 use mathlib.Core.List.{List, [], _∷_, _++_}
 use Prim.Native.Nat.{ℕ, zero, suc, _+_, _-_, _*_, _<_, _≤_}
 use native.Mathlib.Omega.{arith}
-use lib.Dec.{leb}
 use lib.IntN.{ℤ, pos}
 use lib.ListN.{length, drop, replicate, length-drop}
 use lib.Seq.{drop-drop}
@@ -17,27 +16,18 @@ use Rattle.text.specs.Writing.{Put}
 use Rattle.aspif.specs.Rules.{InputRule, ruleWords}
 use Rattle.aspif.specs.Tables.{ruleAt, soundAt}
 use Rattle.packets.specs.Bytes.{bytesOf}
-use Rattle.packets.specs.Packets.{limit, packetRule, hasWords, packetWords, prepend, rulePasses, ruleIn, rulesFrom, rulesIn}
+use Rattle.packets.specs.Packets.{packetRule, hasWords, packetWords, prepend, rulePasses, ruleIn, rulesFrom, rulesIn}
 use Rattle.packets.specs.Parts.{mostWords, sizeIfSound, RuleTold}
 use Rattle.packets.specs.Writes.{ruleRoom, lastRuleEnd}
 use Rattle.packets.specs.declared.Version.{Version}
-use Rattle.packets.specs.declared.Version.the-variants.{One, Two}
+use Rattle.packets.specs.declared.Version.the-variants.{Two}
 use Rattle.packets.specs.declared.reader.RuleRead.{RuleRead}
 use Rattle.packets.proofs.Given.{zeros-front}
-use Rattle.packets.proofs.RuleParts.{all-worded, some-words, passes, rule-in, front-rule, rule-size, rule-few, rules-there}
+use Rattle.packets.proofs.RuleParts.{some-words, passes, rule-in, front-rule, rule-size, rule-few, rules-there}
 use Rattle.packets.proofs.RulesRead.{sized, rules-stop, rules-full, rules-on, rules-none}
 use Rattle.packets.proofs.Writes.{Going, going-start, going-on, going-end, bytes-append}
-use Rattle.moves.specs.Moves.{Holds, RuleMovedAs, Movable, RulesMoved}
+use Rattle.moves.specs.Moves.{RuleMovedAs, Movable, RulesMoved}
 use Rattle.moves.specs.declared.RuleMoved.{RuleMoved}
-
--- What a version can hold
-
-module _ {v : Version} (largest n : ℕ) (plain : Bool) (l : n ≡ limit v) where
-  pub holds-one : v ≡ One → Holds v largest plain (plain && leb largest n)
-  holds-one e P ts p q = rw (l, e, p, q)
-
-  pub holds-two : v ≡ Two → Holds v largest plain (leb largest n)
-  holds-two e P ts p q = rw (l, e, p, all-worded P)
 
 -- One rule
 

@@ -1,7 +1,7 @@
 -- `moves::can_hold` meets its contract.
 -- Assumes nothing.
 use borrow.Author.Needs.{needs}
-use Rattle.moves.proofs.Moving.{holds-one, holds-two}
+use Rattle.moves.proofs.Answers.{holds-one, holds-two}
 use Rattle.moves.proofs.can_hold.Statement.{statement}
 use Rattle.moves.proofs.can_hold.Tie as tie
 
