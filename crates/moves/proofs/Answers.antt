@@ -18,7 +18,7 @@ use Rattle.text.specs.Decimals.{numberBytes, spaced}
 use Rattle.text.specs.Writing.{farthest}
 use Rattle.aspif.specs.Rules.{InputRule, allPlain, ruleWords, programWords}
 use Rattle.drupe.specs.Texts.{Step, stepText, textOf}
-use Rattle.packets.specs.Bytes.{little, bytesOf, numbersFrom}
+use Rattle.packets.specs.Bytes.{numbersFrom}
 use Rattle.packets.specs.Packets.{limit, hasWords, packetRule, packetWords, stepBytes, stepsBytes, packetOf, pairTop, fits, fills, fewer, rulesIn, stepsFrom, stepsIn, PacketRead, refused, pair, paired, ifFits, partsRead, pairIn, held, up}
 use Rattle.packets.specs.Parts.{mostWords, TableTold, TextTold, Zeros}
 use Rattle.packets.specs.Writes.{lastRuleEnd}
