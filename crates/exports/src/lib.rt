@@ -49,35 +49,37 @@ pub extern "C" fn aspdrupe_read_line(
     answers::tell_line(line, answer)
 }
 
-// Writes a packet from a table with its rule count and a proof text.
+// Writes a packet of the version told from a table with its rule count and a proof text.
 #[no_mangle]
 pub extern "C" fn aspdrupe_write_packet(
+    version: u64,
     table: &[i32],
     rules: u64,
     proof: &[u8],
     packet: &mut [u8],
     answer: &mut [u64],
 ) -> u32
-    ensures { λ r. ⌜ WriteService (now (table .entry)) rules (now (proof .entry)) (now (packet .entry)) (now (packet .exit))
+    ensures { λ r. ⌜ WriteService version (now (table .entry)) rules (now (proof .entry)) (now (packet .entry)) (now (packet .exit))
         (now (answer .entry)) (now (answer .exit)) r ⌝ }
 {
-    let written = packets::write_packet(table, rules as usize, proof, packet);
+    let written = packets::write_packet(version, table, rules as usize, proof, packet);
     answers::tell_writing(written, answer)
 }
 
-// Reads a packet into a table and a proof text.
+// Reads a packet of the version told into a table and a proof text.
 #[no_mangle]
 pub extern "C" fn aspdrupe_read_packet(
+    version: u64,
     packet: &[u8],
     table: &mut [i32],
     proof: &mut [u8],
     answer: &mut [u64],
 ) -> u32
-    ensures { λ r. ⌜ ReadService (now (packet .entry)) (now (table .entry)) (now (table .exit)) (now (proof .entry))
+    ensures { λ r. ⌜ ReadService version (now (packet .entry)) (now (table .entry)) (now (table .exit)) (now (proof .entry))
         (now (proof .exit))
         (now (answer .entry)) (now (answer .exit)) r ⌝ }
 {
-    let read = packets::read_packet(packet, table, proof);
+    let read = packets::read_packet(version, packet, table, proof);
     answers::tell_reading(read, answer)
 }
 

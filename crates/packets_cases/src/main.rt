@@ -61,7 +61,7 @@ fn say_refusal(number: u8) {
 
 // What is read into the outputs, whose words and bytes are 7 before.
 fn answer_reading(packet: &[u8], table: &mut [i32], proof: &mut [u8]) {
-    let reading = packets::read_packet(packet, table, proof);
+    let reading = packets::read_packet(1, packet, table, proof);
     match reading {
         PacketReading::Read { rules, bytes } => {
             say(b"read");
@@ -87,7 +87,7 @@ fn answer_reading(packet: &[u8], table: &mut [i32], proof: &mut [u8]) {
 
 // What is written into the output, whose bytes are 7 before.
 fn answer_writing(table: &[i32], rules: usize, proof: &[u8], packet: &mut [u8]) {
-    let writing = packets::write_packet(table, rules, proof, packet);
+    let writing = packets::write_packet(1, table, rules, proof, packet);
     match writing {
         PacketWriting::Written(bytes) => {
             say(b"written");
