@@ -264,8 +264,8 @@ fn compare_moves(comparison: &mut Comparison, version: Version, packet: &[u8]) {
     for room in around(found.answer.unwrap_or(57)) {
         comparison.move_packet(by, packet, room);
     }
-    let refused = comparison.move_packet(back, packet, packet.len());
-    comparison.settle(refused.answer == Err(51), || String::from("a packet of the other version is moved"));
+    let other = comparison.move_packet(back, packet, packet.len());
+    comparison.settle(found.answer == Err(51) || other.answer == Err(51), || String::from("a packet is moved both ways"));
     if found.answer == Err(61) {
         let why = why_not_down(packet);
         comparison.tally.count(format!("packet_down: refused 61 for {why}"));

@@ -6,7 +6,7 @@ use Rattle.exports.proofs.aspdrupe_packet_down.Statement.{statement}
 use Rattle.exports.proofs.aspdrupe_packet_down.Tie as tie
 
 returns : tie.Need-returns
-returns c = move-told (c .before .before .before .before .before .packet-down .ensures) (c .before .before .tell-writing .ensures)
+returns c = move-told (c .before .before .before .before .before .before .packet-down .ensures) (c .before .before .tell-writing .ensures)
 
 pub aspdrupe-packet-down-spec : {M : Type 1} → statement M
 aspdrupe-packet-down-spec =

@@ -6,7 +6,7 @@ use Rattle.exports.proofs.aspdrupe_packet_up.Statement.{statement}
 use Rattle.exports.proofs.aspdrupe_packet_up.Tie as tie
 
 returns : tie.Need-returns
-returns c = move-told (c .before .before .before .before .before .packet-up .ensures) (c .before .before .tell-writing .ensures)
+returns c = move-told (c .before .before .before .before .before .before .packet-up .ensures) (c .before .before .tell-writing .ensures)
 
 pub aspdrupe-packet-up-spec : {M : Type 1} → statement M
 aspdrupe-packet-up-spec =
