@@ -169,7 +169,13 @@ fn read_case(version: u64, text: &[u8], words: usize, bytes: usize) {
     let mut proof = [7u8; 65600];
     if words <= 4096 {
         if bytes <= 65600 {
-            read_into(version, text, &mut packet, &mut table[..words], &mut proof[..bytes]);
+            read_into(
+                version,
+                text,
+                &mut packet,
+                &mut table[..words],
+                &mut proof[..bytes],
+            );
         }
     }
 }
@@ -241,7 +247,14 @@ fn write_case(version: u64, text: &[u8], rules: usize, proof: &[u8], bytes: usiz
     let mut table = [0i32; 4100];
     let mut packet = [7u8; 33000];
     if bytes <= 33000 {
-        write_from(version, text, &mut table, rules, proof, &mut packet[..bytes]);
+        write_from(
+            version,
+            text,
+            &mut table,
+            rules,
+            proof,
+            &mut packet[..bytes],
+        );
     }
 }
 
