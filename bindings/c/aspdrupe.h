@@ -26,14 +26,14 @@ extern "C" {
 
 /* A thread with a stack of so many bytes has enough for any call but those below, with what the C library takes of a thread's stack for itself.
  * What your own code and its thread-local variables take comes on top. The need does not grow with the texts: the whole check was measured
- * at 503 KB, the services other than it and those below at 63 KB or less (bindings/c/stack.c). Some C libraries give a thread less by default:
+ * at 511 KB, the services other than it and those below at 63 KB or less (bindings/c/stack.c). Some C libraries give a thread less by default:
  * musl 128 KB. */
 #define ASPDRUPE_STACK 524288
 
-/* The same for aspdrupe_merge_halves, which checks the halves over a table of its own beside the one lent: 865 KB were measured. */
+/* The same for aspdrupe_merge_halves, which checks the halves over a table of its own beside the one lent: 872 KB were measured. */
 #define ASPDRUPE_MERGE_STACK 1048576
 
-/* The same for aspdrupe_trim_proof, which tries each step on a copy of the text: 804 KB were measured. */
+/* The same for aspdrupe_trim_proof, which tries each step on a copy of the text: 812 KB were measured. */
 #define ASPDRUPE_TRIM_STACK 1048576
 
 /* The most numbers that an answer has. */
