@@ -12,9 +12,22 @@ use std::process::Command;
 const COPY: &str = "target/plain";
 
 /// The crates of the whole check, each after those that it depends on.
-const CRATES: [&str; 14] =
-    ["words", "marks", "text", "weights", "aspif", "drupe", "search", "nogoods", "propagation", "names", "heads", "loops", "steps",
-    "checker"];
+const CRATES: [&str; 14] = [
+    "words",
+    "marks",
+    "text",
+    "weights",
+    "aspif",
+    "drupe",
+    "search",
+    "nogoods",
+    "propagation",
+    "names",
+    "heads",
+    "loops",
+    "steps",
+    "checker",
+];
 
 /// What follows the replay in crates/propagation/src/lib.rt, where it comes to a conflict and where it does not, and what stands there in the
 /// copy.

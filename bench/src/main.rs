@@ -1,5 +1,5 @@
 //! The benchmark: the whole check through the static library beside an unverified checker, on inputs made from fixed seeds. Both
-//! must give the same verdict on each input. Then the packet of the longest proof, written and read back, two halves merged into one proof,
+//! must give the same verdict on each input. Then the packets of the longest proof, written, read back and moved, two halves merged into one proof,
 //! refutations trimmed, and reading alone. The last line is 'N passed, M failed'; the exit status is 0 where none failed.
 //!
 //! With `--once` each input is run once by each checker, and only small ones are trimmed. Without arguments the times are medians of 31 repetitions; a number as
@@ -48,7 +48,9 @@ fn main() -> ExitCode {
         _ => None,
     };
     let Some(failed) = failed else {
-        eprintln!("usage: bench [--once | --slow | --fallbacks | REPETITIONS | --beside OTHER [REPETITIONS] | --growth [OTHER [REPETITIONS]]]");
+        eprintln!(
+            "usage: bench [--once | --slow | --fallbacks | REPETITIONS | --beside OTHER [REPETITIONS] | --growth [OTHER [REPETITIONS]]]"
+        );
         eprintln!("       bench --round | --growth-round");
         return ExitCode::from(2);
     };
@@ -69,8 +71,8 @@ fn run_slow() -> usize {
     failed
 }
 
-/// Runs all inputs, the packet of the longest proof, the merge, trimming and reading alone; on how many inputs the checkers differ, one more
-/// where the packet is not read back, one more where the halves are not merged, one more for each proof of which other steps are left than must
+/// Runs all inputs, the packets of the longest proof, the merge, trimming and reading alone; on how many inputs the checkers differ, one more
+/// where a packet is not read back or not moved, one more where the halves are not merged, one more for each proof of which other steps are left than must
 /// be, and one more where a text is refused that should be read.
 fn run_all(repetitions: usize) -> usize {
     let inputs = cases::all();

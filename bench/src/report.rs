@@ -1,4 +1,4 @@
-//! What is printed: a row for each input, lines on the packet, on the merge, on trimming and on reading, the rows of two programs side by side,
+//! What is printed: a row for each input, lines on the packets, on the merge, on trimming and on reading, the rows of two programs side by side,
 //! and those on growth.
 
 use crate::cases::{Goal, Input};
@@ -70,21 +70,25 @@ pub fn difference(input: &Input, measured: &Measured) {
     println!("FAILED: {}: verified '{verified}', unverified '{unverified}'", input.name);
 }
 
-/// The line on the packet of the longest proof.
+/// The lines on the packets of the longest proof.
 pub fn packet(packed: Option<&Packed>) {
     let Some(packed) = packed else {
-        println!("FAILED: the packet of the longest proof is refused, or another pair is read back");
+        println!("FAILED: a packet of the longest proof is refused, another pair is read back, or another packet made by a move");
         return;
     };
-    println!(
-        "packet of {}: {} bytes; written in {:.3} ms (least {:.3}), read in {:.3} ms (least {:.3})",
-        packed.name,
-        packed.size,
-        milliseconds(packed.writing.median),
-        milliseconds(packed.writing.least),
-        milliseconds(packed.reading.median),
-        milliseconds(packed.reading.least),
-    );
+    for (number, to, times) in [(1, "up", &packed.versions[0]), (2, "down", &packed.versions[1])] {
+        println!(
+            "packet of {}, version {number}: {} bytes; written in {:.3} ms (least {:.3}), read in {:.3} ms (least {:.3}), moved {to} in {:.3} ms (least {:.3})",
+            packed.name,
+            times.size,
+            milliseconds(times.writing.median),
+            milliseconds(times.writing.least),
+            milliseconds(times.reading.median),
+            milliseconds(times.reading.least),
+            milliseconds(times.moving.median),
+            milliseconds(times.moving.least),
+        );
+    }
 }
 
 /// The line on the two halves.

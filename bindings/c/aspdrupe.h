@@ -1,6 +1,6 @@
-/* The eight services of the proof checker for C: the program reader, the set test, the proof-line reader, the whole check over two texts,
- * the writer and the reader of packets, the merge of two halves' proofs, and the trimming of a proof. The functions are in
- * target/staticlib/libexports.a, which `rt staticlib exports` writes, for x86-64 Linux.
+/* The ten services of the proof checker for C: the program reader, the set test, the proof-line reader, the whole check over two texts,
+ * the writer and the reader of packets, their moves from one version to the other, the merge of two halves' proofs, and the trimming of a
+ * proof. The functions are in target/staticlib/libexports.a, which `rt staticlib exports` writes, for x86-64 Linux.
  *
  * Each function is proved to meet its contract (crates/exports/src/lib.rt and crates/exports/specs/) on every input: no text, no
  * number and no length is asked to be good. What the caller must see to is what C cannot say:
@@ -26,14 +26,14 @@ extern "C" {
 
 /* A thread with a stack of so many bytes has enough for any call but those below, with what the C library takes of a thread's stack for itself.
  * What your own code and its thread-local variables take comes on top. The need does not grow with the texts: the whole check was measured
- * at 503 KB, the services other than it and those below at 63 KB or less (bindings/c/stack.c). Some C libraries give a thread less by default:
+ * at 511 KB, the services other than it and those below at 63 KB or less (bindings/c/stack.c). Some C libraries give a thread less by default:
  * musl 128 KB. */
 #define ASPDRUPE_STACK 524288
 
-/* The same for aspdrupe_merge_halves, which checks the halves over a table of its own beside the one lent: 865 KB were measured. */
+/* The same for aspdrupe_merge_halves, which checks the halves over a table of its own beside the one lent: 872 KB were measured. */
 #define ASPDRUPE_MERGE_STACK 1048576
 
-/* The same for aspdrupe_trim_proof, which tries each step on a copy of the text: 804 KB were measured. */
+/* The same for aspdrupe_trim_proof, which tries each step on a copy of the text: 812 KB were measured. */
 #define ASPDRUPE_TRIM_STACK 1048576
 
 /* The most numbers that an answer has. */
@@ -100,25 +100,44 @@ uint32_t aspdrupe_read_line(const uint8_t *text, size_t text_len, uint64_t posit
 uint32_t aspdrupe_check_texts(const uint8_t *program, size_t program_len, const uint8_t *proof, size_t proof_len, int32_t *table,
                               size_t table_len, int32_t *store, size_t store_len, uint64_t *answer, size_t answer_len);
 
-/* Writes a packet: a table, as aspdrupe_read_program leaves it with that number of rules, and a proof text, in one sequence of bytes with
- * one form for each such pair. The proof is not checked against the program. A packet holds the rules' words without their body kinds, no
- * weights, and variables up to 4,095. An output of 13 + 4 * table_len + proof_len bytes holds every packet.
+/* Writes a packet of a version, 1 or 2: a table, as aspdrupe_read_program leaves it with that number of rules, and a proof text, in one
+ * sequence of bytes with one form for each such pair. The proof is not checked against the program. Version 1 holds the rules' words without
+ * their body kinds, no weights, and variables up to 4,095; version 2 holds the rules' words as they are in the table, and variables up to
+ * 8,191. An output of 13 + 4 * table_len + proof_len bytes holds every packet.
  * Returns 0 where it is written: answer[0] is how many bytes it has; the output holds them and 0 after them.
- * Otherwise returns 53 (a table that aspdrupe_test_set refuses with 41 or with a rule of body kind 1, a proof text with a line that
- * aspdrupe_read_line refuses, or a variable above 4,095 in either) or 52 (the output is too short), asked in this order: the output is 0
- * throughout, and `answer` stays as it was. */
-uint32_t aspdrupe_write_packet(const int32_t *table, size_t table_len, uint64_t rules, const uint8_t *proof, size_t proof_len,
-                               uint8_t *packet, size_t packet_len, uint64_t *answer, size_t answer_len);
+ * Otherwise returns 51 (another version), 53 (a table that aspdrupe_test_set refuses with 41, a proof text with a line that
+ * aspdrupe_read_line refuses, and in version 1 a rule of body kind 1, or a variable above 4,095 in either) or 52 (the output is too short),
+ * asked in this order: the output is 0 throughout, and `answer` stays as it was. */
+uint32_t aspdrupe_write_packet(uint64_t version, const int32_t *table, size_t table_len, uint64_t rules, const uint8_t *proof,
+                               size_t proof_len, uint8_t *packet, size_t packet_len, uint64_t *answer, size_t answer_len);
 
-/* Reads a packet back into a table and a proof text. The packet is all of the bytes given: zeros that the writer leaves after it are none
- * of it. A table of packet_len / 3 words and a text of 65,535 bytes hold whatever a packet has.
+/* Reads a packet of a version, 1 or 2, back into a table and a proof text. The packet is all of the bytes given: zeros that the writer leaves
+ * after it are none of it. A table of packet_len / 3 words and a text of 65,535 bytes hold whatever a packet has.
  * Returns 0 where it is read: answer[0] is the number of rules and answer[1] how many bytes the proof text has; the table holds the
- * rules' words, each rule with body kind 0, and the text its bytes, each with 0 after them. Written again, they are the same packet.
- * Otherwise returns 51 (another mark or version), 52 (the lengths in it do not make up the bytes given), 53 (a table or a proof text that
- * aspdrupe_write_packet refuses) or again 52 (the table or the text lent is too short), asked in this order: table and text are 0
- * throughout, and `answer` stays as it was. */
-uint32_t aspdrupe_read_packet(const uint8_t *packet, size_t packet_len, int32_t *table, size_t table_len, uint8_t *proof,
+ * rules' words, of version 1 each rule with body kind 0, and the text its bytes, each with 0 after them. Written again in that version, they
+ * are the same packet.
+ * Otherwise returns 51 (another mark, or a version that is not the one told, or a told one that is none), 52 (the lengths in it do not make up
+ * the bytes given), 53 (a table or a proof text that aspdrupe_write_packet refuses) or again 52 (the table or the text lent is too short),
+ * asked in this order: table and text are 0 throughout, and `answer` stays as it was. */
+uint32_t aspdrupe_read_packet(uint64_t version, const uint8_t *packet, size_t packet_len, int32_t *table, size_t table_len, uint8_t *proof,
                               size_t proof_len, uint64_t *answer, size_t answer_len);
+
+/* Moves a packet of version 1 to version 2. An output of packet_len + packet_len / 3 bytes holds every packet made. Moved down again, it has
+ * its bytes of before.
+ * Returns 0 where it is moved: answer[0] is how many bytes the packet made has; the output holds them and 0 after them.
+ * Otherwise returns 51 (another mark or version), 52 (the lengths in it do not make up the bytes given), 53 (a table or a proof text that
+ * aspdrupe_write_packet refuses) or again 52 (the output is too short), asked in this order: the output is 0 throughout, and `answer` stays as
+ * it was. */
+uint32_t aspdrupe_packet_up(const uint8_t *packet, size_t packet_len, uint8_t *output, size_t output_len, uint64_t *answer,
+                            size_t answer_len);
+
+/* Moves a packet of version 2 to version 1, where that can hold its pair. An output of packet_len bytes holds every packet made.
+ * Returns 0 where it is moved: answer[0] is how many bytes the packet made has; the output holds them and 0 after them.
+ * Otherwise returns 51 (another mark or version), 52 (the lengths in it do not make up the bytes given), 53 (a table or a proof text that
+ * aspdrupe_write_packet refuses), 61 (a rule of body kind 1, or a variable above 4,095 in a rule or in a step) or again 52 (the output is too
+ * short), asked in this order: the output is 0 throughout, and `answer` stays as it was. */
+uint32_t aspdrupe_packet_down(const uint8_t *packet, size_t packet_len, uint8_t *output, size_t output_len, uint64_t *answer,
+                              size_t answer_len);
 
 /* Merges the proofs of two halves into one proof for the program itself. The program is split on an atom, one of 1 to N: the first proof is
  * for the program with a constraint added that demands the atom, the second for the program with a constraint added that forbids it. Both are

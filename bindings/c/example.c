@@ -1,13 +1,14 @@
 /* Checks a proof file against a program file, and prints the verdict with its numbers. Where neither is refused, it then writes the program's
- * table and the proof as a packet, reads that back, and prints how many bytes it has, and of how many rules and bytes of proof. A program
- * with weights has no packet: 53.
+ * table and the proof as a packet of version 2, reads that back, and prints how many bytes it has, and of how many rules and bytes of proof;
+ * and moves it down to version 1, and prints how many bytes that has, or that it is refused: a program with weights does not go down, 61.
  *
  * Build and run, from the repository's root:
  *   rt staticlib exports
  *   cc -Wall -o target/example bindings/c/example.c target/staticlib/libexports.a
  *   target/example examples/starred-1/case.aspif examples/starred-1/case.drupe
  * prints: inconsistent 1 1 5 6
- *         packet 57 1 35 */
+ *         packet 61 1 35
+ *         down 57 */
 #include <inttypes.h>
 #include <stdio.h>
 #include <string.h>
@@ -23,7 +24,7 @@
 /* Enough for the packet of any table and text of these lengths. */
 #define PACKET (13 + 4 * WORDS + TEXT)
 
-static uint8_t program[TEXT], proof[TEXT], packet[PACKET], proof_back[TEXT];
+static uint8_t program[TEXT], proof[TEXT], packet[PACKET], moved[PACKET], packet_back[PACKET], proof_back[TEXT];
 static int32_t table[WORDS], store[WORDS], table_back[WORDS];
 
 /* The front of a file, and how many bytes; 1 where it is read. */
@@ -40,22 +41,35 @@ static int read_file(const char *path, uint8_t *text, size_t *size) {
     return good;
 }
 
-/* Writes the packet of the table, with so many rules, and of the proof, and reads it back; 1 where the same comes back. */
+/* Moves a packet of version 2 down, and up again; 1 where it does not go down, or has its bytes again. */
+static int go_down(size_t size) {
+    uint64_t down[1], up[1];
+    uint32_t code = aspdrupe_packet_down(packet, size, moved, PACKET, down, 1);
+    if (code != 0) {
+        printf("refused down %" PRIu32 "\n", code);
+        return code == 61;
+    }
+    printf("down %" PRIu64 "\n", down[0]);
+    return aspdrupe_packet_up(moved, (size_t)down[0], packet_back, PACKET, up, 1) == 0 && up[0] == size &&
+           memcmp(packet, packet_back, PACKET) == 0;
+}
+
+/* Writes the packet of the table, with so many rules, and of the proof, reads it back and moves it; 1 where the same comes back. */
 static int pack(uint64_t rules, size_t proof_size) {
     uint64_t written[1], back[2];
-    uint32_t code = aspdrupe_write_packet(table, WORDS, rules, proof, proof_size, packet, PACKET, written, 1);
+    uint32_t code = aspdrupe_write_packet(2, table, WORDS, rules, proof, proof_size, packet, PACKET, written, 1);
     if (code != 0) {
         printf("refused packet %" PRIu32 "\n", code);
         return 0;
     }
-    code = aspdrupe_read_packet(packet, (size_t)written[0], table_back, WORDS, proof_back, TEXT, back, 2);
+    code = aspdrupe_read_packet(2, packet, (size_t)written[0], table_back, WORDS, proof_back, TEXT, back, 2);
     if (code != 0) {
         printf("refused packet %" PRIu32 "\n", code);
         return 0;
     }
     printf("packet %" PRIu64 " %" PRIu64 " %" PRIu64 "\n", written[0], back[0], back[1]);
     return back[0] == rules && back[1] == proof_size && memcmp(table, table_back, sizeof table) == 0 &&
-           memcmp(proof, proof_back, proof_size) == 0;
+           memcmp(proof, proof_back, proof_size) == 0 && go_down((size_t)written[0]);
 }
 
 int main(int argc, char **argv) {

@@ -155,8 +155,9 @@ static void make_weights(void) {
     if (aspdrupe_read_program(weight_rules.bytes, weight_rules.size, weight_table, WORDS, read, 2) != 0) stop("a program is refused");
 }
 
-/* A table with its rule count, a proof text, and the packet of both. */
+/* A table with its rule count, a proof text, and the packet of both in a version. */
 struct packet {
+    uint64_t version;
     int32_t table[WORDS];
     uint64_t rules;
     const struct text *proof;
@@ -164,24 +165,28 @@ struct packet {
     size_t size;
 };
 
-static struct packet wide_packet, full_packet, bad_packet;
+static struct packet wide_packet, full_packet, bad_packet, new_packet, weight_packet;
 
-/* The packet of a program and a proof, made on the stack of the main thread. */
-static void make_packet(struct packet *packet, const struct text *program, const struct text *proof) {
+/* The packet of a program and a proof in a version, made on the stack of the main thread. */
+static void make_packet(struct packet *packet, uint64_t version, const struct text *program, const struct text *proof) {
     uint64_t read[2], written[1];
+    packet->version = version;
     if (aspdrupe_read_program(program->bytes, program->size, packet->table, WORDS, read, 2) != 0) stop("a program is refused");
     packet->rules = read[1];
     packet->proof = proof;
-    uint32_t code =
-        aspdrupe_write_packet(packet->table, WORDS, packet->rules, proof->bytes, proof->size, packet->bytes, PACKET, written, 1);
+    uint32_t code = aspdrupe_write_packet(version, packet->table, WORDS, packet->rules, proof->bytes, proof->size, packet->bytes, PACKET,
+                                          written, 1);
     if (code != 0) stop("a packet is refused");
     packet->size = (size_t)written[0];
 }
 
-/* Packets with as many numbers as a step may have, with as many words and steps as fit, and one that is refused at its last number. */
+/* Packets with as many numbers as a step may have, with as many words and steps as fit, in version 2 too, one with weights, and one that is
+ * refused at its last number. */
 static void make_packets(void) {
-    make_packet(&wide_packet, &wide_rules, &wide_steps);
-    make_packet(&full_packet, &full_rules, &full_steps);
+    make_packet(&wide_packet, 1, &wide_rules, &wide_steps);
+    make_packet(&full_packet, 1, &full_rules, &full_steps);
+    make_packet(&new_packet, 2, &full_rules, &full_steps);
+    make_packet(&weight_packet, 2, &weight_rules, &weight_steps);
     bad_packet = full_packet;
     bad_packet.bytes[bad_packet.size - 1] = 0x80;
 }
@@ -299,11 +304,20 @@ static uint32_t check(const struct text *program, const struct text *proof) {
 }
 
 static uint32_t write_packet(const struct packet *packet, const struct text *proof, size_t size) {
-    return aspdrupe_write_packet(packet->table, WORDS, packet->rules, proof->bytes, proof->size, bytes, size, answer, ASPDRUPE_ANSWER);
+    return aspdrupe_write_packet(packet->version, packet->table, WORDS, packet->rules, proof->bytes, proof->size, bytes, size, answer,
+                                 ASPDRUPE_ANSWER);
 }
 
 static uint32_t read_packet(const struct packet *packet, size_t text_size) {
-    return aspdrupe_read_packet(packet->bytes, packet->size, table, WORDS, proof_text, text_size, answer, ASPDRUPE_ANSWER);
+    return aspdrupe_read_packet(packet->version, packet->bytes, packet->size, table, WORDS, proof_text, text_size, answer, ASPDRUPE_ANSWER);
+}
+
+static uint32_t up(const struct packet *packet, size_t size) {
+    return aspdrupe_packet_up(packet->bytes, packet->size, bytes, size, answer, ASPDRUPE_ANSWER);
+}
+
+static uint32_t down(const struct packet *packet, size_t size) {
+    return aspdrupe_packet_down(packet->bytes, packet->size, bytes, size, answer, ASPDRUPE_ANSWER);
 }
 
 static uint32_t merge(const struct split *split, size_t store_size, size_t size) {
@@ -339,6 +353,17 @@ static uint32_t unpack_full(void) { return read_packet(&full_packet, TEXT); }
 static uint32_t unpack_wide(void) { return read_packet(&wide_packet, TEXT); }
 static uint32_t unpack_bad(void) { return read_packet(&bad_packet, TEXT); }
 static uint32_t unpack_short(void) { return read_packet(&full_packet, full_packet.proof->size - 1); }
+static uint32_t write_new(void) { return write_packet(&new_packet, new_packet.proof, PACKET); }
+static uint32_t write_weights(void) { return write_packet(&weight_packet, weight_packet.proof, PACKET); }
+static uint32_t unpack_new(void) { return read_packet(&new_packet, TEXT); }
+static uint32_t unpack_weights(void) { return read_packet(&weight_packet, TEXT); }
+static uint32_t up_full(void) { return up(&full_packet, PACKET); }
+static uint32_t up_wide(void) { return up(&wide_packet, PACKET); }
+static uint32_t up_bad(void) { return up(&bad_packet, PACKET); }
+static uint32_t up_short(void) { return up(&full_packet, new_packet.size - 1); }
+static uint32_t down_new(void) { return down(&new_packet, PACKET); }
+static uint32_t down_weights(void) { return down(&weight_packet, PACKET); }
+static uint32_t down_old(void) { return down(&full_packet, PACKET); }
 
 /* The bytes of the merged texts, and the words that the one with weights needs of the store. */
 #define WEIGHT_MERGED 861
@@ -395,8 +420,8 @@ static uint32_t test_weights(void) {
     return aspdrupe_test_set(weight_table, WORDS, WEIGHT_RULES, set, 1, marks, ASPDRUPE_MARKS, answer, ASPDRUPE_ANSWER);
 }
 
-static uint32_t write_weights(void) {
-    return aspdrupe_write_packet(weight_table, WORDS, WEIGHT_RULES, chain.bytes, chain.size, bytes, PACKET, answer, ASPDRUPE_ANSWER);
+static uint32_t write_weights_old(void) {
+    return aspdrupe_write_packet(1, weight_table, WORDS, WEIGHT_RULES, chain.bytes, chain.size, bytes, PACKET, answer, ASPDRUPE_ANSWER);
 }
 
 /* A call with the code and the numbers that it must answer, the others left 0. */
@@ -426,13 +451,24 @@ static const struct call calls[] = {
     {"check_texts: newlines", check_newlines, ASPDRUPE_REFUSED_PROGRAM, {2, 1, 0, 0}},
     {"write_packet: full table and text", write_full, 0, {106331, 0, 0, 0}},
     {"write_packet: steps of 65 numbers", write_wide, 0, {1503, 0, 0, 0}},
-    {"write_packet: rules with weights", write_weights, 53, {0, 0, 0, 0}},
+    {"write_packet: rules with weights", write_weights_old, 53, {0, 0, 0, 0}},
+    {"write_packet: version 2, full table and text", write_new, 0, {110427, 0, 0, 0}},
+    {"write_packet: version 2, rules with weights", write_weights, 0, {65795, 0, 0, 0}},
     {"write_packet: a line of 65,530 bytes", write_long, 53, {0, 0, 0, 0}},
     {"write_packet: an output too short", write_short, 52, {0, 0, 0, 0}},
     {"read_packet: full table and text", unpack_full, 0, {RULES, 65514, 0, 0}},
     {"read_packet: steps of 65 numbers", unpack_wide, 0, {3, 1026, 0, 0}},
     {"read_packet: refused at the last number", unpack_bad, 53, {0, 0, 0, 0}},
     {"read_packet: a text too short", unpack_short, 52, {0, 0, 0, 0}},
+    {"read_packet: version 2, full table and text", unpack_new, 0, {RULES, 65514, 0, 0}},
+    {"read_packet: version 2, rules with weights", unpack_weights, 0, {WEIGHT_RULES, 586, 0, 0}},
+    {"packet_up: full table and text", up_full, 0, {110427, 0, 0, 0}},
+    {"packet_up: steps of 65 numbers", up_wide, 0, {1515, 0, 0, 0}},
+    {"packet_up: refused at the last number", up_bad, 53, {0, 0, 0, 0}},
+    {"packet_up: an output too short", up_short, 52, {0, 0, 0, 0}},
+    {"packet_down: full table and text", down_new, 0, {106331, 0, 0, 0}},
+    {"packet_down: rules with weights", down_weights, 61, {0, 0, 0, 0}},
+    {"packet_down: a packet of version 1", down_old, 51, {0, 0, 0, 0}},
 };
 
 static const struct call merges[] = {

@@ -9,7 +9,7 @@ use crate::binary::Binary;
 use crate::brute;
 use crate::reference::check::{check, verdict_line, Counts, Verdict};
 use crate::reference::program::{read, table_words, InputRule};
-use crate::reference::{filled, lines, models, packets, LINE_LIMIT};
+use crate::reference::{filled, lines, models, LINE_LIMIT};
 use crate::shrink::{cut, shrunk};
 use crate::tally::Tally;
 
@@ -170,46 +170,6 @@ impl Comparison {
             )
         });
     }
-
-    /// The writer of packets with an output of so many bytes; answers what the reference says.
-    pub fn write_packet(&mut self, table: &[i32], rules: usize, proof: &[u8], room: usize) -> packets::Written {
-        let expected = packets::write(table, rules, proof, room);
-        let mut packet = vec![self.random.below(256) as u8; room];
-        let answered = aspdrupe::write_packet(table, rules, proof, &mut packet);
-        let good = answered.as_ref().map(writing_as_numbers) == Ok(expected.answer) && packet == expected.packet;
-        self.tally.packet("write_packet", "written", expected.answer.err());
-        self.settle(good, || {
-            format!(
-                "write_packet, {rules} rules, output {room}: {answered:?}, not {:?}{}: table {:?} proof {}",
-                expected.answer,
-                difference(&packet, &expected.packet),
-                &table[..table.len().min(400)],
-                cut(proof)
-            )
-        });
-        expected
-    }
-
-    /// The reader of packets with a table and a text of so many words and bytes; answers what the reference says.
-    pub fn read_packet(&mut self, packet: &[u8], table_room: usize, proof_room: usize) -> packets::Read {
-        let expected = packets::read(packet, table_room, proof_room);
-        let mut table = self.pattern(table_room);
-        let mut proof = vec![self.random.below(256) as u8; proof_room];
-        let answered = aspdrupe::read_packet(packet, &mut table, &mut proof);
-        let good = answered.as_ref().map(unpacking_as_numbers) == Ok(expected.answer);
-        let good = good && table == expected.table && proof == expected.proof;
-        self.tally.packet("read_packet", "read", expected.answer.err());
-        self.settle(good, || {
-            format!(
-                "read_packet, table {table_room}, text {proof_room}: {answered:?}, not {:?}; table{}; text{}: {}",
-                expected.answer,
-                difference(&table, &expected.table),
-                difference(&proof, &expected.proof),
-                cut(packet)
-            )
-        });
-        expected
-    }
 }
 
 /// The account of a whole check that failed, for the smallest texts that still fail.
@@ -264,22 +224,6 @@ fn reading_as_numbers(reading: &aspdrupe::ProgramReading) -> Result<(usize, usiz
     match *reading {
         aspdrupe::ProgramReading::Read { atoms, rules } => Ok((atoms, rules)),
         aspdrupe::ProgramReading::Refused(refusal) => Err((refusal.question.number(), refusal.line)),
-    }
-}
-
-/// The packet's bytes, or a refusal's number.
-fn writing_as_numbers(writing: &aspdrupe::PacketWriting) -> Result<usize, u8> {
-    match *writing {
-        aspdrupe::PacketWriting::Written(bytes) => Ok(bytes),
-        aspdrupe::PacketWriting::Refused(question) => Err(question.number()),
-    }
-}
-
-/// The rule count and the bytes of the proof text, or a refusal's number.
-fn unpacking_as_numbers(reading: &aspdrupe::PacketReading) -> Result<(usize, usize), u8> {
-    match *reading {
-        aspdrupe::PacketReading::Read { rules, bytes } => Ok((rules, bytes)),
-        aspdrupe::PacketReading::Refused(question) => Err(question.number()),
     }
 }
 
@@ -386,17 +330,6 @@ mod tests {
         assert_eq!(kind(models::Answer::Differs(2)), "differs, in the model only");
         assert_eq!(kind(models::Answer::Broken(2)), "broken");
         assert_eq!(kind(models::Answer::Refused(43)), "refused 43");
-    }
-
-    #[test]
-    fn packet_answers_as_numbers() {
-        use aspdrupe::{PacketQuestion, PacketReading, PacketWriting};
-        assert_eq!(writing_as_numbers(&PacketWriting::Written(57)), Ok(57));
-        assert_eq!(unpacking_as_numbers(&PacketReading::Read { rules: 1, bytes: 35 }), Ok((1, 35)));
-        for (question, number) in [(PacketQuestion::Mark, 51), (PacketQuestion::Lengths, 52), (PacketQuestion::Pair, 53)] {
-            assert_eq!(writing_as_numbers(&PacketWriting::Refused(question)), Err(number));
-            assert_eq!(unpacking_as_numbers(&PacketReading::Refused(question)), Err(number));
-        }
     }
 
     #[test]

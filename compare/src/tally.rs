@@ -2,6 +2,7 @@
 
 use std::collections::BTreeMap;
 
+use crate::packets;
 use crate::reference::check::{verdict_line, Verdict};
 use crate::reference::merge::Turn;
 use crate::trims;
@@ -84,8 +85,7 @@ fn wanted(with_binary: bool) -> Vec<String> {
     wanted.extend((21..=25).map(|number| format!("read_line: refused {number}")));
     wanted.extend(["yes", "broken", "refused 41", "refused 42", "refused 43"].map(|word| format!("test_set: {word}")));
     wanted.extend(["set", "model"].map(|which| format!("test_set: differs, in the {which} only")));
-    wanted.extend(["written", "refused 52", "refused 53"].map(|word| format!("write_packet: {word}")));
-    wanted.extend(["read", "refused 51", "refused 52", "refused 53"].map(|word| format!("read_packet: {word}")));
+    wanted.extend(packets::WANTED.map(String::from));
     wanted.extend(["merged", "refused 57", "refused 58", "refused 59"].map(|word| format!("merge_halves: {word}")));
     wanted.extend(PROGRAM_QUESTIONS.map(|number| format!("merge_halves: refused program {number:02}")));
     wanted.extend(trims::WANTED.map(|what| format!("trim_proof: {what}")));

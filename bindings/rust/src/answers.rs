@@ -92,12 +92,33 @@ pub enum Verdict {
     RefusedProof(ProofRefusal),
 }
 
-/// What the writer of packets says of a table and a proof text.
+/// The version of a packet, which its writer and its reader are told.
+#[derive(Debug, Clone, Copy, PartialEq, Eq, Hash)]
+#[repr(u8)]
+pub enum Version {
+    /// Rules without weights, and variables up to 4,095.
+    One = 1,
+    /// Rules with weights too, and variables up to 8,191.
+    Two = 2,
+}
+
+impl Version {
+    /// Both versions.
+    pub const ALL: [Version; 2] = [Version::One, Version::Two];
+
+    /// The version's number.
+    pub const fn number(self) -> u8 {
+        self as u8
+    }
+}
+
+/// What the writer of packets says of a table and a proof text, and a move of the packet that it is given.
 #[derive(Debug, Clone, Copy, PartialEq, Eq, Hash)]
 pub enum PacketWriting {
     /// The packet is written, and has so many bytes.
     Written(usize),
-    /// It is refused, by [`PacketQuestion::Pair`] or for an output that is too short ([`PacketQuestion::Lengths`]).
+    /// It is refused: by the writer with [`PacketQuestion::Pair`] or for an output that is too short ([`PacketQuestion::Lengths`]), by a move
+    /// for the packet given too, and by a move down with [`PacketQuestion::Old`].
     Refused(PacketQuestion),
 }
 

@@ -38,12 +38,20 @@ enum CheckCode {
     RefusedProof,
 }
 
-/// What the writer of packets returns.
+/// What the writer of packets returns for a version that there is.
 #[derive(Debug, Clone, Copy, PartialEq, Eq)]
 enum WritingCode {
     Written,
     Refused(PacketQuestion),
 }
+
+/// What a move of a packet up returns.
+#[derive(Debug, Clone, Copy, PartialEq, Eq)]
+struct UpCode(WritingCode);
+
+/// What a move of a packet down returns.
+#[derive(Debug, Clone, Copy, PartialEq, Eq)]
+struct DownCode(WritingCode);
 
 /// What the reader of packets returns.
 #[derive(Debug, Clone, Copy, PartialEq, Eq)]
@@ -139,6 +147,29 @@ impl TryFrom<u32> for WritingCode {
     }
 }
 
+impl TryFrom<u32> for UpCode {
+    type Error = UnknownAnswer;
+
+    fn try_from(code: u32) -> Result<Self, UnknownAnswer> {
+        match code {
+            0 => Ok(UpCode(WritingCode::Written)),
+            51..=53 => PacketQuestion::try_from(u64::from(code)).map(|question| UpCode(WritingCode::Refused(question))),
+            _ => Err(unknown("code of a move up", code)),
+        }
+    }
+}
+
+impl TryFrom<u32> for DownCode {
+    type Error = UnknownAnswer;
+
+    fn try_from(code: u32) -> Result<Self, UnknownAnswer> {
+        match code {
+            61 => Ok(DownCode(WritingCode::Refused(PacketQuestion::Old))),
+            _ => UpCode::try_from(code).map(|up| DownCode(up.0)).map_err(|_| unknown("code of a move down", code)),
+        }
+    }
+}
+
 impl TryFrom<u32> for ReadingCode {
     type Error = UnknownAnswer;
 
@@ -226,10 +257,24 @@ pub fn verdict(code: u32, answer: [u64; 4]) -> Result<Verdict, UnknownAnswer> {
 
 /// The answer of the writer of packets.
 pub fn packet_writing(code: u32, answer: u64) -> Result<PacketWriting, UnknownAnswer> {
-    Ok(match WritingCode::try_from(code)? {
+    Ok(written(WritingCode::try_from(code)?, answer))
+}
+
+/// The answer of a move up.
+pub fn packet_up(code: u32, answer: u64) -> Result<PacketWriting, UnknownAnswer> {
+    Ok(written(UpCode::try_from(code)?.0, answer))
+}
+
+/// The answer of a move down.
+pub fn packet_down(code: u32, answer: u64) -> Result<PacketWriting, UnknownAnswer> {
+    Ok(written(DownCode::try_from(code)?.0, answer))
+}
+
+fn written(code: WritingCode, answer: u64) -> PacketWriting {
+    match code {
         WritingCode::Written => PacketWriting::Written(answer as usize),
         WritingCode::Refused(question) => PacketWriting::Refused(question),
-    })
+    }
 }
 
 /// The answer of the reader of packets.
@@ -281,6 +326,8 @@ mod tests {
         assert_eq!(known::<CheckCode>(), [0, 1, 2, 3]);
         assert_eq!(known::<WritingCode>(), [0, 52, 53]);
         assert_eq!(known::<ReadingCode>(), [0, 51, 52, 53]);
+        assert_eq!(known::<UpCode>(), [0, 51, 52, 53]);
+        assert_eq!(known::<DownCode>(), [0, 51, 52, 53, 61]);
         assert_eq!(known::<MergeCode>(), (0..=11).chain([54, 55, 57, 58, 59]).collect::<Vec<_>>());
         assert_eq!(known::<TrimCode>(), (0..=11).chain([54, 55, 60]).collect::<Vec<_>>());
     }
@@ -292,6 +339,8 @@ mod tests {
         assert_eq!(line_answer(26, [1, 1]), Err(UnknownAnswer { wanted: "code of the proof-line reader", number: 26 }));
         assert_eq!(verdict(4, [0; 4]), Err(UnknownAnswer { wanted: "code of the whole check", number: 4 }));
         assert_eq!(packet_writing(51, 0), Err(UnknownAnswer { wanted: "code of the writer of packets", number: 51 }));
+        assert_eq!(packet_up(61, 0), Err(UnknownAnswer { wanted: "code of a move up", number: 61 }));
+        assert_eq!(packet_down(60, 0), Err(UnknownAnswer { wanted: "code of a move down", number: 60 }));
         assert_eq!(packet_reading(54, [0; 2]), Err(UnknownAnswer { wanted: "code of the reader of packets", number: 54 }));
         assert_eq!(merging(34, 0), Err(UnknownAnswer { wanted: "code of the merge", number: 34 }));
         assert_eq!(trimming(57, 0), Err(UnknownAnswer { wanted: "code of trimming", number: 57 }));
@@ -316,6 +365,10 @@ mod tests {
         assert_eq!(packet_reading(0, [1, 35]), Ok(PacketReading::Read { rules: 1, bytes: 35 }));
         assert_eq!(packet_writing(53, 9), Ok(PacketWriting::Refused(PacketQuestion::Pair)));
         assert_eq!(packet_reading(51, [9; 2]), Ok(PacketReading::Refused(PacketQuestion::Mark)));
+        assert_eq!(packet_up(0, 61), Ok(PacketWriting::Written(61)));
+        assert_eq!(packet_up(51, 9), Ok(PacketWriting::Refused(PacketQuestion::Mark)));
+        assert_eq!(packet_down(0, 57), Ok(PacketWriting::Written(57)));
+        assert_eq!(packet_down(61, 9), Ok(PacketWriting::Refused(PacketQuestion::Old)));
         assert_eq!(merging(0, 66), Ok(Merging::Merged(66)));
         assert_eq!(merging(5, 7), Ok(Merging::RefusedProgram(refusal)));
         assert_eq!(merging(59, 9), Ok(Merging::Refused(MergeQuestion::Store)));

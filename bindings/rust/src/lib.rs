@@ -1,7 +1,7 @@
-//! The eight services of the proof checker for Rust: the program reader, the set test, the proof-line reader, the whole check over two
-//! texts, the writer and the reader of packets, the merge of two halves' proofs, and the trimming of a proof. The work is done by functions
-//! that are proved to meet their contracts on every input (`crates/exports`); here they are declared and wrapped, and their codes become
-//! enums. No input panics.
+//! The ten services of the proof checker for Rust: the program reader, the set test, the proof-line reader, the whole check over two
+//! texts, the writer and the reader of packets, their moves from one version to the other, the merge of two halves' proofs, and the trimming
+//! of a proof. The work is done by functions that are proved to meet their contracts on every input (`crates/exports`); here they are declared
+//! and wrapped, and their codes become enums. No input panics.
 //!
 //! Each function answers an [`UnknownAnswer`] where the library returns what its contract does not allow, which a library of the
 //! same version never does.
@@ -28,6 +28,7 @@ mod raw;
 
 pub use answers::{
     Counts, LineAnswer, Merging, PacketReading, PacketWriting, ProgramReading, ProgramRefusal, ProofRefusal, SetAnswer, Trimming, Verdict,
+    Version,
 };
 pub use questions::{Letter, MergeQuestion, PacketQuestion, ProgramQuestion, ProofQuestion, SetQuestion, TrimQuestion, UnknownAnswer};
 
@@ -146,29 +147,38 @@ pub fn check_texts(program: &[u8], proof: &[u8], table: &mut [i32], store: &mut 
     codes::verdict(code, answer)
 }
 
-/// Writes a packet: a table that holds so many rules and a proof text, in one sequence of bytes with one form for each such pair. The
-/// proof is not checked against the program. The output then begins with the packet and has 0 after it; it is 0 throughout where the
-/// packet is refused. `13 + 4 * table.len() + proof.len()` bytes hold every packet. A packet has no place for body kinds: a table with a
-/// rule of body kind 1 is refused, and so is a variable above 4,095 in the table or in the text.
+/// Writes a packet of a version: a table that holds so many rules and a proof text, in one sequence of bytes with one form for each such
+/// pair. The proof is not checked against the program. The output then begins with the packet and has 0 after it; it is 0 throughout where the
+/// packet is refused. `13 + 4 * table.len() + proof.len()` bytes hold every packet. [`Version::One`] has no place for body kinds: a table with
+/// a rule of body kind 1 is refused, and so is a variable above 4,095 in the table or in the text.
 ///
 /// ```
-/// use aspdrupe::{read_packet, write_packet, PacketReading, PacketWriting};
+/// use aspdrupe::{read_packet, write_packet, PacketReading, PacketWriting, Version};
 ///
 /// let (table, proof) = ([0, 1, 0, 1, 1, -1], b"b 2 -1 0\nc 2 1 0\ns 1 2 0\na 1 0\na 0\n");
 /// let mut packet = vec![0; 13 + 4 * table.len() + proof.len()];
-/// let PacketWriting::Written(size) = write_packet(&table, 1, proof, &mut packet)? else { panic!("it is good") };
+/// for (version, bytes) in [(Version::One, 57), (Version::Two, 61)] {
+///     assert_eq!(write_packet(version, &table, 1, proof, &mut packet)?, PacketWriting::Written(bytes));
 ///
-/// let (mut table_back, mut proof_back) = ([0; 6], [0; 35]);
-/// let reading = read_packet(&packet[..size], &mut table_back, &mut proof_back)?;
-/// assert_eq!(reading, PacketReading::Read { rules: 1, bytes: 35 });
-/// assert_eq!((table_back, &proof_back), (table, proof));
+///     let (mut table_back, mut proof_back) = ([0; 6], [0; 35]);
+///     let reading = read_packet(version, &packet[..bytes], &mut table_back, &mut proof_back)?;
+///     assert_eq!(reading, PacketReading::Read { rules: 1, bytes: 35 });
+///     assert_eq!((table_back, &proof_back), (table, proof));
+/// }
 /// # Ok::<(), aspdrupe::UnknownAnswer>(())
 /// ```
-pub fn write_packet(table: &[i32], rules: usize, proof: &[u8], packet: &mut [u8]) -> Result<PacketWriting, UnknownAnswer> {
+pub fn write_packet(
+    version: Version,
+    table: &[i32],
+    rules: usize,
+    proof: &[u8],
+    packet: &mut [u8],
+) -> Result<PacketWriting, UnknownAnswer> {
     let mut answer = [0; 1];
     // SAFETY: as said above.
     let code = unsafe {
         raw::aspdrupe_write_packet(
+            u64::from(version.number()),
             table.as_ptr(),
             table.len(),
             rules as u64,
@@ -183,14 +193,15 @@ pub fn write_packet(table: &[i32], rules: usize, proof: &[u8], packet: &mut [u8]
     codes::packet_writing(code, answer[0])
 }
 
-/// Reads a packet back into a table and a proof text, which then hold the rules' words and the text, with 0 after them; both are 0
-/// throughout where the packet is refused. The packet is all of the slice: zeros after it are none of it. `packet.len() / 3` words hold
-/// the table of every packet.
-pub fn read_packet(packet: &[u8], table: &mut [i32], proof: &mut [u8]) -> Result<PacketReading, UnknownAnswer> {
+/// Reads a packet of a version back into a table and a proof text, which then hold the rules' words and the text, with 0 after them; both are 0
+/// throughout where the packet is refused, as one of the other version is. The packet is all of the slice: zeros after it are none of it.
+/// `packet.len() / 3` words hold the table of every packet.
+pub fn read_packet(version: Version, packet: &[u8], table: &mut [i32], proof: &mut [u8]) -> Result<PacketReading, UnknownAnswer> {
     let mut answer = [0; 2];
     // SAFETY: as said above.
     let code = unsafe {
         raw::aspdrupe_read_packet(
+            u64::from(version.number()),
             packet.as_ptr(),
             packet.len(),
             table.as_mut_ptr(),
@@ -202,6 +213,41 @@ pub fn read_packet(packet: &[u8], table: &mut [i32], proof: &mut [u8]) -> Result
         )
     };
     codes::packet_reading(code, answer)
+}
+
+/// Moves a packet of [`Version::One`] to [`Version::Two`]: the output then begins with the packet of the same pair and has 0 after it; it is 0
+/// throughout where the packet is refused. `packet.len() + packet.len() / 3` bytes hold every packet made. Moved down again it has its bytes
+/// of before:
+///
+/// ```
+/// use aspdrupe::{packet_down, packet_up, write_packet, PacketWriting, Version};
+///
+/// let (mut packet, mut moved, mut back) = ([0; 33], [0; 37], [0; 33]);
+/// write_packet(Version::One, &[0, 1, 0, 1, 1, -1], 1, b"", &mut packet)?;
+/// assert_eq!(packet_up(&packet, &mut moved)?, PacketWriting::Written(37));
+/// assert_eq!(packet_down(&moved, &mut back)?, PacketWriting::Written(33));
+/// assert_eq!(back, packet);
+/// # Ok::<(), aspdrupe::UnknownAnswer>(())
+/// ```
+pub fn packet_up(packet: &[u8], output: &mut [u8]) -> Result<PacketWriting, UnknownAnswer> {
+    let mut answer = [0; 1];
+    // SAFETY: as said above.
+    let code = unsafe {
+        raw::aspdrupe_packet_up(packet.as_ptr(), packet.len(), output.as_mut_ptr(), output.len(), answer.as_mut_ptr(), answer.len())
+    };
+    codes::packet_up(code, answer[0])
+}
+
+/// Moves a packet of [`Version::Two`] to [`Version::One`], where that can hold its pair: a rule of body kind 1 or a variable above 4,095 is
+/// refused with [`PacketQuestion::Old`]. The output then begins with the packet of the same pair and has 0 after it; it is 0 throughout
+/// where the packet is refused. `packet.len()` bytes hold every packet made.
+pub fn packet_down(packet: &[u8], output: &mut [u8]) -> Result<PacketWriting, UnknownAnswer> {
+    let mut answer = [0; 1];
+    // SAFETY: as said above.
+    let code = unsafe {
+        raw::aspdrupe_packet_down(packet.as_ptr(), packet.len(), output.as_mut_ptr(), output.len(), answer.as_mut_ptr(), answer.len())
+    };
+    codes::packet_down(code, answer[0])
 }
 
 /// Merges the proofs of two halves into one proof for the program itself. The program is split on one of its atoms: the first proof is for

@@ -109,11 +109,13 @@ numbered! {
 }
 
 numbered! {
-    /// A question put by the writer and the reader of packets. A refusal names the first that is answered no.
+    /// A question put by the writer and the reader of packets, and by a move to the other version. A refusal names the first that is answered
+    /// no; 61 is asked by a move down, before whether the output is long enough.
     PacketQuestion, "question put to a packet" {
-        Mark = 51, "Does the packet begin with `RVP` and version 1?";
+        Mark = 51, "Does the packet begin with `RVP` and the version?";
         Lengths = 52, "Do the lengths make up the bytes given, and do the outputs hold what is written?";
-        Pair = 53, "Does the table pass question 41 and have no weights, the proof text questions 21 to 25, and neither a variable above 4,095?";
+        Pair = 53, "Does the table pass question 41 and the proof text questions 21 to 25, in version 1 without weights and without a variable above 4,095?";
+        Old = 61, "Down: has the pair no weights, and no variable above 4,095?";
     }
 }
 
@@ -161,7 +163,7 @@ mod tests {
         assert_eq!(known(ProgramQuestion::number), (1..=11).chain([54, 55]).collect::<Vec<_>>());
         assert_eq!(known(ProofQuestion::number), (21..=34).chain([56]).collect::<Vec<_>>());
         assert_eq!(known(SetQuestion::number), (41..=43).collect::<Vec<_>>());
-        assert_eq!(known(PacketQuestion::number), (51..=53).collect::<Vec<_>>());
+        assert_eq!(known(PacketQuestion::number), [51, 52, 53, 61]);
         assert_eq!(known(MergeQuestion::number), (57..=59).collect::<Vec<_>>());
         assert_eq!(known(TrimQuestion::number), [60]);
         assert_eq!(known(Letter::number), b"abcdels".map(u64::from));

@@ -42,6 +42,7 @@ extern "C" {
         answer_len: usize,
     ) -> u32;
     pub fn aspdrupe_write_packet(
+        version: u64,
         table: *const i32,
         table_len: usize,
         rules: u64,
@@ -53,12 +54,29 @@ extern "C" {
         answer_len: usize,
     ) -> u32;
     pub fn aspdrupe_read_packet(
+        version: u64,
         packet: *const u8,
         packet_len: usize,
         table: *mut i32,
         table_len: usize,
         proof: *mut u8,
         proof_len: usize,
+        answer: *mut u64,
+        answer_len: usize,
+    ) -> u32;
+    pub fn aspdrupe_packet_up(
+        packet: *const u8,
+        packet_len: usize,
+        output: *mut u8,
+        output_len: usize,
+        answer: *mut u64,
+        answer_len: usize,
+    ) -> u32;
+    pub fn aspdrupe_packet_down(
+        packet: *const u8,
+        packet_len: usize,
+        output: *mut u8,
+        output_len: usize,
         answer: *mut u64,
         answer_len: usize,
     ) -> u32;
@@ -144,13 +162,15 @@ mod tests {
         }
     }
 
-    /// The packet of the program's table and the proof, in so many bytes: the code, and what is left in an answer of so many numbers.
-    fn written(rules: u64, packet: &mut [u8], size: usize) -> (u32, [u64; 3]) {
+    /// The packet of the version told of the program's table and the proof, in so many bytes: the code, and what is left in an answer of so
+    /// many numbers.
+    fn written(version: u64, rules: u64, packet: &mut [u8], size: usize) -> (u32, [u64; 3]) {
         let table = [0, 1, 0, 1, 1, -1];
         let mut answer = [9u64; 3];
         // SAFETY: as above.
         let code = unsafe {
             aspdrupe_write_packet(
+                version,
                 table.as_ptr(),
                 table.len(),
                 rules,
@@ -166,12 +186,13 @@ mod tests {
     }
 
     /// The same for a packet that is read back.
-    fn read(packet: &[u8], size: usize) -> (u32, [u64; 3]) {
+    fn read(version: u64, packet: &[u8], size: usize) -> (u32, [u64; 3]) {
         let (mut table, mut proof) = ([7; 6], [7; 35]);
         let mut answer = [9u64; 3];
         // SAFETY: as above.
         let code = unsafe {
             aspdrupe_read_packet(
+                version,
                 packet.as_ptr(),
                 packet.len(),
                 table.as_mut_ptr(),
@@ -182,19 +203,52 @@ mod tests {
                 size,
             )
         };
+        if code != 0 {
+            assert_eq!((table, proof), ([0; 6], [0; 35]));
+        }
+        (code, answer)
+    }
+
+    /// A function that moves a packet.
+    type Move = unsafe extern "C" fn(*const u8, usize, *mut u8, usize, *mut u64, usize) -> u32;
+
+    /// The same for a packet that is moved.
+    fn moved(by: Move, packet: &[u8], output: &mut [u8], size: usize) -> (u32, [u64; 3]) {
+        let mut answer = [9u64; 3];
+        // SAFETY: as above.
+        let code = unsafe { by(packet.as_ptr(), packet.len(), output.as_mut_ptr(), output.len(), answer.as_mut_ptr(), size) };
         (code, answer)
     }
 
     #[test]
     fn packet_counts_that_do_not_fit() {
+        for (version, bytes) in [(1, 57), (2, 61)] {
+            for size in 0..=3 {
+                let mut packet = vec![7; bytes];
+                let mut left = [bytes as u64, 9, 9];
+                left[size.min(1)..].fill(9);
+                assert_eq!(written(version, 1, &mut packet, size), (0, left));
+                let mut left = [1, 35, 9];
+                left[size.min(2)..].fill(9);
+                assert_eq!(read(version, &packet, size), (0, left));
+            }
+        }
+    }
+
+    #[test]
+    fn move_counts_that_do_not_fit() {
+        let (mut one, mut two) = ([7; 57], [7; 61]);
+        written(1, 1, &mut one, 3);
+        written(2, 1, &mut two, 3);
         for size in 0..=3 {
-            let mut packet = [7; 57];
-            let mut left = [57, 9, 9];
+            let (mut up, mut down) = ([7; 62], [7; 59]);
+            let mut left = [61, 9, 9];
             left[size.min(1)..].fill(9);
-            assert_eq!(written(1, &mut packet, size), (0, left));
-            let mut left = [1, 35, 9];
-            left[size.min(2)..].fill(9);
-            assert_eq!(read(&packet, size), (0, left));
+            assert_eq!(moved(aspdrupe_packet_up, &one, &mut up, size), (0, left));
+            assert_eq!((&up[..61], up[61]), (&two[..], 0));
+            left[..size.min(1)].fill(57);
+            assert_eq!(moved(aspdrupe_packet_down, &two, &mut down, size), (0, left));
+            assert_eq!((&down[..57], &down[57..]), (&one[..], &[0, 0][..]));
         }
     }
 
@@ -203,13 +257,52 @@ mod tests {
     fn packet_refusals_tell_no_numbers() {
         let mut packet = [7; 57];
         for (rules, length, code) in [(1, 56, 52), (0, 57, 53), (1 << 32 | 1, 57, 53)] {
-            assert_eq!(written(rules, &mut packet[..length], 3), (code, [9; 3]));
+            assert_eq!(written(1, rules, &mut packet[..length], 3), (code, [9; 3]));
         }
-        written(1, &mut packet, 3);
-        assert_eq!(read(&packet[..4], 3), (51, [9; 3]));
-        assert_eq!(read(&packet[..56], 3), (52, [9; 3]));
+        written(1, 1, &mut packet, 3);
+        assert_eq!(read(1, &packet[..4], 3), (51, [9; 3]));
+        assert_eq!(read(1, &packet[..56], 3), (52, [9; 3]));
         packet[55] = b'x';
-        assert_eq!(read(&packet, 3), (53, [9; 3]));
+        assert_eq!(read(1, &packet, 3), (53, [9; 3]));
+    }
+
+    // A version that is none is 51, whatever else is given.
+    #[test]
+    fn versions_that_are_none() {
+        let mut packet = [7; 57];
+        written(1, 1, &mut packet, 3);
+        for version in [0, 3, 256 + 1, 1 << 32 | 1, 1 << 32 | 2, u64::MAX] {
+            let mut output = [7; 61];
+            assert_eq!((written(version, 1, &mut output, 3), output), ((51, [9; 3]), [0; 61]));
+            assert_eq!(written(version, 0, &mut [], 3), (51, [9; 3]));
+            assert_eq!(read(version, &packet, 3), (51, [9; 3]));
+            assert_eq!(read(version, &[], 3), (51, [9; 3]));
+        }
+    }
+
+    #[test]
+    fn move_refusals_tell_no_numbers() {
+        let (mut one, mut two) = ([7; 57], [7; 61]);
+        written(1, 1, &mut one, 3);
+        written(2, 1, &mut two, 3);
+        let mut weights = [&b"RVP\x02\x00\x05"[..], &[0; 27]].concat();
+        weights[21] = 1;
+        let (up, down): (Move, Move) = (aspdrupe_packet_up, aspdrupe_packet_down);
+        let bad = [&two[..59], b"x\0"].concat();
+        for (by, packet, room, code) in [
+            (up, &two[..], 61, 51),
+            (down, &one, 57, 51),
+            (up, &one[..56], 61, 52),
+            (down, &two[..60], 57, 52),
+            (up, &one, 60, 52),
+            (down, &two, 56, 52),
+            (down, &bad, 57, 53),
+            (down, &weights, 99, 61),
+            (down, &weights, 0, 61),
+        ] {
+            let mut output = vec![7; room];
+            assert_eq!((moved(by, packet, &mut output, 3), output), ((code, [9; 3]), vec![0; room]));
+        }
     }
 
     /// The proof as both halves of the program, with a table and a store of so many words and an output of so many bytes: the code, and what

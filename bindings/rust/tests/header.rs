@@ -21,7 +21,7 @@ fn same_constants() {
 }
 
 /// Every service that needs no more stack than a check, once. The inputs that go deepest are those of bindings/c/stack.c.
-fn call_all() -> [String; 6] {
+fn call_all() -> [String; 8] {
     let program = b"asp 1 0 0\n1 0 1 1 0 1 2\n1 0 1 2 0 1 1\n1 0 0 0 1 -1\n0\n";
     let proof = b"b 3 -1 0\nb 4 2 0\ns 1 4 0\nc 3 0\nl 1 2 0\na 0\n";
     let (mut table, mut store) = ([0; 20], [0; 32]);
@@ -29,11 +29,14 @@ fn call_all() -> [String; 6] {
     let set = test_set(&table, 3, &[], &mut [0; MARKS]);
     let line = read_line(proof, 0).map(|(line, _)| line);
     let verdict = check_texts(program, proof, &mut table, &mut store);
-    let mut packet = [0; 99];
-    let written = write_packet(&table, 3, proof, &mut packet);
-    let back = read_packet(&packet, &mut table, &mut [0; 43]);
+    let (mut packet, mut moved) = ([0; 99], [0; 111]);
+    let written = write_packet(Version::One, &table, 3, proof, &mut packet);
+    let back = read_packet(Version::One, &packet, &mut table, &mut [0; 43]);
+    let up = packet_up(&packet, &mut moved);
+    let down = packet_down(&moved, &mut packet);
     let verdict = verdict.unwrap().to_string();
-    [format!("{read:?}"), format!("{set:?}"), format!("{line:?}"), verdict, format!("{written:?}"), format!("{back:?}")]
+    let [written, up, down] = [written, up, down].map(|answer| format!("{answer:?}"));
+    [format!("{read:?}"), format!("{set:?}"), format!("{line:?}"), verdict, written, format!("{back:?}"), up, down]
 }
 
 #[test]
@@ -46,6 +49,8 @@ fn stack_of_a_thread() {
         "inconsistent 2 3 6 8",
         "Ok(Written(99))",
         "Ok(Read { rules: 3, bytes: 43 })",
+        "Ok(Written(111))",
+        "Ok(Written(99))",
     ];
     assert_eq!(thread.join().unwrap(), expected);
 }

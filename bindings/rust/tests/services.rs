@@ -1,4 +1,4 @@
-//! The eight services on document 01's starred examples, on rules with weights, and on buffers that are too small or empty.
+//! The ten services on document 01's starred examples, on rules with weights, and on buffers that are too small or empty.
 
 use aspdrupe::*;
 
@@ -9,7 +9,7 @@ const RULES: [i32; 6] = [0, 1, 0, 1, 1, -1];
 // Before each count the step.
 const STORE: [i32; 21] = [1, 2, -1, -2, 1, 2, 1, 2, 2, 2, -1, 2, 3, 2, 1, -2, 4, 1, 1, 5, 0];
 
-// Its packet: mark and version, 5 words, 5 steps; the words without the body kind; the steps.
+// Its packet of version 1: mark and version, 5 words, 5 steps; the words without the body kind; the steps.
 const PACKET: [u8; 57] = [
     0x52, 0x56, 0x50, 1, 0, 5, 0, 0, 0, 5, 0, 0, 0, //
     0, 0, 0, 0, 1, 0, 0, 0, 1, 0, 0, 0, 1, 0, 0, 0, 255, 255, 255, 255, //
@@ -219,18 +219,42 @@ fn lines_and_positions() {
     }
 }
 
-/// What the writer says, and every byte of an output of so many.
-fn packed(table: &[i32], rules: usize, proof: &[u8], size: usize) -> (PacketWriting, Vec<u8>) {
+/// Its packet of version 2, which has a word more, the body kind.
+fn packet_in_2() -> Vec<u8> {
+    [b"RVP\x02\x00\x06\x00\x00\x00", &PACKET[9..21], &[0; 4], &PACKET[21..]].concat()
+}
+
+/// What the writer says in a version, and every byte of an output of so many.
+fn packed_in(version: Version, table: &[i32], rules: usize, proof: &[u8], size: usize) -> (PacketWriting, Vec<u8>) {
     let mut packet = vec![7; size];
-    let writing = write_packet(table, rules, proof, &mut packet).unwrap();
+    let writing = write_packet(version, table, rules, proof, &mut packet).unwrap();
     (writing, packet)
 }
 
-/// What the reader says, with every word of a table and every byte of a text of so many.
-fn unpacked(packet: &[u8], words: usize, bytes: usize) -> (PacketReading, Vec<i32>, Vec<u8>) {
+fn packed(table: &[i32], rules: usize, proof: &[u8], size: usize) -> (PacketWriting, Vec<u8>) {
+    packed_in(Version::One, table, rules, proof, size)
+}
+
+/// What the reader says in a version, with every word of a table and every byte of a text of so many.
+fn unpacked_in(version: Version, packet: &[u8], words: usize, bytes: usize) -> (PacketReading, Vec<i32>, Vec<u8>) {
     let (mut table, mut proof) = (vec![7; words], vec![7; bytes]);
-    let reading = read_packet(packet, &mut table, &mut proof).unwrap();
+    let reading = read_packet(version, packet, &mut table, &mut proof).unwrap();
     (reading, table, proof)
+}
+
+fn unpacked(packet: &[u8], words: usize, bytes: usize) -> (PacketReading, Vec<i32>, Vec<u8>) {
+    unpacked_in(Version::One, packet, words, bytes)
+}
+
+/// What a move says, and every byte of an output of so many.
+fn moved_up(packet: &[u8], size: usize) -> (PacketWriting, Vec<u8>) {
+    let mut output = vec![7; size];
+    (packet_up(packet, &mut output).unwrap(), output)
+}
+
+fn moved_down(packet: &[u8], size: usize) -> (PacketWriting, Vec<u8>) {
+    let mut output = vec![7; size];
+    (packet_down(packet, &mut output).unwrap(), output)
 }
 
 /// The same words or bytes with so many zeros after them.
@@ -301,6 +325,67 @@ fn packets_that_are_not_read() {
 }
 
 #[test]
+fn packet_of_starred_1_in_2() {
+    let packet = packet_in_2();
+    let read = PacketReading::Read { rules: 1, bytes: 35 };
+    for more in [0, 1, 100] {
+        assert_eq!(packed_in(Version::Two, &RULES, 1, PROOF, 61 + more), (PacketWriting::Written(61), and_zeros(&packet, more)));
+        assert_eq!(unpacked_in(Version::Two, &packet, 6 + more, 35 + more), (read, and_zeros(&RULES, more), and_zeros(PROOF, more)));
+    }
+    assert_eq!(packed_in(Version::Two, &RULES, 1, PROOF, 60), (PacketWriting::Refused(PacketQuestion::Lengths), vec![0; 60]));
+    for (version, packet) in [(Version::One, &packet[..]), (Version::Two, &PACKET)] {
+        assert_eq!(unpacked_in(version, packet, 6, 35), (PacketReading::Refused(PacketQuestion::Mark), vec![0; 6], vec![0; 35]));
+    }
+}
+
+#[test]
+fn packets_that_only_version_2_holds() {
+    let written = |table: &[i32], proof: &[u8], size| packed_in(Version::Two, table, 1, proof, size).0;
+    assert_eq!(written(&[0, 0, 1, 0, 0], b"", 33), PacketWriting::Written(33));
+    assert_eq!(written(&[0, 1, 0, 0, 8_191], b"a -8191 0\n", 37), PacketWriting::Written(37));
+    for (table, proof) in [(&[0, 1, 0, 0, 8_192][..], &b""[..]), (&[0, 1, 0, 0, 1], b"a 8192 0\n"), (&[0, 0, 1, 0, 0], b"a 0")] {
+        assert_eq!(written(table, proof, 99), PacketWriting::Refused(PacketQuestion::Pair));
+    }
+}
+
+#[test]
+fn starred_1_moved() {
+    let packet = packet_in_2();
+    for more in [0, 1, 2, 100] {
+        assert_eq!(moved_up(&PACKET, 61 + more), (PacketWriting::Written(61), and_zeros(&packet, more)));
+        assert_eq!(moved_down(&packet, 57 + more), (PacketWriting::Written(57), and_zeros(&PACKET, more)));
+    }
+    let refused = |question, size| (PacketWriting::Refused(question), vec![0; size]);
+    assert_eq!(moved_up(&PACKET, 60), refused(PacketQuestion::Lengths, 60));
+    assert_eq!(moved_down(&packet, 56), refused(PacketQuestion::Lengths, 56));
+    assert_eq!(moved_up(&packet, 99), refused(PacketQuestion::Mark, 99));
+    assert_eq!(moved_down(&PACKET, 99), refused(PacketQuestion::Mark, 99));
+    for size in 0..61 {
+        let question = if size < 5 { PacketQuestion::Mark } else { PacketQuestion::Lengths };
+        assert_eq!(moved_down(&packet[..size], 57), refused(question, 57));
+    }
+}
+
+#[test]
+fn packets_that_do_not_go_down() {
+    let refused = |question, size| (PacketWriting::Refused(question), vec![0; size]);
+    let weights = packed_in(Version::Two, &[0, 0, 1, 0, 0], 1, b"", 33).1;
+    for size in [0, 99] {
+        assert_eq!(moved_down(&weights, size), refused(PacketQuestion::Old, size));
+    }
+    assert_eq!(moved_down(&and_zeros(&weights, 1), 99), refused(PacketQuestion::Lengths, 99));
+    let bad = [&weights[..9], &[1, 0, 0, 0], &weights[13..], b"x\0"].concat();
+    assert_eq!(moved_down(&bad, 99), refused(PacketQuestion::Pair, 99));
+    for (atom, step, question) in [(4_096, "a 0", None), (4_095, "a -4096 0", None), (4_095, "a -4095 0", Some(PacketQuestion::Lengths))] {
+        let text = format!("{step}\n");
+        let (_, packet) = packed_in(Version::Two, &[0, 1, 0, 0, atom], 1, text.as_bytes(), if step == "a 0" { 35 } else { 37 });
+        assert_eq!(moved_down(&packet, 32), refused(question.unwrap_or(PacketQuestion::Old), 32), "{atom} {step}");
+    }
+    let held = packed_in(Version::Two, &[0, 1, 0, 0, 4_095], 1, b"a -4095 0\n", 37).1;
+    assert_eq!(moved_down(&held, 33), packed(&[0, 1, 0, 0, 4_095], 1, b"a -4095 0\n", 33));
+}
+
+#[test]
 fn empty_packet() {
     let empty = and_zeros(&PACKET[..5], 8);
     assert_eq!(packed(&[], 0, &[], 13), (PacketWriting::Written(13), empty.clone()));
@@ -317,9 +402,13 @@ fn nothing_lent() {
     assert_eq!(test_set(&[], 1, &[], &mut []), Ok(SetAnswer::Refused(SetQuestion::Table)));
     assert_eq!(test_set(&[], 0, &[], &mut [7; MARKS]), Ok(SetAnswer::Yes));
     assert_eq!(read_line(&[], 0), Ok((LineAnswer::End, [0; MOST_NUMBERS])));
-    assert_eq!(write_packet(&[], 0, &[], &mut []), Ok(PacketWriting::Refused(PacketQuestion::Lengths)));
-    assert_eq!(write_packet(&[], 1, &[], &mut []), Ok(PacketWriting::Refused(PacketQuestion::Pair)));
-    assert_eq!(read_packet(&[], &mut [], &mut []), Ok(PacketReading::Refused(PacketQuestion::Mark)));
+    for version in Version::ALL {
+        assert_eq!(write_packet(version, &[], 0, &[], &mut []), Ok(PacketWriting::Refused(PacketQuestion::Lengths)));
+        assert_eq!(write_packet(version, &[], 1, &[], &mut []), Ok(PacketWriting::Refused(PacketQuestion::Pair)));
+        assert_eq!(read_packet(version, &[], &mut [], &mut []), Ok(PacketReading::Refused(PacketQuestion::Mark)));
+    }
+    assert_eq!(packet_up(&[], &mut []), Ok(PacketWriting::Refused(PacketQuestion::Mark)));
+    assert_eq!(packet_down(&[], &mut []), Ok(PacketWriting::Refused(PacketQuestion::Mark)));
     assert_eq!(checked(&[], &[], 0, 0).0, "refused program 2 1");
     assert_eq!(checked(b"asp 1 0 0\n0\n", &[], 0, 0).0, "open 0 0 0 0");
     assert_eq!(checked(PROGRAM, b"a 1 0\n", 6, 0).0, "refused proof 33 1");

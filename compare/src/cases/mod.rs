@@ -10,6 +10,7 @@ pub mod halves;
 pub mod limits;
 pub mod loops;
 pub mod merges;
+pub mod moves;
 pub mod noise;
 pub mod packets;
 pub mod refutations;

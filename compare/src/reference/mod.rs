@@ -1,5 +1,5 @@
-//! The slow and plain reference: every service of document 01, and the packets, the merge and the trimming of document 02, once more, written
-//! from their words.
+//! The slow and plain reference: every service of document 01, and the packets of both versions, the merge and the trimming of document 02,
+//! once more, written from their words.
 //!
 //! Where its words left room for doubt, this is how they are read here:
 //! - A refused proof zeroes the table too: the whole check "is lent both texts and a table and a store to fill", and every refusal
@@ -17,6 +17,9 @@
 //!   make up the bytes given where just the stated words and steps stand in them, and no byte more.
 //! - A packet does not send the rule count: it is the number of rules that its words fall into, with none left over.
 //! - The writer has no mark to test, so its order is 53, 52.
+//! - A weight body is one by its kind, also with no literals. What a version 2 packet cannot take down is asked of the pair: a body of kind 1,
+//!   or a variable above 4,095 in a rule or a step. A packet moved up is refused for nothing that its reader takes but a short output.
+//! - The packets' counts are of what stands inside: in version 2 the number of table words in use counts body kinds, bounds and weights.
 //! - In the text of a weight body the count stands between bound and literals, as ASPIF has it; Change 3 leaves it out of its list.
 //! - A weight body of 13 to 64 literals with all its numbers is 55; another count, or numbers too few or too many, 6.
 //! - Only question 54 is put to what 4 lets pass: a bound or weight from 4,096 to 8,191 is 54, and a number above 8,191 is 4 wherever it stands.
@@ -27,7 +30,7 @@
 //! - A step "would not fit otherwise" where the used words, the dead included, and all words of the step together exceed the store; filling
 //!   it exactly is a fit. A `d` step adds nothing, so it never closes up; nor does the end of the check.
 //! - A second `d` of the same set passes over the dead one and takes the next live one.
-//! - A packet holds the words of the base, without the body kind; its reader's table is too short where it does not hold the new words.
+//! - A packet of version 1 holds the words of the base, without the body kind; its reader's table is too short where it does not hold the new words.
 //! - The program's rules in Change 9 are the plain ones that they stand for: a weight constraint with the added body among its minimal sets
 //!   keeps `b` and `c`. A `c n h` stays where a normal rule of the program has the body named n, be it the added one, and the head h.
 //! - "that neither half uses" counts every name that a half introduces, also by a line that goes.
@@ -51,7 +54,7 @@ pub mod weights;
 
 /// The largest variable and the largest atom: "The largest variable becomes 8,191".
 pub const LARGEST: i32 = 8_191;
-/// The largest variable in a packet: "packets of version 1 keep the old ones".
+/// The largest variable in a packet of version 1: "packets of version 1 keep the old ones".
 pub const PACKET_LARGEST: i32 = 4_095;
 /// The largest bound and weight: "Bound and weights are 0 to 4,095".
 pub const WEIGHT_LARGEST: i32 = 4_095;

@@ -66,7 +66,7 @@ lineNumbers (Line.Line x count next) = count ∷ next ∷ []
 lineNumbers Line.End = []
 lineNumbers (Line.Refused n) = []
 
--- The writer of packets: 0 with the packet's bytes; numbers 52 and 53
+-- The writer of packets, and a move to the other version: 0 with the packet's bytes; numbers 51 to 53, and 61 of a move down
 
 abbrev pub writingCode : PacketWriting → ℕ
 writingCode (Writing.Written n) = 0

@@ -1,4 +1,4 @@
--- What the eight functions for C return and leave: an answer told by its code and numbers. Of the program reader, of the whole check, of
+-- What the ten functions for C return and leave: an answer told by its code and numbers. Of the program reader, of the whole check, of
 -- the merge and of trimming it is the one for which the service's own contract holds, which is an equation; of the others it is said outright. A primed name is what a lent slice holds afterwards; `answer` is the buffer for the numbers.
 -- Assumes nothing.
 use mathlib.Core.Path.{_≡_}
@@ -11,7 +11,7 @@ use Rattle.aspif.specs.Reading.{ProgramRead}
 use Rattle.aspif.specs.declared.ProgramReading.{ProgramReading}
 use Rattle.answer_set.specs.SetTest.{asked, setAnswer, marksOf}
 use Rattle.drupe.specs.Lines.{lineAt, lineAnswer, numbersOf}
-use Rattle.packets.specs.Packets.{reading, readingAnswer, tableLeft, textLeft, writing, writingAnswer, packetLeft}
+use Rattle.packets.specs.Packets.{versionOf, readingOf, readingAnswer, tableLeft, textLeft, PacketWritten, writingOf, writingAnswer, packetLeft}
 use Rattle.checker.specs.Check.{CheckedTexts}
 use Rattle.checker.specs.declared.Verdict.{Verdict}
 use Rattle.splits.specs.Service.{MergedHalves}
@@ -38,15 +38,21 @@ pub record LineService (text : List ℕ) (position : ℕ) (numbers numbers′ : 
   pub told : Told (lineCode (lineAnswer (lineAt text position))) (lineNumbers (lineAnswer (lineAt text position))) answer answer′ result
 
 -- The packet's bytes and 0 after them; all is said outright, as no answer is free.
-pub record WriteService (table : List ℤ) (rules : ℕ) (proof packet packet′ answer answer′ : List ℕ) (result : ℕ) : Type 0 where
-  pub bytes : packet′ ≡ packetLeft (length packet) (writing table rules proof (length packet))
-  pub told : (let w = writingAnswer (writing table rules proof (length packet)) in Told (writingCode w) (writingNumbers w) answer answer′ result)
+pub record WriteService (version : ℕ) (table : List ℤ) (rules : ℕ) (proof packet packet′ answer answer′ : List ℕ) (result : ℕ) : Type 0 where
+  pub bytes : packet′ ≡ packetLeft (length packet) (writingOf (versionOf version) table rules proof (length packet))
+  pub told : (let w = writingAnswer (writingOf (versionOf version) table rules proof (length packet)) in Told (writingCode w) (writingNumbers w) answer answer′ result)
 
 -- every word of the table and every byte of the proof text
-pub record ReadService (packet : List ℕ) (table table′ : List ℤ) (proof proof′ answer answer′ : List ℕ) (result : ℕ) : Type 0 where
-  pub words : table′ ≡ tableLeft (length table) (reading packet (length table) (length proof))
-  pub text : proof′ ≡ textLeft (length proof) (reading packet (length table) (length proof))
-  pub told : (let r = readingAnswer (reading packet (length table) (length proof)) in Told (readingCode r) (readingNumbers r) answer answer′ result)
+pub record ReadService (version : ℕ) (packet : List ℕ) (table table′ : List ℤ) (proof proof′ answer answer′ : List ℕ) (result : ℕ) : Type 0 where
+  pub words : table′ ≡ tableLeft (length table) (readingOf (versionOf version) packet (length table) (length proof))
+  pub text : proof′ ≡ textLeft (length proof) (readingOf (versionOf version) packet (length table) (length proof))
+  pub told : (let r = readingAnswer (readingOf (versionOf version) packet (length table) (length proof)) in Told (readingCode r) (readingNumbers r) answer answer′ result)
+
+-- A packet moved to the other version, by `up` or by `down` of the packets crate: the bytes of the packet made and 0 after them. All is said
+-- outright, as no answer is free.
+pub record MoveService (move : List ℕ → ℕ → PacketWritten) (packet output output′ answer answer′ : List ℕ) (result : ℕ) : Type 0 where
+  pub bytes : output′ ≡ packetLeft (length output) (move packet (length output))
+  pub told : (let w = writingAnswer (move packet (length output)) in Told (writingCode w) (writingNumbers w) answer answer′ result)
 
 -- the verdict, every word of the table and every word of the store
 pub record CheckService (program proof : List ℕ) (table store table′ store′ : List ℤ) (answer answer′ : List ℕ) (result : ℕ) : Type 0 where

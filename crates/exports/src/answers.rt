@@ -114,7 +114,7 @@ pub fn tell_line(line: LineAnswer, answer: &mut [u64]) -> u32
     }
 }
 
-// The packet writer's answer.
+// The answer of the packet writer and of a move.
 pub fn tell_writing(written: PacketWriting, answer: &mut [u64]) -> u32
     ensures { λ r. ⌜ Told (writingCode written) (writingNumbers written) (now (answer .entry)) (now (answer .exit)) r ⌝ }
 {

@@ -1,9 +1,10 @@
-// The eight services for programs in C and Rust, on numbers and slices. An answer's case is the code that is returned, and its
+// The ten services for programs in C and Rust, on numbers and slices. An answer's case is the code that is returned, and its
 // numbers are put at the front of the lent `answer`, as many as fit; what the codes and numbers are is specs/Codes.antt, and what
 // each function returns and leaves is specs/Services.antt. bindings/c/aspdrupe.h declares the functions for C.
 mod answers;
 
-ghost use Rattle.exports.specs.Services.{ProgramService, SetService, LineService, WriteService, ReadService, CheckService, MergeService, TrimService};
+ghost use Rattle.packets.specs.Packets.{up, down};
+ghost use Rattle.exports.specs.Services.{ProgramService, SetService, LineService, WriteService, ReadService, MoveService, CheckService, MergeService, TrimService};
 
 // Reads a program text into the table.
 #[no_mangle]
@@ -49,36 +50,58 @@ pub extern "C" fn aspdrupe_read_line(
     answers::tell_line(line, answer)
 }
 
-// Writes a packet from a table with its rule count and a proof text.
+// Writes a packet of the version told from a table with its rule count and a proof text.
 #[no_mangle]
 pub extern "C" fn aspdrupe_write_packet(
+    version: u64,
     table: &[i32],
     rules: u64,
     proof: &[u8],
     packet: &mut [u8],
     answer: &mut [u64],
 ) -> u32
-    ensures { λ r. ⌜ WriteService (now (table .entry)) rules (now (proof .entry)) (now (packet .entry)) (now (packet .exit))
+    ensures { λ r. ⌜ WriteService version (now (table .entry)) rules (now (proof .entry)) (now (packet .entry)) (now (packet .exit))
         (now (answer .entry)) (now (answer .exit)) r ⌝ }
 {
-    let written = packets::write_packet(table, rules as usize, proof, packet);
+    let written = packets::write_packet(version, table, rules as usize, proof, packet);
     answers::tell_writing(written, answer)
 }
 
-// Reads a packet into a table and a proof text.
+// Reads a packet of the version told into a table and a proof text.
 #[no_mangle]
 pub extern "C" fn aspdrupe_read_packet(
+    version: u64,
     packet: &[u8],
     table: &mut [i32],
     proof: &mut [u8],
     answer: &mut [u64],
 ) -> u32
-    ensures { λ r. ⌜ ReadService (now (packet .entry)) (now (table .entry)) (now (table .exit)) (now (proof .entry))
+    ensures { λ r. ⌜ ReadService version (now (packet .entry)) (now (table .entry)) (now (table .exit)) (now (proof .entry))
         (now (proof .exit))
         (now (answer .entry)) (now (answer .exit)) r ⌝ }
 {
-    let read = packets::read_packet(packet, table, proof);
+    let read = packets::read_packet(version, packet, table, proof);
     answers::tell_reading(read, answer)
+}
+
+// Moves a packet of version 1 to version 2.
+#[no_mangle]
+pub extern "C" fn aspdrupe_packet_up(packet: &[u8], output: &mut [u8], answer: &mut [u64]) -> u32
+    ensures { λ r. ⌜ MoveService up (now (packet .entry)) (now (output .entry)) (now (output .exit)) (now (answer .entry))
+        (now (answer .exit)) r ⌝ }
+{
+    let moved = moves::packet_up(packet, output);
+    answers::tell_writing(moved, answer)
+}
+
+// Moves a packet of version 2 to version 1, where that can hold it.
+#[no_mangle]
+pub extern "C" fn aspdrupe_packet_down(packet: &[u8], output: &mut [u8], answer: &mut [u64]) -> u32
+    ensures { λ r. ⌜ MoveService down (now (packet .entry)) (now (output .entry)) (now (output .exit)) (now (answer .entry))
+        (now (answer .exit)) r ⌝ }
+{
+    let moved = moves::packet_down(packet, output);
+    answers::tell_writing(moved, answer)
 }
 
 // Checks a proof text against a program text.

@@ -7,4 +7,5 @@ pub mod Decoded
 pub mod Given
 pub mod Writes
 pub mod Claims
+pub mod Moves
 pub mod Examples

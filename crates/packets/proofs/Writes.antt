@@ -2,9 +2,9 @@
 -- Assumes nothing.
 use mathlib.Core.Path.{_≡_, refl, sym, _∙_, ap, ap₂, subst}
 use mathlib.Core.Bool.{Bool, true, false, cond, _&&_, true≢false}
-use mathlib.Core.Option.{some}
+use mathlib.Core.Option.{Option, none, some}
 use mathlib.Core.Logic.{inl}
-use mathlib.Core.List.{List, [], _∷_, _++_, map, append-nil, append-assoc}
+use mathlib.Core.List.{List, [], _∷_, _++_, map, append-nil}
 use Prim.Native.Nat.{ℕ, zero, suc, _+_, _-_, _*_, _/_, _%_, _<_, _≤_, max}
 use native.Mathlib.Omega.{arith}
 use borrow.Author.Tests.{ltb-true, leb-true}
@@ -14,14 +14,14 @@ use lib.Signed.{ltZ}
 use lib.ListN.{length, set, take, drop, getD, replicate, drop-of-length-le, length-append, length-replicate}
 use lib.Seq.{drop-cons, take-append-seam, set-comm, sets, sets-eq, length-sets}
 use Rattle.words.specs.Limits.{longest, mostNumbers}
-use Rattle.words.specs.Lists.{concat}
+use Rattle.words.specs.Lists.{all}
 use Rattle.words.specs.Literals.{variable, top}
 use Rattle.words.proofs.Lists.{zero-one, concat-append}
 use Rattle.weights.specs.Weights.{paired}
 use Rattle.text.specs.declared.Letter.{Letter}
 use Rattle.text.specs.Writing.{Put}
 use Rattle.text.proofs.Puts.{put-on, put-one, put-none}
-use Rattle.aspif.specs.Rules.{plain, weights, InputRule, isPlainBody, isPlain, allPlain, literalsOf, kindWord}
+use Rattle.aspif.specs.Rules.{plain, weights, InputRule, isPlainBody, isPlain, literalsOf, kindWord}
 use Rattle.aspif.proofs.RuleTests.{greatest-more}
 use Rattle.aspif.specs.Tables.{isWeighted, bodyWordsAt, boundAt, bodyAt, ruleAt, rulesAt, soundTable}
 use Rattle.drupe.specs.Lines.{LineAt, line, lineAt, lineAnswer, numbersOf, AnswerBounds, ProofLineRead}
@@ -36,7 +36,9 @@ use Rattle.drupe.proofs.Rows.{lineTold}
 use Rattle.drupe.proofs.Texts.{Walked, walked-start, walked-on, walked-end, walked-refused, refused-exact}
 use Rattle.packets.specs.Bytes.{little, flipIf, signedBytes, bytesOf}
 use Rattle.packets.specs.Packets as Packets
-use Rattle.packets.specs.Packets.{mark, packetRule, packetWords, stepBytes, stepsBytes, packetOf, oldLargest, stepsTop, pairTop, ifOld, PacketWritten, unwritten, written, stepsTaken, held, writing, writingAnswer, packetLeft, WritingLeaves, WrittenPacket}
+use Rattle.packets.specs.Packets.{limit, mark, packetRule, hasWords, packetWords, stepBytes, stepsBytes, packetOf, stepsTop, pairTop, ifFits, PacketWritten, unwritten, written, stepsTaken, held, writing, writingOf, writingAnswer, packetLeft, WritingLeaves}
+use Rattle.packets.specs.declared.Version.{Version}
+use Rattle.packets.specs.declared.Version.the-variants.{One, Two}
 use Rattle.packets.specs.Writes.{stepRoom, isRead, stepsRead, StepsPutAs, writingTold}
 use Rattle.packets.specs.declared.PacketWriting.{PacketWriting}
 use Rattle.packets.specs.declared.PacketWriting.the-variants as Writing
@@ -136,15 +138,15 @@ module _ {b₀ b₁ b₂ b₃ : List ℕ} {at₀ at₁ at₂ at₃ : ℕ} where
 
   -- then the heads and the body
   pub rule-put : (r : InputRule) → (let ls = literalsOf (r .body) in Put (bytesOf 4 (kindWord (r .kind) ∷ pos (length (r .heads)) ∷ pos (length ls) ∷ [])) b₀ b₁ at₀ at₁
-      → Put (bytesOf 4 (r .heads)) b₁ b₂ at₁ at₂ → Put (bytesOf 4 ls) b₂ b₃ at₂ at₃ → Put (bytesOf 4 (packetRule r)) b₀ b₃ at₀ at₃)
+      → Put (bytesOf 4 (r .heads)) b₁ b₂ at₁ at₂ → Put (bytesOf 4 ls) b₂ b₃ at₂ at₃ → Put (bytesOf 4 (packetRule One r)) b₀ b₃ at₀ at₃)
   rule-put r p q t =
       let ls = literalsOf (r .body) in
       rw (bytes-append 4 (kindWord (r .kind) ∷ pos (length (r .heads)) ∷ pos (length ls) ∷ []) (r .heads ++ ls), bytes-append 4 (r .heads) ls) (put-on p (put-on q t))
 
-pub rule-on : {whole before now after : List ℕ} {at end next : ℕ} (r : InputRule) (P Q : List InputRule) → P ≡ r ∷ Q
-    → Going whole (bytesOf 4 (packetWords P)) before now at end → Put (bytesOf 4 (packetRule r)) now after end next
-    → Going whole (bytesOf 4 (packetWords Q)) before after at next
-rule-on r P Q e g p = going-on (rw (e, bytes-append 4 (packetRule r) (packetWords Q)) at g) p
+pub rule-on : {whole before now after : List ℕ} {at end next : ℕ} (v : Version) (r : InputRule) (P Q : List InputRule) → P ≡ r ∷ Q
+    → Going whole (bytesOf 4 (packetWords v P)) before now at end → Put (bytesOf 4 (packetRule v r)) now after end next
+    → Going whole (bytesOf 4 (packetWords v Q)) before after at next
+rule-on v r P Q e g p = going-on (rw (e, bytes-append 4 (packetRule v r) (packetWords v Q)) at g) p
 
 -- Steps
 
@@ -229,48 +231,53 @@ put-first {xs} {ys} {before} {at = at} {from} p q =
     put-on {xs = xs} {ys = ys} {between = sets before at xs} (record { stands = refl; ends = q .ends })
     (record { stands = q .stands ∙ rw (p .stands) (sets-first xs ys before at from (omega (arith, q .ends))); ends = p .ends })
 
+-- how many bytes a packet has
+pub packet-length : (v : Version) (P : List InputRule) (ts : List Step) → length (packetOf v P ts) ≡ 13 + 4 * length (packetWords v P) + length (stepsBytes ts)
+unfolding packetOf little
+packet-length One P ts = omega (arith, length-append (bytesOf 4 (packetWords One P)) (stepsBytes ts), length-bytes 4 (packetWords One P))
+packet-length Two P ts = omega (arith, length-append (bytesOf 4 (packetWords Two P)) (stepsBytes ts), length-bytes 4 (packetWords Two P))
+
 -- the rules, the steps, and the header last, with the words counted by the bytes that they take
-pub packet-put : (P : List InputRule) (ts : List Step) (n : ℕ) {b₀ b₁ b₂ b₃ : List ℕ} {middle next : ℕ}
-    → Put (bytesOf 4 (packetWords P)) b₀ b₁ 13 middle → Put (stepsBytes ts) b₁ b₂ middle next → n ≡ length ts
-    → Put (mark ++ (little 4 ((middle - 13) / 4) ++ little 4 n)) b₂ b₃ 0 13 → Put (packetOf P ts) b₀ b₃ 0 next
+pub packet-put : (v : Version) (P : List InputRule) (ts : List Step) (n : ℕ) {b₀ b₁ b₂ b₃ : List ℕ} {middle next : ℕ}
+    → Put (bytesOf 4 (packetWords v P)) b₀ b₁ 13 middle → Put (stepsBytes ts) b₁ b₂ middle next → n ≡ length ts
+    → Put (mark v ++ (little 4 ((middle - 13) / 4) ++ little 4 n)) b₂ b₃ 0 13 → Put (packetOf v P ts) b₀ b₃ 0 next
 unfolding packetOf
-packet-put P ts n {middle = middle} p q e h =
-    let w : (middle - 13) / 4 ≡ length (packetWords P) = omega (arith, p .ends, length-bytes 4 (packetWords P)) in
+packet-put v P ts n {middle = middle} p q e h =
+    let w : (middle - 13) / 4 ≡ length (packetWords v P) = omega (arith, p .ends, length-bytes 4 (packetWords v P)) in
     put-first (put-on p q) (rw (w, e) at h)
 
-pub packet-ends : (P : List InputRule) (ts : List Step) {b₀ b₁ b₂ : List ℕ} {middle next : ℕ}
-    → Put (bytesOf 4 (packetWords P)) b₀ b₁ 13 middle → Put (stepsBytes ts) b₁ b₂ middle next → next ≡ length (packetOf P ts)
-unfolding packetOf little
-packet-ends P ts p q = omega (arith, p .ends, q .ends, length-append (bytesOf 4 (packetWords P)) (stepsBytes ts))
+pub packet-ends : (v : Version) (P : List InputRule) (ts : List Step) {b₀ b₁ b₂ : List ℕ} {middle next : ℕ}
+    → Put (bytesOf 4 (packetWords v P)) b₀ b₁ 13 middle → Put (stepsBytes ts) b₁ b₂ middle next → next ≡ length (packetOf v P ts)
+packet-ends v P ts p q = omega (arith, p .ends, q .ends, length-bytes 4 (packetWords v P), packet-length v P ts)
 
--- What `write_packet` comes to
+-- What the writer comes to
 
--- of the bytes of a packet, whether its text passes and version 1 has room for its variables, and whether it fits
+-- of the bytes of a packet, whether its text passes and the version has room for its variables, and whether it fits
 abbrev pub byQuestions : Bool → Bool → List ℕ → PacketWritten
 byQuestions good fits bs = cond good (cond fits (written bs) (unwritten 52)) (unwritten 53)
 
-module _ (table : List ℤ) (rules : ℕ) (proof : List ℕ) (size : ℕ) where
-  pub no-table : soundTable table rules ≡ false → writing table rules proof size ≡ unwritten 53
+module _ (v : Version) (table : List ℤ) (rules : ℕ) (proof : List ℕ) (size : ℕ) where
+  pub no-table : soundTable table rules ≡ false → writing v table rules proof size ≡ unwritten 53
   unfolding writing
   no-table e = rw e
 
   abbrev pub bytes : List ℕ
-  bytes = packetOf (rulesAt rules table) (stepsRead (stepsOf proof))
+  bytes = packetOf v (rulesAt rules table) (stepsRead (stepsOf proof))
 
-  pub no-packet : soundTable table rules ≡ true → allPlain (rulesAt rules table) ≡ false → writing table rules proof size ≡ unwritten 53
+  pub no-packet : soundTable table rules ≡ true → all (hasWords v) (rulesAt rules table) ≡ false → writing v table rules proof size ≡ unwritten 53
   unfolding writing
   no-packet e p = rw e (by (stepsOf proof))
     where
-      by : (o : StepsRead) → held size (ifOld (Packets.paired (some (rulesAt rules table)) (stepsTaken o))) ≡ unwritten 53
+      by : (o : StepsRead) → held v size (ifFits v 53 (Packets.paired (some (rulesAt rules table)) (stepsTaken o))) ≡ unwritten 53
       by (steps us) = rw p
       by (Texts.refused us k n) = refl
 
   -- the text passes, and there is room for the variables
   abbrev pub good : Bool
-  good = isRead (stepsOf proof) && leb (pairTop (rulesAt rules table) (stepsRead (stepsOf proof))) oldLargest
+  good = isRead (stepsOf proof) && leb (pairTop (rulesAt rules table) (stepsRead (stepsOf proof))) (limit v)
 
   -- the questions that are left of a table that passed
-  pub asked : soundTable table rules ≡ true → allPlain (rulesAt rules table) ≡ true → writing table rules proof size ≡ byQuestions good (leb (length bytes) size) bytes
+  pub asked : soundTable table rules ≡ true → all (hasWords v) (rulesAt rules table) ≡ true → writing v table rules proof size ≡ byQuestions good (leb (length bytes) size) bytes
   unfolding writing
   asked e p = rw e (by (stepsOf proof))
     where
@@ -278,13 +285,13 @@ module _ (table : List ℤ) (rules : ℕ) (proof : List ℕ) (size : ℕ) where
       P = rulesAt rules table
 
       room : (t : Bool) (us : List Step)
-          → held size (cond t (Packets.pair P us) (Packets.refused 53)) ≡ byQuestions t (leb (length (packetOf P us)) size) (packetOf P us)
+          → held v size (cond t (Packets.pair P us) (Packets.refused 53)) ≡ byQuestions t (leb (length (packetOf v P us)) size) (packetOf v P us)
       room true us = refl
       room false us = refl
 
-      by : (o : StepsRead) → held size (ifOld (Packets.paired (some P) (stepsTaken o)))
-          ≡ byQuestions (isRead o && leb (pairTop P (stepsRead o)) oldLargest) (leb (length (packetOf P (stepsRead o))) size) (packetOf P (stepsRead o))
-      by (steps us) = rw p (room (leb (pairTop P us) oldLargest) us)
+      by : (o : StepsRead) → held v size (ifFits v 53 (Packets.paired (some P) (stepsTaken o)))
+          ≡ byQuestions (isRead o && leb (pairTop P (stepsRead o)) (limit v)) (leb (length (packetOf v P (stepsRead o))) size) (packetOf v P (stepsRead o))
+      by (steps us) = rw p (room (leb (pairTop P us) (limit v)) us)
       by (Texts.refused us k n) = refl
 
 pub answer-told : {r : PacketWriting} (good good′ : Bool) (size size′ room room′ : ℕ) → r ≡ writingTold good size (leb size room) → good ≡ good′ → size ≡ size′ → room ≡ room′
@@ -321,10 +328,16 @@ module _ (good fits : Bool) (bs packet after : List ℕ) {w : PacketWritten} {r 
       by true false n a h = absurd (zero-one (cc))
       by false f n a h = absurd (zero-one (cc))
 
--- of an output that was filled with zeros before
-pub written-again : (table : List ℤ) (rules : ℕ) (proof packet zeros : List ℕ) {after : List ℕ} {r : PacketWriting} → length zeros ≡ length packet
-    → WrittenPacket table rules proof zeros after r → WrittenPacket table rules proof packet after r
-written-again table rules proof packet zeros e w = record {
-  answer = w .answer ∙ ap (λ (n : ℕ). writingAnswer (writing table rules proof n)) e;
-  bytes = w .bytes ∙ ap (λ (n : ℕ). packetLeft n (writing table rules proof n)) e;
-}
+-- what is left by the writer of the version that is told, of an output of the same length
+pub told-written : (o : Option Version) (v : Version) (table : List ℤ) (rules : ℕ) (proof packet zeros : List ℕ) {after : List ℕ} {r : PacketWriting} → o ≡ some v
+    → length zeros ≡ length packet → WritingLeaves (writing v table rules proof (length zeros)) zeros after r
+    → WritingLeaves (writingOf o table rules proof (length packet)) packet after r
+told-written o v table rules proof packet zeros e n l = rw e (record {
+  answer = l .answer ∙ ap (λ (k : ℕ). writingAnswer (writing v table rules proof k)) n;
+  bytes = l .bytes ∙ ap (λ (k : ℕ). packetLeft k (writing v table rules proof k)) n;
+})
+
+-- no version
+pub told-unwritten : (o : Option Version) (table : List ℤ) (rules : ℕ) (proof packet : List ℕ) {after : List ℕ} → o ≡ none → after ≡ replicate (length packet) 0
+    → WritingLeaves (writingOf o table rules proof (length packet)) packet after (Writing.Refused 51)
+told-unwritten o table rules proof packet e z = rw e (record { answer = refl; bytes = z })

@@ -13,38 +13,50 @@ use Rattle.text.specs.Bytes.{classOf}
 use Rattle.text.specs.Writing.{Put}
 use Rattle.text.specs.declared.Letter.{Letter}
 use Rattle.words.specs.Limits.{mostLiterals}
+use Rattle.words.specs.Lists.{all}
 use Rattle.words.specs.Literals.{top}
-use Rattle.aspif.specs.Rules.{InputRule, allPlain, ruleTop, atoms, ruleWords, programWords}
+use Rattle.aspif.specs.Rules.{InputRule, isPlain, allPlain, ruleTop, atoms, ruleWords, programWords}
 use Rattle.drupe.specs.Texts.{Step, stepText, textOf}
 use Rattle.packets.specs.Bytes.{numbersFrom}
-use Rattle.packets.specs.Packets.{stepsTop, pairTop, rulePasses, ruleSize, ruleIn, letterIn, stepPasses, pair, ifOld, ifHeld, ReadLeaves}
+use Rattle.packets.specs.Packets.{hasWords, stepsTop, pairTop, asTable, rulePasses, ruleSize, ruleIn, letterIn, stepPasses, pair, ifFits, ifHeld, ReadLeaves}
+use Rattle.packets.specs.declared.Version.{Version}
 use Rattle.packets.specs.declared.PacketReading.{PacketReading}
 use Rattle.packets.specs.declared.reader.Part.{Part}
 use Rattle.packets.specs.declared.reader.Part.the-variants.{Taken, Refused}
+use Rattle.packets.specs.declared.reader.RulesPart.{RulesPart}
+use Rattle.packets.specs.declared.reader.RulesPart.the-variants as RulesPart
 use Rattle.packets.specs.declared.reader.RuleRead.{RuleRead}
 
 -- The reader's rules
 
--- the words of the longest rule of a packet: a kind, two counts, and both parts
+-- the words of the longest rule of a packet of either version: two kinds, two counts, and both parts
 abbrev pub mostWords : ℕ
-mostWords = 3 + mostLiterals + mostLiterals
+mostWords = 4 + mostLiterals + mostLiterals
 
 -- how many words the rule at the front takes; 0 where none stands there
-unfoldable pub sizeIfSound : List ℤ → ℕ
-sizeIfSound ws = cond (rulePasses ws) (ruleSize ws) 0
+unfoldable pub sizeIfSound : Version → List ℤ → ℕ
+sizeIfSound v ws = cond (rulePasses v ws) (ruleSize v ws) 0
 
--- how many words of the packet the rule at their front takes, and its largest atom; and its words stand in the table from `at` on, as
--- many as fit
-pub record RuleTold (ws before after : List ℤ) (at : ℕ) (r : RuleRead) : Type 0 where
-  pub size : r .size ≡ sizeIfSound ws
+-- how many words of the packet the rule at their front takes, and how many of the table; its largest atom, and whether it has no weight
+-- body; and its words stand in the table from `at` on, as many as fit
+pub record RuleTold (v : Version) (ws before after : List ℤ) (at : ℕ) (r : RuleRead) : Type 0 where
+  pub size : r .size ≡ sizeIfSound v ws
   pub within : r .size ≤ length ws
-  pub words : 0 < r .size → after ≡ sets before at (ruleWords (ruleIn ws))
-  pub largest : 0 < r .size → r .top ≡ ruleTop (ruleIn ws)
+  pub stands : 0 < r .size → after ≡ sets before at (ruleWords (ruleIn v ws))
+  pub words : 0 < r .size → r .words ≡ length (ruleWords (ruleIn v ws))
+  pub largest : 0 < r .size → r .top ≡ ruleTop (ruleIn v ws)
+  pub plain : 0 < r .size → r .plain ≡ isPlain (ruleIn v ws)
 
--- the words of rules stand in the table from its front on, as many as fit, and it is told how many rules they are, and their largest atom
-abbrev pub TableTold : Option (List InputRule) → List ℤ → List ℤ → Part → Type 0
-TableTold none before after r = r ≡ Refused
-TableTold (some P) before after r = (r ≡ Taken (length P) (atoms P)) × (after ≡ sets before 0 (programWords P))
+-- the same of a row that has the words as the table has them
+abbrev pub RowTold : Version → List ℤ → List ℤ → List ℤ → ℕ → RuleRead → Type 0
+RowTold v row before after at r = (ws : List ℤ) → row ≡ asTable v ws → RuleTold v ws before after at r
+
+-- the words of rules stand in the table from its front on, as many as fit, and it is told how many rules and words they are, their largest
+-- atom, and whether none has a weight body
+abbrev pub TableTold : Option (List InputRule) → List ℤ → List ℤ → RulesPart → Type 0
+TableTold none before after r = r ≡ RulesPart.Refused
+TableTold (some P) before after r =
+    (r ≡ RulesPart.Taken (length P) (length (programWords P)) (atoms P) (allPlain P)) × (after ≡ sets before 0 (programWords P))
 
 -- The reader's steps
 
@@ -80,20 +92,20 @@ TextTold (some ts) before after r = (r ≡ Taken (length (textOf ts)) (stepsTop 
 
 -- what the parts of a packet that are read come to: so many words of the table and bytes of the text, which stand in the outputs already,
 -- and the largest variable
-pub record Parts (size rules bytes largest : ℕ) (table : List ℤ) (proof : List ℕ) (P : List InputRule) (ts : List Step) : Type 0 where
+pub record Parts (v : Version) (size rules bytes largest : ℕ) (table : List ℤ) (proof : List ℕ) (P : List InputRule) (ts : List Step) : Type 0 where
   pub size-of : size ≡ length (programWords P)
   pub rules-of : rules ≡ length P
   pub bytes-of : bytes ≡ length (textOf ts)
-  pub plain-of : allPlain P ≡ true
+  pub worded : all (hasWords v) P ≡ true
   pub top-of : largest ≡ pairTop P ts
   pub table-of : table ≡ sets (replicate (length table) (pos 0)) 0 (programWords P)
   pub text-of : proof ≡ sets (replicate (length proof) 0) 0 (textOf ts)
 
--- what is given of the parts of a packet, whatever pair they are the parts of: the pair, where it fits version 1 and the outputs hold it
-abbrev pub Given : ℕ → ℕ → ℕ → ℕ → List ℤ → List ℤ → List ℕ → List ℕ → PacketReading → Type 0
-Given size rules bytes largest table table′ proof proof′ r =
-    (P : List InputRule) (ts : List Step) → Parts size rules bytes largest table proof P ts
-    → ReadLeaves (ifHeld (length table) (length proof) (ifOld (pair P ts))) table table′ proof proof′ r
+-- what is given of the parts of a packet, whatever pair they are the parts of: the pair, where the version can hold it and the outputs do
+abbrev pub Given : Version → ℕ → ℕ → ℕ → ℕ → List ℤ → List ℤ → List ℕ → List ℕ → PacketReading → Type 0
+Given v size rules bytes largest table table′ proof proof′ r =
+    (P : List InputRule) (ts : List Step) → Parts v size rules bytes largest table proof P ts
+    → ReadLeaves (ifHeld (length table) (length proof) (ifFits v 53 (pair P ts))) table table′ proof proof′ r
 
 -- the outputs hold zeros
 abbrev pub Zeros : {A : Type 0} → A → List A → Type 0

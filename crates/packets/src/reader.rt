@@ -1,5 +1,6 @@
 // The packet reader: `reading` of specs/Packets.antt. The lengths are tested first; then each rule and each step is decoded into a row
-// of its own and asked, and the table and the proof text are written on the way, as much as fits.
+// of its own and asked, and the table and the proof text are written on the way, as much as fits. Lent outputs without a place, the
+// questions alone are asked.
 ghost use mathlib.Core.Path.{_≡_};
 ghost use mathlib.Core.Bool.{true};
 ghost use mathlib.Core.Option.{some};
@@ -10,31 +11,48 @@ ghost use lib.Seq.{sets};
 ghost use Rattle.words.specs.Limits.{longest, mostNumbers};
 ghost use Rattle.text.specs.Classes.{byteClasses};
 ghost use Rattle.packets.specs.Bytes.{value, numbersFrom};
-ghost use Rattle.packets.specs.Packets.{fills, lengthsFit, withKind, rulesIn, stepsIn, refused, partsRead, ReadLeaves};
-ghost use Rattle.packets.specs.Parts.{RuleTold, TableTold, stepSize, ifPasses, stepAt, StepTold, TextTold, Given, Zeros};
+ghost use Rattle.packets.specs.Packets.{fills, lengthsFit, withKind, rulesIn, stepsIn, refused, partsRead, ifHeld, reading, ReadLeaves};
+ghost use Rattle.packets.specs.Parts.{RuleTold, RowTold, TableTold, stepSize, ifPasses, stepAt, StepTold, TextTold, Given, Zeros};
 use crate::HEADER;
-use crate::OLD_LARGEST;
 use crate::PacketReading;
+use crate::Version;
 use crate::numbers;
+use crate::versions;
+use aspif::tables;
 use text::Class;
 use text::Letter;
 
-// The words before a rule's heads: a kind and two counts.
+// The words before a rule's heads that version 1 has: a kind and two counts.
 const FRONT: usize = 3;
 
-// The words of the longest rule, and the body kind that they lack.
-const ROW: usize = FRONT + 1 + words::MOST_LITERALS + words::MOST_LITERALS;
+// The words of the longest rule, and the place before them.
+const ROW: usize = 1 + 4 + words::MOST_LITERALS + words::MOST_LITERALS;
 
-// How many rules, or bytes of text, a part of the packet comes to, with the largest variable of it; or that it is refused.
+// How many bytes of text the steps come to, with their largest variable; or that they are refused.
 pub enum Part {
     Taken { count: usize, top: usize },
     Refused,
 }
 
-// How many words of the packet a rule takes, 0 where none stands there, and its largest atom.
+// How many rules the words of a packet come to, and how many words of the table; their largest atom, and whether none has a weight body;
+// or that they are refused.
+pub enum RulesPart {
+    Taken {
+        rules: usize,
+        words: usize,
+        top: usize,
+        plain: bool,
+    },
+    Refused,
+}
+
+// How many words of the packet a rule takes, 0 where none stands there, and how many of the table; its largest atom, and whether it has
+// no weight body.
 pub struct RuleRead {
     pub size: usize,
+    pub words: usize,
     pub top: usize,
+    pub plain: bool,
 }
 
 // The count that stands in 4 bytes.
@@ -110,65 +128,112 @@ fn put_at(table: &mut [i32], at: usize, row: &[i32])
     }
 }
 
-// The rule whose words fill the row but for one place: they go to the table from `at` on, and how many the packet has is told.
-fn decode_rule(row: &mut [i32], bytes: &[u8], table: &mut [i32], at: usize) -> RuleRead
+// Where no rule stands.
+fn no_rule() -> RuleRead
+    ensures { λ r. ⌜ r .size ≡ 0 ⌝ }
+{
+    RuleRead {
+        size: 0,
+        words: 0,
+        top: 0,
+        plain: true,
+    }
+}
+
+// The rule at the front of a row that has its words as the table has them: they go to the table from `at` on, and how many the packet
+// has is told.
+fn take_rule(version: Version, row: &[i32], table: &mut [i32], at: usize) -> RuleRead
+    ensures { λ r. ⌜ RowTold version (now (row .entry)) (now (table .entry)) (now (table .exit)) at r ⌝ }
+{
+    if tables::is_sound(row) {
+        let words = tables::rule_size(row);
+        put_at(table, at, &row[..words]);
+        return RuleRead {
+            size: words - versions::fewer_in(version),
+            words,
+            top: tables::rule_top(row),
+            plain: !tables::is_weighted(row),
+        };
+    }
+    no_rule()
+}
+
+// The rule whose words fill the row but for one place.
+fn decode_rule(
+    version: Version,
+    row: &mut [i32],
+    bytes: &[u8],
+    table: &mut [i32],
+    at: usize,
+) -> RuleRead
     requires { ⌜ (3 ≤ length (now row)) × (4 * (length (now row) - 1) ≤ length (now bytes)) ⌝ }
-    ensures { λ r. ⌜ RuleTold (numbersFrom 4 (length (now (row .entry)) - 1) (now (bytes .entry))) (now (table .entry))
+    ensures { λ r. ⌜ RuleTold version (numbersFrom 4 (length (now (row .entry)) - 1) (now (bytes .entry))) (now (table .entry))
         (now (table .exit)) at r ⌝ }
 {
     numbers::read_numbers(&mut row[1..], bytes, 4);
-    put_kind(row);
-    if aspif::tables::is_sound(row) {
-        let size = aspif::tables::rule_size(row);
-        let top = aspif::tables::rule_top(row);
-        put_at(table, at, &row[..size]);
-        return RuleRead {
-            size: size - 1,
-            top,
-        };
+    match version {
+        Version::One => {
+            put_kind(row);
+            take_rule(Version::One, row, table, at)
+        }
+        Version::Two => take_rule(Version::Two, &row[1..], table, at),
     }
-    RuleRead { size: 0, top: 0 }
 }
 
 // The rule at the front of so many words: it goes to the table from `at` on, and how many of the words it takes is told.
-fn read_rule(bytes: &[u8], count: usize, table: &mut [i32], at: usize) -> RuleRead
+pub fn read_rule(
+    version: Version,
+    bytes: &[u8],
+    count: usize,
+    table: &mut [i32],
+    at: usize,
+) -> RuleRead
     requires { ⌜ 4 * count ≤ length (now bytes) ⌝ }
-    ensures { λ r. ⌜ RuleTold (numbersFrom 4 count (now (bytes .entry))) (now (table .entry)) (now (table .exit)) at r ⌝ }
+    ensures { λ r. ⌜ RuleTold version (numbersFrom 4 count (now (bytes .entry))) (now (table .entry)) (now (table .exit)) at r ⌝ }
 {
     let mut row = [0; ROW];
     if count < FRONT {
-        return RuleRead { size: 0, top: 0 };
+        return no_rule();
     }
     if count < ROW {
         let end = count + 1;
-        return decode_rule(&mut row[..end], bytes, table, at);
+        return decode_rule(version, &mut row[..end], bytes, table, at);
     }
-    decode_rule(&mut row, bytes, table, at)
+    decode_rule(version, &mut row, bytes, table, at)
 }
 
-// The rules that the words fall into go to the table, as many words as fit; how many rules they are is told. In the table each rule
-// has a word more.
-fn read_rules(bytes: &[u8], count: usize, table: &mut [i32]) -> Part
+// The rules that the words fall into go to the table, as many words as fit.
+pub fn read_rules(version: Version, bytes: &[u8], count: usize, table: &mut [i32]) -> RulesPart
     requires { ⌜ 4 * count ≤ length (now bytes) ⌝ }
-    ensures { λ r. ⌜ TableTold (rulesIn (numbersFrom 4 count (now (bytes .entry)))) (now (table .entry)) (now (table .exit)) r ⌝ }
+    ensures { λ r. ⌜ TableTold (rulesIn version (numbersFrom 4 count (now (bytes .entry)))) (now (table .entry))
+        (now (table .exit)) r ⌝ }
 {
     let mut rules = 0;
+    let mut words = 0;
     let mut top = 0;
+    let mut plain = true;
     let mut i = 0;
     while i < count {
         if words::MOST_RULES <= rules {
-            return Part::Refused;
+            return RulesPart::Refused;
         }
         let from = 4 * i;
-        let read = read_rule(&bytes[from..], count - i, table, i + rules);
+        let read = read_rule(version, &bytes[from..], count - i, table, words);
         if read.size == 0 {
-            return Part::Refused;
+            return RulesPart::Refused;
         }
         i += read.size;
+        words += read.words;
         top = words::larger(top, read.top);
+        plain = plain & read.plain;
         rules += 1;
     }
-    Part::Taken { count: rules, top }
+    RulesPart::Taken {
+        rules,
+        words,
+        top,
+        plain,
+    }
 }
 
 // The step whose numbers the row is filled with: its line is written, and its position after it told where it passes.
@@ -221,7 +286,7 @@ fn read_step(bytes: &[u8], proof: &mut [u8], at: usize, classes: &[u8; 256]) -> 
 }
 
 // The text of so many steps.
-fn read_steps(bytes: &[u8], count: usize, proof: &mut [u8], classes: &[u8; 256]) -> Part
+pub fn read_steps(bytes: &[u8], count: usize, proof: &mut [u8], classes: &[u8; 256]) -> Part
     requires { ⌜ fills count (now bytes) ≡ true ⌝ }
     requires { ⌜ now classes ≡ byteClasses ⌝ }
     ensures { λ r. ⌜ TextTold (stepsIn count (now (bytes .entry))) (now (proof .entry)) (now (proof .exit)) r ⌝ }
@@ -262,9 +327,10 @@ fn refuse(number: u8, table: &mut [i32], proof: &mut [u8]) -> PacketReading
     PacketReading::Refused(number)
 }
 
-// What both parts come to, where version 1 has room for their largest variable and the outputs hold them: so many words of the table and
+// What both parts come to, where the version has room for their largest variable and the outputs hold them: so many words of the table and
 // bytes of the text, which stand there already.
 fn give(
+    version: Version,
     size: usize,
     rules: usize,
     bytes: usize,
@@ -272,10 +338,10 @@ fn give(
     table: &mut [i32],
     proof: &mut [u8],
 ) -> PacketReading
-    ensures { λ r. ⌜ Given size rules bytes top (now (table .entry)) (now (table .exit)) (now (proof .entry))
+    ensures { λ r. ⌜ Given version size rules bytes top (now (table .entry)) (now (table .exit)) (now (proof .entry))
         (now (proof .exit)) r ⌝ }
 {
-    if OLD_LARGEST < top {
+    if versions::limit_of(version) < top {
         return refuse(53, table, proof);
     }
     if table.len() < size {
@@ -288,7 +354,8 @@ fn give(
 }
 
 // Both parts of a packet whose lengths fit.
-pub fn read_parts(
+fn read_parts(
+    version: Version,
     words: &[u8],
     count: usize,
     bytes: &[u8],
@@ -298,17 +365,20 @@ pub fn read_parts(
 ) -> PacketReading
     requires { ⌜ (4 * count ≤ length (now words)) × (fills steps (now bytes) ≡ true) ⌝ }
     requires { ⌜ Zeros (pos 0) (now table) × Zeros 0 (now proof) ⌝ }
-    ensures { λ r. ⌜ ReadLeaves (partsRead count (now (words .entry)) steps (now (bytes .entry)) (length (now (table .entry)))
-        (length (now (proof .entry)))) (now (table .entry)) (now (table .exit)) (now (proof .entry)) (now (proof .exit)) r ⌝ }
+    ensures { λ r. ⌜ ReadLeaves (ifHeld (length (now (table .entry))) (length (now (proof .entry)))
+        (partsRead version count (now (words .entry)) steps (now (bytes .entry)))) (now (table .entry)) (now (table .exit))
+        (now (proof .entry)) (now (proof .exit)) r ⌝ }
 {
     let classes = text::CLASSES;
     let text = read_steps(bytes, steps, proof, &classes);
-    let rules = read_rules(words, count, table);
+    let rules = read_rules(version, words, count, table);
     match rules {
-        Part::Refused => refuse(53, table, proof),
-        Part::Taken {
-            count: rules,
+        RulesPart::Refused => refuse(53, table, proof),
+        RulesPart::Taken {
+            rules,
+            words: size,
             top: atoms,
+            plain: _,
         } => match text {
             Part::Refused => refuse(53, table, proof),
             Part::Taken {
@@ -316,8 +386,39 @@ pub fn read_parts(
                 top: largest,
             } => {
                 let top = words::larger(atoms, largest);
-                give(count + rules, rules, end, top, table, proof)
+                give(version, size, rules, end, top, table, proof)
             }
         },
     }
+}
+
+// A packet of the version, into outputs of zeros.
+pub fn read_as(
+    version: Version,
+    packet: &[u8],
+    table: &mut [i32],
+    proof: &mut [u8],
+) -> PacketReading
+    requires { ⌜ Zeros (pos 0) (now table) × Zeros 0 (now proof) ⌝ }
+    ensures { λ r. ⌜ ReadLeaves (reading version (now (packet .entry)) (length (now (table .entry)))
+        (length (now (proof .entry)))) (now (table .entry)) (now (table .exit)) (now (proof .entry)) (now (proof .exit)) r ⌝ }
+{
+    if !versions::is_marked(version, packet) {
+        return PacketReading::Refused(51);
+    }
+    if !lengths_fit(packet) {
+        return PacketReading::Refused(52);
+    }
+    let count = count_at(packet, 5);
+    let middle = HEADER + 4 * count;
+    let steps = count_at(packet, 9);
+    read_parts(
+        version,
+        &packet[HEADER..middle],
+        count,
+        &packet[middle..],
+        steps,
+        table,
+        proof,
+    )
 }

@@ -9,17 +9,19 @@ ghost use lib.IntN.{pos};
 ghost use lib.ListN.{length, replicate};
 ghost use Rattle.text.specs.Writing.{Put, farthest};
 ghost use Rattle.words.specs.Limits.{longest, mostRules, mostNumbers};
-ghost use Rattle.aspif.specs.Rules.{isPlain, allPlain, kindWord};
+ghost use Rattle.words.specs.Lists.{all};
+ghost use Rattle.aspif.specs.Rules.{isPlain, kindWord};
 ghost use Rattle.aspif.specs.Tables.{ruleAt, soundAt, rulesAt, soundRules, soundTable};
 ghost use Rattle.drupe.specs.Texts.{stepsOf};
 ghost use Rattle.packets.specs.Bytes.{little, flipIf, signedBytes, bytesOf};
-ghost use Rattle.packets.specs.Packets.{mark, packetRule, packetWords, stepBytes, WrittenPacket};
+ghost use Rattle.packets.specs.Packets.{mark, packetRule, packetWords, hasWords, stepBytes, writing, WritingLeaves};
+ghost use Rattle.packets.specs.declared.Version.the-variants.{One};
 ghost use Rattle.packets.specs.Writes.{ruleRoom, stepRoom, lastRuleEnd, StepsPutAs, writingTold};
 use crate::HEADER;
-use crate::MARK;
-use crate::OLD_LARGEST;
 use crate::PacketWriting;
+use crate::Version;
 use crate::numbers;
+use crate::versions;
 use aspif::Kind;
 use aspif::tables;
 use drupe::LineAnswer;
@@ -109,10 +111,10 @@ fn put_counts(buffer: &mut [u8], at: usize, kind: Kind, heads: usize, body: usiz
     put_count(buffer, second, body)
 }
 
-// The rule at the front of some words of the table, which has no weight body.
-fn put_rule(buffer: &mut [u8], at: usize, rule: &[i32]) -> usize
+// The rule at the front of some words of the table, which has no weight body, with the words of version 1.
+fn put_old_rule(buffer: &mut [u8], at: usize, rule: &[i32]) -> usize
     requires { ⌜ (soundAt (now rule) ≡ true) × ((isPlain (ruleAt (now rule)) ≡ true) × (at + ruleRoom ≤ farthest)) ⌝ }
-    ensures { λ r. ⌜ Put (bytesOf 4 (packetRule (ruleAt (now (rule .entry))))) (now (buffer .entry)) (now (buffer .exit)) at r ⌝ }
+    ensures { λ r. ⌜ Put (bytesOf 4 (packetRule One (ruleAt (now (rule .entry))))) (now (buffer .entry)) (now (buffer .exit)) at r ⌝ }
     ensures { λ r. ⌜ r ≤ at + ruleRoom ⌝ }
 {
     let heads = tables::heads_of(rule);
@@ -123,11 +125,26 @@ fn put_rule(buffer: &mut [u8], at: usize, rule: &[i32]) -> usize
     put_all(buffer, middle, body, 4)
 }
 
+// The rule at the front of some words of the table, which has words in the version.
+pub fn put_rule(version: Version, buffer: &mut [u8], at: usize, rule: &[i32]) -> usize
+    requires { ⌜ (soundAt (now rule) ≡ true) × ((hasWords version (ruleAt (now rule)) ≡ true) × (at + ruleRoom ≤ farthest)) ⌝ }
+    ensures { λ r. ⌜ Put (bytesOf 4 (packetRule version (ruleAt (now (rule .entry))))) (now (buffer .entry)) (now (buffer .exit)) at r ⌝ }
+    ensures { λ r. ⌜ r ≤ at + ruleRoom ⌝ }
+{
+    match version {
+        Version::One => put_old_rule(buffer, at, rule),
+        Version::Two => {
+            let size = tables::rule_size(rule);
+            put_all(buffer, at, &rule[..size], 4)
+        }
+    }
+}
+
 // The rules of a table, one after another.
-fn put_rules(buffer: &mut [u8], at: usize, table: &[i32], rules: usize) -> usize
-    requires { ⌜ (soundRules rules (now table) ≡ true) × (allPlain (rulesAt rules (now table)) ≡ true) ⌝ }
+fn put_rules(version: Version, buffer: &mut [u8], at: usize, table: &[i32], rules: usize) -> usize
+    requires { ⌜ (soundRules rules (now table) ≡ true) × (all (hasWords version) (rulesAt rules (now table)) ≡ true) ⌝ }
     requires { ⌜ (rules ≤ mostRules) × (at ≤ 13) ⌝ }
-    ensures { λ r. ⌜ Put (bytesOf 4 (packetWords (rulesAt rules (now (table .entry))))) (now (buffer .entry))
+    ensures { λ r. ⌜ Put (bytesOf 4 (packetWords version (rulesAt rules (now (table .entry))))) (now (buffer .entry))
         (now (buffer .exit)) at r ⌝ }
     ensures { λ r. ⌜ r ≤ lastRuleEnd ⌝ }
 {
@@ -136,7 +153,7 @@ fn put_rules(buffer: &mut [u8], at: usize, table: &[i32], rules: usize) -> usize
     let mut end = at;
     while 0 < left {
         let rest = &table[i..];
-        end = put_rule(buffer, end, rest);
+        end = put_rule(version, buffer, end, rest);
         i = tables::next_rule(table, i);
         left -= 1;
     }
@@ -216,11 +233,11 @@ fn put_steps(buffer: &mut [u8], at: usize, text: &[u8]) -> StepsPut
 }
 
 // The mark with the version, and both counts.
-fn put_header(packet: &mut [u8], words: usize, steps: usize)
-    ensures { λ _. ⌜ Put (mark ++ (little 4 words ++ little 4 steps)) (now (packet .entry)) (now (packet .exit)) 0 13 ⌝ }
+pub fn put_header(version: Version, packet: &mut [u8], words: usize, steps: usize)
+    ensures { λ _. ⌜ Put (mark version ++ (little 4 words ++ little 4 steps)) (now (packet .entry)) (now (packet .exit)) 0 13 ⌝ }
 {
-    let first = writing::put_bytes(packet, 0, &MARK);
-    let second = put_count(packet, first, words);
+    versions::put_mark(version, packet);
+    let second = put_count(packet, 5, words);
     put_count(packet, second, steps);
 }
 
@@ -237,22 +254,27 @@ fn answer_of(good: bool, size: usize, fits: bool) -> PacketWriting
     PacketWriting::Refused(53)
 }
 
-// The packet of a table that passed question 41 and has no weight body, to an output of zeros. Version 1 has no room for a variable above
-// the old largest.
-pub fn write_pair(table: &[i32], rules: usize, proof: &[u8], packet: &mut [u8]) -> PacketWriting
-    requires { ⌜ (soundTable (now table) rules ≡ true) × (allPlain (rulesAt rules (now table)) ≡ true) ⌝ }
+// The packet of a table that passed question 41 and whose rules have words in the version, to an output of zeros.
+fn write_pair(
+    version: Version,
+    table: &[i32],
+    rules: usize,
+    proof: &[u8],
+    packet: &mut [u8],
+) -> PacketWriting
+    requires { ⌜ (soundTable (now table) rules ≡ true) × (all (hasWords version) (rulesAt rules (now table)) ≡ true) ⌝ }
     requires { ⌜ now packet ≡ replicate (length (now packet)) 0 ⌝ }
-    ensures { λ r. ⌜ WrittenPacket (now (table .entry)) rules (now (proof .entry)) (now (packet .entry))
-        (now (packet .exit)) r ⌝ }
+    ensures { λ r. ⌜ WritingLeaves (writing version (now (table .entry)) rules (now (proof .entry)) (length (now (packet .entry))))
+        (now (packet .entry)) (now (packet .exit)) r ⌝ }
 {
-    let middle = put_rules(packet, HEADER, table, rules);
+    let middle = put_rules(version, packet, HEADER, table, rules);
     let put = put_steps(packet, middle, proof);
     let top = words::larger(tables::largest_atom(table, rules), put.top);
-    let good = put.good & (top <= OLD_LARGEST);
+    let good = put.good & (top <= versions::limit_of(version));
     let answer = answer_of(good, put.end, put.end <= packet.len());
     match answer {
         PacketWriting::Written(_) => {
-            put_header(packet, (middle - HEADER) / 4, put.steps);
+            put_header(version, packet, (middle - HEADER) / 4, put.steps);
             answer
         }
         PacketWriting::Refused(_) => {
@@ -260,4 +282,25 @@ pub fn write_pair(table: &[i32], rules: usize, proof: &[u8], packet: &mut [u8]) 
             answer
         }
     }
+}
+
+// The packet of the version, to an output of zeros.
+pub fn write_as(
+    version: Version,
+    table: &[i32],
+    rules: usize,
+    proof: &[u8],
+    packet: &mut [u8],
+) -> PacketWriting
+    requires { ⌜ now packet ≡ replicate (length (now packet)) 0 ⌝ }
+    ensures { λ r. ⌜ WritingLeaves (writing version (now (table .entry)) rules (now (proof .entry)) (length (now (packet .entry))))
+        (now (packet .entry)) (now (packet .exit)) r ⌝ }
+{
+    if !tables::is_readable(table, rules) {
+        return PacketWriting::Refused(53);
+    }
+    if !versions::all_have_words(version, table, rules) {
+        return PacketWriting::Refused(53);
+    }
+    write_pair(version, table, rules, proof, packet)
 }

@@ -1,8 +1,10 @@
-// Worked cases of the packet reader and writer: questions 51 to 53 at their edges. A case on standard input is a name with a colon,
-// `[`, two numbers, a newline, a text and `]`. In the text `{`, a number, a newline, a part and `}` stand for the part so many times.
+// Worked cases of packets in both versions, of the reader, of the writer and of the moves: questions 51 to 53 and 61 at their edges. A case on
+// standard input is a name with a colon, `[`, the version told, two numbers, a newline, a text and `]`. In the text `{`, a number, a newline, a
+// part and `}` stand for the part so many times.
 // For the reader the numbers are the lengths of the table and of the proof text that are lent, and the text is the packet in
 // hexadecimal; other bytes between the digits are passed over. For the writer, whose text has a `|`, they are the output's length and
-// the rule count; before `|` stand the table's words, each but the last with a space after it, and after it the proof text.
+// the rule count; before `|` stand the table's words, each but the last with a space after it, and after it the proof text. A packet whose
+// text has a `>` is moved, up with version 1 and down with another, and the first number is the output's length.
 // Each case is written with its answer, how many words or bytes of each output are not 0, and after success the first 16 words,
 // the first 40 bytes of the proof text with `/` for a newline, or the first 60 bytes of the packet.
 use cases::before;
@@ -12,6 +14,7 @@ use cases::nonzero_bytes;
 use cases::number_of;
 use cases::say;
 use cases::say_number;
+use cases::through;
 use libc::STDIN_FILENO;
 use libc::STDOUT_FILENO;
 use packets::PacketReading;
@@ -60,8 +63,8 @@ fn say_refusal(number: u8) {
 }
 
 // What is read into the outputs, whose words and bytes are 7 before.
-fn answer_reading(packet: &[u8], table: &mut [i32], proof: &mut [u8]) {
-    let reading = packets::read_packet(packet, table, proof);
+fn answer_reading(version: u64, packet: &[u8], table: &mut [i32], proof: &mut [u8]) {
+    let reading = packets::read_packet(version, packet, table, proof);
     match reading {
         PacketReading::Read { rules, bytes } => {
             say(b"read");
@@ -86,8 +89,7 @@ fn answer_reading(packet: &[u8], table: &mut [i32], proof: &mut [u8]) {
 }
 
 // What is written into the output, whose bytes are 7 before.
-fn answer_writing(table: &[i32], rules: usize, proof: &[u8], packet: &mut [u8]) {
-    let writing = packets::write_packet(table, rules, proof, packet);
+fn say_writing(writing: PacketWriting, packet: &[u8]) {
     match writing {
         PacketWriting::Written(bytes) => {
             say(b"written");
@@ -103,6 +105,23 @@ fn answer_writing(table: &[i32], rules: usize, proof: &[u8], packet: &mut [u8]) 
         }
     }
     say(b"\n");
+}
+
+fn answer_writing(version: u64, table: &[i32], rules: usize, proof: &[u8], packet: &mut [u8]) {
+    let writing = packets::write_packet(version, table, rules, proof, packet);
+    say_writing(writing, packet);
+}
+
+fn move_packet(version: u64, packet: &[u8], output: &mut [u8]) -> PacketWriting {
+    if version == 1 {
+        return moves::packet_up(packet, output);
+    }
+    moves::packet_down(packet, output)
+}
+
+fn answer_moving(version: u64, packet: &[u8], output: &mut [u8]) {
+    let moving = move_packet(version, packet, output);
+    say_writing(moving, output);
 }
 
 // A hexadecimal digit's value; 16 for another byte.
@@ -137,21 +156,42 @@ fn decode(out: &mut [u8], text: &[u8]) -> usize {
     n / 2
 }
 
-fn read_into(text: &[u8], packet: &mut [u8], table: &mut [i32], proof: &mut [u8]) {
+fn read_into(version: u64, text: &[u8], packet: &mut [u8], table: &mut [i32], proof: &mut [u8]) {
     let n = decode(packet, text);
     if n <= packet.len() {
-        answer_reading(&packet[..n], table, proof);
+        answer_reading(version, &packet[..n], table, proof);
     }
 }
 
-fn read_case(text: &[u8], words: usize, bytes: usize) {
+fn read_case(version: u64, text: &[u8], words: usize, bytes: usize) {
     let mut packet = [0u8; 33000];
     let mut table = [7i32; 4096];
     let mut proof = [7u8; 65600];
     if words <= 4096 {
         if bytes <= 65600 {
-            read_into(text, &mut packet, &mut table[..words], &mut proof[..bytes]);
+            read_into(
+                version,
+                text,
+                &mut packet,
+                &mut table[..words],
+                &mut proof[..bytes],
+            );
         }
+    }
+}
+
+fn move_into(version: u64, text: &[u8], packet: &mut [u8], output: &mut [u8]) {
+    let n = decode(packet, text);
+    if n <= packet.len() {
+        answer_moving(version, &packet[..n], output);
+    }
+}
+
+fn move_case(version: u64, text: &[u8], bytes: usize) {
+    let mut packet = [0u8; 33000];
+    let mut output = [7u8; 33000];
+    if bytes <= 33000 {
+        move_into(version, text, &mut packet, &mut output[..bytes]);
     }
 }
 
@@ -189,51 +229,80 @@ fn words_of(table: &mut [i32], text: &[u8]) -> usize {
     n
 }
 
-fn write_from(text: &[u8], table: &mut [i32], rules: usize, proof: &[u8], packet: &mut [u8]) {
+fn write_from(
+    version: u64,
+    text: &[u8],
+    table: &mut [i32],
+    rules: usize,
+    proof: &[u8],
+    packet: &mut [u8],
+) {
     let n = words_of(table, text);
     if n <= table.len() {
-        answer_writing(&table[..n], rules, proof, packet);
+        answer_writing(version, &table[..n], rules, proof, packet);
     }
 }
 
-fn write_case(text: &[u8], rules: usize, proof: &[u8], bytes: usize) {
+fn write_case(version: u64, text: &[u8], rules: usize, proof: &[u8], bytes: usize) {
     let mut table = [0i32; 4100];
     let mut packet = [7u8; 33000];
     if bytes <= 33000 {
-        write_from(text, &mut table, rules, proof, &mut packet[..bytes]);
+        write_from(
+            version,
+            text,
+            &mut table,
+            rules,
+            proof,
+            &mut packet[..bytes],
+        );
+    }
+}
+
+// The case of a packet.
+fn packet_case(version: u64, text: &[u8], first: usize, second: usize) {
+    if before(text, b'>') < text.len() {
+        move_case(version, text, first);
+    } else {
+        read_case(version, text, first, second);
     }
 }
 
 // The case of a text with its parts repeated.
-fn run_text(text: &[u8], first: usize, second: usize) {
+fn run_text(version: u64, text: &[u8], first: usize, second: usize) {
     let bar = before(text, b'|');
     if bar < text.len() {
         let from = bar + 1;
-        write_case(&text[..bar], second, &text[from..], first);
+        write_case(version, &text[..bar], second, &text[from..], first);
     } else {
-        read_case(text, first, second);
+        packet_case(version, text, first, second);
     }
 }
 
-fn run_with(text: &[u8], out: &mut [u8], first: usize, second: usize) {
+fn run_with(version: u64, text: &[u8], out: &mut [u8], first: usize, second: usize) {
     let n = expand(out, text);
     if n <= out.len() {
-        run_text(&out[..n], first, second);
+        run_text(version, &out[..n], first, second);
     }
+}
+
+fn run_numbers(numbers: &[u8], text: &[u8]) {
+    let first = through(numbers, b' ');
+    let second = first + through(&numbers[first..], b' ');
+    let mut out = [0u8; 66000];
+    run_with(
+        number_of(&numbers[..first]) as u64,
+        text,
+        &mut out,
+        number_of(&numbers[first..second]),
+        number_of(&numbers[second..]),
+    );
 }
 
 fn run_case(case: &[u8]) {
     let open = before(case, b'[');
     say(&case[..open]);
-    let gap = open + before(&case[open..], b' ');
-    let line = gap + before(&case[gap..], b'\n');
-    let mut out = [0u8; 66000];
-    run_with(
-        &case[line..],
-        &mut out,
-        number_of(&case[open..gap]),
-        number_of(&case[gap..line]),
-    );
+    let line = open + before(&case[open..], b'\n');
+    run_numbers(&case[open..line], &case[line..]);
 }
 
 fn run_cases(text: &[u8]) {

@@ -11,9 +11,9 @@ use borrow.Author.Needs.{needs}
 use Rattle.exports.proofs.aspdrupe_read_packet.Statement.{statement}
 use Rattle.exports.proofs.aspdrupe_read_packet.Tie as tie
 
-read-told : {packet : List ℕ} {table table′ : List ℤ} {proof proof′ answer answer′ : List ℕ} {r : PacketReading} {result : ℕ}
-    → ReadPacket packet table table′ proof proof′ r → Told (readingCode r) (readingNumbers r) answer answer′ result
-    → ReadService packet table table′ proof proof′ answer answer′ result
+read-told : {version : ℕ} {packet : List ℕ} {table table′ : List ℤ} {proof proof′ answer answer′ : List ℕ} {r : PacketReading} {result : ℕ}
+    → ReadPacket version packet table table′ proof proof′ r → Told (readingCode r) (readingNumbers r) answer answer′ result
+    → ReadService version packet table table′ proof proof′ answer answer′ result
 read-told read told = record { words = read .words; text = read .text; told = rw (read .answer) at told }
 
 returns : tie.Need-returns

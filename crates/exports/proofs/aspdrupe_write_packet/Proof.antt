@@ -11,9 +11,9 @@ use borrow.Author.Needs.{needs}
 use Rattle.exports.proofs.aspdrupe_write_packet.Statement.{statement}
 use Rattle.exports.proofs.aspdrupe_write_packet.Tie as tie
 
-write-told : {table : List ℤ} {rules : ℕ} {proof packet packet′ answer answer′ : List ℕ} {w : PacketWriting} {result : ℕ}
-    → WrittenPacket table rules proof packet packet′ w → Told (writingCode w) (writingNumbers w) answer answer′ result
-    → WriteService table rules proof packet packet′ answer answer′ result
+write-told : {version : ℕ} {table : List ℤ} {rules : ℕ} {proof packet packet′ answer answer′ : List ℕ} {w : PacketWriting} {result : ℕ}
+    → WrittenPacket version table rules proof packet packet′ w → Told (writingCode w) (writingNumbers w) answer answer′ result
+    → WriteService version table rules proof packet packet′ answer answer′ result
 write-told written told = record { bytes = written .bytes; told = rw (written .answer) at told }
 
 returns : tie.Need-returns

@@ -20,9 +20,9 @@ part n h = length-take-le (n + 1) (replicate (1 + mostWords) (pos 0)) (omega ari
 
 returns : tie.Need-returns
 returns c =
-    let a = c .before .before .args in
+    let a = c .before .before .before .args in
     let n = length-numbers 4 (a .count) (a .bytes .now) in
-    told-few (numbersFrom 4 (a .count) (a .bytes .now)) (a .table .now) (a .at) (omega (arith, c .if1 .taken, n))
+    told-few (a .version) (numbersFrom 4 (a .count) (a .bytes .now)) (c .no-rule .ensures) (omega (arith, c .before .if1 .taken, n))
 
 slice-aggregate-decode-rule : tie.Need-slice-aggregate-decode-rule
 slice-aggregate-decode-rule c = sym (part _ (omega (arith, c .before .if2 .taken)))
@@ -42,12 +42,13 @@ returns-3 : tie.Need-returns-3
 returns-3 c =
     let a = c .before .before .before .before .before .before .before .before .args in
     let f = numbers-first 4 mostWords (a .count) (a .bytes .now) (omega (arith, c .before .before .before .before .before .if2 .left)) in
-    told-first (numbersFrom 4 (a .count) (a .bytes .now)) (rw f at (c .before .before .decode-rule2 .ensures))
+    told-first (a .version) (numbersFrom 4 (a .count) (a .bytes .now)) (rw f at (c .before .before .decode-rule2 .ensures))
 
 pub read-rule-spec : {M : Type 1} → statement M
 read-rule-spec =
     tie.close
     (tie.spec
+    (λ c κs. search needs)
     returns
     (λ c. search needs)
     (λ c. search needs)

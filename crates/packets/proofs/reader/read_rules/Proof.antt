@@ -2,7 +2,7 @@
 -- Assumes nothing.
 use mathlib.Core.Path.{_≡_, refl, _∙_}
 use mathlib.Core.List.{List}
-use Prim.Native.Nat.{ℕ, _+_, _-_, _*_, _≤_, _<_}
+use Prim.Native.Nat.{ℕ, _-_, _*_, _≤_, _<_}
 use native.Mathlib.Omega.{arith}
 use lib.IntN.{ℤ}
 use lib.ListN.{length, drop, length-drop}
@@ -11,18 +11,19 @@ use Rattle.words.proofs.Parts.{tail-of}
 use Rattle.packets.specs.Bytes.{numbersFrom}
 use Rattle.packets.specs.Parts.{RuleTold}
 use Rattle.packets.proofs.Littles.{length-numbers, numbers-later}
-use Rattle.packets.proofs.RulesRead.{Filling, filling-start, filling-kept, filling-full, filling-stop, filling-on, filling-end}
+use Rattle.packets.proofs.RulesRead.{Filling, filling-start, filling-kept, filling-full, filling-stop, filling-near, filling-on, filling-end}
 use Rattle.packets.proofs.reader.read_rules.Statement.{statement}
 use Rattle.packets.proofs.reader.read_rules.Tie as tie
 
 abbrev Inv-loop : tie.InvT-loop
-Inv-loop bytes count table₀ rules₀ top₀ i₀ table rules top i = Filling (numbersFrom 4 count bytes) table₀ table rules top i
+Inv-loop version bytes count table₀ rules₀ words₀ top₀ plain₀ i₀ table rules words top plain i =
+    Filling version (numbersFrom 4 count bytes) table₀ table rules words top plain i
 
 abbrev μ-loop : tie.MeasureT-loop
-μ-loop bytes count table₀ rules₀ top₀ i₀ table rules top i = count - i
+μ-loop version bytes count table₀ rules₀ words₀ top₀ plain₀ i₀ table rules words top plain i = count - i
 
 loop-holds : tie.Need-loop-holds Inv-loop μ-loop
-loop-holds c = filling-start _ _
+loop-holds c = filling-start _ _ _
 
 -- the words, and those that are left
 module _ (c : tie.In-loop Inv-loop μ-loop) where
@@ -50,12 +51,12 @@ module _ (c : tie.After-read-rule Inv-loop μ-loop) where
   d = c .before .before .before .before
 
   abbrev after : List ℤ
-  after = c .read-rule .last .1 .1 .0
+  after = c .read-rule .last .1 .1 .1 .0
 
   kept : length after ≡ length (a d .args .table .now)
-  kept = c .read-rule .kept .1 .1 .0 ∙ filling-kept (d .before .loop .inv)
+  kept = c .read-rule .kept .1 .1 .1 .0 ∙ filling-kept (d .before .loop .inv)
 
-  told : RuleTold (drop (i d) (ws d)) (d .before .loop .table) after (i d + d .before .loop .rules) (c .read-rule .result)
+  told : RuleTold (a d .args .version) (drop (i d) (ws d)) (d .before .loop .table) after (d .before .loop .words) (c .read-rule .result)
   told =
       let bytes = a d .args .bytes .now in
       rw (tail-of (4 * i d) bytes, numbers-later 4 (i d) (a d .args .count) bytes (omega (arith, d .loop-test .taken))) at (c .read-rule .ensures)
@@ -74,9 +75,6 @@ sub-read-rule c = room (c .before)
 
 part-read-rule-start : tie.Need-part-read-rule-start Inv-loop μ-loop
 part-read-rule-start c = let r = room (c .before) in search needs
-
-add-read-rule : tie.Need-add-read-rule Inv-loop μ-loop
-add-read-rule c = let d = c .before .before .before in record { fits = omega (arith, d .before .loop .inv .few, room d) }
 
 read-rule-requires : tie.Need-read-rule-requires Inv-loop μ-loop
 read-rule-requires c κs =
@@ -99,17 +97,25 @@ add-i c =
     let f = d e in
     record { fits = omega (arith, told e .within, length-drop (i f) (ws f), long f, a f .fits .count, f .loop-test .taken) }
 
+add-words : tie.Need-add-words Inv-loop μ-loop
+add-words c =
+    let e = c .before .before .before .before .before in
+    let f = d e in
+    let g = f .before .loop .inv in
+    let n = filling-near g (some-left f) (told e) (c .before .before .if2 .left) in
+    record { fits = omega (arith, n, told e .within, length-drop (i f) (ws f), long f, room f, a f .pre, g .near, g .few) }
+
 add-rules : tie.Need-add-rules Inv-loop μ-loop
-add-rules c = record { fits = omega (arith, c .before .before .before .before .before .before .before .before .before .before .loop .inv .few) }
+add-rules c = record { fits = omega (arith, c .before .before .before .before .before .before .before .before .before .before .before .before .loop .inv .few) }
 
 loop-less : tie.Need-loop-less Inv-loop μ-loop
-loop-less c = let f = d (c .before .before .before .before .before) in omega (arith, c .before .before .if2 .left, f .loop-test .taken)
+loop-less c = let f = d (c .before .before .before .before .before .before .before) in omega (arith, c .before .before .before .before .if2 .left, f .loop-test .taken)
 
 loop-again : tie.Need-loop-again Inv-loop μ-loop
 loop-again c =
-    let e = c .before .before .before .before .before in
+    let e = c .before .before .before .before .before .before .before in
     let f = d e in
-    filling-on (f .before .loop .inv) (some-left f) (told e) (c .larger .ensures) (omega (arith, c .before .before .before .before .before .before .before .before .if1 .left)) (c .before .before .if2 .left)
+    filling-on (f .before .loop .inv) (some-left f) (told e) (c .before .before .before .before .if2 .left) (c .before .larger .ensures) (omega (arith, c .before .before .before .before .before .before .before .before .before .before .if1 .left))
 
 same-length-3 : tie.Need-same-length-3 Inv-loop μ-loop
 same-length-3 c = filling-kept (c .before .loop .inv)
@@ -133,11 +139,11 @@ read-rules-spec =
     part-read-rule-start
     (λ c. search needs)
     (λ c. search needs)
-    add-read-rule
     read-rule-requires
     same-length-2
     returns-2
     add-i
+    add-words
     (λ c κs. search needs)
     add-rules
     loop-less

@@ -8,27 +8,28 @@ use native.Mathlib.Omega.{arith}
 use lib.IntN.{ℤ}
 use lib.ListN.{drop}
 use borrow.Author.Needs.{needs}
+use Rattle.words.specs.Lists.{all}
 use Rattle.words.proofs.Lists.{and-left, and-right}
 use Rattle.words.proofs.Parts.{tail-of}
 use Rattle.text.specs.Writing.{Put}
 use Rattle.aspif.specs.Tables.{sizeAt, ruleAt, rulesAt}
 use Rattle.aspif.proofs.Cursors.{Cursor, AtRule, at-rule, no-rules}
 use Rattle.packets.specs.Bytes.{bytesOf}
-use Rattle.aspif.specs.Rules.{isPlain, allPlain}
-use Rattle.packets.specs.Packets.{packetWords}
+use Rattle.packets.specs.Packets.{hasWords, packetWords}
+use Rattle.packets.specs.declared.Version.{Version}
 use Rattle.packets.specs.Writes.{ruleRoom}
 use Rattle.packets.proofs.Writes.{put-length, Going, going-start, going-end, rule-on}
 use Rattle.packets.proofs.writer.put_rules.Statement.{statement}
 use Rattle.packets.proofs.writer.put_rules.Tie as tie
 
 abbrev Inv-loop : tie.InvT-loop
-Inv-loop buffer₀ at table rules left₀ i₀ end₀ buffer left i end =
-    (Cursor table left i × (allPlain (rulesAt left (drop i table)) ≡ true))
-    × (Going (bytesOf 4 (packetWords (rulesAt rules table))) (bytesOf 4 (packetWords (rulesAt left (drop i table)))) buffer₀ buffer at end
+Inv-loop version buffer₀ at table rules left₀ i₀ end₀ buffer left i end =
+    (Cursor table left i × (all (hasWords version) (rulesAt left (drop i table)) ≡ true))
+    × (Going (bytesOf 4 (packetWords version (rulesAt rules table))) (bytesOf 4 (packetWords version (rulesAt left (drop i table)))) buffer₀ buffer at end
     × (end + ruleRoom * left ≤ at + ruleRoom * rules))
 
 abbrev μ-loop : tie.MeasureT-loop
-μ-loop buffer₀ at table rules left₀ i₀ end₀ buffer left i end = left
+μ-loop version buffer₀ at table rules left₀ i₀ end₀ buffer left i end = left
 
 -- the words from i on, and the rule there
 module _ (c : tie.After-rest Inv-loop μ-loop) where
@@ -41,9 +42,12 @@ module _ (c : tie.After-rest Inv-loop μ-loop) where
   at : AtRule t (c .before .before .loop .left) i
   at = at-rule (c .before .loop-test .taken) (c .before .before .loop .inv .0 .0)
 
-  -- it and those after it have no weight body
-  plain-here : allPlain (ruleAt (drop i t) ∷ rulesAt (c .before .before .loop .left - 1) (drop (i + sizeAt (drop i t)) t)) ≡ true
-  plain-here = rw (at .rules) at (c .before .before .loop .inv .0 .1)
+  abbrev v : Version
+  v = c .before .before .before .before .args .version
+
+  -- it and those after it have words
+  worded : all (hasWords v) (ruleAt (drop i t) ∷ rulesAt (c .before .before .loop .left - 1) (drop (i + sizeAt (drop i t)) t)) ≡ true
+  worded = rw (at .rules) at (c .before .before .loop .inv .0 .1)
 
 loop-holds : tie.Need-loop-holds Inv-loop μ-loop
 loop-holds c = ((record { within = omega arith; sound = c .before .pre .0 .0 }, c .before .pre .0 .1), (going-start _ _ _, omega arith))
@@ -55,7 +59,7 @@ put-rule-requires : tie.Need-put-rule-requires Inv-loop μ-loop
 put-rule-requires c κs =
     let d = c .before in
     let p = d .before .before .before .before .pre in
-    (rw (tail-of (i d) (t d)) (at d .sound), (rw (tail-of (i d) (t d)) (and-left (isPlain (ruleAt (drop (i d) (t d)))) _ (plain-here d)), omega (arith, d .before .before .loop .inv .1 .1, d .before .loop-test .taken, p .1 .0, p .1 .1)))
+    (rw (tail-of (i d) (t d)) (at d .sound), (rw (tail-of (i d) (t d)) (and-left (hasWords (v d) (ruleAt (drop (i d) (t d)))) _ (worded d)), omega (arith, d .before .before .loop .inv .1 .1, d .before .loop-test .taken, p .1 .0, p .1 .1)))
 
 next-rule-requires : tie.Need-next-rule-requires Inv-loop μ-loop
 next-rule-requires c κs = at (c .before .before .before .before) .here
@@ -69,22 +73,22 @@ loop-again c =
     let l = d .before .before .loop in
     let p = rw (tail-of (i d) (t d)) at (c .before .before .before .put-rule .ensures) in
     rw (c .next-rule .ensures .0)
-    ((at d .next, and-right (isPlain (ruleAt (drop (i d) (t d)))) _ (plain-here d)), (rule-on (ruleAt (drop (i d) (t d))) _ _ (at d .rules) (l .inv .1 .0) (p .0), omega (arith, p .1, l .inv .1 .1, d .before .loop-test .taken)))
+    ((at d .next, and-right (hasWords (v d) (ruleAt (drop (i d) (t d)))) _ (worded d)), (rule-on (v d) (ruleAt (drop (i d) (t d))) _ _ (at d .rules) (l .inv .1 .0) (p .0), omega (arith, p .1, l .inv .1 .1, d .before .loop-test .taken)))
 
 -- all of them are put
-all : (c : tie.After-loop Inv-loop μ-loop) → (let a = c .before .before .before .args in let l = c .before .loop in
-    Put (bytesOf 4 (packetWords (rulesAt (a .rules) (a .table .now)))) (a .buffer .now) (l .buffer) (a .at) (l .end))
+all-put : (c : tie.After-loop Inv-loop μ-loop) → (let a = c .before .before .before .args in let l = c .before .loop in
+    Put (bytesOf 4 (packetWords (a .version) (rulesAt (a .rules) (a .table .now)))) (a .buffer .now) (l .buffer) (a .at) (l .end))
 unfolding bytesOf
-all c =
+all-put c =
     let a = c .before .before .before .args in
     let l = c .before .loop in
     going-end (rw (no-rules (l .left) (drop (l .i) (a .table .now)) (c .loop-test .left)) at (l .inv .1 .0))
 
 same-length : tie.Need-same-length Inv-loop μ-loop
-same-length c = put-length (all c)
+same-length c = put-length (all-put c)
 
 returns : tie.Need-returns Inv-loop μ-loop
-returns c = let p = c .before .before .before .pre in (all c, omega (arith, c .before .loop .inv .1 .1, p .1 .0, p .1 .1))
+returns c = let p = c .before .before .before .pre in (all-put c, omega (arith, c .before .loop .inv .1 .1, p .1 .0, p .1 .1))
 
 pub put-rules-spec : {M : Type 1} → statement M
 put-rules-spec =

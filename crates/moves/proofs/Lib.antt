@@ -1,0 +1,3 @@
+-- Laws that the functions of moves cite.
+pub mod Moving
+pub mod Answers
