@@ -373,6 +373,18 @@ pub fn run_pairs(comparison: &mut Comparison, _: u64) {
             compare_packet(comparison, version, &packet);
             compare_changed(comparison, version, &packet, pair.table.len(), pair.proof.len());
         }
+        if comparison.random.percent(10) {
+            compare_each_byte(comparison, version, &written.packet[..size], &pair);
+        }
+    }
+}
+
+/// Each byte of the pair's packet changed in turn, to any other.
+fn compare_each_byte(comparison: &mut Comparison, version: Version, packet: &[u8], pair: &Pair) {
+    for place in 0..packet.len() {
+        let mut changed = packet.to_vec();
+        changed[place] ^= comparison.random.between(1, 255) as u8;
+        compare_changed(comparison, version, &changed, pair.table.len(), pair.proof.len());
     }
 }
 
