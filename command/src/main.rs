@@ -13,6 +13,7 @@ mod library;
 mod locate;
 mod names;
 mod outcome;
+mod prove;
 mod quote;
 mod rules;
 mod set_test;
@@ -29,7 +30,7 @@ use json::Json;
 use outcome::{Failure, Outcome, Status};
 
 /// In the order in which `--help` lists them.
-const SUBCOMMANDS: [&Subcommand; 3] = [&ground::SUBCOMMAND, &check::SUBCOMMAND, &set_test::SUBCOMMAND];
+const SUBCOMMANDS: [&Subcommand; 4] = [&prove::SUBCOMMAND, &check::SUBCOMMAND, &set_test::SUBCOMMAND, &ground::SUBCOMMAND];
 
 /// The bytes of stack for everything: the library's largest call, and as much again.
 const STACK: usize = 4 * aspdrupe::MERGE_STACK;

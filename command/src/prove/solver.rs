@@ -1,0 +1,112 @@
+//! The SAT solver: cadical, with the log of the clauses that it learns.
+
+use std::sync::atomic::{AtomicUsize, Ordering};
+
+use crate::outcome::Failure;
+use crate::tools::Tool;
+
+const CADICAL: Tool = Tool { name: "cadical", package: "cadical" };
+
+/// The literals of a log that are kept: no proof within the limits needs near as many.
+const MOST_LITERALS: usize = 30_000_000;
+
+/// What the solver finds.
+pub enum Found {
+    /// The variables that hold in a model.
+    Model(Vec<i32>),
+    /// The clauses learned on the way to a contradiction, in their order.
+    Refutation(Vec<Vec<i32>>),
+    /// More clauses than any proof has room for.
+    TooLong,
+}
+
+/// Solves clauses over so many variables. The count of learned clauses is kept up on the way.
+pub fn solve<'a>(variables: i32, clauses: impl Iterator<Item = &'a [i32]> + Clone, learned: &AtomicUsize) -> Result<Found, Failure> {
+    let mut output = Output::default();
+    let mut too_long = false;
+    // A proof as text, to the standard output like the answer.
+    let arguments = ["-q", "--no-binary", "-", "-"].map(str::as_ref);
+    let ended = CADICAL.run(&arguments, &dimacs(variables, clauses), |line| {
+        output.take(line)?;
+        learned.store(output.learned.len(), Ordering::Relaxed);
+        too_long = output.literals > MOST_LITERALS;
+        if too_long {
+            Err(Failure::refused(""))
+        } else {
+            Ok(())
+        }
+    });
+    if too_long {
+        return Ok(Found::TooLong);
+    }
+    let ended = ended?;
+    match ended.code {
+        Some(10) => Ok(Found::Model(output.model)),
+        Some(20) => Ok(Found::Refutation(output.learned)),
+        _ => {
+            let said = ended.complaints.lines().next().unwrap_or("it gives no reason");
+            Err(Failure::misuse(format!("cadical ended without an answer: {said}")))
+        }
+    }
+}
+
+fn dimacs<'a>(variables: i32, clauses: impl Iterator<Item = &'a [i32]> + Clone) -> Vec<u8> {
+    let mut text = format!("p cnf {variables} {}\n", clauses.clone().count());
+    for clause in clauses {
+        clause.iter().for_each(|literal| text += &format!("{literal} "));
+        text += "0\n";
+    }
+    text.into_bytes()
+}
+
+/// What cadical has written so far: learned clauses as lines of literals, deletions as lines with `d`, the model as lines with `v`.
+#[derive(Default)]
+struct Output {
+    learned: Vec<Vec<i32>>,
+    literals: usize,
+    model: Vec<i32>,
+}
+
+impl Output {
+    fn take(&mut self, line: &[u8]) -> Result<(), Failure> {
+        match line.first() {
+            None | Some(b'c' | b'd' | b's') => {}
+            Some(b'v') => self.model.extend(numbers(&line[1..])?.into_iter().filter(|literal| *literal > 0)),
+            Some(_) => {
+                let mut clause = numbers(line)?;
+                clause.pop();
+                self.literals += clause.len() + 1;
+                self.learned.push(clause);
+            }
+        }
+        Ok(())
+    }
+}
+
+fn numbers(line: &[u8]) -> Result<Vec<i32>, Failure> {
+    let words = String::from_utf8_lossy(line);
+    let numbers = words.split_ascii_whitespace().map(str::parse).collect::<Result<_, _>>();
+    numbers.map_err(|_| Failure::misuse(format!("cadical writes what is not understood: {}", words.chars().take(60).collect::<String>())))
+}
+
+#[cfg(test)]
+mod tests {
+    use super::*;
+
+    #[test]
+    fn text_of_clauses() {
+        let clauses = [vec![1, -2], vec![]];
+        assert_eq!(dimacs(2, clauses.iter().map(Vec::as_slice)), b"p cnf 2 2\n1 -2 0\n0\n");
+    }
+
+    #[test]
+    fn output_of_the_solver() {
+        let mut output = Output::default();
+        for line in ["-2 0", "d 1 2 0", "1 0", "0", "s UNSATISFIABLE", "c note", "", "v 1 -2 3", "v 0"] {
+            output.take(line.as_bytes()).unwrap();
+        }
+        assert_eq!(output.learned, [vec![-2], vec![1], vec![]]);
+        assert_eq!(output.model, [1, 3]);
+        assert!(output.take(b"noise").is_err());
+    }
+}
