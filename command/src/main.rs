@@ -11,8 +11,10 @@ mod ground;
 mod json;
 mod library;
 mod locate;
+mod merge;
 mod names;
 mod outcome;
+mod packet;
 mod prove;
 mod quote;
 mod rules;
@@ -30,7 +32,8 @@ use json::Json;
 use outcome::{Failure, Outcome, Status};
 
 /// In the order in which `--help` lists them.
-const SUBCOMMANDS: [&Subcommand; 4] = [&prove::SUBCOMMAND, &check::SUBCOMMAND, &set_test::SUBCOMMAND, &ground::SUBCOMMAND];
+const SUBCOMMANDS: [&Subcommand; 6] =
+    [&prove::SUBCOMMAND, &check::SUBCOMMAND, &set_test::SUBCOMMAND, &ground::SUBCOMMAND, &merge::SUBCOMMAND, &packet::SUBCOMMAND];
 
 /// The bytes of stack for everything: the library's largest call, and as much again.
 const STACK: usize = 4 * aspdrupe::MERGE_STACK;
