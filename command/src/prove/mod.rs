@@ -143,7 +143,7 @@ fn answer_set(set: &[u16], names: &Names) -> Outcome {
     let shown = names.shown(set);
     let line = format!("answer set: {}", shown.join(" "));
     let atoms = Json::List(set.iter().map(|atom| Json::Number(i64::from(*atom))).collect());
-    let fields = vec![("answer", Json::text("yes")), ("atoms", atoms), ("shown", Json::texts(&shown))];
+    let fields = vec![("answer", Json::text("yes")), ("set", atoms), ("shown", Json::texts(&shown))];
     let words = vec![String::from("the set test says yes: this is an answer set of the program")];
     Outcome { status: Status::Good, line: String::from(line.trim_end()), words, fields }
 }
