@@ -34,7 +34,7 @@ fn size(lemmas: &[Lemma]) -> usize {
 fn round(variables: i32, axioms: &[&[i32]], learned: Vec<Vec<i32>>) -> Option<Vec<Lemma>> {
     let count = learned.iter().position(Vec::is_empty).unwrap_or(learned.len());
     let clauses = axioms.iter().map(|clause| clause.to_vec()).chain(learned.into_iter().take(count)).collect();
-    let mut checker = Checker::of(variables, clauses);
+    let mut checker = Checker::of(variables, clauses, axioms.len());
     let first = axioms.len();
     let mut kept = Vec::new();
     let (hints, _) = checker.derive(&[], checker.clauses.len())?;
@@ -57,9 +57,14 @@ fn renumbered(kept: Vec<(usize, Lemma)>, first: usize) -> Vec<Lemma> {
     kept.into_iter().map(|(_, lemma)| Lemma { hints: lemma.hints.iter().map(|hint| new(*hint)).collect(), ..lemma }).collect()
 }
 
-/// Unit propagation with two watched literals, by the clauses before a place, those that are needed already first.
+/// The levels of clauses, by which propagation prefers some to others.
+const LEVELS: usize = 3;
+
+/// Unit propagation with two watched literals, by the clauses before a place.
 struct Checker {
     clauses: Vec<Vec<i32>>,
+    /// How many of them are axioms.
+    axioms: usize,
     /// Clauses that are used by some derivation.
     needed: Vec<bool>,
     /// By literal, the clauses that watch it.
@@ -74,7 +79,7 @@ struct Checker {
 }
 
 impl Checker {
-    fn of(variables: i32, clauses: Vec<Vec<i32>>) -> Checker {
+    fn of(variables: i32, clauses: Vec<Vec<i32>>, axioms: usize) -> Checker {
         let size = variables as usize + 1;
         let mut watches = vec![Vec::new(); 2 * size];
         let mut short = Vec::new();
@@ -85,7 +90,7 @@ impl Checker {
             }
         }
         let needed = vec![false; clauses.len()];
-        Checker { clauses, needed, watches, short, value: vec![0; size], reason: vec![None; size], trail: Vec::new() }
+        Checker { clauses, axioms, needed, watches, short, value: vec![0; size], reason: vec![None; size], trail: Vec::new() }
     }
 
     /// Assumes that no literal of the clause holds and propagates by the clauses before the limit, to a conflict. Answers the clauses that led to
@@ -99,7 +104,7 @@ impl Checker {
                 self.assign(-literal, None);
             }
         }
-        let conflict = self.units(limit).or_else(|| self.propagate(limit))?;
+        let conflict = self.propagate(limit)?;
         Some(self.explain(conflict, clause))
     }
 
@@ -115,72 +120,83 @@ impl Checker {
         self.trail.push(literal);
     }
 
-    /// Assigns what the clauses of one literal say, the needed ones first; a clause that nothing satisfies.
-    fn units(&mut self, limit: usize) -> Option<usize> {
+    /// Propagates to the end, or to a clause that nothing satisfies. A clause is only used where those of lower levels give nothing more.
+    fn propagate(&mut self, limit: usize) -> Option<usize> {
         self.short.retain(|place| *place < limit);
-        let mut order = self.short.clone();
-        order.sort_by_key(|place| !self.needed[*place]);
-        for place in order {
-            match self.clauses[place].first().map(|literal| (*literal, self.holds(*literal))) {
-                Some((literal, 0)) => self.assign(literal, Some(place)),
-                Some((_, 1)) => {}
-                _ => return Some(place),
+        let mut short: Vec<(usize, usize)> = self.short.iter().map(|place| (self.level(*place), *place)).collect();
+        short.sort_unstable();
+        let mut short = short.into_iter().peekable();
+        let mut next = [0; LEVELS];
+        let mut level = 0;
+        while level < LEVELS {
+            let before = self.trail.len();
+            let conflict = if let Some((_, place)) = short.next_if(|(of, _)| *of == level) {
+                self.unit(place)
+            } else if let Some(literal) = self.trail.get(next[level]).copied() {
+                let (conflict, whole) = self.visit(-literal, limit, level);
+                next[level] += usize::from(whole);
+                conflict
+            } else {
+                level += 1;
+                continue;
+            };
+            if conflict.is_some() {
+                return conflict;
+            }
+            if self.trail.len() > before {
+                level = 0;
             }
         }
         None
     }
 
-    /// Propagates to the end, or to a clause that nothing satisfies. A clause that is not needed yet is only used where those that are give
-    /// nothing more.
-    fn propagate(&mut self, limit: usize) -> Option<usize> {
-        let (mut by_needed, mut by_others) = (0, 0);
-        loop {
-            let needed = by_needed < self.trail.len();
-            let next = if needed { &mut by_needed } else { &mut by_others };
-            let literal = *self.trail.get(*next)?;
-            let before = self.trail.len();
-            if let Some(conflict) = self.visit(-literal, limit, needed) {
-                return Some(conflict);
-            }
-            // Others are asked again from this literal on once the needed ones have had their turn.
-            if needed || self.trail.len() == before {
-                *next += 1;
-            }
+    /// Clauses that are needed already come first, then axioms, then the other lemmas.
+    fn level(&self, place: usize) -> usize {
+        match place {
+            _ if self.needed[place] => 0,
+            _ if place < self.axioms => 1,
+            _ => LEVELS - 1,
         }
     }
 
-    /// Goes through the clauses that watch a literal that does not hold any more, needed ones or others; a clause that nothing satisfies.
-    fn visit(&mut self, literal: i32, limit: usize, needed: bool) -> Option<usize> {
+    /// Assigns what a clause of one literal says; the clause where nothing satisfies it.
+    fn unit(&mut self, place: usize) -> Option<usize> {
+        match self.clauses[place].first().map(|literal| (*literal, self.holds(*literal))) {
+            Some((literal, 0)) => self.assign(literal, Some(place)),
+            Some((_, 1)) => {}
+            _ => return Some(place),
+        }
+        None
+    }
+
+    /// Goes through the clauses of a level that watch a literal that does not hold any more, to a clause that nothing satisfies; above the
+    /// lowest level only to the first that gives a literal. Whether it went through all of them is answered too.
+    fn visit(&mut self, literal: i32, limit: usize, level: usize) -> (Option<usize>, bool) {
         let mut list = std::mem::take(&mut self.watches[code(literal)]);
-        let mut conflict = None;
+        let mut ended = None;
         let mut at = 0;
-        while at < list.len() {
+        while at < list.len() && ended.is_none() {
             let place = list[at];
             if place >= limit {
                 list.swap_remove(at);
                 continue;
             }
-            if self.needed[place] != needed || conflict.is_some() {
-                at += 1;
-                continue;
-            }
-            match self.look(place, literal) {
+            match if self.level(place) == level { self.look(place, literal) } else { Seen::Nothing } {
                 Seen::Moved => {
                     list.swap_remove(at);
+                    continue;
                 }
-                Seen::Conflict => conflict = Some(place),
+                Seen::Nothing => {}
+                Seen::Conflict => ended = Some(Some(place)),
                 Seen::Unit(other) => {
                     self.assign(other, Some(place));
-                    at += 1;
-                    if !needed {
-                        break;
-                    }
+                    ended = if level > 0 { Some(None) } else { None };
                 }
-                Seen::Satisfied => at += 1,
             }
+            at += 1;
         }
         self.watches[code(literal)] = list;
-        conflict
+        (ended.flatten(), ended.is_none())
     }
 
     /// What a clause says where a literal that it watches does not hold; the watch moves where another literal may hold.
@@ -190,7 +206,7 @@ impl Checker {
         }
         let other = self.clauses[place][0];
         if self.holds(other) == 1 {
-            return Seen::Satisfied;
+            return Seen::Nothing;
         }
         let free = (2..self.clauses[place].len()).find(|at| self.holds(self.clauses[place][*at]) >= 0);
         if let Some(at) = free {
@@ -230,8 +246,9 @@ impl Checker {
     }
 }
 
+/// What a clause says: nothing to do where it is satisfied or of another level.
 enum Seen {
-    Satisfied,
+    Nothing,
     Moved,
     Unit(i32),
     Conflict,
