@@ -119,6 +119,7 @@ fn search(program: &Program, completion: &mut Completion, store: usize, times: &
                 return Ok(Answer::Undecided(String::from("the refutation is far longer than a proof may be: a smaller plan")))
             }
             Found::Refutation(learned) => {
+                progress.counts.trimming.store(true, Ordering::Relaxed);
                 let axioms: Vec<&[i32]> = completion.axioms.iter().map(|axiom| axiom.clause.as_slice()).collect();
                 let lemmas = timed(&mut times.trimming, || trim::trim(variables, &axioms, learned));
                 let lemmas = lemmas.ok_or_else(|| Failure::misuse("cadical's log has a clause that does not follow by propagation"))?;

@@ -1,6 +1,6 @@
 //! What is going on, on the standard error, where it takes longer than a second.
 
-use std::sync::atomic::{AtomicUsize, Ordering};
+use std::sync::atomic::{AtomicBool, AtomicUsize, Ordering};
 use std::sync::mpsc::{channel, RecvTimeoutError, Sender};
 use std::sync::Arc;
 use std::thread::JoinHandle;
@@ -13,6 +13,7 @@ use crate::say;
 pub struct Counts {
     pub learned: AtomicUsize,
     pub loops: AtomicUsize,
+    pub trimming: AtomicBool,
 }
 
 /// Tells about the counts after 1, 2, 4 seconds and so on, until it is dropped.
@@ -33,7 +34,8 @@ impl Progress {
             while ended.recv_timeout(wait) == Err(RecvTimeoutError::Timeout) {
                 wait = started.elapsed();
                 let (learned, loops) = (told.learned.load(Ordering::Relaxed), told.loops.load(Ordering::Relaxed));
-                say(&format!("{:.0} s: solving, {learned} clauses learned, {loops} loops found", wait.as_secs_f64()));
+                let what = if told.trimming.load(Ordering::Relaxed) { "shortening the proof" } else { "solving" };
+                say(&format!("{:.0} s: {what}, {learned} clauses learned, {loops} loops found", wait.as_secs_f64()));
             }
         });
         Progress { counts, end: Some(end), teller: Some(teller) }

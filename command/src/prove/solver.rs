@@ -22,7 +22,7 @@ pub enum Found {
 
 /// Solves clauses over so many variables. The count of learned clauses is kept up on the way.
 pub fn solve<'a>(variables: i32, clauses: impl Iterator<Item = &'a [i32]> + Clone, learned: &AtomicUsize) -> Result<Found, Failure> {
-    let mut output = Output::default();
+    let mut output = Output { variables, ..Output::default() };
     let mut too_long = false;
     // A proof as text, to the standard output like the answer.
     let arguments = ["-q", "--no-binary", "-", "-"].map(str::as_ref);
@@ -62,6 +62,7 @@ fn dimacs<'a>(variables: i32, clauses: impl Iterator<Item = &'a [i32]> + Clone) 
 /// What cadical has written so far: learned clauses as lines of literals, deletions as lines with `d`, the model as lines with `v`.
 #[derive(Default)]
 struct Output {
+    variables: i32,
     learned: Vec<Vec<i32>>,
     literals: usize,
     model: Vec<i32>,
@@ -71,22 +72,30 @@ impl Output {
     fn take(&mut self, line: &[u8]) -> Result<(), Failure> {
         match line.first() {
             None | Some(b'c' | b'd' | b's') => {}
-            Some(b'v') => self.model.extend(numbers(&line[1..])?.into_iter().filter(|literal| *literal > 0)),
+            Some(b'v') => self.model.extend(self.numbers(&line[1..])?.into_iter().filter(|literal| *literal > 0)),
             Some(_) => {
-                let mut clause = numbers(line)?;
-                clause.pop();
+                let mut clause = self.numbers(line)?;
+                if clause.pop() != Some(0) || clause.contains(&0) {
+                    return Err(not_understood(line));
+                }
                 self.literals += clause.len() + 1;
                 self.learned.push(clause);
             }
         }
         Ok(())
     }
+
+    /// The numbers of a line, each 0 or a literal.
+    fn numbers(&self, line: &[u8]) -> Result<Vec<i32>, Failure> {
+        let words = std::str::from_utf8(line).unwrap_or("?").split_ascii_whitespace();
+        let number = |word: &str| word.parse().ok().filter(|number: &i32| number.unsigned_abs() <= self.variables.unsigned_abs());
+        words.map(number).collect::<Option<_>>().ok_or_else(|| not_understood(line))
+    }
 }
 
-fn numbers(line: &[u8]) -> Result<Vec<i32>, Failure> {
-    let words = String::from_utf8_lossy(line);
-    let numbers = words.split_ascii_whitespace().map(str::parse).collect::<Result<_, _>>();
-    numbers.map_err(|_| Failure::misuse(format!("cadical writes what is not understood: {}", words.chars().take(60).collect::<String>())))
+fn not_understood(line: &[u8]) -> Failure {
+    let start = line.get(..60).unwrap_or(line).escape_ascii();
+    Failure::misuse(format!("cadical writes what is not understood: {start}"))
 }
 
 #[cfg(test)]
@@ -101,12 +110,14 @@ mod tests {
 
     #[test]
     fn output_of_the_solver() {
-        let mut output = Output::default();
+        let mut output = Output { variables: 3, ..Output::default() };
         for line in ["-2 0", "d 1 2 0", "1 0", "0", "s UNSATISFIABLE", "c note", "", "v 1 -2 3", "v 0"] {
             output.take(line.as_bytes()).unwrap();
         }
         assert_eq!(output.learned, [vec![-2], vec![1], vec![]]);
         assert_eq!(output.model, [1, 3]);
-        assert!(output.take(b"noise").is_err());
+        for line in ["noise", "4 0", "1", "1 0 2 0", "-2147483648 0", "v 4", "\u{e9} 0"] {
+            assert!(output.take(line.as_bytes()).is_err(), "{line}");
+        }
     }
 }

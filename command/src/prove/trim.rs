@@ -12,11 +12,17 @@ pub struct Lemma {
 /// The most times that a refutation is gone through.
 const ROUNDS: usize = 12;
 
+/// A refutation of more literals and clauses than this is not gone through again: it would still be far longer than a proof may be.
+const HOPELESS: usize = 100_000;
+
 /// The lemmas that are needed, the last of which is the empty clause; none where a clause that is needed does not follow by propagation.
 pub fn trim(variables: i32, axioms: &[&[i32]], learned: Vec<Vec<i32>>) -> Option<Vec<Lemma>> {
     let mut lemmas = round(variables, axioms, learned)?;
     for _ in 1..ROUNDS {
         let before = size(&lemmas);
+        if before > HOPELESS {
+            break;
+        }
         let shorter = round(variables, axioms, lemmas.iter().map(|lemma| lemma.clause.clone()).collect())?;
         if size(&shorter) >= before {
             break;
