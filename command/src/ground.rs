@@ -40,6 +40,9 @@ fn run(words: &Words) -> Result<Outcome, Failure> {
         ],
     };
     match words.output("-o") {
+        Some(path) if path.extension().is_some_and(|ending| ending == "names") => {
+            return Err(Failure::misuse(format!("{} is a place for names: another ending, like `.aspif`", path.display())));
+        }
         Some(path) => {
             files::write(&path, &ground.text)?;
             if path.is_file() {

@@ -16,9 +16,9 @@ const LIMIT: usize = 1 << 24;
 
 /// The ground program of a file. A file that begins with `asp ` is ground; its names may stand beside it.
 pub fn load(path: &Path) -> Result<Ground, Failure> {
-    let mut bytes = files::read(path, LIMIT)?;
+    let bytes = files::read(path, LIMIT)?;
     if !bytes.starts_with(b"asp ") {
-        bytes = grounded(path)?;
+        return cut_down(&grounded(path)?);
     }
     if bytes.len() > LIMIT {
         return Err(too_large());

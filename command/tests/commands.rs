@@ -141,6 +141,7 @@ fn misuse() {
         (&["check", ".", "p"], ". cannot be read: Is a directory"),
         (&["prove", "."], ". cannot be read: Is a directory"),
         (&["ground", "missing.lp"], "missing.lp cannot be read"),
+        (&["ground", "p", "-o", "out.names"], "out.names is a place for names"),
         (&["merge", "p", "x", "p", "p"], "`x` is no atom's number"),
         (&["packet", "send", "p", "p"], "aspdrupe packet write"),
         (&["packet", "write", "p", "p"], "-o names the packet"),

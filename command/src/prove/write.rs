@@ -6,6 +6,9 @@ use std::collections::{HashMap, HashSet};
 use super::completion::{Completion, Origin};
 use super::trim::Lemma;
 
+/// The largest variable.
+const LARGEST: i32 = 8_191;
+
 /// A proof text, and what it takes.
 #[derive(Debug, Default)]
 pub struct Proof {
@@ -22,6 +25,9 @@ pub fn write(completion: &Completion, lemmas: &[Lemma], store: usize) -> Result<
         writer.now = now;
         for hint in lemma.hints.iter().filter_map(|hint| completion.axioms.get(*hint)) {
             writer.introduce(&hint.origin)?;
+        }
+        if lemma.clause.len() > aspdrupe::MOST_NUMBERS {
+            return Err(format!("it takes an `a` line of {} literals; a line has room for {}", lemma.clause.len(), aspdrupe::MOST_NUMBERS));
         }
         for variable in lemma.clause.iter().map(|literal| literal.abs()) {
             writer.name(variable)?;
@@ -98,6 +104,11 @@ impl<'a> Writer<'a> {
         let (letter, numbers) = match origin {
             Origin::Body(body) => {
                 let name = self.completion.atoms + 1 + self.names.len() as i32;
+                if name > LARGEST {
+                    return Err(format!(
+                        "it takes more names than there are numbers between the largest atom and {LARGEST}: shorter sums, or atoms numbered from 1 on"
+                    ));
+                }
                 self.names.insert(*body, name);
                 ('b', [&[name], &self.completion.bodies[*body][..]].concat())
             }
@@ -218,5 +229,13 @@ mod tests {
         let axioms: Vec<&[i32]> = completion.axioms.iter().map(|axiom| axiom.clause.as_slice()).collect();
         let lemmas = trim(200, &axioms, vec![vec![]]).unwrap();
         assert!(write(&completion, &lemmas, 10_000).unwrap_err().contains("atom 1, which has 65 bodies"));
+    }
+
+    #[test]
+    fn no_name_is_left() {
+        let completion = completion(&["1 0 1 8191 0 1 -8191"]);
+        let axioms: Vec<&[i32]> = completion.axioms.iter().map(|axiom| axiom.clause.as_slice()).collect();
+        let lemmas = trim(8_192, &axioms, vec![vec![-8_191], vec![]]).unwrap();
+        assert!(write(&completion, &lemmas, 10_000).unwrap_err().contains("more names"));
     }
 }
