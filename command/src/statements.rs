@@ -16,14 +16,19 @@ pub struct Ground {
     pub notes: Vec<String>,
 }
 
-/// Statements that go, by kind: how they are called, and why they cannot matter.
-const DROPPED: [(&str, &str, &str); 5] = [
-    ("2", "minimize", "they rank answer sets, and no set becomes one or ceases to be one by them"),
-    ("3", "project", "they say which atoms to tell answer sets apart by"),
-    ("4", "malformed output", "they say what is shown"),
-    ("7", "heuristic", "they advise a search"),
-    ("10", "comment", "they say nothing"),
+/// What goes, by kind of statement: what it is, and why it cannot matter.
+const DROPPED: [(&str, &str, &str); 6] = [
+    ("2", "minimize statements", "they rank answer sets, and no set becomes one or ceases to be one by them"),
+    ("3", "project statements", "they say which atoms to tell answer sets apart by"),
+    ("4", "malformed output statements", "they say what is shown"),
+    ("7", "heuristic statements", "they advise a search"),
+    ("10", "comments", "they say nothing"),
+    ("1", "rules with an atom and its negation in the body", "they never apply"),
 ];
+
+/// The places of output statements and of such rules among them.
+const OUTPUT: usize = 2;
+const NEVER: usize = 5;
 
 /// Statements that are refused, by kind.
 const REFUSED: [(&str, &str); 4] = [
@@ -37,65 +42,68 @@ const REFUSED: [(&str, &str); 4] = [
 pub fn cut_down(text: &[u8]) -> Result<Ground, Failure> {
     let mut ground = Ground { text: Vec::new(), lines: Vec::new(), names: Names::default(), notes: Vec::new() };
     let mut dropped = [0; DROPPED.len()];
-    let (mut never, mut shorter) = (0, 0);
+    let mut shortened = 0;
     for (place, line) in text.split_inclusive(|byte| *byte == b'\n').enumerate() {
-        let words: Vec<&str> = std::str::from_utf8(line).unwrap_or("").trim_end_matches('\n').split(' ').collect();
-        let kind = words[0];
-        if let Some((_, why)) = REFUSED.iter().find(|(refused, _)| *refused == kind && place > 0) {
-            return Err(Failure::refused(format!("line {} of the ground program is {why}", place + 1)));
-        }
-        if kind == "4" && ground.names.take(line.strip_suffix(b"\n").unwrap_or(line)) {
-            continue;
-        }
-        if let Some(which) = DROPPED.iter().position(|(dropped, _, _)| *dropped == kind) {
-            dropped[which] += 1;
-            continue;
-        }
-        let kept = match rule(&words, place + 1)? {
-            Kept::AsItIs => line.to_vec(),
-            Kept::Never => {
-                never += 1;
+        let statement = line.strip_suffix(b"\n").unwrap_or(line);
+        let words = String::from_utf8_lossy(statement);
+        let mut kept = line.to_vec();
+        match fate(&words.split(' ').collect::<Vec<_>>(), place + 1)? {
+            Fate::Goes(OUTPUT) if ground.names.take(statement) => continue,
+            Fate::Goes(which) => {
+                dropped[which] += 1;
                 continue;
             }
-            Kept::Shorter(numbers) => {
-                shorter += 1;
-                format!("{}\n", numbers.iter().map(i64::to_string).collect::<Vec<_>>().join(" ")).into_bytes()
+            Fate::Shorter(numbers) => {
+                shortened += 1;
+                kept = format!("{}\n", numbers.iter().map(i64::to_string).collect::<Vec<_>>().join(" ")).into_bytes();
             }
-        };
+            Fate::Stays => {}
+        }
         ground.text.extend(kept);
         ground.lines.push(place + 1);
     }
     let counted = DROPPED.iter().zip(dropped).filter(|(_, count)| *count > 0);
-    ground.notes.extend(counted.map(|((_, name, why), count)| format!("dropped {count} {name} statements, which cannot matter: {why}")));
-    let about_rules = [
-        (never, "dropped", "with an atom and its negation in the body: they never apply"),
-        (shorter, "shortened", "that named a literal twice"),
-    ];
-    ground
-        .notes
-        .extend(about_rules.iter().filter(|(count, ..)| *count > 0).map(|(count, what, which)| format!("{what} {count} rules {which}")));
+    ground.notes.extend(counted.map(|((_, what, why), count)| format!("dropped, which cannot matter: {count} {what}; {why}")));
+    if shortened > 0 {
+        ground.notes.push(format!("shortened, which cannot matter: {shortened} rules that named a literal twice"));
+    }
     Ok(ground)
 }
 
 /// What becomes of a line.
-enum Kept {
-    AsItIs,
-    Never,
+enum Fate {
+    Stays,
+    /// A rule that is written without a literal's second mention.
     Shorter(Vec<i64>),
+    /// It goes, by its place in the list of what goes.
+    Goes(usize),
+}
+
+/// What becomes of the line with these words; the header stays.
+fn fate(words: &[&str], line: usize) -> Result<Fate, Failure> {
+    let kind = words.first().copied().unwrap_or("");
+    if let Some((_, why)) = REFUSED.iter().find(|(refused, _)| *refused == kind) {
+        return Err(Failure::refused(format!("line {line} of the ground program is {why}")));
+    }
+    match DROPPED.iter().position(|(dropped, _, _)| *dropped == kind) {
+        _ if kind == "1" => rule(words, line),
+        Some(which) => Ok(Fate::Goes(which)),
+        None => Ok(Fate::Stays),
+    }
 }
 
 /// A rule with a plain body is a set of literals: one that is written twice counts once, and with its complement the body never holds.
-fn rule(words: &[&str], line: usize) -> Result<Kept, Failure> {
-    let Ok(numbers) = words.iter().map(|word| word.parse::<i64>()).collect::<Result<Vec<_>, _>>() else { return Ok(Kept::AsItIs) };
-    let [1, kind, count, ..] = numbers[..] else { return Ok(Kept::AsItIs) };
+fn rule(words: &[&str], line: usize) -> Result<Fate, Failure> {
+    let Ok(numbers) = words.iter().map(|word| word.parse::<i64>()).collect::<Result<Vec<_>, _>>() else { return Ok(Fate::Stays) };
+    let [1, kind, count, ..] = numbers[..] else { return Ok(Fate::Stays) };
     if kind == 0 && count > 1 {
         let why = "a rule with a disjunctive head, which the checker does not take; shift it, where that keeps its answer sets, or choose";
         return Err(Failure::refused(format!("line {line} of the ground program is {why}")));
     }
     let body = usize::try_from(count).ok().and_then(|count| count.checked_add(3));
-    let Some((before, [0, size, literals @ ..])) = body.and_then(|at| numbers.split_at_checked(at)) else { return Ok(Kept::AsItIs) };
+    let Some((before, [0, size, literals @ ..])) = body.and_then(|at| numbers.split_at_checked(at)) else { return Ok(Fate::Stays) };
     if usize::try_from(*size) != Ok(literals.len()) {
-        return Ok(Kept::AsItIs);
+        return Ok(Fate::Stays);
     }
     let mut once: Vec<i64> = Vec::new();
     for literal in literals {
@@ -104,15 +112,15 @@ fn rule(words: &[&str], line: usize) -> Result<Kept, Failure> {
         }
     }
     if once.iter().any(|literal| *literal != 0 && literal.checked_neg().is_some_and(|other| once.contains(&other))) {
-        return Ok(Kept::Never);
+        return Ok(Fate::Goes(NEVER));
     }
     if once.len() == literals.len() {
-        return Ok(Kept::AsItIs);
+        return Ok(Fate::Stays);
     }
     let mut shorter = before.to_vec();
     shorter.extend([0, once.len() as i64]);
     shorter.extend(once);
-    Ok(Kept::Shorter(shorter))
+    Ok(Fate::Shorter(shorter))
 }
 
 #[cfg(test)]
@@ -126,9 +134,16 @@ mod tests {
         assert_eq!(ground.text, b"asp 1 0 0\n1 0 1 1 0 0\n1 0 1 8 0 1 2\n1 0 0 1 2 1 3 2\n0\n");
         assert_eq!(ground.lines, [1, 2, 5, 8, 9]);
         assert_eq!(ground.names.of(1), "a");
-        let starts = ["dropped 1 minimize", "dropped 1 comment", "dropped 1 rules", "shortened 1 rules"];
-        assert!(ground.notes.iter().zip(starts).all(|(note, start)| note.starts_with(start)), "{:?}", ground.notes);
-        assert_eq!(ground.notes.len(), starts.len());
+        let parts = ["1 minimize", "1 comments", "1 rules with an atom and its negation", "1 rules that named"];
+        assert!(ground.notes.iter().zip(parts).all(|(note, part)| note.contains(part)), "{:?}", ground.notes);
+        assert_eq!(ground.notes.len(), parts.len());
+    }
+
+    #[test]
+    fn output_statements() {
+        let ground = cut_down(b"asp 1 0 0\n4 3 a\xe9b 1 1\n4 9 a 1 1\n1 0 1 1 0 0\n0\n").unwrap();
+        assert_eq!((ground.names.count(), ground.lines), (1, vec![1, 4, 5]));
+        assert_eq!(ground.notes, ["dropped, which cannot matter: 1 malformed output statements; they say what is shown"]);
     }
 
     #[test]

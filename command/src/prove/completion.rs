@@ -98,6 +98,11 @@ impl Completion {
         self.axioms.extend(clauses.into_iter().map(|clause| Axiom { origin: Origin::Body(body), clause }));
     }
 
+    /// The largest variable.
+    pub fn variables(&self) -> i32 {
+        self.atoms + self.bodies.len() as i32
+    }
+
     /// The variable of a body.
     pub fn variable(&self, body: usize) -> i32 {
         self.atoms + 1 + body as i32

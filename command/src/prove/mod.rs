@@ -100,7 +100,7 @@ fn timed<T>(time: &mut Duration, work: impl FnOnce() -> T) -> T {
 /// Solves, and adds the loops that a model rests on without reason, until the model is an answer set or there is none.
 fn search(program: &Program, completion: &mut Completion, store: usize, times: &mut Times) -> Result<Answer, Failure> {
     let progress = Progress::start();
-    let variables = completion.variable(completion.bodies.len());
+    let variables = completion.variables();
     loop {
         let clauses = completion.axioms.iter().map(|axiom| axiom.clause.as_slice());
         let found = timed(&mut times.solving, || solver::solve(variables, clauses, &progress.counts.learned))?;
