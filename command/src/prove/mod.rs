@@ -9,7 +9,6 @@ mod trim;
 mod write;
 
 use std::path::Path;
-use std::sync::atomic::Ordering;
 use std::time::{Duration, Instant};
 
 use aspdrupe::{ProofQuestion, SetAnswer, Verdict};
@@ -23,7 +22,7 @@ use crate::outcome::{Failure, Outcome, Status};
 use crate::rules::rules;
 use crate::{explain, source};
 use completion::Completion;
-use progress::Progress;
+use progress::{Part, Progress};
 use solver::Found;
 use write::Proof;
 
@@ -41,6 +40,9 @@ Status 0 for an answer set and for 'inconsistent', 10 for 'undecided'.",
     operands: (1, 1),
     run,
 };
+
+/// Why a search was stopped.
+const TOO_LONG: &str = "cadical has learned far more clauses than a proof has room for, and was stopped; try constraints that break symmetries, or a smaller plan";
 
 /// How long the parts took.
 #[derive(Default)]
@@ -70,17 +72,20 @@ enum Answer {
 fn run(words: &Words) -> Result<Outcome, Failure> {
     let (table, store) = (words.room("--table")?, words.room("--store")?);
     let mut times = Times::default();
+    let progress = Progress::start();
     let ground = timed(&mut times.grounding, || source::load(words.path(0)?))?;
     let program = match library::read_program(&ground.text, table)? {
         Ok(program) => program,
         Err(refusal) => return Ok(explain::program(refusal, &ground.text)),
     };
+    progress.begin(Part::Solving);
     let mut completion = Completion::of(&rules(&program), program.atoms);
-    let answer = search(&program, &mut completion, store, &mut times)?;
+    let answer = search(&program, &mut completion, store, &progress, &mut times)?;
     let mut outcome = match answer {
         Answer::Set(set) => answer_set(&set, &ground.names),
         Answer::Undecided(why) => undecided(why),
         Answer::Refutation(proof) => {
+            progress.begin(Part::Checking);
             let verdict = timed(&mut times.checking, || library::check_texts(&ground.text, proof.text.as_bytes(), table, store))?;
             refutation(verdict, &proof, (&ground.text, table), words.output("-o").as_deref())?
         }
@@ -98,12 +103,11 @@ fn timed<T>(time: &mut Duration, work: impl FnOnce() -> T) -> T {
 }
 
 /// Solves, and adds the loops that a model rests on without reason, until the model is an answer set or there is none.
-fn search(program: &Program, completion: &mut Completion, store: usize, times: &mut Times) -> Result<Answer, Failure> {
-    let progress = Progress::start();
+fn search(program: &Program, completion: &mut Completion, store: usize, progress: &Progress, times: &mut Times) -> Result<Answer, Failure> {
     let variables = completion.variables();
     loop {
         let clauses = completion.axioms.iter().map(|axiom| axiom.clause.as_slice());
-        let found = timed(&mut times.solving, || solver::solve(variables, clauses, &progress.counts.learned))?;
+        let found = timed(&mut times.solving, || solver::solve(variables, clauses, progress))?;
         match found {
             Found::Model(model) => {
                 let set: Vec<u16> = model.iter().filter(|atom| **atom <= completion.atoms).map(|atom| *atom as u16).collect();
@@ -113,13 +117,11 @@ fn search(program: &Program, completion: &mut Completion, store: usize, times: &
                     SetAnswer::Differs(_) => add_loops(completion, &set, &least_model)?,
                     answer => return Err(Failure::misuse(format!("cadical's model is none of the completion: {answer:?}"))),
                 }
-                progress.counts.loops.store(completion.loop_count(), Ordering::Relaxed);
+                progress.loops(completion.loop_count());
             }
-            Found::TooLong => {
-                return Ok(Answer::Undecided(String::from("the refutation is far longer than a proof may be: a smaller plan")))
-            }
+            Found::TooLong => return Ok(Answer::Undecided(String::from(TOO_LONG))),
             Found::Refutation(learned) => {
-                progress.counts.trimming.store(true, Ordering::Relaxed);
+                progress.begin(Part::Shortening);
                 let axioms: Vec<&[i32]> = completion.axioms.iter().map(|axiom| axiom.clause.as_slice()).collect();
                 let lemmas = timed(&mut times.trimming, || trim::trim(variables, &axioms, learned));
                 let lemmas = lemmas.ok_or_else(|| Failure::misuse("cadical's log has a clause that does not follow by propagation"))?;

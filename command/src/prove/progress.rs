@@ -1,6 +1,6 @@
 //! What is going on, on the standard error, where it takes longer than a second.
 
-use std::sync::atomic::{AtomicBool, AtomicUsize, Ordering};
+use std::sync::atomic::{AtomicUsize, Ordering};
 use std::sync::mpsc::{channel, RecvTimeoutError, Sender};
 use std::sync::Arc;
 use std::thread::JoinHandle;
@@ -8,17 +8,29 @@ use std::time::{Duration, Instant};
 
 use crate::say;
 
-/// What the solver has come to, as other threads see it.
-#[derive(Default)]
-pub struct Counts {
-    pub learned: AtomicUsize,
-    pub loops: AtomicUsize,
-    pub trimming: AtomicBool,
+/// What is being done.
+#[derive(Clone, Copy)]
+pub enum Part {
+    Grounding,
+    Solving,
+    Shortening,
+    Checking,
 }
 
-/// Tells about the counts after 1, 2, 4 seconds and so on, until it is dropped.
+/// By part.
+const TOLD: [&str; 4] = ["grounding", "solving", "shortening the proof", "checking"];
+
+/// What it has come to, as other threads see it.
+#[derive(Default)]
+struct Counts {
+    part: AtomicUsize,
+    learned: AtomicUsize,
+    loops: AtomicUsize,
+}
+
+/// Tells about it after 1, 2, 4 seconds and so on, until it is dropped.
 pub struct Progress {
-    pub counts: Arc<Counts>,
+    counts: Arc<Counts>,
     end: Option<Sender<()>>,
     teller: Option<JoinHandle<()>>,
 }
@@ -33,12 +45,34 @@ impl Progress {
         let teller = std::thread::spawn(move || {
             while ended.recv_timeout(wait) == Err(RecvTimeoutError::Timeout) {
                 wait = started.elapsed();
-                let (learned, loops) = (told.learned.load(Ordering::Relaxed), told.loops.load(Ordering::Relaxed));
-                let what = if told.trimming.load(Ordering::Relaxed) { "shortening the proof" } else { "solving" };
-                say(&format!("{:.0} s: {what}, {learned} clauses learned, {loops} loops found", wait.as_secs_f64()));
+                say(&format!("{:.0} s: {}", wait.as_secs_f64(), told.text()));
             }
         });
         Progress { counts, end: Some(end), teller: Some(teller) }
+    }
+
+    pub fn begin(&self, part: Part) {
+        self.counts.part.store(part as usize, Ordering::Relaxed);
+    }
+
+    pub fn learned(&self, clauses: usize) {
+        self.counts.learned.store(clauses, Ordering::Relaxed);
+    }
+
+    pub fn loops(&self, count: usize) {
+        self.counts.loops.store(count, Ordering::Relaxed);
+    }
+}
+
+impl Counts {
+    fn text(&self) -> String {
+        let part = self.part.load(Ordering::Relaxed);
+        let what = TOLD.get(part).copied().unwrap_or("");
+        if part == Part::Grounding as usize {
+            return String::from(what);
+        }
+        let (learned, loops) = (self.learned.load(Ordering::Relaxed), self.loops.load(Ordering::Relaxed));
+        format!("{what}; {learned} clauses learned, {loops} loops found")
     }
 }
 
@@ -46,5 +80,20 @@ impl Drop for Progress {
     fn drop(&mut self) {
         drop(self.end.take());
         self.teller.take().map(JoinHandle::join);
+    }
+}
+
+#[cfg(test)]
+mod tests {
+    use super::*;
+
+    #[test]
+    fn what_is_told() {
+        let progress = Progress::start();
+        assert_eq!(progress.counts.text(), "grounding");
+        progress.begin(Part::Shortening);
+        progress.learned(7);
+        progress.loops(2);
+        assert_eq!(progress.counts.text(), "shortening the proof; 7 clauses learned, 2 loops found");
     }
 }

@@ -1,7 +1,6 @@
 //! The SAT solver: cadical, with the log of the clauses that it learns.
 
-use std::sync::atomic::{AtomicUsize, Ordering};
-
+use super::progress::Progress;
 use crate::outcome::Failure;
 use crate::tools::Tool;
 
@@ -20,15 +19,15 @@ pub enum Found {
     TooLong,
 }
 
-/// Solves clauses over so many variables. The count of learned clauses is kept up on the way.
-pub fn solve<'a>(variables: i32, clauses: impl Iterator<Item = &'a [i32]> + Clone, learned: &AtomicUsize) -> Result<Found, Failure> {
+/// Solves clauses over so many variables. How many were learned is told on the way.
+pub fn solve<'a>(variables: i32, clauses: impl Iterator<Item = &'a [i32]> + Clone, progress: &Progress) -> Result<Found, Failure> {
     let mut output = Output { variables, ..Output::default() };
     let mut too_long = false;
     // A proof as text, to the standard output like the answer.
     let arguments = ["-q", "--no-binary", "-", "-"].map(str::as_ref);
     let ended = CADICAL.run(&arguments, &dimacs(variables, clauses), |line| {
         output.take(line)?;
-        learned.store(output.learned.len(), Ordering::Relaxed);
+        progress.learned(output.learned.len());
         too_long = output.literals > MOST_LITERALS;
         if too_long {
             Err(Failure::refused(""))
