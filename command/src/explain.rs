@@ -81,6 +81,15 @@ pub fn question(of: &'static str, number: u8, question: String, mend: &'static s
 }
 
 impl Refusal<'_> {
+    /// The option that lends more memory, where that is what is missing.
+    fn option(&self) -> String {
+        match self.number {
+            10 => format!("; --table {} holds every program", library::EVERY_TABLE),
+            34 | 59 => String::from("; --store N lends one"),
+            _ => String::new(),
+        }
+    }
+
     fn outcome(&self, line: String) -> Outcome {
         let mut words = Vec::new();
         let mut fields = vec![("refused", Json::text(self.of)), ("number", Json::Number(i64::from(self.number)))];
@@ -93,7 +102,7 @@ impl Refusal<'_> {
             fields.extend(self.text.map(|text| ("text", Json::text(&String::from_utf8_lossy(&text[..text.len().min(1_000)])))));
         }
         words.push(format!("question {}, answered no: {}", self.number, self.question));
-        words.push(format!("to mend: {}", self.mend));
+        words.push(format!("to mend: {}{}", self.mend, self.option()));
         fields.extend([("question", Json::text(&self.question)), ("mend", Json::text(self.mend))]);
         Outcome { status: Status::Refused, line, words, fields }
     }

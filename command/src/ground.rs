@@ -1,6 +1,6 @@
 //! `aspdrupe ground`: the ground program of a plan, cut down to what the checker takes.
 
-use crate::arguments::{Subcommand, Words, ROOM};
+use crate::arguments::{Subcommand, Words};
 use crate::json::Json;
 use crate::names::Names;
 use crate::outcome::{Failure, Outcome, Status};
@@ -21,7 +21,7 @@ disjunctive heads are refused.",
 
 fn run(words: &Words) -> Result<Outcome, Failure> {
     let ground = source::load(words.path(0)?)?;
-    let program = match library::read_program(&ground.text, ROOM)? {
+    let program = match library::read_program(&ground.text, library::EVERY_TABLE)? {
         Ok(program) => program,
         Err(refusal) => {
             let mut outcome = explain::program(refusal, &ground.text);

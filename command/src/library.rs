@@ -4,6 +4,9 @@ use aspdrupe::{ProgramReading, ProgramRefusal, SetAnswer, Verdict, MARKS};
 
 use crate::outcome::Failure;
 
+/// Words of a table that hold the rules of every program: none has more words than its text has bytes.
+pub const EVERY_TABLE: usize = 65_536;
+
 /// A program that the library has read.
 pub struct Program {
     /// N, the largest atom.

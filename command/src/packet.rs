@@ -2,7 +2,7 @@
 
 use aspdrupe::{PacketQuestion, PacketReading, PacketWriting};
 
-use crate::arguments::{Subcommand, Words, ROOM};
+use crate::arguments::{Subcommand, Words};
 use crate::explain;
 use crate::files::{self, TEXT_LIMIT};
 use crate::json::Json;
@@ -24,8 +24,8 @@ Prints
     run,
 };
 
-/// The most bytes of a packet that are read: as many as the largest table and the longest proof take.
-const LIMIT: usize = 13 + 4 * ROOM * 16 + TEXT_LIMIT;
+/// The most bytes of a packet that are read: as many as the rules of the largest program and the longest proof take.
+const LIMIT: usize = 13 + 4 * library::EVERY_TABLE + TEXT_LIMIT;
 
 fn run(words: &Words) -> Result<Outcome, Failure> {
     match words.texts_from(0)[..] {
@@ -39,7 +39,7 @@ fn write(words: &Words) -> Result<Outcome, Failure> {
     let output = words.output("-o").ok_or_else(|| Failure::misuse("-o names the packet to write"))?;
     let text = files::read(words.path(1)?, TEXT_LIMIT)?;
     let proof = files::read(words.path(2)?, TEXT_LIMIT)?;
-    let program = match library::read_program(&text, ROOM)? {
+    let program = match library::read_program(&text, library::EVERY_TABLE)? {
         Ok(program) => program,
         Err(refusal) => return Ok(explain::program(refusal, &text)),
     };

@@ -2,7 +2,7 @@
 
 use aspdrupe::SetAnswer;
 
-use crate::arguments::{Subcommand, Words, ROOM};
+use crate::arguments::{Subcommand, Words};
 use crate::json::Json;
 use crate::library::{self, Program};
 use crate::names::Names;
@@ -15,7 +15,8 @@ pub const SUBCOMMAND: Subcommand = Subcommand {
     name: "test",
     form: "PROGRAM ATOM..",
     about: "Tests whether the atoms, and no others, are an answer set; if not, says which atom differs or which constraint is broken.",
-    more: "PROGRAM is a ground program or a plan. An ATOM is a number, or a name where the program has names. Prints
+    more: "PROGRAM is a ground program or a plan. An ATOM is a number, or a name where the program has names;
+without any it is the empty set. Prints
     yes
     no atom N        the lowest atom that lies in just one of the set and the least model of its reduct
     no rule N        the first broken constraint
@@ -27,7 +28,7 @@ and on the standard error on which side the atom lies, or the constraint with it
 
 fn run(words: &Words) -> Result<Outcome, Failure> {
     let ground = source::load(words.path(0)?)?;
-    let program = match library::read_program(&ground.text, ROOM)? {
+    let program = match library::read_program(&ground.text, library::EVERY_TABLE)? {
         Ok(program) => program,
         Err(refusal) => return Ok(explain::program(refusal, &ground.text)),
     };

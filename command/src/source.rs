@@ -18,7 +18,10 @@ const LIMIT: usize = 1 << 24;
 pub fn load(path: &Path) -> Result<Ground, Failure> {
     let bytes = files::read(path, LIMIT)?;
     if !bytes.starts_with(b"asp ") {
-        return cut_down(&grounded(path)?);
+        let (text, complaints) = grounded(path)?;
+        let mut ground = cut_down(&text)?;
+        ground.notes.extend(complaints);
+        return Ok(ground);
     }
     if bytes.len() > LIMIT {
         return Err(too_large());
@@ -34,7 +37,11 @@ fn too_large() -> Failure {
     Failure::refused(format!("the ground program has more than {LIMIT} bytes: a smaller plan"))
 }
 
-fn grounded(path: &Path) -> Result<Vec<u8>, Failure> {
+/// The lines of gringo's complaints about a plan that it grounds all the same that are told.
+const MOST_COMPLAINTS: usize = 20;
+
+/// What gringo makes of a plan, and what it complains of.
+fn grounded(path: &Path) -> Result<(Vec<u8>, Vec<String>), Failure> {
     // So that no file's name is an option.
     let named = if path.is_absolute() { OsString::from(path) } else { Path::new(".").join(path).into_os_string() };
     let mut text = Vec::new();
@@ -47,11 +54,15 @@ fn grounded(path: &Path) -> Result<Vec<u8>, Failure> {
             Ok(())
         }
     })?;
+    let mut complaints = ended.complaints.lines().filter(|line| !line.trim().is_empty()).map(printable);
     if ended.code == Some(0) {
-        return Ok(text);
+        return Ok((text, complaints.take(MOST_COMPLAINTS).map(|line| format!("gringo: {line}")).collect()));
     }
-    let mut complaints = ended.complaints.lines();
-    let first = complaints.find(|line| line.contains("error")).unwrap_or("it gives no reason");
-    let cut: String = first.chars().map(|letter| if letter.is_control() { '?' } else { letter }).take(300).collect();
-    Err(Failure::refused(format!("gringo does not ground {}: {cut}", path.display())))
+    let first = complaints.find(|line| line.contains("error")).unwrap_or(String::from("it gives no reason"));
+    Err(Failure::refused(format!("gringo does not ground {}: {first}", path.display())))
+}
+
+/// A line of another program's, without control characters and not too long.
+fn printable(line: &str) -> String {
+    line.chars().map(|letter| if letter.is_control() { '?' } else { letter }).take(300).collect()
 }

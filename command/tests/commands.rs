@@ -105,7 +105,8 @@ fn a_refusal_with_its_line() {
         ),
         "{out}"
     );
-    assert_eq!(room.run(&["check", "p", "d", "--table", "5"]).1, "refused program 10 2\n");
+    let (_, out, said) = room.run(&["check", "p", "d", "--table", "5"]);
+    assert!(out == "refused program 10 2\n" && said.contains("; --table 65536 holds every program\n"), "{said}");
     assert_eq!(room.run(&["check", "p", "d", "--store", "6"]).1, "refused proof 34 1\n");
 }
 
@@ -124,6 +125,43 @@ fn sets() {
     assert!(said.contains("line 4:\n    1 0 0 0 2 2 -1\n    :- not a, #2."), "{said}");
     assert_eq!((test(&["9"]).0, test(&["9"]).1.as_str()), (20, "refused set 42\n"));
     assert_misuse(test(&["b"]), "`b` is neither");
+}
+
+/// A proof of lines that stand without their closing 0, with two spaces or more between them.
+fn proof(lines: &str) -> String {
+    lines.split("  ").map(|line| format!("{} 0\n", line.trim())).collect()
+}
+
+// The examples of docs/FORMAT.md.
+#[test]
+fn packets() {
+    let room = Room::of("packets");
+    room.file("p", NONE);
+    room.file("d", proof("b 2 -1  c 2 1  s 1 2  a 1  a"));
+    assert_eq!(room.run(&["packet", "write", "p", "d", "-o", "packet"]).1, "packet 57\n");
+    let (status, out, _) = room.run(&["packet", "read", "packet", "--program", "p2", "--proof", "d2"]);
+    assert_eq!((status, out.as_str()), (0, "packet 1 35\n"));
+    for (name, same) in [("p", "p2"), ("d", "d2")] {
+        assert_eq!(fs::read(room.0.join(name)).unwrap(), fs::read(room.0.join(same)).unwrap());
+    }
+    room.file("p", "asp 1 0 0\n1 0 0 1 1 1 1 1\n0\n");
+    assert_eq!(room.run(&["packet", "write", "p", "d", "-o", "other"]).1, "refused packet 53\n");
+    assert_eq!(room.files(), ["d", "d2", "p", "p2", "packet"]);
+}
+
+#[test]
+fn merges() {
+    let room = Room::of("merges");
+    room.file("p", "asp 1 0 0\n1 1 2 1 2 0 0\n1 0 0 0 2 1 2\n1 0 0 0 2 1 -2\n1 0 0 0 2 -1 2\n1 0 0 0 2 -1 -2\n0\n");
+    room.file("1", proof("b 3 -1  c 3  b 4 1 2  c 4  b 5 1 -2  c 5  e 6  a 2  d 2  a -2  a -1 2  a"));
+    room.file("2", proof("b 4 1  c 4  b 3 -1 2  c 3  b 7 -1 -2  c 7  b 9 2 1  e 5 9 -3  a 1 2  a 9 -1  a 5 2  c 9  d 5 2  a"));
+    let (status, out, said) = room.run(&["merge", "p", "1", "1", "2", "-o", "out"]);
+    assert_eq!((status, out.as_str()), (0, "inconsistent 2 5 20 32\n"));
+    assert!(said.ends_with("the merged proof has 167 bytes\n"), "{said}");
+    assert_eq!(room.run(&["check", "p", "out"]).1, out);
+    assert_eq!(room.run(&["merge", "p", "1", "1", "2", "--store", "123", "-o", "other"]).1, "refused merge 59\n");
+    assert_eq!(room.run(&["merge", "p", "1", "2", "1", "-o", "other"]).1, "refused merge 57\n");
+    assert_eq!(room.files(), ["1", "2", "out", "p"]);
 }
 
 #[test]
@@ -203,6 +241,8 @@ fn a_grounder_that_complains() {
         let (status, _, said) = room.run(&["ground", "plan.lp", "-o", "out"]);
         assert!(status == 20 && said.contains(part), "{said}");
     }
+    room.tool("gringo", "printf 'asp 1 0 0\\n0\\n'; printf 'plan.lp:1:6-7: info: no head:\\n  b\\n\\n' >&2");
+    assert_eq!(room.run(&["ground", "plan.lp"]).2, "gringo: plan.lp:1:6-7: info: no head:\ngringo:   b\n");
     room.tool("gringo", "while :; do echo '10 again and again and again and again and again'; done");
     assert!(room.run(&["ground", "plan.lp"]).2.contains("more than 16777216 bytes"));
     assert_eq!(room.files(), ["plan.lp"]);
