@@ -103,6 +103,11 @@ impl Completion {
         self.atoms + self.bodies.len() as i32
     }
 
+    /// The clauses so far.
+    pub fn clauses(&self) -> impl Iterator<Item = &[i32]> + Clone {
+        self.axioms.iter().map(|axiom| axiom.clause.as_slice())
+    }
+
     /// The variable of a body.
     pub fn variable(&self, body: usize) -> i32 {
         self.atoms + 1 + body as i32

@@ -4,6 +4,7 @@
 mod completion;
 mod loops;
 mod progress;
+mod shortest;
 mod solver;
 mod trim;
 mod write;
@@ -104,10 +105,8 @@ fn timed<T>(time: &mut Duration, work: impl FnOnce() -> T) -> T {
 
 /// Solves, and adds the loops that a model rests on without reason, until the model is an answer set or there is none.
 fn search(program: &Program, completion: &mut Completion, store: usize, progress: &Progress, times: &mut Times) -> Result<Answer, Failure> {
-    let variables = completion.variables();
     loop {
-        let clauses = completion.axioms.iter().map(|axiom| axiom.clause.as_slice());
-        let found = timed(&mut times.solving, || solver::solve(variables, clauses, progress))?;
+        let found = timed(&mut times.solving, || solver::solve(completion.variables(), completion.clauses(), &[], progress))?;
         match found {
             Found::Model(model) => {
                 let set: Vec<u16> = model.iter().filter(|atom| **atom <= completion.atoms).map(|atom| *atom as u16).collect();
@@ -121,11 +120,8 @@ fn search(program: &Program, completion: &mut Completion, store: usize, progress
             }
             Found::TooLong => return Ok(Answer::Undecided(String::from(TOO_LONG))),
             Found::Refutation(learned) => {
-                progress.begin(Part::Shortening);
-                let axioms: Vec<&[i32]> = completion.axioms.iter().map(|axiom| axiom.clause.as_slice()).collect();
-                let lemmas = timed(&mut times.trimming, || trim::trim(variables, &axioms, learned));
-                let lemmas = lemmas.ok_or_else(|| Failure::misuse("cadical's log has a clause that does not follow by propagation"))?;
-                return Ok(write::write(completion, &lemmas, store).map_or_else(Answer::Undecided, Answer::Refutation));
+                let written = shortest::shortest(completion, learned, store, progress, times)?;
+                return Ok(written.map_or_else(Answer::Undecided, Answer::Refutation));
             }
         }
     }

@@ -1,5 +1,7 @@
 //! The SAT solver: cadical, with the log of the clauses that it learns.
 
+use std::ffi::OsStr;
+
 use super::progress::Progress;
 use crate::outcome::Failure;
 use crate::tools::Tool;
@@ -19,12 +21,17 @@ pub enum Found {
     TooLong,
 }
 
-/// Solves clauses over so many variables. How many were learned is told on the way.
-pub fn solve<'a>(variables: i32, clauses: impl Iterator<Item = &'a [i32]> + Clone, progress: &Progress) -> Result<Found, Failure> {
+/// Solves clauses over so many variables, with further options. How many were learned is told on the way.
+pub fn solve<'a>(
+    variables: i32,
+    clauses: impl Iterator<Item = &'a [i32]> + Clone,
+    options: &[&str],
+    progress: &Progress,
+) -> Result<Found, Failure> {
     let mut output = Output { variables, ..Output::default() };
     let mut too_long = false;
     // A proof as text, to the standard output like the answer.
-    let arguments = ["-q", "--no-binary", "-", "-"].map(str::as_ref);
+    let arguments: Vec<&OsStr> = ["-q", "--no-binary"].iter().chain(options).chain(&["-", "-"]).map(OsStr::new).collect();
     let ended = CADICAL.run(&arguments, &dimacs(variables, clauses), |line| {
         output.take(line)?;
         progress.learned(output.learned.len());

@@ -1,5 +1,5 @@
 //! Cuts a refutation down to what it needs. From the contradiction backwards, each learned clause that is used is derived again by unit
-//! propagation, and the clauses and literals that this takes are marked; all others go. This goes on while it helps.
+//! propagation, and the clauses and literals that this takes are marked; all others go. This goes on while it helps by two percent.
 
 /// A learned clause that is kept, and the clauses by whose propagation it follows.
 #[derive(Debug, Clone, PartialEq, Eq)]
@@ -24,10 +24,13 @@ pub fn trim(variables: i32, axioms: &[&[i32]], learned: Vec<Vec<i32>>) -> Option
             break;
         }
         let shorter = round(variables, axioms, lemmas.iter().map(|lemma| lemma.clause.clone()).collect())?;
-        if size(&shorter) >= before {
+        let after = size(&shorter);
+        if after < before {
+            lemmas = shorter;
+        }
+        if after > before - before / 50 {
             break;
         }
-        lemmas = shorter;
     }
     Some(lemmas)
 }
