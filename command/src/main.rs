@@ -35,16 +35,21 @@ use outcome::{Failure, Outcome, Status};
 const SUBCOMMANDS: [&Subcommand; 6] =
     [&prove::SUBCOMMAND, &check::SUBCOMMAND, &set_test::SUBCOMMAND, &ground::SUBCOMMAND, &merge::SUBCOMMAND, &packet::SUBCOMMAND];
 
-/// The bytes of stack for everything: the library's largest call, and as much again.
+/// The bytes of stack for everything: four times those of the library's largest call.
 const STACK: usize = 4 * aspdrupe::MERGE_STACK;
 
 fn main() -> ExitCode {
     let words = std::env::args_os().skip(1).collect();
     let run = std::thread::Builder::new().stack_size(STACK).spawn(|| run(words));
-    match run.map(|running| running.join()) {
-        Ok(Ok(status)) => ExitCode::from(status as u8),
-        _ => ExitCode::from(Status::Misuse as u8),
-    }
+    let status = match run.map(|running| running.join()) {
+        Ok(Ok(status)) => status,
+        Ok(Err(_)) => Status::Misuse,
+        Err(error) => {
+            say(&format!("there is no room for a thread: {error}"));
+            Status::Misuse
+        }
+    };
+    ExitCode::from(status as u8)
 }
 
 /// The whole run; its status.

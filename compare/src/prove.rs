@@ -16,8 +16,9 @@ use crate::reference::program::{table_words, Program};
 use crate::reference::MARKS;
 use crate::shrink::cut;
 
-/// One program in so many is one of those with many weights.
+/// One program in so many is one with many weights; one in so many has more atoms, all of them chosen, and many constraints.
 const WEIGHTS: u64 = 5;
+const CROWDED: u64 = 20;
 
 /// The command, in a folder of its own.
 pub struct Prover {
@@ -75,17 +76,20 @@ pub fn run(comparison: &mut Comparison, prover: &Prover, seed: u64, indexes: std
     let count = indexes.end - indexes.start;
     for index in indexes {
         comparison.open(format!("prove/{index} --seed {seed}"), Random::of(seed, "prove", index));
-        let (text, program) = match index % WEIGHTS {
-            0 => {
-                let rules = programs::weights(&mut comparison.random);
-                in_any_order(rules, &mut comparison.random)
-            }
-            _ => small_program(&mut comparison.random),
-        };
+        let (text, program) = any_program(index, &mut comparison.random);
         compare(comparison, prover, &text, &program);
     }
     println!("prove: {count} programs");
     comparison.tally.print();
+}
+
+fn any_program(index: u64, random: &mut Random) -> (Vec<u8>, Program) {
+    let rules = match index {
+        _ if index.is_multiple_of(WEIGHTS) => programs::weights(random),
+        _ if index % CROWDED == 1 => programs::crowded(random),
+        _ => return small_program(random),
+    };
+    in_any_order(rules, random)
 }
 
 fn compare(comparison: &mut Comparison, prover: &Prover, text: &[u8], program: &Program) {

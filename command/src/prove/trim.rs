@@ -182,9 +182,9 @@ impl Checker {
     /// lowest level only to the first that gives a literal. Whether it went through all of them is answered too.
     fn visit(&mut self, literal: i32, limit: usize, level: usize) -> (Option<usize>, bool) {
         let mut list = std::mem::take(&mut self.watches[code(literal)]);
-        let mut ended = None;
+        let (mut conflict, mut whole) = (None, true);
         let mut at = 0;
-        while at < list.len() && ended.is_none() {
+        while at < list.len() && whole {
             let place = list[at];
             if place >= limit {
                 list.swap_remove(at);
@@ -196,16 +196,16 @@ impl Checker {
                     continue;
                 }
                 Seen::Nothing => {}
-                Seen::Conflict => ended = Some(Some(place)),
+                Seen::Conflict => (conflict, whole) = (Some(place), false),
                 Seen::Unit(other) => {
                     self.assign(other, Some(place));
-                    ended = if level > 0 { Some(None) } else { None };
+                    whole = level == 0;
                 }
             }
             at += 1;
         }
         self.watches[code(literal)] = list;
-        (ended.flatten(), ended.is_none())
+        (conflict, whole)
     }
 
     /// What a clause says where a literal that it watches does not hold; the watch moves where another literal may hold.
