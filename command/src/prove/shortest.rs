@@ -13,8 +13,9 @@ use crate::outcome::Failure;
 /// A proof of so many bytes is short enough; others are tried for a longer one.
 const SHORT: usize = 4_096;
 
-/// A proof of so many bytes will not come to fit by another try.
+/// A proof of so many bytes will not come to fit by another try, and after so many learned clauses others take too long.
 const HOPELESS: usize = 4 * TEXT_LIMIT;
+const MANY: usize = 20_000;
 
 /// The options of the tries after the first: other orders of the variables and other first signs.
 const TRIES: [&[&str]; 4] = [&["--phase=0"], &["--reverse=1"], &["--reverse=1", "--phase=0"], &["--bump=0"]];
@@ -30,8 +31,10 @@ pub fn shortest(
     progress: &Progress,
     times: &mut Times,
 ) -> Result<Written, Failure> {
+    let many = learned.len() > MANY;
     let mut best = written(completion, learned, store, progress, &mut times.trimming)?;
-    if matches!(&best, Ok(proof) if proof.text.len() <= SHORT || proof.text.len() > HOPELESS) {
+    let (_, too_large, bytes) = rank(&best, store);
+    if many || bytes > HOPELESS || best.is_ok() && !too_large && bytes <= SHORT {
         return Ok(best);
     }
     for options in TRIES {
@@ -40,7 +43,7 @@ pub fn shortest(
         // Another cadical may not know an option.
         let Ok(Found::Refutation(learned)) = found else { continue };
         let other = written(completion, learned, store, progress, &mut times.trimming)?;
-        if is_better(&other, &best) {
+        if rank(&other, store) < rank(&best, store) {
             best = other;
         }
     }
@@ -62,12 +65,11 @@ fn written(
     Ok(write::write(completion, &lemmas, store))
 }
 
-/// A proof is better than none, and a shorter one than a longer one.
-fn is_better(one: &Written, other: &Written) -> bool {
-    match (one, other) {
-        (Ok(one), Ok(other)) => one.text.len() < other.text.len(),
-        (one, other) => one.is_ok() && other.is_err(),
-    }
+/// The lower the better: whether there is none, whether it is too large for a text or for a store of so many words, and its bytes.
+fn rank(written: &Written, store: usize) -> (bool, bool, usize) {
+    let proof = written.as_ref().ok();
+    let too_large = proof.is_some_and(|proof| proof.text.len() > TEXT_LIMIT || proof.words > store);
+    (proof.is_none(), too_large, proof.map_or(0, |proof| proof.text.len()))
 }
 
 #[cfg(test)]
@@ -76,9 +78,8 @@ mod tests {
 
     #[test]
     fn which_is_better() {
-        let proof = |text: &str| Ok(Proof { text: String::from(text), ..Proof::default() });
-        let none = || Err(String::from("why"));
-        assert!(is_better(&proof("a"), &proof("ab")) && is_better(&proof("ab"), &none()));
-        assert!(!is_better(&proof("a"), &proof("b")) && !is_better(&none(), &none()) && !is_better(&none(), &proof("a")));
+        let proof = |bytes: usize, words| Ok(Proof { text: "a".repeat(bytes), words, lines: 1 });
+        let falling = [proof(5, 9), proof(7, 9), proof(3, 10), proof(TEXT_LIMIT + 1, 9), Err(String::from("why"))];
+        assert!(falling.windows(2).all(|pair| rank(&pair[0], 9) < rank(&pair[1], 9)));
     }
 }
