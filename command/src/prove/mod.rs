@@ -4,6 +4,7 @@
 mod completion;
 mod loops;
 mod progress;
+mod propagation;
 mod shortest;
 mod solver;
 mod trim;
