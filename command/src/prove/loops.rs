@@ -105,12 +105,13 @@ mod tests {
 
     #[test]
     fn loops_that_rest_on_themselves() {
-        // 1 :- 2. 2 :- 1. 3 :- 4, 1. 4 :- 3. 5 :- 5. 6 :- not 1.
-        let lines = ["1 0 1 1 0 1 2", "1 0 1 2 0 1 1", "1 0 1 3 0 2 4 1", "1 0 1 4 0 1 3", "1 0 1 5 0 1 5", "1 0 1 6 0 1 -1"];
+        // 1 :- 2. 2 :- 1. 3 :- 4, 1. 4 :- 3. 5 :- 5. 5 :- 1, not 2. 6 :- not 1.
+        let lines =
+            ["1 0 1 1 0 1 2", "1 0 1 2 0 1 1", "1 0 1 3 0 2 4 1", "1 0 1 4 0 1 3", "1 0 1 5 0 1 5", "1 0 1 5 0 2 1 -2", "1 0 1 6 0 1 -1"];
         let completion = completion(&lines);
         let mut loops = unfounded_loops(&completion, &|atom| atom < 6, &[1, 2, 3, 4, 5]);
         loops.sort();
-        // {3, 4} leans on 1: its turn comes when {1, 2} is gone
+        // {3, 4} leans on 1: its turn comes when {1, 2} is gone; the body of 5 that leans on 1 does not hold
         assert_eq!(loops, [vec![1, 2], vec![5]]);
         assert_eq!(unfounded_loops(&completion, &|_| false, &[]), [[0; 0]; 0]);
     }
