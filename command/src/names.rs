@@ -124,7 +124,7 @@ mod tests {
 
     fn names() -> Names {
         let mut names = Names::default();
-        for line in ["4 4 a(1) 1 1", "4 7 b(\"x y\" 1 2", "4 1 f 0", "4 1 t 2 1 -9"] {
+        for line in ["4 4 a(1) 1 1", "4 7 b(\"x y\" 1 2", "4 1 f 0", "4 1 t 2 3 -9"] {
             assert!(names.take(line.as_bytes()), "{line}");
         }
         names
@@ -133,11 +133,11 @@ mod tests {
     #[test]
     fn terms_of_sets() {
         let names = names();
-        assert_eq!(names.shown(&[1, 2]), ["a(1)", "b(\"x y\"", "f", "t"]);
+        assert_eq!(names.shown(&[1, 2, 3]), ["a(1)", "b(\"x y\"", "f", "t"]);
         assert_eq!(names.shown(&[9]), ["f"]);
         assert_eq!(Names::default().shown(&[3, 5]), ["3", "5"]);
         assert_eq!((names.atom("a(1)"), names.atom("f"), names.atom("t")), (Some(1), None, None));
-        assert_eq!((names.of(1), names.of(9)), (String::from("a(1)"), String::from("#9")));
+        assert_eq!([1, 3, 9].map(|atom| names.of(atom)), ["a(1)", "#3", "#9"]);
     }
 
     #[test]
