@@ -77,7 +77,7 @@ impl Comparison {
     }
 
     /// Counts which letters the proof of an 'inconsistent' has.
-    fn count_letters(&mut self, proof: &[u8]) {
+    pub fn count_letters(&mut self, proof: &[u8]) {
         let letters: HashSet<u8> = proof.split(|byte| *byte == b'\n').filter_map(|line| line.first().copied()).collect();
         for letter in letters {
             self.tally.count(format!("inconsistent by a proof with {}", letter as char));

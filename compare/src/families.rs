@@ -230,7 +230,7 @@ pub fn small_program(random: &mut Random) -> (Vec<u8>, Program) {
 }
 
 /// The rules read from a text, with their numbers in a random order.
-fn in_any_order(mut rules: Vec<Rule>, random: &mut Random) -> (Vec<u8>, Program) {
+pub fn in_any_order(mut rules: Vec<Rule>, random: &mut Random) -> (Vec<u8>, Program) {
     if random.percent(10) {
         programs::scatter(&mut rules, random);
     }

@@ -2,8 +2,10 @@
 //! From the repository's root, after `rt staticlib exports` and `rt check verdict`:
 //! cargo run --release --offline --package compare
 //! Usage: compare [--seed N] [--count N] [--verdict PATH|none] [--only FAMILY/INDEX]
+//!        compare --prove PATH [--seed N] [--count N] [--only prove/INDEX]
 //! --count says how many programs are refuted; the other random families grow with it. --verdict names the program `verdict`,
-//! which is target/bin/verdict otherwise, or leaves it out. --only runs one input again, as a failure names it.
+//! which is target/bin/verdict otherwise, or leaves it out. --only runs one input again, as a failure names it. --prove names the command
+//! `aspdrupe`: it is run on --count random programs, and each must get a proof that is accepted or an answer set (prove.rs), nothing else.
 //! The last line is 'N passed, M failed'; the exit status is 0 exactly when nothing failed.
 
 #![forbid(unsafe_code)]
@@ -15,6 +17,7 @@ mod comparison;
 mod families;
 mod merges;
 mod packets;
+mod prove;
 mod reference;
 mod shrink;
 mod tables;
@@ -27,16 +30,18 @@ use binary::Binary;
 use comparison::Comparison;
 use families::{families, Family};
 use inputs::random::Random;
+use prove::Prover;
 
 struct Arguments {
     seed: u64,
     count: u64,
     verdict: String,
+    prove: Option<String>,
     only: Option<(String, u64)>,
 }
 
 fn arguments() -> Result<Arguments, String> {
-    let mut given = Arguments { seed: 20_261_115, count: 2_000, verdict: String::from("target/bin/verdict"), only: None };
+    let mut given = Arguments { seed: 20_261_115, count: 2_000, verdict: String::from("target/bin/verdict"), prove: None, only: None };
     let mut words = std::env::args().skip(1);
     while let Some(word) = words.next() {
         let value = words.next().ok_or(format!("{word} needs a value"))?;
@@ -44,8 +49,9 @@ fn arguments() -> Result<Arguments, String> {
             "--seed" => given.seed = value.parse().map_err(|_| format!("{value} is no seed"))?,
             "--count" => given.count = value.parse().map_err(|_| format!("{value} is no count"))?,
             "--verdict" => given.verdict = value,
+            "--prove" => given.prove = Some(value),
             "--only" => given.only = Some(input_named(&value).ok_or(format!("{value} is no FAMILY/INDEX"))?),
-            _ => return Err(format!("{word} is not known; known are --seed, --count, --verdict and --only")),
+            _ => return Err(format!("{word} is not known; known are --seed, --count, --verdict, --prove and --only")),
         }
     }
     Ok(given)
@@ -53,12 +59,12 @@ fn arguments() -> Result<Arguments, String> {
 
 fn input_named(place: &str) -> Option<(String, u64)> {
     let (family, index) = place.split_once('/')?;
-    let known = families().iter().any(|listed| listed.name == family);
+    let known = family == "prove" || families().iter().any(|listed| listed.name == family);
     Some((String::from(family), index.parse().ok()?)).filter(|_| known)
 }
 
 fn main() -> ExitCode {
-    match arguments().and_then(compare) {
+    match arguments().and_then(|given| if given.prove.is_some() { prove(given) } else { compare(given) }) {
         Ok(true) => ExitCode::SUCCESS,
         Ok(false) => ExitCode::FAILURE,
         Err(message) => {
@@ -66,6 +72,17 @@ fn main() -> ExitCode {
             ExitCode::from(2)
         }
     }
+}
+
+/// A run of `aspdrupe prove` on random programs; whether nothing failed.
+fn prove(given: Arguments) -> Result<bool, String> {
+    let command = given.prove.unwrap_or_default();
+    let prover = Prover::of(&command).map_err(|error| format!("{command}: {error}"))?;
+    let mut comparison = Comparison::of(None);
+    let indexes = given.only.map_or(0..given.count, |(_, index)| index..index.saturating_add(1));
+    prove::run(&mut comparison, &prover, given.seed, indexes);
+    println!("{} passed, {} failed", comparison.passed, comparison.failed);
+    Ok(comparison.failed == 0)
 }
 
 /// The whole run; whether nothing failed.

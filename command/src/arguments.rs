@@ -1,0 +1,179 @@
+//! Subcommands, and the words of the command line that stand behind one.
+
+use std::ffi::{OsStr, OsString};
+use std::path::{Path, PathBuf};
+
+use crate::outcome::{Failure, Outcome};
+
+/// A subcommand: how it is called, and what it does.
+pub struct Subcommand {
+    pub name: &'static str,
+    /// What stands behind the name.
+    pub form: &'static str,
+    /// One sentence for the overview.
+    pub about: &'static str,
+    /// More of it, for the subcommand's own help.
+    pub more: &'static str,
+    /// The options with a value, beside `--json` and `--help`.
+    pub options: &'static [&'static str],
+    /// The fewest and the most operands.
+    pub operands: (usize, usize),
+    pub run: fn(&Words) -> Result<Outcome, Failure>,
+}
+
+/// What is given behind a subcommand's name.
+pub enum Given {
+    Help,
+    Work(Words),
+}
+
+/// Operands, and options with their values.
+#[derive(Debug, Default, PartialEq, Eq)]
+pub struct Words {
+    operands: Vec<OsString>,
+    values: Vec<(&'static str, OsString)>,
+}
+
+/// The words of a table or a store that may be asked for: 64 MB.
+const MOST_WORDS: usize = 1 << 24;
+
+/// The words of the table and of the store that the program `verdict` has.
+pub const ROOM: usize = 16_384;
+
+impl Words {
+    /// An operand as a path.
+    pub fn path(&self, place: usize) -> Result<&Path, Failure> {
+        self.operand(place).map(Path::new)
+    }
+
+    pub fn operand(&self, place: usize) -> Result<&OsStr, Failure> {
+        self.operands.get(place).map(OsString::as_os_str).ok_or_else(|| Failure::misuse("an operand is missing"))
+    }
+
+    /// The operands from a place on, as text.
+    pub fn texts_from(&self, place: usize) -> Vec<String> {
+        self.operands.iter().skip(place).map(|word| word.to_string_lossy().into_owned()).collect()
+    }
+
+    /// The value of an option, as text.
+    pub fn text(&self, option: &str) -> Option<String> {
+        self.value(option).map(|value| value.to_string_lossy().into_owned())
+    }
+
+    /// The value of an option, as a path.
+    pub fn output(&self, option: &str) -> Option<PathBuf> {
+        self.value(option).map(PathBuf::from)
+    }
+
+    /// The words of `--table` or `--store`.
+    pub fn room(&self, option: &str) -> Result<usize, Failure> {
+        let Some(value) = self.value(option) else { return Ok(ROOM) };
+        let words = value.to_str().and_then(|text| text.parse().ok()).filter(|words| *words <= MOST_WORDS);
+        words.ok_or_else(|| {
+            Failure::misuse(format!("{option} takes a number of words up to {MOST_WORDS}, not `{}`", value.to_string_lossy()))
+        })
+    }
+
+    fn value(&self, option: &str) -> Option<&OsStr> {
+        self.values.iter().find(|(name, _)| *name == option).map(|(_, value)| value.as_os_str())
+    }
+}
+
+/// Reads the words behind a subcommand's name. `--` ends the options.
+pub fn read(subcommand: &Subcommand, words: &[OsString]) -> Result<Given, String> {
+    let mut given = Words::default();
+    let mut words = words.iter();
+    while let Some(word) = words.next() {
+        let text = word.to_str().unwrap_or("");
+        match text {
+            "--help" | "-h" => return Ok(Given::Help),
+            "--json" => {}
+            "--" => given.operands.extend(words.by_ref().cloned()),
+            _ if text.starts_with('-') && text.len() > 1 => {
+                let listed = subcommand.options.iter().find(|option| **option == text);
+                let option = listed.ok_or(format!("there is no option `{text}`"))?;
+                let value = words.next().ok_or(format!("`{text}` needs a value"))?;
+                if given.value(option).is_some() {
+                    return Err(format!("`{text}` stands twice"));
+                }
+                given.values.push((option, value.clone()));
+            }
+            _ => given.operands.push(word.clone()),
+        }
+    }
+    let (fewest, most) = subcommand.operands;
+    match given.operands.len() {
+        count if count < fewest => Err(format!("too few operands: aspdrupe {} {}", subcommand.name, subcommand.form)),
+        count if count > most => Err(format!("too many operands: aspdrupe {} {}", subcommand.name, subcommand.form)),
+        _ => Ok(Given::Work(given)),
+    }
+}
+
+/// The help of the whole command.
+pub fn overview(subcommands: &[&Subcommand]) -> String {
+    let mut text = String::from("aspdrupe: from a program to a certified answer. What decides is a proved library.\n\n");
+    for subcommand in subcommands {
+        text += &format!("  aspdrupe {} {}\n      {}\n", subcommand.name, subcommand.form, subcommand.about);
+    }
+    text + "\n" + STATUS
+}
+
+/// The help of a subcommand.
+pub fn help(subcommand: &Subcommand) -> String {
+    format!("aspdrupe {} {}\n\n{}\n\n{}\n\n{STATUS}", subcommand.name, subcommand.form, subcommand.about, subcommand.more)
+}
+
+const STATUS: &str = "Everywhere: --help; --json prints one object. `--` ends the options.
+Results go to the standard output, words for people to the standard error.
+Exit status: 0 'inconsistent' or 'yes', 10 'open' or 'no', 20 a refusal, 2 misuse (arguments, files, missing tools).\n";
+
+#[cfg(test)]
+mod tests {
+    use super::*;
+
+    const SAMPLE: Subcommand = Subcommand {
+        name: "sample",
+        form: "FILE..",
+        about: "",
+        more: "",
+        options: &["-o", "--store"],
+        operands: (1, 2),
+        run: |_| Err(Failure::misuse("")),
+    };
+
+    fn given(line: &str) -> Result<Words, String> {
+        let words: Vec<OsString> = line.split_whitespace().map(OsString::from).collect();
+        match read(&SAMPLE, &words)? {
+            Given::Help => Err(String::from("help")),
+            Given::Work(words) => Ok(words),
+        }
+    }
+
+    #[test]
+    fn options_and_operands() {
+        let words = given("--json a -o out b").unwrap();
+        assert_eq!(words.texts_from(0), ["a", "b"]);
+        assert_eq!(words.output("-o"), Some(PathBuf::from("out")));
+        assert_eq!(words.room("--store"), Ok(ROOM));
+        assert_eq!(given("-- -o --help").unwrap().texts_from(0), ["-o", "--help"]);
+        assert_eq!(given("a --store 7").unwrap().room("--store"), Ok(7));
+        assert_eq!(given("- -").unwrap().texts_from(1), ["-"]);
+    }
+
+    #[test]
+    fn misuse() {
+        for (line, part) in [
+            ("", "too few"),
+            ("a b c", "too many"),
+            ("a -x", "no option `-x`"),
+            ("a -o", "needs a value"),
+            ("a -o b -o c", "twice"),
+            ("a b --help", "help"),
+        ] {
+            assert!(given(line).unwrap_err().contains(part), "{line}");
+        }
+        for value in ["-1", "x", "16777217", "99999999999999999999"] {
+            assert!(given(&format!("a --store {value}")).unwrap().room("--store").is_err(), "{value}");
+        }
+    }
+}

@@ -1,0 +1,84 @@
+//! Files read whole, and files written whole or not at all.
+
+use std::fs::{self, File, OpenOptions};
+use std::io::{self, Read, Write};
+use std::path::{Path, PathBuf};
+
+use crate::outcome::Failure;
+
+/// The most bytes of a text that the library takes.
+pub const TEXT_LIMIT: usize = 65_535;
+
+/// The file's bytes; of a longer file the first so many and one more, so that its length can be refused.
+pub fn read(path: &Path, limit: usize) -> Result<Vec<u8>, Failure> {
+    let mut bytes = Vec::new();
+    let opened = File::open(path).and_then(|file| file.take(limit as u64 + 1).read_to_end(&mut bytes));
+    opened.map_err(|error| Failure::misuse(format!("{} cannot be read: {}", path.display(), reason(&error))))?;
+    Ok(bytes)
+}
+
+/// Writes the file beside its place and renames it, so that no half of it is ever there. What is no regular file, like a device or a pipe, is
+/// written as it is.
+pub fn write(path: &Path, bytes: &[u8]) -> Result<(), Failure> {
+    let written = match fs::metadata(path) {
+        Ok(about) if about.is_dir() => Err(io::Error::from(io::ErrorKind::IsADirectory)),
+        Ok(about) if !about.is_file() => OpenOptions::new().write(true).open(path).and_then(|mut file| file.write_all(bytes)),
+        Ok(_) => fs::canonicalize(path).and_then(|place| write_beside(&place, bytes)),
+        Err(_) => write_beside(path, bytes),
+    };
+    written.map_err(|error| Failure::misuse(format!("{} cannot be written: {}", path.display(), reason(&error))))
+}
+
+fn write_beside(path: &Path, bytes: &[u8]) -> io::Result<()> {
+    let beside = beside(path)?;
+    let mut file = OpenOptions::new().write(true).create_new(true).open(&beside)?;
+    let written = file.write_all(bytes).and_then(|()| file.sync_all()).and_then(|()| fs::rename(&beside, path));
+    if written.is_err() {
+        let _ = fs::remove_file(&beside);
+    }
+    written
+}
+
+/// A hidden name in the same folder that no other run takes.
+fn beside(path: &Path) -> io::Result<PathBuf> {
+    let name = path.file_name().ok_or(io::ErrorKind::InvalidInput)?;
+    let mut hidden = std::ffi::OsString::from(".");
+    hidden.push(name);
+    hidden.push(format!(".{}", std::process::id()));
+    Ok(path.with_file_name(hidden))
+}
+
+/// The system's words without its number.
+pub fn reason(error: &io::Error) -> String {
+    let words = error.to_string();
+    words.split_once(" (os error").map_or(words.clone(), |(before, _)| String::from(before))
+}
+
+#[cfg(test)]
+mod tests {
+    use super::*;
+
+    #[test]
+    fn written_whole_or_not_at_all() {
+        let folder = std::env::temp_dir().join(format!("aspdrupe-files-{}", std::process::id()));
+        fs::create_dir_all(&folder).unwrap();
+        let path = folder.join("out");
+        write(&path, b"one").unwrap();
+        write(&path, b"two").unwrap();
+        assert_eq!(read(&path, 9).unwrap(), b"two");
+        assert_eq!(read(&path, 1).unwrap(), b"tw");
+        assert_eq!(fs::read_dir(&folder).unwrap().count(), 1);
+        let missing = write(&folder.join("no/out"), b"three").unwrap_err();
+        assert!(missing.message.ends_with("cannot be written: No such file or directory"), "{}", missing.message);
+        assert!(write(&folder, b"four").unwrap_err().message.ends_with("is a directory"));
+        assert!(read(&folder, 9).unwrap_err().message.ends_with("cannot be read: Is a directory"));
+        fs::remove_dir_all(folder).unwrap();
+    }
+
+    #[test]
+    fn devices_stay() {
+        assert!(write(Path::new("/dev/full"), b"text").unwrap_err().message.ends_with("No space left on device"));
+        assert!(!fs::metadata("/dev/full").unwrap().is_file());
+        write(Path::new("/dev/null"), b"text").unwrap();
+    }
+}

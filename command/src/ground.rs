@@ -1,0 +1,60 @@
+//! `aspdrupe ground`: the ground program of a plan, cut down to what the checker takes.
+
+use crate::arguments::{Subcommand, Words};
+use crate::json::Json;
+use crate::names::Names;
+use crate::outcome::{Failure, Outcome, Status};
+use crate::{explain, files, library, source};
+
+pub const SUBCOMMAND: Subcommand = Subcommand {
+    name: "ground",
+    form: "PLAN.lp [-o OUT.aspif]",
+    about: "Grounds a plan with gringo and keeps what the checker takes; says of everything dropped why it cannot matter.",
+    more: "Without -o the ground program goes to the standard output. With it the names of atoms are kept too, in a file beside OUT.aspif that ends in
+`.names`: `prove` and `test` then show atoms by name. A program that is ground already is cut down in the same way.
+Output, minimize, project and heuristic statements are dropped. External, assumption, edge and theory statements and
+disjunctive heads are refused.",
+    options: &["-o"],
+    operands: (1, 1),
+    run,
+};
+
+fn run(words: &Words) -> Result<Outcome, Failure> {
+    let ground = source::load(words.path(0)?)?;
+    let program = match library::read_program(&ground.text, library::EVERY_TABLE)? {
+        Ok(program) => program,
+        Err(refusal) => {
+            let mut outcome = explain::program(refusal, &ground.text);
+            outcome.words.insert(0, String::from("the ground program is none that the checker takes:"));
+            return Ok(outcome);
+        }
+    };
+    let mut outcome = Outcome {
+        status: Status::Good,
+        line: String::new(),
+        words: ground.notes,
+        fields: vec![
+            ("atoms", Json::count(program.atoms)),
+            ("rules", Json::count(program.rules)),
+            ("names", Json::count(ground.names.count())),
+        ],
+    };
+    match words.output("-o") {
+        Some(path) if path.extension().is_some_and(|ending| ending == "names") => {
+            return Err(Failure::misuse(format!("{} is a place for names: another ending, like `.aspif`", path.display())));
+        }
+        Some(path) => {
+            files::write(&path, &ground.text)?;
+            if path.is_file() {
+                files::write(&Names::path(&path), ground.names.text().as_bytes())?;
+            }
+            outcome.line = format!("ground {} {}", program.atoms, program.rules);
+            outcome.words.push(format!("largest atom {}, {} rules: {}", program.atoms, program.rules, path.display()));
+        }
+        None => {
+            outcome.line = String::from_utf8_lossy(&ground.text).into_owned();
+            outcome.fields.push(("program", Json::text(&outcome.line)));
+        }
+    }
+    Ok(outcome)
+}

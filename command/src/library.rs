@@ -1,0 +1,48 @@
+//! The library's calls with the memory that they are lent.
+
+use aspdrupe::{ProgramReading, ProgramRefusal, SetAnswer, Verdict, MARKS};
+
+use crate::outcome::Failure;
+
+/// Words of a table that hold the rules of every program: none has more words than its text has bytes.
+pub const EVERY_TABLE: usize = 65_536;
+
+/// A program that the library has read.
+pub struct Program {
+    /// N, the largest atom.
+    pub atoms: usize,
+    /// The number of rules.
+    pub rules: usize,
+    /// The words of the rules, with 0 after them.
+    pub table: Vec<i32>,
+}
+
+/// Reads a program with a table of so many words.
+pub fn read_program(text: &[u8], words: usize) -> Result<Result<Program, ProgramRefusal>, Failure> {
+    let mut table = lent(words)?;
+    Ok(match aspdrupe::read_program(text, &mut table)? {
+        ProgramReading::Read { atoms, rules } => Ok(Program { atoms, rules, table }),
+        ProgramReading::Refused(refusal) => Err(refusal),
+    })
+}
+
+/// Tests a set that is strictly ascending; the answer, and the least model's atoms.
+pub fn test_set(program: &Program, set: &[u16]) -> Result<(SetAnswer, Vec<bool>), Failure> {
+    let mut marks = vec![0; MARKS];
+    let answer = aspdrupe::test_set(&program.table, program.rules, set, &mut marks)?;
+    Ok((answer, marks.iter().map(|mark| *mark == 1).collect()))
+}
+
+/// The whole check, with a table and a store of so many words.
+pub fn check_texts(program: &[u8], proof: &[u8], table: usize, store: usize) -> Result<Verdict, Failure> {
+    let (mut table, mut store) = (lent(table)?, lent(store)?);
+    Ok(aspdrupe::check_texts(program, proof, &mut table, &mut store)?)
+}
+
+/// So many words, or a reason why there are none.
+pub fn lent<T: Clone + Default>(length: usize) -> Result<Vec<T>, Failure> {
+    let mut memory = Vec::new();
+    memory.try_reserve_exact(length).map_err(|_| Failure::misuse(format!("there is no memory for {length} words")))?;
+    memory.resize(length, T::default());
+    Ok(memory)
+}

@@ -1,0 +1,141 @@
+//! The command `aspdrupe`: from a program to a certified answer. What decides is the proved library (`bindings/rust`); here files are read,
+//! gringo and cadical are run, and what the library says is shown. `aspdrupe --help` has the subcommands.
+
+#![forbid(unsafe_code)]
+
+mod arguments;
+mod check;
+mod explain;
+mod files;
+mod ground;
+mod json;
+mod library;
+mod locate;
+mod merge;
+mod names;
+mod outcome;
+mod packet;
+mod progress;
+mod prove;
+mod quote;
+mod rules;
+mod set_test;
+mod source;
+mod statements;
+mod tools;
+mod trim;
+
+use std::ffi::OsString;
+use std::io::Write;
+use std::process::ExitCode;
+
+use arguments::{Given, Subcommand};
+use json::Json;
+use outcome::{Failure, Outcome, Status};
+
+/// In the order in which `--help` lists them.
+const SUBCOMMANDS: [&Subcommand; 7] = [
+    &prove::SUBCOMMAND,
+    &check::SUBCOMMAND,
+    &set_test::SUBCOMMAND,
+    &ground::SUBCOMMAND,
+    &trim::SUBCOMMAND,
+    &merge::SUBCOMMAND,
+    &packet::SUBCOMMAND,
+];
+
+/// The bytes of stack for everything: four times those of the library's largest call.
+const STACK: usize = 4 * aspdrupe::MERGE_STACK;
+
+fn main() -> ExitCode {
+    let words = std::env::args_os().skip(1).collect();
+    let run = std::thread::Builder::new().stack_size(STACK).spawn(|| run(words));
+    let status = match run.map(|running| running.join()) {
+        Ok(Ok(status)) => status,
+        Ok(Err(_)) => Status::Misuse,
+        Err(error) => {
+            say(&format!("there is no room for a thread: {error}"));
+            Status::Misuse
+        }
+    };
+    ExitCode::from(status as u8)
+}
+
+/// The whole run; its status.
+fn run(words: Vec<OsString>) -> Status {
+    let json = words.iter().any(|word| word == "--json");
+    let (name, outcome) = outcome(words);
+    let written = match &outcome {
+        Ok(outcome) => show(name, outcome, json),
+        Err(failure) => show_failure(name, failure, json),
+    };
+    match (written, outcome) {
+        (Ok(()), Ok(outcome)) => outcome.status,
+        (Ok(()), Err(failure)) => failure.status,
+        (Err(error), _) => {
+            say(&format!("the answer cannot be written: {error}"));
+            Status::Misuse
+        }
+    }
+}
+
+/// What the words come to, with the subcommand's name where one is named.
+fn outcome(words: Vec<OsString>) -> (&'static str, Result<Outcome, Failure>) {
+    let Some((first, others)) = words.split_first() else {
+        return ("", Err(Failure::misuse("which subcommand? `aspdrupe --help` lists them")));
+    };
+    if first == "--help" || first == "-h" || first == "help" {
+        return ("", Ok(Outcome::text(arguments::overview(&SUBCOMMANDS))));
+    }
+    if first == "--version" {
+        return ("", Ok(Outcome::text(format!("aspdrupe {}", env!("CARGO_PKG_VERSION")))));
+    }
+    let Some(subcommand) = SUBCOMMANDS.iter().find(|listed| first == listed.name) else {
+        let message = format!("there is no subcommand `{}`; `aspdrupe --help` lists them", first.to_string_lossy());
+        return ("", Err(Failure::misuse(message)));
+    };
+    let run = match arguments::read(subcommand, others) {
+        Ok(Given::Help) => Ok(Outcome::text(arguments::help(subcommand))),
+        Ok(Given::Work(given)) => (subcommand.run)(&given),
+        Err(message) => Err(Failure::misuse(format!("{message}; `aspdrupe {} --help` says more", subcommand.name))),
+    };
+    (subcommand.name, run)
+}
+
+/// Writes the result to the standard output and the words for people to the standard error.
+fn show(name: &str, outcome: &Outcome, json: bool) -> std::io::Result<()> {
+    outcome.words.iter().for_each(|line| say(line));
+    let mut result = if json { whole(name, outcome.status, outcome.fields.clone()).to_string() } else { outcome.line.clone() };
+    if !result.is_empty() && !result.ends_with('\n') {
+        result.push('\n');
+    }
+    print(&result)
+}
+
+fn show_failure(name: &str, failure: &Failure, json: bool) -> std::io::Result<()> {
+    say(&failure.message);
+    if json {
+        let fields = vec![("error", Json::text(&failure.message))];
+        return print(&format!("{}\n", whole(name, failure.status, fields)));
+    }
+    Ok(())
+}
+
+fn whole(name: &str, status: Status, fields: Vec<(&'static str, Json)>) -> Json {
+    let before = [("command", Json::text(name)), ("status", Json::Number(status as i64))];
+    Json::Object(before.into_iter().chain(fields).collect())
+}
+
+/// A reader of the output that has enough closes it: that is no fault.
+fn print(text: &str) -> std::io::Result<()> {
+    let mut out = std::io::stdout().lock();
+    match out.write_all(text.as_bytes()).and_then(|()| out.flush()) {
+        Err(error) if error.kind() == std::io::ErrorKind::BrokenPipe => Ok(()),
+        written => written,
+    }
+}
+
+/// A line for people. Where the standard error cannot be written there is no one to tell.
+pub fn say(line: &str) {
+    let _ = writeln!(std::io::stderr(), "{line}");
+}

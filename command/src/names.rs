@@ -1,0 +1,163 @@
+//! Names of atoms: the output statements of a ground program. They stand in a file beside the program's, with the ending `names`, and say which
+//! term is shown where a condition holds.
+
+use std::path::{Path, PathBuf};
+
+use crate::files;
+use crate::outcome::Failure;
+use crate::rules::{Body, Rule};
+
+/// The most bytes of such a file.
+const LIMIT: usize = 1 << 24;
+
+/// A term, and the literals under which it is shown.
+#[derive(Debug, Clone, PartialEq, Eq)]
+struct Term {
+    text: String,
+    condition: Vec<i32>,
+}
+
+/// All terms, in the order of the statements.
+#[derive(Debug, Clone, Default, PartialEq, Eq)]
+pub struct Names(Vec<Term>);
+
+impl Names {
+    /// Takes an output statement in: `4`, the term's bytes and the term, the count of literals and the literals. Whether it is one.
+    pub fn take(&mut self, statement: &[u8]) -> bool {
+        let term = term_of(statement);
+        self.0.extend(term.clone());
+        term.is_some()
+    }
+
+    /// The names that stand beside a program's file; none where there is no such file.
+    pub fn beside(program: &Path) -> Result<Names, Failure> {
+        let path = Names::path(program);
+        let mut names = Names::default();
+        if path != program && path.is_file() {
+            for line in files::read(&path, LIMIT)?.split(|byte| *byte == b'\n') {
+                names.take(line);
+            }
+        }
+        Ok(names)
+    }
+
+    /// Where the names of a program's file stand.
+    pub fn path(program: &Path) -> PathBuf {
+        program.with_extension("names")
+    }
+
+    /// The statements.
+    pub fn text(&self) -> String {
+        let statement = |term: &Term| {
+            let literals: String = term.condition.iter().map(|literal| format!(" {literal}")).collect();
+            format!("4 {} {} {}{literals}\n", term.text.len(), term.text, term.condition.len())
+        };
+        self.0.iter().map(statement).collect()
+    }
+
+    pub fn is_empty(&self) -> bool {
+        self.0.is_empty()
+    }
+
+    pub fn count(&self) -> usize {
+        self.0.len()
+    }
+
+    /// The atom with that name.
+    pub fn atom(&self, name: &str) -> Option<i32> {
+        let named = |term: &&Term| term.text == name && matches!(term.condition[..], [atom] if atom > 0);
+        self.0.iter().find(named).map(|term| term.condition[0])
+    }
+
+    /// An atom's name, or its number where it has none.
+    pub fn of(&self, atom: i32) -> String {
+        let named = self.0.iter().find(|term| term.condition[..] == [atom]);
+        named.map_or(format!("#{atom}"), |term| term.text.clone())
+    }
+
+    /// What a set shows: each term whose condition holds; without names the atoms' numbers.
+    pub fn shown(&self, set: &[u16]) -> Vec<String> {
+        if self.is_empty() {
+            return set.iter().map(u16::to_string).collect();
+        }
+        let is_in = |atom: i32| u16::try_from(atom).is_ok_and(|atom| set.binary_search(&atom).is_ok());
+        let holds = |literal: &i32| is_in(literal.saturating_abs()) == (*literal > 0);
+        self.0.iter().filter(|term| term.condition.iter().all(holds)).map(|term| term.text.clone()).collect()
+    }
+
+    /// A rule by names.
+    pub fn rule(&self, rule: &Rule) -> String {
+        let literal = |literal: &i32| format!("{}{}", if *literal < 0 { "not " } else { "" }, self.of(literal.saturating_abs()));
+        let body = match &rule.body {
+            Body::Plain(literals) => literals.iter().map(literal).collect::<Vec<_>>().join(", "),
+            Body::Weights { bound, pairs } => {
+                let element = |(of, weight): &(i32, i32)| format!("{weight}: {}", literal(of));
+                format!("#sum {{ {} }} >= {bound}", pairs.iter().map(element).collect::<Vec<_>>().join("; "))
+            }
+        };
+        let heads = rule.heads.iter().map(|head| self.of(*head)).collect::<Vec<_>>().join("; ");
+        let head = if rule.choice { format!("{{{heads}}}") } else { heads };
+        format!("{head} :- {body}.").trim_start().replace(" :- .", ".")
+    }
+}
+
+fn term_of(statement: &[u8]) -> Option<Term> {
+    let (length, rest) = number_before_space(statement.strip_prefix(b"4 ")?)?;
+    let (text, rest) = rest.split_at_checked(length)?;
+    let words = std::str::from_utf8(rest.strip_prefix(b" ")?).ok()?;
+    let mut numbers = words.split(' ').map(str::parse::<i32>);
+    let count = numbers.next()?.ok()?;
+    let condition: Vec<i32> = numbers.collect::<Result<_, _>>().ok()?;
+    let whole = usize::try_from(count) == Ok(condition.len());
+    whole.then(|| Term { text: String::from_utf8_lossy(text).into_owned(), condition })
+}
+
+fn number_before_space(text: &[u8]) -> Option<(usize, &[u8])> {
+    let space = text.iter().position(|byte| *byte == b' ')?;
+    let number = std::str::from_utf8(&text[..space]).ok()?.parse().ok()?;
+    Some((number, &text[space + 1..]))
+}
+
+#[cfg(test)]
+mod tests {
+    use super::*;
+
+    fn names() -> Names {
+        let mut names = Names::default();
+        for line in ["4 4 a(1) 1 1", "4 7 b(\"x y\" 1 2", "4 1 f 0", "4 1 t 2 3 -9"] {
+            assert!(names.take(line.as_bytes()), "{line}");
+        }
+        names
+    }
+
+    #[test]
+    fn terms_of_sets() {
+        let names = names();
+        assert_eq!(names.shown(&[1, 2, 3]), ["a(1)", "b(\"x y\"", "f", "t"]);
+        assert_eq!(names.shown(&[9]), ["f"]);
+        assert_eq!(Names::default().shown(&[3, 5]), ["3", "5"]);
+        assert_eq!((names.atom("a(1)"), names.atom("f"), names.atom("t")), (Some(1), None, None));
+        assert_eq!([1, 3, 9].map(|atom| names.of(atom)), ["a(1)", "#3", "#9"]);
+    }
+
+    #[test]
+    fn statements_and_back() {
+        let mut again = Names::default();
+        for line in names().text().lines() {
+            assert!(again.take(line.as_bytes()));
+        }
+        assert_eq!(again, names());
+        for line in ["", "4", "4 9 a(1) 1 1", "4 4 a(1) 2 1", "4 4 a(1) x", "4 -1 a 0", "5 1 a 0", "4 1 a"] {
+            assert!(!again.take(line.as_bytes()), "{line}");
+        }
+    }
+
+    #[test]
+    fn rules_by_name() {
+        let names = names();
+        let rule = |choice, heads: &[i32], body| names.rule(&Rule { choice, heads: heads.to_vec(), body });
+        assert_eq!(rule(false, &[], Body::Plain(vec![1, -9])), ":- a(1), not #9.");
+        assert_eq!(rule(true, &[1, 9], Body::Plain(Vec::new())), "{a(1); #9}.");
+        assert_eq!(rule(false, &[9], Body::Weights { bound: 2, pairs: vec![(-1, 3)] }), "#9 :- #sum { 3: not a(1) } >= 2.");
+    }
+}

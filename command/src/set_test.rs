@@ -1,0 +1,111 @@
+//! `aspdrupe test`: whether a set of atoms is an answer set.
+
+use aspdrupe::SetAnswer;
+
+use crate::arguments::{Subcommand, Words};
+use crate::json::Json;
+use crate::library::{self, Program};
+use crate::names::Names;
+use crate::outcome::{Failure, Outcome, Status};
+use crate::rules::rules;
+use crate::statements::Ground;
+use crate::{explain, source};
+
+pub const SUBCOMMAND: Subcommand = Subcommand {
+    name: "test",
+    form: "PROGRAM ATOM..",
+    about: "Tests whether the atoms, and no others, are an answer set; if not, says which atom differs or which constraint is broken.",
+    more: "PROGRAM is a ground program or a plan. An ATOM is a number, or a name where the program has names;
+without any it is the empty set. Prints
+    yes
+    no atom N        the lowest atom that lies in just one of the set and the least model of its reduct
+    no rule N        the first broken constraint
+and on the standard error on which side the atom lies, or the constraint with its line.",
+    options: &[],
+    operands: (1, usize::MAX),
+    run,
+};
+
+fn run(words: &Words) -> Result<Outcome, Failure> {
+    let ground = source::load(words.path(0)?)?;
+    let program = match library::read_program(&ground.text, library::EVERY_TABLE)? {
+        Ok(program) => program,
+        Err(refusal) => return Ok(explain::program(refusal, &ground.text)),
+    };
+    let set = set_of(&words.texts_from(1), &ground.names)?;
+    let (answer, least_model) = library::test_set(&program, &set)?;
+    Ok(match answer {
+        SetAnswer::Yes => yes(&set, &ground.names),
+        SetAnswer::Differs(atom) => differs(atom, least_model.get(usize::from(atom)) == Some(&true), &ground.names),
+        SetAnswer::Broken(rule) => broken(rule, &program, &ground),
+        SetAnswer::Refused(question) => explain::question("set", question.number(), question.to_string(), question.mend()),
+    })
+}
+
+/// The atoms that the words name, ascending, each once.
+fn set_of(words: &[String], names: &Names) -> Result<Vec<u16>, Failure> {
+    let atom = |word: &String| {
+        let number = word.parse().ok().or_else(|| names.atom(word).and_then(|atom| u16::try_from(atom).ok()));
+        number.ok_or_else(|| Failure::misuse(format!("`{word}` is neither an atom's number nor a name that the program has")))
+    };
+    let mut set = words.iter().map(atom).collect::<Result<Vec<u16>, Failure>>()?;
+    set.sort_unstable();
+    set.dedup();
+    Ok(set)
+}
+
+fn yes(set: &[u16], names: &Names) -> Outcome {
+    let shown = names.shown(set);
+    let words = vec![format!("an answer set: {}", shown.join(" "))];
+    let fields = vec![("answer", Json::text("yes")), ("shown", Json::texts(&shown))];
+    Outcome { status: Status::Good, line: String::from("yes"), words, fields }
+}
+
+fn differs(atom: u16, in_least_model: bool, names: &Names) -> Outcome {
+    let (side, why) = if in_least_model {
+        ("least model", "the rules give it, and the set has it not")
+    } else {
+        ("set", "the set has it, and the rules do not give it")
+    };
+    let name = names.of(i32::from(atom));
+    let fields = vec![
+        ("answer", Json::text("no")),
+        ("atom", Json::Number(i64::from(atom))),
+        ("name", Json::text(&name)),
+        ("side", Json::text(side)),
+    ];
+    let words = vec![format!("no answer set: atom {atom} ({name}) is in the {side} only: {why}")];
+    Outcome { status: Status::No, line: format!("no atom {atom}"), words, fields }
+}
+
+fn broken(rule: usize, program: &Program, ground: &Ground) -> Outcome {
+    let constraint = rules(program).get(rule.wrapping_sub(1)).map_or(String::new(), |rule| ground.names.rule(rule));
+    let line = ground.lines.get(rule).copied().unwrap_or(0);
+    let text = explain::nth_line(&ground.text, rule + 1).map_or(&b""[..], |(text, _)| text);
+    let text = String::from_utf8_lossy(text).into_owned();
+    let words = vec![format!("no answer set: a constraint is broken, line {line}:"), format!("    {text}"), format!("    {constraint}")];
+    let fields = vec![
+        ("answer", Json::text("no")),
+        ("rule", Json::count(rule)),
+        ("line", Json::count(line)),
+        ("text", Json::text(&text)),
+        ("constraint", Json::text(&constraint)),
+    ];
+    Outcome { status: Status::No, line: format!("no rule {rule}"), words, fields }
+}
+
+#[cfg(test)]
+mod tests {
+    use super::*;
+
+    #[test]
+    fn sets_of_words() {
+        let mut names = Names::default();
+        names.take(b"4 1 a 1 7");
+        let words = |line: &str| line.split(' ').map(String::from).collect::<Vec<_>>();
+        assert_eq!(set_of(&words("9 a 3 9"), &names), Ok(vec![3, 7, 9]));
+        for wrong in ["b", "-3", "65536", "1.5", ""] {
+            assert!(set_of(&words(wrong), &names).is_err(), "{wrong}");
+        }
+    }
+}

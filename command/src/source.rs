@@ -1,0 +1,68 @@
+//! Where a program comes from: a plan in the input language, which gringo grounds, or a ground program.
+
+use std::ffi::OsString;
+use std::path::Path;
+
+use crate::files;
+use crate::names::Names;
+use crate::outcome::Failure;
+use crate::statements::{cut_down, Ground};
+use crate::tools::Tool;
+
+const GRINGO: Tool = Tool { name: "gringo", package: "gringo" };
+
+/// The most bytes of a ground program, the statements that go included.
+const LIMIT: usize = 1 << 24;
+
+/// The ground program of a file. A file that begins with `asp ` is ground; its names may stand beside it.
+pub fn load(path: &Path) -> Result<Ground, Failure> {
+    let bytes = files::read(path, LIMIT)?;
+    if !bytes.starts_with(b"asp ") {
+        let (text, complaints) = grounded(path)?;
+        let mut ground = cut_down(&text)?;
+        ground.notes.extend(complaints);
+        return Ok(ground);
+    }
+    if bytes.len() > LIMIT {
+        return Err(too_large());
+    }
+    let mut ground = cut_down(&bytes)?;
+    if ground.names.is_empty() {
+        ground.names = Names::beside(path)?;
+    }
+    Ok(ground)
+}
+
+fn too_large() -> Failure {
+    Failure::refused(format!("the ground program has more than {LIMIT} bytes: a smaller plan"))
+}
+
+/// The lines of gringo's complaints about a plan that it grounds all the same that are told.
+const MOST_COMPLAINTS: usize = 20;
+
+/// What gringo makes of a plan, and what it complains of.
+fn grounded(path: &Path) -> Result<(Vec<u8>, Vec<String>), Failure> {
+    // So that no file's name is an option.
+    let named = if path.is_absolute() { OsString::from(path) } else { Path::new(".").join(path).into_os_string() };
+    let mut text = Vec::new();
+    let ended = GRINGO.run(&["--output=intermediate".as_ref(), &named], b"", |line| {
+        text.extend_from_slice(line);
+        text.push(b'\n');
+        if text.len() > LIMIT {
+            Err(too_large())
+        } else {
+            Ok(())
+        }
+    })?;
+    let mut complaints = ended.complaints.lines().filter(|line| !line.trim().is_empty()).map(printable);
+    if ended.code == Some(0) {
+        return Ok((text, complaints.take(MOST_COMPLAINTS).map(|line| format!("gringo: {line}")).collect()));
+    }
+    let first = complaints.find(|line| line.contains("error")).unwrap_or(String::from("it gives no reason"));
+    Err(Failure::refused(format!("gringo does not ground {}: {first}", path.display())))
+}
+
+/// A line of another program's, without control characters and not too long.
+fn printable(line: &str) -> String {
+    line.chars().map(|letter| if letter.is_control() { '?' } else { letter }).take(300).collect()
+}

@@ -1,0 +1,170 @@
+//! What a grounder writes (ASPIF), cut down to what the checker takes: rules stay, what decides nothing about which sets are answer sets goes,
+//! and what does decide about it and is not taken is refused.
+
+use crate::names::Names;
+use crate::outcome::Failure;
+
+/// A ground program.
+#[derive(Debug)]
+pub struct Ground {
+    /// The text that the checker takes: header, rules, the line `0`.
+    pub text: Vec<u8>,
+    /// For each of its lines, the line of the text that it came from, counted from 1.
+    pub lines: Vec<usize>,
+    pub names: Names,
+    /// What was dropped or changed, and why that cannot matter.
+    pub notes: Vec<String>,
+}
+
+/// What goes, by kind of statement: what it is, and why it cannot matter.
+const DROPPED: [(&str, &str, &str); 6] = [
+    ("2", "minimize statements", "they rank answer sets, and no set becomes one or ceases to be one by them"),
+    ("3", "project statements", "they say which atoms to tell answer sets apart by"),
+    ("4", "malformed output statements", "they say what is shown"),
+    ("7", "heuristic statements", "they advise a search"),
+    ("10", "comments", "they say nothing"),
+    ("1", "rules with an atom and its negation in the body", "they never apply"),
+];
+
+/// The places of output statements and of such rules among them.
+const OUTPUT: usize = 2;
+const NEVER: usize = 5;
+
+/// Statements that are refused, by kind.
+const REFUSED: [(&str, &str); 4] = [
+    ("5", "an external statement: whether its atom holds is decided outside of the program; state it as a fact or a choice"),
+    ("6", "an assumption: it rules out answer sets; state it as a constraint"),
+    ("8", "an edge: its acyclicity rules out answer sets; state it as rules"),
+    ("9", "a theory statement: what it means is not in the program; state it as rules"),
+];
+
+/// Cuts a text down. Lines that are no statements stay as they are: the library refuses them, and says which.
+pub fn cut_down(text: &[u8]) -> Result<Ground, Failure> {
+    let mut ground = Ground { text: Vec::new(), lines: Vec::new(), names: Names::default(), notes: Vec::new() };
+    let mut dropped = [0; DROPPED.len()];
+    let mut shortened = 0;
+    for (place, line) in text.split_inclusive(|byte| *byte == b'\n').enumerate() {
+        let statement = line.strip_suffix(b"\n").unwrap_or(line);
+        let words = String::from_utf8_lossy(statement);
+        let mut kept = line.to_vec();
+        match fate(&words.split(' ').collect::<Vec<_>>(), place + 1)? {
+            Fate::Goes(OUTPUT) if ground.names.take(statement) => continue,
+            Fate::Goes(which) => {
+                dropped[which] += 1;
+                continue;
+            }
+            Fate::Shorter(numbers) => {
+                shortened += 1;
+                kept = format!("{}\n", numbers.iter().map(i64::to_string).collect::<Vec<_>>().join(" ")).into_bytes();
+            }
+            Fate::Stays => {}
+        }
+        ground.text.extend(kept);
+        ground.lines.push(place + 1);
+    }
+    let counted = DROPPED.iter().zip(dropped).filter(|(_, count)| *count > 0);
+    ground.notes.extend(counted.map(|((_, what, why), count)| format!("dropped, which cannot matter: {count} {what}; {why}")));
+    if shortened > 0 {
+        ground.notes.push(format!("shortened, which cannot matter: {shortened} rules that named a literal twice"));
+    }
+    Ok(ground)
+}
+
+/// What becomes of a line.
+enum Fate {
+    Stays,
+    /// A rule that is written without a literal's second mention.
+    Shorter(Vec<i64>),
+    /// It goes, by its place in the list of what goes.
+    Goes(usize),
+}
+
+/// What becomes of the line with these words; the header stays.
+fn fate(words: &[&str], line: usize) -> Result<Fate, Failure> {
+    let kind = words.first().copied().unwrap_or("");
+    if let Some((_, why)) = REFUSED.iter().find(|(refused, _)| *refused == kind) {
+        return Err(Failure::refused(format!("line {line} of the ground program is {why}")));
+    }
+    match DROPPED.iter().position(|(dropped, _, _)| *dropped == kind) {
+        _ if kind == "1" => rule(words, line),
+        Some(which) => Ok(Fate::Goes(which)),
+        None => Ok(Fate::Stays),
+    }
+}
+
+/// A rule with a plain body is a set of literals: one that is written twice counts once, and with its complement the body never holds.
+fn rule(words: &[&str], line: usize) -> Result<Fate, Failure> {
+    let Ok(numbers) = words.iter().map(|word| word.parse::<i64>()).collect::<Result<Vec<_>, _>>() else { return Ok(Fate::Stays) };
+    let [1, kind, count, ..] = numbers[..] else { return Ok(Fate::Stays) };
+    if kind == 0 && count > 1 {
+        let why = "a rule with a disjunctive head, which the checker does not take; shift it, where that keeps its answer sets, or choose";
+        return Err(Failure::refused(format!("line {line} of the ground program is {why}")));
+    }
+    let body = usize::try_from(count).ok().and_then(|count| count.checked_add(3));
+    let Some((before, [0, size, literals @ ..])) = body.and_then(|at| numbers.split_at_checked(at)) else { return Ok(Fate::Stays) };
+    if usize::try_from(*size) != Ok(literals.len()) {
+        return Ok(Fate::Stays);
+    }
+    let mut once: Vec<i64> = Vec::new();
+    for literal in literals {
+        if !once.contains(literal) {
+            once.push(*literal);
+        }
+    }
+    if once.iter().any(|literal| *literal != 0 && literal.checked_neg().is_some_and(|other| once.contains(&other))) {
+        return Ok(Fate::Goes(NEVER));
+    }
+    if once.len() == literals.len() {
+        return Ok(Fate::Stays);
+    }
+    let mut shorter = before.to_vec();
+    shorter.extend([0, once.len() as i64]);
+    shorter.extend(once);
+    Ok(Fate::Shorter(shorter))
+}
+
+#[cfg(test)]
+mod tests {
+    use super::*;
+
+    #[test]
+    fn rules_stay_and_names_are_kept() {
+        let text = b"asp 1 0 0\n1 0 1 1 0 0\n2 0 1 6 1\n4 1 a 1 1\n1 0 1 8 0 2 2 2\n1 0 0 0 2 -2 2\n10 note\n1 0 0 1 2 1 3 2\n0\n";
+        let ground = cut_down(text).unwrap();
+        assert_eq!(ground.text, b"asp 1 0 0\n1 0 1 1 0 0\n1 0 1 8 0 1 2\n1 0 0 1 2 1 3 2\n0\n");
+        assert_eq!(ground.lines, [1, 2, 5, 8, 9]);
+        assert_eq!(ground.names.of(1), "a");
+        let parts = ["1 minimize", "1 comments", "1 rules with an atom and its negation", "1 rules that named"];
+        assert!(ground.notes.iter().zip(parts).all(|(note, part)| note.contains(part)), "{:?}", ground.notes);
+        assert_eq!(ground.notes.len(), parts.len());
+    }
+
+    #[test]
+    fn output_statements() {
+        let ground = cut_down(b"asp 1 0 0\n4 3 a\xe9b 1 1\n4 9 a 1 1\n1 0 1 1 0 0\n0\n").unwrap();
+        assert_eq!((ground.names.count(), ground.lines), (1, vec![1, 4, 5]));
+        assert_eq!(ground.notes, ["dropped, which cannot matter: 1 malformed output statements; they say what is shown"]);
+    }
+
+    #[test]
+    fn what_matters_is_refused() {
+        for (line, part) in
+            [("5 1 2", "external"), ("6 1 2", "assumption"), ("8 0 1 0", "edge"), ("9 0 1 2", "theory"), ("1 0 2 1 2 0 0", "disjunctive")]
+        {
+            let failure = cut_down(format!("asp 1 0 0\n{line}\n0\n").as_bytes()).unwrap_err();
+            assert!(failure.message.contains(part) && failure.message.starts_with("line 2 "), "{}", failure.message);
+        }
+    }
+
+    #[test]
+    fn other_lines_stay() {
+        for text in [
+            &b""[..],
+            b"\xff\n\xfe",
+            b"asp 1 0 0\n1 0 1 1 0 9 1\nnoise\n\n0\nmore",
+            b"1 0 -1 0\n1 1 9223372036854775807 1\n1 0 0 0 1 -9223372036854775808\n1 1\n",
+        ] {
+            assert_eq!(cut_down(text).unwrap().text, text);
+        }
+    }
+}

@@ -1,0 +1,391 @@
+//! The command as it is called: answers and exit statuses on the examples, and bad inputs of every kind. No gringo and no cadical is needed: where
+//! a tool is asked for, a script stands in its place.
+
+use std::fs;
+use std::os::unix::fs::PermissionsExt;
+use std::path::{Path, PathBuf};
+use std::process::{Command, Output, Stdio};
+
+const EXAMPLES: &str = concat!(env!("CARGO_MANIFEST_DIR"), "/../examples");
+
+/// A program with the answer set {1}, and one with none.
+const GOOD: &str = "asp 1 0 0\n1 1 1 1 0 0\n1 0 0 0 1 -1\n0\n";
+const NONE: &str = "asp 1 0 0\n1 0 1 1 0 1 -1\n0\n";
+
+/// A folder that goes when the test ends, with a folder for tools in it.
+struct Room(PathBuf);
+
+impl Room {
+    fn of(name: &str) -> Room {
+        let path = std::env::temp_dir().join(format!("aspdrupe-{name}-{}", std::process::id()));
+        fs::create_dir_all(path.join("tools")).unwrap();
+        Room(path)
+    }
+
+    fn file(&self, name: &str, text: impl AsRef<[u8]>) -> PathBuf {
+        let path = self.0.join(name);
+        fs::write(&path, text).unwrap();
+        path
+    }
+
+    /// A script in a tool's place.
+    fn tool(&self, name: &str, script: &str) {
+        let path = self.file(&format!("tools/{name}"), format!("#!/bin/sh\n{script}\n"));
+        fs::set_permissions(path, fs::Permissions::from_mode(0o755)).unwrap();
+    }
+
+    /// The command, with the scripts for tools.
+    fn command(&self, words: &[&str]) -> Command {
+        let mut command = Command::new(env!("CARGO_BIN_EXE_aspdrupe"));
+        command.args(words).current_dir(&self.0).env("PATH", self.0.join("tools")).stdin(Stdio::null());
+        command
+    }
+
+    /// Runs it: status, standard output, standard error.
+    fn run(&self, words: &[&str]) -> (i32, String, String) {
+        ended(self.command(words).output().unwrap())
+    }
+
+    /// The files that are there, the tools aside.
+    fn files(&self) -> Vec<String> {
+        let names = fs::read_dir(&self.0).unwrap().map(|entry| entry.unwrap().file_name().into_string().unwrap());
+        let mut names: Vec<String> = names.filter(|name| name != "tools").collect();
+        names.sort();
+        names
+    }
+}
+
+impl Drop for Room {
+    fn drop(&mut self) {
+        let _ = fs::remove_dir_all(&self.0);
+    }
+}
+
+fn ended(output: Output) -> (i32, String, String) {
+    let text = |bytes: Vec<u8>| String::from_utf8(bytes).unwrap();
+    (output.status.code().unwrap_or(-1), text(output.stdout), text(output.stderr))
+}
+
+/// One line for people, and nothing on the standard output.
+fn assert_misuse(ended: (i32, String, String), part: &str) {
+    let (status, out, said) = ended;
+    assert!(status == 2 && out.is_empty() && said.lines().count() == 1 && said.contains(part), "{status} {out:?} {said:?}, not {part:?}");
+}
+
+#[test]
+fn examples_as_verdict_says_them() {
+    let room = Room::of("examples");
+    let mut seen = [0; 3];
+    for entry in fs::read_dir(EXAMPLES).unwrap() {
+        let folder = entry.unwrap().path();
+        let Ok(expected) = fs::read_to_string(folder.join("expected")) else { continue };
+        let (program, proof) = (folder.join("case.aspif"), folder.join("case.drupe"));
+        let (status, out, said) = room.run(&["check", program.to_str().unwrap(), proof.to_str().unwrap()]);
+        assert_eq!(out, expected, "{}", folder.display());
+        let word = ["inconsistent", "open", "refused"].iter().position(|word| expected.starts_with(word)).unwrap();
+        assert_eq!(status, [0, 10, 20][word], "{}", folder.display());
+        assert_eq!(said.contains("to mend: "), word == 2, "{said}");
+        seen[word] += 1;
+    }
+    assert!(seen.iter().all(|count| *count > 1), "{seen:?}");
+}
+
+#[test]
+fn a_refusal_with_its_line() {
+    let room = Room::of("refusal");
+    room.file("p", NONE);
+    room.file("d", "b 2 -1 0\na 3 0\n");
+    let (status, out, said) = room.run(&["check", "p", "d"]);
+    assert_eq!((status, out.as_str()), (20, "refused proof 26 2\n"));
+    assert!(said.starts_with("step 2 of the proof, column 3:\n    a 3 0\n      ^\nquestion 26, answered no: "), "{said}");
+    let (_, out, _) = room.run(&["check", "p", "d", "--json"]);
+    assert!(
+        out.starts_with(
+            r#"{"command": "check", "status": 20, "refused": "proof", "number": 26, "step": 2, "column": 3, "text": "a 3 0", "#
+        ),
+        "{out}"
+    );
+    let (_, out, said) = room.run(&["check", "p", "d", "--table", "5"]);
+    assert!(out == "refused program 10 2\n" && said.contains("; --table 65536 holds every program\n"), "{said}");
+    assert_eq!(room.run(&["check", "p", "d", "--store", "6"]).1, "refused proof 34 1\n");
+}
+
+#[test]
+fn sets() {
+    let room = Room::of("sets");
+    room.file("p.aspif", "asp 1 0 0\n1 1 2 1 2 0 0\n1 0 1 3 0 1 1\n1 0 0 0 2 2 -1\n4 1 a 1 1\n0\n");
+    let test = |words: &[&str]| room.run(&[&["test", "p.aspif"], words].concat());
+    assert_eq!(test(&["3", "a", "1"]).1, "yes\n");
+    let (status, out, said) = test(&["1"]);
+    assert_eq!((status, out.as_str()), (10, "no atom 3\n"));
+    assert!(said.contains("in the least model only"), "{said}");
+    assert!(test(&["3"]).2.contains("in the set only"));
+    let (status, out, said) = test(&["2"]);
+    assert_eq!((status, out.as_str()), (10, "no rule 3\n"));
+    assert!(said.contains("line 4:\n    1 0 0 0 2 2 -1\n    :- not a, #2."), "{said}");
+    assert_eq!((test(&["9"]).0, test(&["9"]).1.as_str()), (20, "refused set 42\n"));
+    assert_misuse(test(&["b"]), "`b` is neither");
+}
+
+/// A proof of lines that stand without their closing 0, with two spaces or more between them.
+fn proof(lines: &str) -> String {
+    lines.split("  ").map(|line| format!("{} 0\n", line.trim())).collect()
+}
+
+// The examples of docs/FORMAT.md.
+#[test]
+fn packets() {
+    let room = Room::of("packets");
+    room.file("p", NONE);
+    room.file("d", proof("b 2 -1  c 2 1  s 1 2  a 1  a"));
+    assert_eq!(room.run(&["packet", "write", "p", "d", "-o", "packet"]).1, "packet 57\n");
+    let (status, out, _) = room.run(&["packet", "read", "packet", "--program", "p2", "--proof", "d2"]);
+    assert_eq!((status, out.as_str()), (0, "packet 1 35\n"));
+    for (name, same) in [("p", "p2"), ("d", "d2")] {
+        assert_eq!(fs::read(room.0.join(name)).unwrap(), fs::read(room.0.join(same)).unwrap());
+    }
+    room.file("p", "asp 1 0 0\n1 0 0 1 1 1 1 1\n0\n");
+    let (status, out, said) = room.run(&["packet", "write", "p", "d", "-o", "other"]);
+    assert_eq!((status, out.as_str()), (20, "refused packet 53\n"));
+    assert!(said.ends_with("send version 2\n"), "{said}");
+    assert_eq!(room.files(), ["d", "d2", "p", "p2", "packet"]);
+}
+
+#[test]
+fn packets_of_both_versions() {
+    let room = Room::of("versions");
+    room.file("p", NONE);
+    room.file("d", proof("b 2 -1  c 2 1  s 1 2  a 1  a"));
+    assert_eq!(room.run(&["packet", "write", "p", "d", "-o", "one", "--version", "1"]).1, "packet 57\n");
+    assert_eq!(room.run(&["packet", "write", "p", "d", "-o", "two", "--version", "2"]).1, "packet 61\n");
+    assert_eq!(room.run(&["packet", "up", "one", "-o", "up"]).1, "packet 61\n");
+    let (status, out, _) = room.run(&["packet", "down", "up", "-o", "down", "--json"]);
+    assert_eq!((status, out.as_str()), (0, "{\"command\": \"packet\", \"status\": 0, \"bytes\": 57, \"version\": 1}\n"));
+    for (name, same) in [("two", "up"), ("one", "down")] {
+        assert_eq!(fs::read(room.0.join(name)).unwrap(), fs::read(room.0.join(same)).unwrap());
+    }
+    // Each is read as the version that it names, or as the one told.
+    let read = |packet: &str, more: &[&str]| room.run(&[&["packet", "read", packet, "--program", "p2", "--proof", "d2"], more].concat());
+    assert_eq!(read("one", &[]).1, "packet 1 35\n");
+    assert_eq!(read("two", &[]).1, "packet 1 35\n");
+    assert_eq!(read("two", &["--version", "2"]).1, "packet 1 35\n");
+    assert_eq!(read("two", &["--version", "1"]).1, "refused packet 51\n");
+    assert_eq!(room.run(&["packet", "up", "two", "-o", "other"]).1, "refused packet 51\n");
+    assert_eq!(room.run(&["packet", "down", "one", "-o", "other"]).1, "refused packet 51\n");
+    room.file("p", "asp 1 0 0\n1 0 0 1 1 1 1 1\n0\n");
+    assert_eq!(room.run(&["packet", "write", "p", "d", "-o", "weights", "--version", "2"]).0, 0);
+    let (status, out, said) = room.run(&["packet", "down", "weights", "-o", "other"]);
+    assert_eq!((status, out.as_str()), (20, "refused packet 61\n"));
+    assert!(said.ends_with("to mend: it stays in version 2\n"), "{said}");
+    assert_misuse(room.run(&["packet", "write", "p", "d", "-o", "other", "--version", "3"]), "--version takes 1 or 2, not `3`");
+    assert_misuse(room.run(&["packet", "up", "one", "-o", "other", "--version", "2"]), "take no --version");
+    assert_eq!(room.files(), ["d", "d2", "down", "one", "p", "p2", "two", "up", "weights"]);
+}
+
+#[test]
+fn trims() {
+    let room = Room::of("trims");
+    room.file("p", NONE);
+    room.file("d", proof("b 2 -1  c 2 1  s 1 2  e 3 2  a 1  a"));
+    let (status, out, said) = room.run(&["trim", "p", "d", "-o", "out"]);
+    assert_eq!((status, out.as_str()), (0, "inconsistent 1 1 5 6\n"));
+    assert!(said.ends_with("1 of 6 steps went; what is left has 35 bytes\n"), "{said}");
+    assert_eq!(fs::read_to_string(room.0.join("out")).unwrap(), proof("b 2 -1  c 2 1  s 1 2  a 1  a"));
+    assert_eq!(room.run(&["check", "p", "out"]).1, out);
+    assert!(room.run(&["trim", "p", "out", "--json"]).1.ends_with("\"nogoods\": 6, \"removed\": 0, \"bytes\": 35}\n"));
+    room.file("refused", proof("b 2 -1  a 3"));
+    let (status, out, said) = room.run(&["trim", "p", "refused", "-o", "other"]);
+    assert_eq!((status, out.as_str()), (20, "refused trim 60\n"));
+    assert!(said.starts_with("question 60, answered no: "), "{said}");
+    assert!(
+        said.contains("\nthe check of the proof says: refused proof 26 2\nstep 2 of the proof, column 3:\n    a 3 0\n      ^\n"),
+        "{said}"
+    );
+    assert!(room.run(&["trim", "p", "refused", "--json"]).1.contains(r#""check": {"refused": "proof", "number": 26, "step": 2, "#));
+    room.file("open", proof("b 2 -1"));
+    assert!(room.run(&["trim", "p", "open", "-o", "other"]).2.contains("\nthe check of the proof says: open 1 1 1 2\n"));
+    assert!(room.run(&["trim", "p", "d", "--store", "6", "-o", "other"]).2.contains("says: refused proof 34 1\n"));
+    assert_eq!(room.run(&["trim", "d", "d", "-o", "other"]).1, "refused program 2 1\n");
+    assert_eq!(room.files(), ["d", "open", "out", "p", "refused"]);
+}
+
+#[test]
+fn merges() {
+    let room = Room::of("merges");
+    room.file("p", "asp 1 0 0\n1 1 2 1 2 0 0\n1 0 0 0 2 1 2\n1 0 0 0 2 1 -2\n1 0 0 0 2 -1 2\n1 0 0 0 2 -1 -2\n0\n");
+    room.file("1", proof("b 3 -1  c 3  b 4 1 2  c 4  b 5 1 -2  c 5  e 6  a 2  d 2  a -2  a -1 2  a"));
+    room.file("2", proof("b 4 1  c 4  b 3 -1 2  c 3  b 7 -1 -2  c 7  b 9 2 1  e 5 9 -3  a 1 2  a 9 -1  a 5 2  c 9  d 5 2  a"));
+    let (status, out, said) = room.run(&["merge", "p", "1", "1", "2", "-o", "out"]);
+    assert_eq!((status, out.as_str()), (0, "inconsistent 2 5 20 32\n"));
+    assert!(said.ends_with("the merged proof has 167 bytes\n"), "{said}");
+    assert_eq!(room.run(&["check", "p", "out"]).1, out);
+    assert_eq!(room.run(&["merge", "p", "1", "1", "2", "--store", "123", "-o", "other"]).1, "refused merge 59\n");
+    assert_eq!(room.run(&["merge", "p", "1", "2", "1", "-o", "other"]).1, "refused merge 57\n");
+    assert_eq!(room.files(), ["1", "2", "out", "p"]);
+}
+
+#[test]
+fn misuse() {
+    let room = Room::of("misuse");
+    room.file("p", NONE);
+    for (words, part) in [
+        (&[][..], "which subcommand"),
+        (&["prof"], "no subcommand `prof`"),
+        (&["check"], "too few operands"),
+        (&["check", "p", "p", "p"], "too many operands"),
+        (&["check", "p", "p", "--stor", "1"], "no option `--stor`"),
+        (&["check", "p", "p", "--store", "many"], "--store takes a number"),
+        (&["check", "p", "missing"], "missing cannot be read: No such file"),
+        (&["check", ".", "p"], ". cannot be read: Is a directory"),
+        (&["prove", "."], ". cannot be read: Is a directory"),
+        (&["ground", "missing.lp"], "missing.lp cannot be read"),
+        (&["ground", "p", "-o", "out.names"], "out.names is a place for names"),
+        (&["merge", "p", "x", "p", "p"], "`x` is no atom's number"),
+        (&["packet", "send", "p", "p"], "aspdrupe packet write"),
+        (&["packet", "write", "p", "p"], "-o names the packet"),
+        (&["packet", "up", "p"], "-o names the packet"),
+        (&["packet", "down", "missing", "-o", "p"], "missing cannot be read"),
+        (&["trim", "p"], "too few operands"),
+    ] {
+        assert_misuse(room.run(words), part);
+    }
+    let (status, out, _) = room.run(&["check", "p", "missing", "--json"]);
+    assert!(status == 2 && out.starts_with(r#"{"command": "check", "status": 2, "error": "missing cannot"#), "{out}");
+    for words in [&["--help"][..], &["prove", "--help"], &["packet", "x", "-h"], &["--version"]] {
+        let (status, out, said) = room.run(words);
+        assert!(status == 0 && out.contains("aspdrupe") && said.is_empty(), "{words:?}");
+    }
+}
+
+#[test]
+fn noise_and_limits() {
+    let room = Room::of("noise");
+    let noise: Vec<u8> = (0..10_000_000u32).map(|place| (place.wrapping_mul(2_654_435_761) >> 13) as u8).collect();
+    room.file("noise", &noise);
+    room.file("p", NONE);
+    let rules = "1 0 0 0 1 1\n".repeat(1_025);
+    room.file("many", format!("asp 1 0 0\n{rules}0\n"));
+    for (words, status, line) in [
+        (&["check", "noise", "noise"][..], 20, "refused program 1 0\n"),
+        (&["check", "p", "noise"], 20, "refused proof 21 0\n"),
+        (&["check", "noise", "p"], 20, "refused program 1 0\n"),
+        (&["test", "many"], 20, "refused program 9 1026\n"),
+        (&["prove", "many"], 20, "refused program 9 1026\n"),
+        (&["ground", "many", "-o", "out"], 20, "refused program 9 1026\n"),
+        (&["packet", "read", "noise", "--program", "out", "--proof", "out"], 20, "refused packet 51\n"),
+        (&["packet", "up", "noise", "-o", "out"], 20, "refused packet 51\n"),
+        (&["packet", "down", "noise", "-o", "out"], 20, "refused packet 51\n"),
+        (&["merge", "p", "1", "noise", "p", "-o", "out"], 20, "refused merge 57\n"),
+        (&["trim", "p", "noise", "-o", "out"], 20, "refused trim 60\n"),
+        (&["trim", "noise", "p", "-o", "out"], 20, "refused program 1 0\n"),
+    ] {
+        let (ended, out, said) = room.run(words);
+        assert_eq!((ended, out.as_str()), (status, line), "{words:?} {said}");
+    }
+    assert_eq!(room.files(), ["many", "noise", "p"]);
+}
+
+#[test]
+fn tools_that_are_missing() {
+    let room = Room::of("missing");
+    room.file("plan.lp", "a.");
+    room.file("p.aspif", NONE);
+    assert_misuse(room.run(&["ground", "plan.lp", "-o", "out"]), "gringo is not installed: it is in the Debian package `gringo`");
+    assert_misuse(room.run(&["prove", "p.aspif", "-o", "out"]), "cadical is not installed: it is in the Debian package `cadical`");
+    assert_eq!(room.files(), ["p.aspif", "plan.lp"]);
+}
+
+#[test]
+fn a_grounder_that_complains() {
+    let room = Room::of("grounder");
+    room.file("plan.lp", "a :- ");
+    room.tool("gringo", "echo 'plan.lp:1:6-7: error: syntax error' >&2; echo 'more' >&2; exit 65");
+    let (status, out, said) = room.run(&["prove", "plan.lp"]);
+    assert_eq!((status, out.as_str()), (20, ""));
+    assert_eq!(said, "gringo does not ground plan.lp: plan.lp:1:6-7: error: syntax error\n");
+    for (statement, part) in [("5 1 2", "external"), ("1 0 2 1 2 0 0", "disjunctive")] {
+        room.tool("gringo", &format!("printf 'asp 1 0 0\\n{statement}\\n0\\n'"));
+        let (status, _, said) = room.run(&["ground", "plan.lp", "-o", "out"]);
+        assert!(status == 20 && said.contains(part), "{said}");
+    }
+    room.tool("gringo", "printf 'asp 1 0 0\\n0\\n'; printf 'plan.lp:1:6-7: info: no head:\\n  b\\n\\n' >&2");
+    assert_eq!(room.run(&["ground", "plan.lp"]).2, "gringo: plan.lp:1:6-7: info: no head:\ngringo:   b\n");
+    room.tool("gringo", "while :; do echo '10 again and again and again and again and again'; done");
+    assert!(room.run(&["ground", "plan.lp"]).2.contains("more than 16777216 bytes"));
+    assert_eq!(room.files(), ["plan.lp"]);
+}
+
+#[test]
+fn what_is_ground() {
+    let room = Room::of("ground");
+    room.file("plan.lp", "");
+    room.tool("gringo", "printf 'asp 1 0 0\\n1 1 1 1 0 0\\n2 0 1 1 1\\n4 1 a 1 1\\n0\\n'");
+    let (status, out, said) = room.run(&["ground", "plan.lp", "-o", "out.aspif"]);
+    assert_eq!((status, out.as_str()), (0, "ground 1 1\n"));
+    assert!(said.starts_with("dropped, which cannot matter: 1 minimize statements; "), "{said}");
+    assert_eq!(fs::read_to_string(room.0.join("out.aspif")).unwrap(), "asp 1 0 0\n1 1 1 1 0 0\n0\n");
+    assert_eq!(room.run(&["test", "out.aspif", "a"]).2, "an answer set: a\n");
+    assert_eq!(room.run(&["ground", "plan.lp"]).1, "asp 1 0 0\n1 1 1 1 0 0\n0\n");
+    assert_eq!(room.files(), ["out.aspif", "out.names", "plan.lp"]);
+}
+
+// Nothing is believed of what a solver says: a model is tested, a log is checked.
+#[test]
+fn a_solver_that_errs() {
+    let room = Room::of("solver");
+    room.file("good.aspif", GOOD);
+    room.file("none.aspif", NONE);
+    for (script, program, part) in [
+        ("echo 0; exit 20", "good.aspif", "does not follow by propagation"),
+        ("echo 's SATISFIABLE'; echo 'v -1 2 -3 0'; exit 10", "good.aspif", "model is none of the completion"),
+        ("echo 's SATISFIABLE'; echo 'v 1 2 0'; exit 10", "none.aspif", "no loop of it is new"),
+        ("echo 's SATISFIABLE'; echo 'v 9999999999 0'; exit 10", "none.aspif", "not understood"),
+        ("echo noise; exit 20", "none.aspif", "not understood"),
+        ("echo '9 0'; exit 20", "none.aspif", "not understood"),
+        ("echo 'out of memory' >&2; exit 1", "none.aspif", "without an answer: out of memory"),
+        ("exit 0", "none.aspif", "without an answer"),
+    ] {
+        room.tool("cadical", script);
+        assert_misuse(room.run(&["prove", program, "-o", "out"]), part);
+    }
+    room.tool("cadical", "echo '-1 0'; echo 0; echo 's UNSATISFIABLE'; exit 20");
+    assert_eq!(room.run(&["prove", "none.aspif", "-o", "out"]).1, "inconsistent 1 1 5 6\n");
+    assert_eq!(room.run(&["check", "none.aspif", "out"]).1, "inconsistent 1 1 5 6\n");
+    room.tool("cadical", "echo 's SATISFIABLE'; echo 'v 1 2 -3 0'; exit 10");
+    assert_eq!(room.run(&["prove", "good.aspif"]).1, "answer set: 1\n");
+    assert_eq!(room.files(), ["good.aspif", "none.aspif", "out"]);
+}
+
+#[test]
+fn outputs_that_cannot_be_written() {
+    let room = Room::of("outputs");
+    room.file("p.aspif", NONE);
+    room.tool("cadical", "echo '-1 0'; echo 0; exit 20");
+    assert_misuse(room.run(&["ground", "p.aspif", "-o", "/dev/full"]), "/dev/full cannot be written: No space left on device");
+    assert_misuse(room.run(&["ground", "p.aspif", "-o", "."]), ". cannot be written: is a directory");
+    assert_misuse(room.run(&["ground", "p.aspif", "-o", "no/such/folder"]), "cannot be written: No such file");
+    assert_misuse(room.run(&["prove", "p.aspif", "-o", "no/such/folder"]), "cannot be written: No such file");
+    assert_eq!(room.files(), ["p.aspif"]);
+    let full = fs::OpenOptions::new().write(true).open("/dev/full").unwrap();
+    let (status, _, said) = ended(room.command(&["check", "p.aspif", "p.aspif"]).stdout(full).output().unwrap());
+    assert!(status == 2 && said.contains("the answer cannot be written: No space left"), "{said}");
+}
+
+#[test]
+fn interrupted_while_solving() {
+    let room = Room::of("interrupted");
+    room.file("p.aspif", NONE);
+    let started = room.0.join("tools/started");
+    room.tool("cadical", &format!("echo >'{}'\nexec /bin/sleep 5", started.display()));
+    let mut running = room.command(&["prove", "p.aspif", "-o", "out"]).stderr(Stdio::null()).stdout(Stdio::null()).spawn().unwrap();
+    while !Path::new(&started).exists() {
+        std::thread::sleep(std::time::Duration::from_millis(5));
+    }
+    let killed = Command::new("/bin/kill")
+        .args(["-INT", &running.id().to_string()])
+        .status()
+        .or_else(|_| Command::new("/bin/sh").args(["-c", &format!("kill -INT {}", running.id())]).status());
+    assert!(killed.unwrap().success());
+    assert_eq!(running.wait().unwrap().code(), None);
+    assert_eq!(room.files(), ["p.aspif"]);
+}
