@@ -164,7 +164,7 @@ uint32_t aspdrupe_merge_halves(const uint8_t *program, size_t program_len, uint6
  * aspdrupe_read_program has them.
  * Otherwise returns 60 (the proof is refused or open when it is checked with the store lent): `answer` stays as it was.
  * After a refusal, the program's too, the text is as it was, and table and store are 0 throughout.
- * The time grows with the square of the number of steps: a trial is a whole check. */
+ * A pass is a whole check for each step, and there can be as many passes as steps. */
 uint32_t aspdrupe_trim_proof(const uint8_t *program, size_t program_len, uint8_t *text, size_t text_len, int32_t *table, size_t table_len,
                              int32_t *store, size_t store_len, uint64_t *answer, size_t answer_len);
 

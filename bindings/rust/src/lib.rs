@@ -307,7 +307,7 @@ pub fn merge_halves(
 /// are tried for removal from the last to the first, and passes repeat until one removes none: without any single one of the steps that are
 /// left, the proof is no longer inconsistent. The text then begins with them and has 0 after them, and table and store are as
 /// [`check_texts`] leaves them for the program and what is left. Where anything is refused the text is as it was, and table and store are 0
-/// throughout. A trial is a whole check, so the time grows with the square of the number of steps. A thread needs [`TRIM_STACK`] bytes of
+/// throughout. A pass is a whole check for each step, and there can be as many passes as steps. A thread needs [`TRIM_STACK`] bytes of
 /// stack.
 ///
 /// ```
