@@ -8,6 +8,8 @@ use lib.IntN.{ℤ, pos}
 use lib.ListN.{length, take, replicate}
 use lib.Seq.{take-at}
 use Rattle.words.specs.Limits.{longest}
+use Rattle.weights.specs.Claims.{without}
+use Rattle.weights.proofs.Sublists.{itself, through as onto}
 use Rattle.aspif.specs.Rules.{InputRule, atoms, tableWords}
 use Rattle.aspif.specs.Reading.{Reading, program, readText}
 use Rattle.aspif.specs.Reading as Reading
@@ -17,12 +19,12 @@ use Rattle.drupe.proofs.Texts.{AllPass, steps-exact}
 use Rattle.checker.specs.Check.{Course, stopped, through, endsEmpty, isAccepted, countsOf, check}
 use Rattle.checker.specs.declared.Counts.{Counts}
 use Rattle.checker.specs.declared.Verdict.the-variants.{Inconsistent}
-use Rattle.trimming.specs.Trims.{Sublist, struck}
+use Rattle.trimming.specs.Trims.{Sublist}
 use Rattle.trimming.specs.Service.{courseOf, accepted, trimmedSteps, TrimLeft, untouched, storeAfter, trimmedTo, trimmedRead, trimmedReading, trim}
 use Rattle.trimming.specs.Claims.{Demand3Trimmed, TrimmedText, TrimmedTwice, Untouched}
 use Rattle.trimming.specs.declared.TrimAnswer.{TrimAnswer}
 use Rattle.trimming.specs.declared.TrimAnswer.the-variants.{Trimmed, RefusedProgram, Refused}
-use Rattle.trimming.proofs.Passes.{whole, through as onto, trimmed-settles, trimmed-order, trimmed-minimal, trimmed-stays}
+use Rattle.trimming.proofs.Passes.{trimmed-settles, trimmed-order, trimmed-minimal, trimmed-stays}
 use Rattle.trimming.proofs.Proofs.{no-answer-set}
 use Rattle.trimming.proofs.Turns.{sub-append, sub-read, sub-course, sub-accepted}
 
@@ -85,7 +87,7 @@ module _ (t s : ℕ) (text proof : List ℕ) (T : Told t s proof (readText t tex
   -- without one of them
   single : (front : List Step) (u : Step) (back : List Step) → us ≡ front ++ (u ∷ back) → isAccepted s ws (textOf (front ++ back)) ≡ false
   single front u back e =
-      let o : Sublist (front ++ back) us = subst (Sublist (front ++ back)) (sym e) (sub-append front (struck u (whole back))) in
+      let o : Sublist (front ++ back) us = subst (Sublist (front ++ back)) (sym e) (sub-append front (without (itself back))) in
       sub-accepted passing short s ws (onto o order) ∙ trimmed-minimal Step (accepted s ws) (T .before) (T .good) front u back e
 
   -- their text, trimmed again

@@ -7,35 +7,18 @@ use native.Mathlib.Omega.{arith}
 use lib.Dec.{eqb}
 use lib.ListN.{length}
 use Rattle.words.proofs.Lists.{passed, eqb-decides, is-true}
-use Rattle.trimming.specs.Trims.{pass, passes, trimmed, Sublist, none, struck, stays}
+use Rattle.weights.specs.Claims.{none, with-it, without}
+use Rattle.weights.proofs.Sublists.{itself, through}
+use Rattle.trimming.specs.Trims.{pass, passes, trimmed, Sublist}
 use Rattle.trimming.specs.Claims.{TrimmedOrder, TrimmedMinimal, TrimmedAgain}
 
 module _ {A : Type 0} where
-  pub whole : (ts : List A) → Sublist ts ts
-  whole [] = none
-  whole (t ∷ ts) = stays t (whole ts)
-
-  pub through : {ks ls ms : List A} → Sublist ks ls → Sublist ls ms → Sublist ks ms
-  through a none = a
-  through a (struck x b) = struck x (through a b)
-  through (struck x a) (stays y b) = struck y (through a b)
-  through (stays x a) (stays y b) = stays y (through a b)
-
   pub shorter : {ks ls : List A} → Sublist ks ls → length ks ≤ length ls
   shorter none = omega arith
-  shorter (struck x a) = omega (arith, shorter a)
-  shorter (stays x a) = omega (arith, shorter a)
+  shorter (with-it a) = omega (arith, shorter a)
+  shorter (without a) = omega (arith, shorter a)
 
 module _ {A : Type 0} (accepted : List A → Bool) where
-  pub pass-order : (front ts : List A) → Sublist (pass accepted front ts) ts
-  unfolding pass
-  pass-order front [] = none
-  pass-order front (t ∷ ts) = go (accepted (front ++ pass accepted (front ++ (t ∷ [])) ts)) (pass-order (front ++ (t ∷ [])) ts)
-    where
-      go : (b : Bool) {rest : List A} → Sublist rest ts → Sublist (cond b rest (t ∷ rest)) (t ∷ ts)
-      go true a = struck t a
-      go false a = stays t a
-
   pass-accepted : (front ts : List A) → accepted (front ++ ts) ≡ true → accepted (front ++ pass accepted front ts) ≡ true
   unfolding pass
   pass-accepted front [] e = e
@@ -49,6 +32,15 @@ module _ {A : Type 0} (accepted : List A → Bool) where
       go : (b : Bool) → accepted (front ++ rest) ≡ b → accepted (front ++ (t ∷ rest)) ≡ true → accepted (front ++ cond b rest (t ∷ rest)) ≡ true
       go true p q = p
       go false p q = q
+
+  pub pass-order : (front ts : List A) → Sublist (pass accepted front ts) ts
+  unfolding pass
+  pass-order front [] = none
+  pass-order front (t ∷ ts) = go (accepted (front ++ pass accepted (front ++ (t ∷ [])) ts)) (pass-order (front ++ (t ∷ [])) ts)
+    where
+      go : (b : Bool) {rest : List A} → Sublist rest ts → Sublist (cond b rest (t ∷ rest)) (t ∷ ts)
+      go true a = without a
+      go false a = with-it a
 
   -- a pass that removes nothing has tried every step in vain
   pub pass-whole : (front ts : List A) → length (pass accepted front ts) ≡ length ts → (pass accepted front ts ≡ ts) × ((a : List A) (t : A) (b : List A) → ts ≡ a ++ (t ∷ b) → accepted (front ++ (a ++ b)) ≡ false)
@@ -78,15 +70,6 @@ module _ {A : Type 0} (accepted : List A → Bool) where
               subst (λ (y : A). accepted (front ++ (y ∷ (a ++ c))) ≡ false) (head-eq-of-cons-eq s)
               (subst (λ (l : List A). accepted l ≡ false) (append-assoc front (t ∷ []) (a ++ c)) (f a u c (tail-eq-of-cons-eq s)))
 
-  passes-order : (turns : ℕ) (ts : List A) → Sublist (passes accepted turns ts) ts
-  unfolding passes
-  passes-order zero ts = whole ts
-  passes-order (suc turns) ts = by (eqb (length (pass accepted [] ts)) (length ts)) (passes-order turns (pass accepted [] ts))
-    where
-      by : (b : Bool) → Sublist (passes accepted turns (pass accepted [] ts)) (pass accepted [] ts) → Sublist (cond b ts (passes accepted turns (pass accepted [] ts))) ts
-      by true below = whole ts
-      by false below = through below (pass-order [] ts)
-
   -- what passes leave is accepted, and a further pass removes nothing of it
   pub record Settled (ts : List A) : Type 0 where
     pub good : accepted ts ≡ true
@@ -110,6 +93,15 @@ module _ {A : Type 0} (accepted : List A → Bool) where
 
   pub trimmed-settles : (ts : List A) → accepted ts ≡ true → Settled (trimmed accepted ts)
   trimmed-settles ts e = passes-settle (length ts) ts (omega arith) e
+
+  passes-order : (turns : ℕ) (ts : List A) → Sublist (passes accepted turns ts) ts
+  unfolding passes
+  passes-order zero ts = itself ts
+  passes-order (suc turns) ts = by (eqb (length (pass accepted [] ts)) (length ts)) (passes-order turns (pass accepted [] ts))
+    where
+      by : (b : Bool) → Sublist (passes accepted turns (pass accepted [] ts)) (pass accepted [] ts) → Sublist (cond b ts (passes accepted turns (pass accepted [] ts))) ts
+      by true below = itself ts
+      by false below = through below (pass-order [] ts)
 
   -- a settled list stays
   settled-stays : (turns : ℕ) (ts : List A) → Settled ts → passes accepted turns ts ≡ ts

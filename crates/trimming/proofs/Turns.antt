@@ -2,7 +2,7 @@
 -- Assumes nothing.
 use mathlib.Core.Path.{_≡_, refl, sym, _∙_, ap, ap₂, subst}
 use mathlib.Core.Bool.{Bool, true, false, cond, true≢false}
-use mathlib.Core.List.{List, [], _∷_, _++_, append-nil, List·Memᴰ·head, List·Memᴰ·tail}
+use mathlib.Core.List.{List, [], _∷_, _++_, append-nil}
 use Prim.Native.Nat.{ℕ, zero, suc, _+_, _-_, _<_, _≤_}
 use native.Mathlib.Omega.{arith}
 use lib.Dec.{eqb}
@@ -10,8 +10,10 @@ use lib.IntN.{ℤ, pos}
 use lib.ListN.{length, take, drop, replicate, length-append, length-drop}
 use lib.Seq.{length-take-le, take-length, take-take, take-add, take-at, drop-at, append-snoc, sets-eq}
 use Rattle.words.specs.Limits.{longest}
-use Rattle.words.specs.Lists.{_∈_}
 use Rattle.words.proofs.Lists.{passed, eqb-decides, is-true}
+use Rattle.weights.specs.Claims.{none, with-it}
+use Rattle.weights.specs.Claims as Sublists
+use Rattle.weights.proofs.Sublists.{itself, through, in-whole}
 use Rattle.aspif.specs.Rules.{InputRule, expand, atoms}
 use Rattle.text.specs.Writing.{Put}
 use Rattle.drupe.specs.Texts.{Step, steps, stepText, textOf, stepsOf}
@@ -19,10 +21,10 @@ use Rattle.drupe.proofs.Texts.{AllPass, some-byte, text-append, read-back, step
 use Rattle.checker.specs.Check.{course, endsEmpty, isAccepted}
 use Rattle.steps.specs.Held.{Program}
 use Rattle.checker.proofs.Whole.{course-written}
-use Rattle.trimming.specs.Trims.{pass, passes, trimmed, Sublist, none, struck, stays}
+use Rattle.trimming.specs.Trims.{pass, passes, trimmed, Sublist}
 use Rattle.trimming.specs.Service.{courseOf, accepted}
 use Rattle.trimming.specs.Passing.{Reads, LastLine, without, triedText}
-use Rattle.trimming.proofs.Passes.{whole, through, shorter, pass-order, pass-whole, trimmed-order}
+use Rattle.trimming.proofs.Passes.{shorter, pass-order, pass-whole, trimmed-order}
 use Rattle.trimming.proofs.Newlines.{text-last, last-step}
 
 -- Steps struck out
@@ -30,20 +32,14 @@ use Rattle.trimming.proofs.Newlines.{text-last, last-step}
 module _ {A : Type 0} where
   pub sub-append : (front : List A) {ks ls : List A} → Sublist ks ls → Sublist (front ++ ks) (front ++ ls)
   sub-append [] a = a
-  sub-append (x ∷ front) a = stays x (sub-append front a)
-
-  sub-in : {ks ls : List A} {x : A} → Sublist ks ls → x ∈ ks → x ∈ ls
-  sub-in none i = i
-  sub-in (struck y a) i = List·Memᴰ·tail (sub-in a i)
-  sub-in (stays y a) (List·Memᴰ·head e) = List·Memᴰ·head e
-  sub-in (stays y a) (List·Memᴰ·tail i) = List·Memᴰ·tail (sub-in a i)
+  sub-append (x ∷ front) a = with-it (sub-append front a)
 
 -- each that is struck out makes the text shorter
 sub-text : {ks ls : List Step} → Sublist ks ls → length (textOf ks) + length ls ≤ length (textOf ls) + length ks
 unfolding textOf
 sub-text none = omega arith
-sub-text (struck {ks} {ls} x a) = omega (arith, sub-text a, some-byte x, length-append (stepText x) (textOf ls))
-sub-text (stays {ks} {ls} x a) = omega (arith, sub-text a, length-append (stepText x) (textOf ls), length-append (stepText x) (textOf ks))
+sub-text (Sublists.without {x = x} {l = ls} a) = omega (arith, sub-text a, some-byte x, length-append (stepText x) (textOf ls))
+sub-text (with-it {x = x} {s = ks} {l = ls} a) = omega (arith, sub-text a, length-append (stepText x) (textOf ls), length-append (stepText x) (textOf ks))
 
 pub sub-shorter : {ks ls : List Step} → Sublist ks ls → length (textOf ks) ≤ length (textOf ls)
 sub-shorter a = omega (arith, sub-text a, shorter a)
@@ -51,10 +47,10 @@ sub-shorter a = omega (arith, sub-text a, shorter a)
 -- of steps that pass, in a text that is short enough
 module _ {ts : List Step} (good : AllPass ts) (short : length (textOf ts) ≤ longest) where
   pub sub-read : {us : List Step} → Sublist us ts → stepsOf (textOf us) ≡ steps us
-  sub-read {us} a = read-back us (λ t i. good t (sub-in a i)) (omega (arith, sub-shorter a, short))
+  sub-read {us} a = read-back us (λ t i. good t (in-whole i a)) (omega (arith, sub-shorter a, short))
 
   pub sub-course : (size : ℕ) (ws : List InputRule) {us : List Step} → Sublist us ts → course (atoms ws) (expand ws) size (textOf us) ≡ courseOf size ws us
-  sub-course size ws {us} a = course-written (atoms ws) (expand ws) size us (λ t i. good t (sub-in a i)) (omega (arith, sub-shorter a, short))
+  sub-course size ws {us} a = course-written (atoms ws) (expand ws) size us (λ t i. good t (in-whole i a)) (omega (arith, sub-shorter a, short))
 
   pub sub-accepted : (size : ℕ) (ws : List InputRule) {us : List Step} → Sublist us ts → isAccepted size ws (textOf us) ≡ accepted size ws us
   sub-accepted size ws a = ap endsEmpty (sub-course size ws a)
@@ -150,7 +146,7 @@ module _ (size : ℕ) (ws : List InputRule) (ts : List Step) where
         sub : Sublist (front ++ rest) ts
         sub =
             subst (Sublist (front ++ rest)) (sym (s ∙ append-snoc front t done))
-            (sub-append front (struck t (pass-order (accepted size ws) (front ++ (t ∷ [])) done)))
+            (sub-append front (Sublists.without (pass-order (accepted size ws) (front ++ (t ∷ [])) done)))
 
         f : isAccepted size ws (without text start at left) ≡ accepted size ws (front ++ rest)
         f = ap (isAccepted size ws) d ∙ sub-accepted good short size ws sub
@@ -190,7 +186,7 @@ module _ (size : ℕ) (ws : List InputRule) (ts : List Step) where
     pub same : passes (accepted size ws) turns steps ≡ trimmed (accepted size ws) ts
 
   pub repeat-start : {text : List ℕ} {len : ℕ} → take len text ≡ textOf ts → Repeating text len
-  repeat-start e = record { steps = ts; turns = length ts; from = whole ts; stands = e; enough = omega arith; same = refl }
+  repeat-start e = record { steps = ts; turns = length ts; from = itself ts; stands = e; enough = omega arith; same = refl }
 
   module _ {text : List ℕ} {len : ℕ} (R : Repeating text len) (inside : len ≤ length text) (text′ : List ℕ) (r : ℕ) (inside′ : r ≤ length text′)
       (pass-leaves : take r text′ ≡ textOf (pass (accepted size ws) [] (R .steps))) where

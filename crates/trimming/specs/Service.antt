@@ -21,7 +21,7 @@ use Rattle.trimming.specs.declared.TrimAnswer.the-variants.{Trimmed, Ref
 abbrev pub courseOf : (size : ℕ) → List InputRule → List Step → Course
 courseOf size ws ts = runSteps (atoms ws) (expand ws) size 0 start [] ts
 
--- "accepted": questions 26 to 33, and after each step 34 with the lent store; then the empty nogood is live
+-- "accepted": questions 26 to 33 and 56, and after each step 34 with the lent store; then the empty nogood is live
 abbrev pub accepted : (size : ℕ) → List InputRule → List Step → Bool
 accepted size ws ts = endsEmpty (courseOf size ws ts)
 

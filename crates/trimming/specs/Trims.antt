@@ -6,6 +6,7 @@ use mathlib.Core.List.{List, [], _∷_, _++_}
 use Prim.Native.Nat.{ℕ, zero, suc}
 use lib.Dec.{eqb}
 use lib.ListN.{length}
+use Rattle.weights.specs.Claims.{_⊑_}
 
 module _ {A : Type 0} (accepted : List A → Bool) where
   -- a step stays unless the list is accepted without it; what stands before it is still whole, and what follows it was tried before
@@ -26,7 +27,5 @@ module _ {A : Type 0} (accepted : List A → Bool) where
   trimmed ts = passes (length ts) ts
 
 -- "its steps stand in their old order": the first list is the second with some elements struck out
-pub data Sublist {A : Type 0} : List A → List A → Type 0 where
-  none : Sublist [] []
-  struck : {ks ls : List A} (x : A) → Sublist ks ls → Sublist ks (x ∷ ls)
-  stays : {ks ls : List A} (x : A) → Sublist ks ls → Sublist (x ∷ ks) (x ∷ ls)
+abbrev pub Sublist : {A : Type 0} → List A → List A → Type 0
+Sublist ks ls = ks ⊑ ls
