@@ -2,6 +2,7 @@
 
 use std::fs::{self, File, OpenOptions};
 use std::io::{self, Read, Write};
+use std::os::unix::fs::MetadataExt;
 use std::path::{Path, PathBuf};
 
 use crate::outcome::Failure;
@@ -15,6 +16,17 @@ pub fn read(path: &Path, limit: usize) -> Result<Vec<u8>, Failure> {
     let opened = File::open(path).and_then(|file| file.take(limit as u64 + 1).read_to_end(&mut bytes));
     opened.map_err(|error| Failure::misuse(format!("{} cannot be read: {}", path.display(), reason(&error))))?;
     Ok(bytes)
+}
+
+/// Whether another program that opens the path reads the same bytes again: it is a regular file, and not our standard input, which the other has not.
+pub fn reads_again(path: &Path) -> bool {
+    fs::metadata(path).is_ok_and(|about| about.is_file()) && !same(path, Path::new("/dev/stdin"))
+}
+
+/// Whether both are there, and one file.
+fn same(one: &Path, other: &Path) -> bool {
+    let place = |path: &Path| fs::metadata(path).map(|about| (about.dev(), about.ino())).ok();
+    place(one).is_some_and(|found| place(other) == Some(found))
 }
 
 /// Writes the file beside its place and renames it, so that no half of it is ever there. What is no regular file, like a device or a pipe, is

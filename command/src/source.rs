@@ -17,14 +17,14 @@ const LIMIT: usize = 1 << 24;
 /// The ground program of a file. A file that begins with `asp ` is ground; its names may stand beside it.
 pub fn load(path: &Path) -> Result<Ground, Failure> {
     let bytes = files::read(path, LIMIT)?;
+    if bytes.len() > LIMIT {
+        return Err(too_large());
+    }
     if !bytes.starts_with(b"asp ") {
-        let (text, complaints) = grounded(path)?;
+        let (text, complaints) = grounded(path, &bytes)?;
         let mut ground = cut_down(&text)?;
         ground.notes.extend(complaints);
         return Ok(ground);
-    }
-    if bytes.len() > LIMIT {
-        return Err(too_large());
     }
     let mut ground = cut_down(&bytes)?;
     if ground.names.is_empty() {
@@ -34,18 +34,23 @@ pub fn load(path: &Path) -> Result<Ground, Failure> {
 }
 
 fn too_large() -> Failure {
-    Failure::refused(format!("the ground program has more than {LIMIT} bytes: a smaller plan"))
+    Failure::refused(format!("the program has more than {LIMIT} bytes: a smaller plan"))
 }
 
 /// The lines of gringo's complaints about a plan that it grounds all the same that are told.
 const MOST_COMPLAINTS: usize = 20;
 
-/// What gringo makes of a plan, and what it complains of.
-fn grounded(path: &Path) -> Result<(Vec<u8>, Vec<String>), Failure> {
-    // So that no file's name is an option.
-    let named = if path.is_absolute() { OsString::from(path) } else { Path::new(".").join(path).into_os_string() };
+/// What gringo makes of a plan with these bytes, and what it complains of. It opens the file itself, for the sake of what the plan includes, where
+/// it would read the same bytes, and is handed the bytes where it would not.
+fn grounded(path: &Path, bytes: &[u8]) -> Result<(Vec<u8>, Vec<String>), Failure> {
+    let (named, handed) = match files::reads_again(path) {
+        // So that no file's name is an option.
+        true if !path.is_absolute() => (Path::new(".").join(path).into_os_string(), &b""[..]),
+        true => (OsString::from(path), &b""[..]),
+        false => (OsString::from("-"), bytes),
+    };
     let mut text = Vec::new();
-    let ended = GRINGO.run(&["--output=intermediate".as_ref(), &named], b"", |line| {
+    let ended = GRINGO.run(&["--output=intermediate".as_ref(), &named], handed, |line| {
         text.extend_from_slice(line);
         text.push(b'\n');
         if text.len() > LIMIT {

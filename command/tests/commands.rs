@@ -315,6 +315,30 @@ fn a_grounder_that_complains() {
     assert_eq!(room.files(), ["plan.lp"]);
 }
 
+// A plan that can be read once only, or that gringo cannot open as the command does, is handed on as it was read.
+#[test]
+fn a_plan_that_is_no_regular_file() {
+    let room = Room::of("pipes");
+    let plan = room.file("plan.lp", "1 1 1 1 0 0");
+    // As if gringo read rules: what it is given stands between header and end.
+    room.tool("gringo", r#"shift; echo 'asp 1 0 0'; if [ "$1" = - ]; then read line; else read line < "$1"; fi; echo "$line"; echo 0"#);
+    let expected = (0, String::from("asp 1 0 0\n1 1 1 1 0 0\n0\n"), String::new());
+    let ground = |path: &str, input: Stdio| ended(room.command(&["ground", path]).stdin(input).output().unwrap());
+    assert_eq!(ground("plan.lp", Stdio::null()), expected);
+    assert_eq!(ground("/dev/stdin", fs::File::open(&plan).unwrap().into()), expected);
+    let mut cat = Command::new("/bin/cat").arg(&plan).stdout(Stdio::piped()).spawn().unwrap();
+    assert_eq!(ground("/dev/stdin", cat.stdout.take().unwrap().into()), expected);
+    cat.wait().unwrap();
+    assert!(Command::new("/usr/bin/mkfifo").arg(room.0.join("fifo")).status().unwrap().success());
+    let mut cat = Command::new("/bin/sh").args(["-c", "/bin/cat plan.lp > fifo"]).current_dir(&room.0).spawn().unwrap();
+    assert_eq!(ground("fifo", Stdio::null()), expected);
+    cat.wait().unwrap();
+    // What is not read whole is not handed on.
+    room.file("plan.lp", vec![b' '; (1 << 24) + 1]);
+    let (status, _, said) = ground("/dev/stdin", fs::File::open(&plan).unwrap().into());
+    assert!(status == 20 && said.contains("more than 16777216 bytes"), "{said}");
+}
+
 #[test]
 fn what_is_ground() {
     let room = Room::of("ground");
