@@ -1,6 +1,6 @@
 //! Where a program comes from: a plan in the input language, which gringo grounds, or a ground program.
 
-use std::ffi::OsString;
+use std::ffi::{OsStr, OsString};
 use std::path::Path;
 
 use crate::files;
@@ -14,13 +14,13 @@ const GRINGO: Tool = Tool { name: "gringo", package: "gringo" };
 /// The most bytes of a ground program, the statements that go included.
 const LIMIT: usize = 1 << 24;
 
-/// The ground program of a file. A file that begins with `asp ` is ground; its names may stand beside it.
+/// The ground program of a file. Beside one that is ground its names may stand.
 pub fn load(path: &Path) -> Result<Ground, Failure> {
     let bytes = files::read(path, LIMIT)?;
     if bytes.len() > LIMIT {
         return Err(too_large());
     }
-    if !bytes.starts_with(b"asp ") {
+    if !is_ground(path, &bytes) {
         let (text, complaints) = grounded(path, &bytes)?;
         let mut ground = cut_down(&text)?;
         ground.notes.extend(complaints);
@@ -31,6 +31,15 @@ pub fn load(path: &Path) -> Result<Ground, Failure> {
         ground.names = Names::beside(path)?;
     }
     Ok(ground)
+}
+
+/// The ending decides, `.aspif` or `.lp`; where it is another, how the text begins.
+fn is_ground(path: &Path, bytes: &[u8]) -> bool {
+    match path.extension().and_then(OsStr::to_str) {
+        Some("aspif") => true,
+        Some("lp") => false,
+        _ => bytes.starts_with(b"asp 1 "),
+    }
 }
 
 fn too_large() -> Failure {

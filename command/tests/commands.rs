@@ -339,6 +339,25 @@ fn a_plan_that_is_no_regular_file() {
     assert!(status == 20 && said.contains("more than 16777216 bytes"), "{said}");
 }
 
+// An empty ground program is refused, as by `check`; gringo is asked for plans only.
+#[test]
+fn the_ending_says_what_is_ground() {
+    let room = Room::of("endings");
+    room.tool("gringo", "echo 'asp 1 0 0'; echo 0");
+    for text in ["", "a.", "asp 2 0 0\n0\n"] {
+        room.file("p.aspif", text);
+        for words in [&["prove", "p.aspif"][..], &["test", "p.aspif"], &["ground", "p.aspif"], &["check", "p.aspif", "p.aspif"]] {
+            let (status, out, _) = room.run(words);
+            assert_eq!((status, out.as_str()), (20, "refused program 2 1\n"), "{words:?} {text:?}");
+        }
+    }
+    for (name, text, is_plan) in [("p.lp", GOOD, true), ("p.lp", "", true), ("p", "", true), ("p", GOOD, false), ("p.txt", "asp :- b.", true)] {
+        room.file(name, text);
+        let expected = if is_plan { "asp 1 0 0\n0\n" } else { GOOD };
+        assert_eq!(room.run(&["ground", name]).1, expected, "{name} {text:?}");
+    }
+}
+
 #[test]
 fn what_is_ground() {
     let room = Room::of("ground");

@@ -31,7 +31,8 @@ pub const SUBCOMMAND: Subcommand = Subcommand {
     name: "prove",
     form: "PLAN.lp|PROGRAM.aspif [-o PROOF.drupe] [--table N] [--store N]",
     about: "Finds an answer set or a proof that there is none, and has the library test the one or check the other.",
-    more: "A plan is grounded with gringo (package gringo); cadical (package cadical) solves the completion. Prints
+    more: "A file that ends in `.lp` is a plan, one in `.aspif` a ground program, and of others one that begins with `asp 1 ` is ground.
+A plan is grounded with gringo (package gringo); cadical (package cadical) solves the completion. Prints
     answer set: ATOM..       the set test says yes to it; by name where there are names
     inconsistent N R S K     the check's verdict on the proof, which -o writes
     undecided                no proof within the format was found; the reason is on the standard error
