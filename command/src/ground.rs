@@ -2,7 +2,6 @@
 
 use crate::arguments::{Subcommand, Words};
 use crate::json::Json;
-use crate::names::Names;
 use crate::outcome::{Failure, Outcome, Status};
 use crate::{explain, files, library, source};
 
@@ -10,8 +9,8 @@ pub const SUBCOMMAND: Subcommand = Subcommand {
     name: "ground",
     form: "PLAN.lp [-o OUT.aspif]",
     about: "Grounds a plan with gringo and keeps what the checker takes; says of everything dropped why it cannot matter.",
-    more: "Without -o the ground program goes to the standard output. With it the names of atoms are kept too, in a file beside OUT.aspif that ends in
-`.names`: `prove` and `test` then show atoms by name. A program that is ground already is cut down in the same way.
+    more: "Without -o the ground program goes to the standard output. With it the names of atoms are kept too, in the file OUT.aspif.names:
+`prove` and `test` then show atoms by name, as long as OUT.aspif is the program that they are of. A program that is ground already is cut down in the same way.
 Output, minimize, project and heuristic statements are dropped. External, assumption, edge and theory statements and
 disjunctive heads are refused.",
     options: &["-o"],
@@ -44,10 +43,11 @@ fn run(words: &Words) -> Result<Outcome, Failure> {
             return Err(Failure::misuse(format!("{} is a place for names: another ending, like `.aspif`", path.display())));
         }
         Some(path) => {
-            files::write(&path, &ground.text)?;
-            if path.is_file() {
-                files::write(&Names::path(&path), ground.names.text().as_bytes())?;
+            // A device or a pipe has nothing beside it. The names come first: of a program that is not written they are not used.
+            if path.is_file() || !path.exists() {
+                ground.names.write_beside(&path, &ground.text)?;
             }
+            files::write(&path, &ground.text)?;
             outcome.line = format!("ground {} {}", program.atoms, program.rules);
             outcome.words.push(format!("largest atom {}, {} rules: {}", program.atoms, program.rules, path.display()));
         }

@@ -28,7 +28,10 @@ pub fn load(path: &Path) -> Result<Ground, Failure> {
     }
     let mut ground = cut_down(&bytes)?;
     if ground.names.is_empty() {
-        ground.names = Names::beside(path)?;
+        let (names, why) = Names::beside(path, &bytes)?;
+        ground.names = names;
+        // Told at once, since it matters to every answer and to a name that is not found.
+        why.iter().for_each(|line| crate::say(line));
     }
     Ok(ground)
 }
@@ -72,7 +75,7 @@ fn grounded(path: &Path, bytes: &[u8]) -> Result<(Vec<u8>, Vec<String>), Failure
     if ended.code == Some(0) {
         return Ok((text, complaints.take(MOST_COMPLAINTS).map(|line| format!("gringo: {line}")).collect()));
     }
-    let first = complaints.find(|line| line.contains("error")).unwrap_or(String::from("it gives no reason"));
+    let first = complaints.find(|line| line.to_lowercase().contains("error")).unwrap_or(String::from("it gives no reason"));
     Err(Failure::refused(format!("gringo does not ground {}: {first}", path.display())))
 }
 

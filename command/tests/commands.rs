@@ -303,6 +303,8 @@ fn a_grounder_that_complains() {
     let (status, out, said) = room.run(&["prove", "plan.lp"]);
     assert_eq!((status, out.as_str()), (20, ""));
     assert_eq!(said, "gringo does not ground plan.lp: plan.lp:1:6-7: error: syntax error\n");
+    room.tool("gringo", "echo 'more' >&2; echo '*** ERROR: (gringo): out of memory' >&2; exit 33");
+    assert_eq!(room.run(&["prove", "plan.lp"]).2, "gringo does not ground plan.lp: *** ERROR: (gringo): out of memory\n");
     for (statement, part) in [("5 1 2", "external"), ("1 0 2 1 2 0 0", "disjunctive")] {
         room.tool("gringo", &format!("printf 'asp 1 0 0\\n{statement}\\n0\\n'"));
         let (status, _, said) = room.run(&["ground", "plan.lp", "-o", "out"]);
@@ -369,7 +371,32 @@ fn what_is_ground() {
     assert_eq!(fs::read_to_string(room.0.join("out.aspif")).unwrap(), "asp 1 0 0\n1 1 1 1 0 0\n0\n");
     assert_eq!(room.run(&["test", "out.aspif", "a"]).2, "an answer set: a\n");
     assert_eq!(room.run(&["ground", "plan.lp"]).1, "asp 1 0 0\n1 1 1 1 0 0\n0\n");
-    assert_eq!(room.files(), ["out.aspif", "out.names", "plan.lp"]);
+    assert_eq!(room.files(), ["out.aspif", "out.aspif.names", "plan.lp"]);
+}
+
+#[test]
+fn names_are_of_their_program() {
+    let room = Room::of("names");
+    room.file("plan.lp", "");
+    for (name, term) in [("w.1", "a"), ("w.2", "b")] {
+        room.tool("gringo", &format!("printf 'asp 1 0 0\\n1 1 1 1 0 0\\n4 1 {term} 1 1\\n0\\n'"));
+        assert_eq!(room.run(&["ground", "plan.lp", "-o", name]).0, 0);
+    }
+    assert_eq!(room.run(&["test", "w.1", "a"]).2, "an answer set: a\n");
+    assert_eq!(room.run(&["test", "w.2", "b"]).2, "an answer set: b\n");
+    // Of another program the names are not used.
+    room.file("w.1", GOOD);
+    let (status, _, said) = room.run(&["test", "w.1", "1"]);
+    assert_eq!(status, 0);
+    assert!(said.starts_with("w.1.names is not of this program") && said.ends_with("\nan answer set: 1\n"), "{said}");
+    assert!(room.run(&["prove", "w.1"]).2.starts_with("w.1.names is not of this program"));
+    // Another file is not overwritten, and nothing is written beside it.
+    room.file("own.names", "mine");
+    assert_misuse(room.run(&["ground", "plan.lp", "-o", "own"]), "own.names is no file of names");
+    assert_eq!(fs::read_to_string(room.0.join("own.names")).unwrap(), "mine");
+    assert_eq!(room.run(&["ground", "plan.lp", "-o", "w.1"]).0, 0);
+    assert_eq!(room.run(&["test", "w.1", "b"]).2, "an answer set: b\n");
+    assert_eq!(room.files(), ["own.names", "plan.lp", "w.1", "w.1.names", "w.2", "w.2.names"]);
 }
 
 // Nothing is believed of what a solver says: a model is tested, a log is checked.
