@@ -134,6 +134,7 @@ mod tests {
         let outcome = program(refusal, b"asp 1 0 0\n1 0 1 1 0 2 3 -3\n0\n");
         assert_eq!(outcome.line, "refused program 8 2");
         assert_eq!(outcome.words[..3], ["line 2 of the program, column 15:", "    1 0 1 1 0 2 3 -3", "                  ^"]);
+        assert!(outcome.words[4].ends_with("drop the rule; in a sum add up the weights"), "{}", outcome.words[4]);
         assert_eq!(outcome.words.len(), 5);
         assert_eq!(outcome.status, Status::Refused);
     }
