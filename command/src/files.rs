@@ -23,6 +23,18 @@ pub fn reads_again(path: &Path) -> bool {
     fs::metadata(path).is_ok_and(|about| about.is_file()) && !same(path, Path::new("/dev/stdin"))
 }
 
+/// Whether what is written to the one is written over the other: they are one regular file, or would be. A device or a pipe takes everything.
+pub fn one_place(one: &Path, other: &Path) -> bool {
+    let folder = |path: &Path| path.parent().map(|folder| if folder.as_os_str().is_empty() { PathBuf::from(".") } else { folder.into() });
+    match (fs::metadata(one), fs::metadata(other)) {
+        (Ok(about), Ok(_)) => about.is_file() && same(one, other),
+        (Err(_), Err(_)) if one.file_name() == other.file_name() => {
+            folder(one).zip(folder(other)).is_some_and(|(one, other)| same(&one, &other))
+        }
+        _ => false,
+    }
+}
+
 /// Whether both are there, and one file.
 fn same(one: &Path, other: &Path) -> bool {
     let place = |path: &Path| fs::metadata(path).map(|about| (about.dev(), about.ino())).ok();

@@ -14,6 +14,7 @@ pub const SUBCOMMAND: Subcommand = Subcommand {
 Output, minimize, project and heuristic statements are dropped. External, assumption, edge and theory statements and
 disjunctive heads are refused.",
     options: &["-o"],
+    inputs: &[0],
     operands: (1, 1),
     run,
 };

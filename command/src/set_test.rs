@@ -22,6 +22,7 @@ without any it is the empty set. Prints
     no rule N        the first broken constraint
 and on the standard error on which side the atom lies, or the constraint with its line.",
     options: &[],
+    inputs: &[0],
     operands: (1, usize::MAX),
     run,
 };

@@ -272,7 +272,7 @@ fn noise_and_limits() {
         (&["test", "many"], 20, "refused program 9 1026\n"),
         (&["prove", "many"], 20, "refused program 9 1026\n"),
         (&["ground", "many", "-o", "out"], 20, "refused program 9 1026\n"),
-        (&["packet", "read", "noise", "--program", "out", "--proof", "out"], 20, "refused packet 51\n"),
+        (&["packet", "read", "noise", "--program", "out", "--proof", "out2"], 20, "refused packet 51\n"),
         (&["packet", "up", "noise", "-o", "out"], 20, "refused packet 51\n"),
         (&["packet", "down", "noise", "-o", "out"], 20, "refused packet 51\n"),
         (&["merge", "p", "1", "noise", "p", "-o", "out"], 20, "refused merge 57\n"),
@@ -439,6 +439,39 @@ fn outputs_that_cannot_be_written() {
     let full = fs::OpenOptions::new().write(true).open("/dev/full").unwrap();
     let (status, _, said) = ended(room.command(&["check", "p.aspif", "p.aspif"]).stdout(full).output().unwrap());
     assert!(status == 2 && said.contains("the answer cannot be written: No space left"), "{said}");
+}
+
+#[test]
+fn inputs_are_not_written_over() {
+    let room = Room::of("inputs");
+    room.file("p.aspif", NONE);
+    room.file("d", proof("b 2 -1  c 2 1  s 1 2  a 1  a"));
+    assert_eq!(room.run(&["packet", "write", "p.aspif", "d", "-o", "packet"]).0, 0);
+    std::os::unix::fs::symlink("p.aspif", room.0.join("link")).unwrap();
+    fs::create_dir(room.0.join("folder")).unwrap();
+    let before: Vec<_> = ["p.aspif", "d", "packet"].map(|name| fs::read(room.0.join(name)).unwrap()).into();
+    for words in [
+        &["ground", "p.aspif", "-o", "./p.aspif"][..],
+        &["ground", "p.aspif", "-o", "link"],
+        &["prove", "link", "-o", "p.aspif"],
+        &["trim", "p.aspif", "d", "-o", "d"],
+        &["trim", "p.aspif", "d", "-o", "folder/../p.aspif"],
+        &["merge", "p.aspif", "1", "d", "d", "-o", "d"],
+        &["packet", "write", "p.aspif", "d", "-o", "d"],
+        &["packet", "up", "packet", "-o", "packet"],
+        &["packet", "read", "packet", "--program", "packet", "--proof", "new"],
+        &["packet", "read", "packet", "--program", "new", "--proof", "./new"],
+        &["packet", "read", "packet", "--program", "new", "--proof", "folder/../new"],
+    ] {
+        assert_misuse(room.run(words), "is an input or another output");
+    }
+    let after: Vec<_> = ["p.aspif", "d", "packet"].map(|name| fs::read(room.0.join(name)).unwrap()).into();
+    assert_eq!(before, after);
+    // A device takes both, and an atom's number is no file.
+    assert_eq!(room.run(&["packet", "read", "packet", "--program", "/dev/null", "--proof", "/dev/null"]).0, 0);
+    room.file("1", "");
+    assert_eq!(room.run(&["merge", "p.aspif", "1", "d", "d", "-o", "1"]).0, 0);
+    assert_eq!(room.files(), ["1", "d", "folder", "link", "p.aspif", "packet"]);
 }
 
 #[test]

@@ -39,6 +39,7 @@ A plan is grounded with gringo (package gringo); cadical (package cadical) solve
 --table N and --store N are the words for rules and nogoods, 16384 each where nothing is said, as in `verdict`.
 Status 0 for an answer set and for 'inconsistent', 10 for 'undecided'.",
     options: &["-o", "--table", "--store"],
+    inputs: &[0],
     operands: (1, 1),
     run,
 };
