@@ -24,7 +24,7 @@ fn run(words: &Words) -> Result<Outcome, Failure> {
     let program = match library::read_program(&ground.text, library::EVERY_TABLE)? {
         Ok(program) => program,
         Err(refusal) => {
-            let mut outcome = explain::program(refusal, &ground.text);
+            let mut outcome = explain::ground(refusal, &ground);
             outcome.words.insert(0, String::from("the ground program is none that the checker takes:"));
             return Ok(outcome);
         }

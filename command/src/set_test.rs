@@ -31,7 +31,7 @@ fn run(words: &Words) -> Result<Outcome, Failure> {
     let ground = source::load(words.path(0)?)?;
     let program = match library::read_program(&ground.text, library::EVERY_TABLE)? {
         Ok(program) => program,
-        Err(refusal) => return Ok(explain::program(refusal, &ground.text)),
+        Err(refusal) => return Ok(explain::ground(refusal, &ground)),
     };
     let set = set_of(&words.texts_from(1), &ground.names)?;
     let (answer, least_model) = library::test_set(&program, &set)?;
@@ -81,10 +81,10 @@ fn differs(atom: u16, in_least_model: bool, names: &Names) -> Outcome {
 
 fn broken(rule: usize, program: &Program, ground: &Ground) -> Outcome {
     let constraint = rules(program).get(rule.wrapping_sub(1)).map_or(String::new(), |rule| ground.names.rule(rule));
-    let line = ground.lines.get(rule).copied().unwrap_or(0);
+    let line = ground.line(rule + 1);
     let text = explain::nth_line(&ground.text, rule + 1).map_or(&b""[..], |(text, _)| text);
     let text = String::from_utf8_lossy(text).into_owned();
-    let words = vec![format!("no answer set: a constraint is broken, line {line}:"), format!("    {text}"), format!("    {constraint}")];
+    let words = vec![format!("no answer set: a constraint is broken, line {line} of the {}:", ground.called()), format!("    {text}"), format!("    {constraint}")];
     let fields = vec![
         ("answer", Json::text("no")),
         ("rule", Json::count(rule)),

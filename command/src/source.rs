@@ -23,6 +23,7 @@ pub fn load(path: &Path) -> Result<Ground, Failure> {
     if !is_ground(path, &bytes) {
         let (text, complaints) = grounded(path, &bytes)?;
         let mut ground = cut_down(&text)?;
+        ground.of_plan = true;
         ground.notes.extend(complaints);
         return Ok(ground);
     }

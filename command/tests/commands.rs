@@ -122,7 +122,7 @@ fn sets() {
     assert!(test(&["3"]).2.contains("in the set only"));
     let (status, out, said) = test(&["2"]);
     assert_eq!((status, out.as_str()), (10, "no rule 3\n"));
-    assert!(said.contains("line 4:\n    1 0 0 0 2 2 -1\n    :- not a, #2."), "{said}");
+    assert!(said.contains("line 4 of the program:\n    1 0 0 0 2 2 -1\n    :- not a, #2."), "{said}");
     assert_eq!((test(&["9"]).0, test(&["9"]).1.as_str()), (20, "refused set 42\n"));
     assert_misuse(test(&["b"]), "`b` is neither");
 }
@@ -439,6 +439,47 @@ fn outputs_that_cannot_be_written() {
     let full = fs::OpenOptions::new().write(true).open("/dev/full").unwrap();
     let (status, _, said) = ended(room.command(&["check", "p.aspif", "p.aspif"]).stdout(full).output().unwrap());
     assert!(status == 2 && said.contains("the answer cannot be written: No space left"), "{said}");
+}
+
+#[test]
+fn what_a_proof_is_of() {
+    let room = Room::of("proof-of");
+    let raw = "asp 1 0 0\n1 0 1 1 0 1 -1\n4 1 a 1 1\n0\n";
+    room.file("plan.lp", "a :- not a.");
+    room.file("raw.aspif", raw);
+    room.file("none.aspif", NONE);
+    room.tool("gringo", &format!("printf '{}'", raw.replace('\n', "\\n")));
+    room.tool("cadical", "echo '-1 0'; echo 0; exit 20");
+    for (name, of) in [
+        ("plan.lp", "\nthe proof is of the ground program, which `aspdrupe ground plan.lp -o OUT.aspif` writes\n"),
+        ("raw.aspif", "\nthe proof is of the program as it was cut down, which `aspdrupe ground raw.aspif -o OUT.aspif` writes\n"),
+        ("none.aspif", "and needs a store of 21 words\n"),
+    ] {
+        let (status, out, said) = room.run(&["prove", name, "-o", "d"]);
+        assert_eq!((status, out.as_str()), (0, "inconsistent 1 1 5 6\n"));
+        assert!(said.ends_with(of), "{said}");
+    }
+}
+
+// A refusal names the line of the file given, or of what gringo wrote.
+#[test]
+fn lines_of_the_text_given() {
+    let room = Room::of("lines");
+    let raw = "asp 1 0 0\n4 1 a 1 1\n10 note\n1 0 1 9000 0 0\n0\n";
+    room.file("plan.lp", "a.");
+    room.file("raw.aspif", raw);
+    room.file("ends.aspif", "asp 1 0 0\n10 note\n1 0 1 1 0 0\n10 note\n");
+    room.tool("gringo", &format!("printf '{}'", raw.replace('\n', "\\n")));
+    for way in ["prove", "test", "ground"] {
+        let (status, out, said) = room.run(&[way, "raw.aspif"]);
+        assert_eq!((status, out.as_str()), (20, "refused program 4 4\n"), "{way}");
+        assert!(said.contains("line 4 of the program, column 7:\n    1 0 1 9000 0 0\n"), "{said}");
+        let (_, out, said) = room.run(&[way, "plan.lp"]);
+        assert_eq!(out, "refused program 4 4\n", "{way}");
+        assert!(said.contains("line 4 of the ground program, column 7:\n"), "{said}");
+        assert_eq!(room.run(&[way, "ends.aspif"]).1, "refused program 3 5\n", "{way}");
+    }
+    assert!(room.run(&["test", "raw.aspif", "--json"]).1.contains(r#""line": 4, "column": 7"#));
 }
 
 #[test]

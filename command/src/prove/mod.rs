@@ -22,6 +22,7 @@ use crate::names::Names;
 use crate::outcome::{Failure, Outcome, Status};
 use crate::progress::{Part, Progress};
 use crate::rules::rules;
+use crate::statements::Ground;
 use crate::{explain, source};
 use completion::Completion;
 use solver::Found;
@@ -79,7 +80,7 @@ fn run(words: &Words) -> Result<Outcome, Failure> {
     let ground = timed(&mut times.grounding, || source::load(words.path(0)?))?;
     let program = match library::read_program(&ground.text, table)? {
         Ok(program) => program,
-        Err(refusal) => return Ok(explain::program(refusal, &ground.text)),
+        Err(refusal) => return Ok(explain::ground(refusal, &ground)),
     };
     progress.begin(Part::Solving);
     let mut completion = Completion::of(&rules(&program), program.atoms);
@@ -90,12 +91,26 @@ fn run(words: &Words) -> Result<Outcome, Failure> {
         Answer::Refutation(proof) => {
             progress.begin(Part::Checking);
             let verdict = timed(&mut times.checking, || library::check_texts(&ground.text, proof.text.as_bytes(), table, store))?;
-            refutation(verdict, &proof, (&ground.text, table), words.output("-o").as_deref())?
+            let mut outcome = refutation(verdict, &proof, (&ground.text, table), words.output("-o").as_deref())?;
+            if outcome.status == Status::Good {
+                outcome.words.extend(proved(&ground, words.path(0)?));
+            }
+            outcome
         }
     };
     outcome.words.splice(0..0, ground.notes);
     outcome.fields.extend([("loops", Json::count(completion.loop_count())), times.field()]);
     Ok(outcome)
+}
+
+/// What a proof is of, and how to keep it, where that is not the file's own text.
+fn proved(ground: &Ground, path: &Path) -> Option<String> {
+    let of = match (ground.of_plan, ground.cut) {
+        (true, _) => "the ground program",
+        (_, true) => "the program as it was cut down",
+        _ => return None,
+    };
+    Some(format!("the proof is of {of}, which `aspdrupe ground {} -o OUT.aspif` writes", path.display()))
 }
 
 fn timed<T>(time: &mut Duration, work: impl FnOnce() -> T) -> T {
