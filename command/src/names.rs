@@ -92,6 +92,16 @@ impl Names {
         self.0.iter().find(named).map(|term| term.condition[0])
     }
 
+    /// The terms that are shown whatever the set: facts, whose statements name no atom.
+    pub fn facts(&self) -> impl Iterator<Item = &str> {
+        self.0.iter().filter(|term| term.condition.is_empty()).map(|term| term.text.as_str())
+    }
+
+    /// Whether the atom has a name.
+    pub fn has(&self, atom: i32) -> bool {
+        self.0.iter().any(|term| term.condition[..] == [atom])
+    }
+
     /// An atom's name, or its number where it has none.
     pub fn of(&self, atom: i32) -> String {
         let named = self.0.iter().find(|term| term.condition[..] == [atom]);

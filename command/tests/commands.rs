@@ -127,6 +127,24 @@ fn sets() {
     assert_misuse(test(&["b"]), "`b` is neither");
 }
 
+// gringo names no atom of a fact: the names of all facts stand for their atoms.
+#[test]
+fn sets_with_facts() {
+    let room = Room::of("facts");
+    room.file("p.aspif", "asp 1 0 0\n1 0 1 1 0 0\n1 0 1 2 0 0\n1 1 1 3 0 0\n1 0 0 0 1 -3\n4 1 c 1 3\n4 1 a 0\n4 1 b 0\n0\n");
+    let test = |words: &[&str]| room.run(&[&["test", "p.aspif"], words].concat());
+    room.tool("cadical", "echo 's SATISFIABLE'; echo 'v 1 2 3 4 -5 0'; exit 10");
+    let found = room.run(&["prove", "p.aspif"]).1;
+    assert_eq!(found, "answer set: c a b\n");
+    let (status, out, said) = test(&found.split_whitespace().skip(2).collect::<Vec<_>>());
+    assert_eq!((status, out.as_str()), (0, "yes\n"));
+    assert!(said.ends_with("the atoms of facts without a name are in it: 1 2\n"), "{said}");
+    assert_eq!(test(&["1", "2", "3"]).2, "an answer set: c a b\n");
+    assert_eq!(test(&["a", "b"]).1, "no rule 4\n");
+    assert_eq!(test(&["c"]).1, "no atom 1\n");
+    assert_misuse(test(&["c", "a"]), "`a` is a fact, and `b` is one too");
+}
+
 /// A proof of lines that stand without their closing 0, with two spaces or more between them.
 fn proof(lines: &str) -> String {
     lines.split("  ").map(|line| format!("{} 0\n", line.trim())).collect()
@@ -439,6 +457,37 @@ fn outputs_that_cannot_be_written() {
     let full = fs::OpenOptions::new().write(true).open("/dev/full").unwrap();
     let (status, _, said) = ended(room.command(&["check", "p.aspif", "p.aspif"]).stdout(full).output().unwrap());
     assert!(status == 2 && said.contains("the answer cannot be written: No space left"), "{said}");
+}
+
+/// Atoms in rows: the first row is demanded, each row demands the next, and the last is forbidden. Every rule is needed.
+fn rows(count: usize) -> String {
+    const WIDTH: usize = 20;
+    let row = |place: usize| (place * WIDTH + 1..=(place + 1) * WIDTH).map(|atom| atom.to_string()).collect::<Vec<_>>();
+    let all: String = (0..=count).map(|place| format!("1 1 {WIDTH} {} 0 0\n", row(place).join(" "))).collect();
+    let first: String = row(0).iter().map(|atom| format!("1 0 0 0 1 -{atom}\n")).collect();
+    let demanded = |place: usize| -> String {
+        row(place).iter().map(|atom| format!("1 0 0 0 {} {} -{atom}\n", WIDTH + 1, row(place - 1).join(" "))).collect()
+    };
+    let others: String = (1..=count).map(demanded).collect();
+    format!("asp 1 0 0\n{all}{first}{others}1 0 0 0 {WIDTH} {}\n0\n", row(count).join(" "))
+}
+
+// A proof beyond a limit is the library's refusal, as README and the help say.
+#[test]
+fn proofs_beyond_the_limits() {
+    let room = Room::of("limits");
+    room.file("p.aspif", rows(33));
+    room.file("none.aspif", NONE);
+    room.tool("cadical", "echo 0; exit 20");
+    let (status, out, said) = room.run(&["prove", "p.aspif", "--table", "65536", "--store", "300000", "-o", "d"]);
+    assert_eq!((status, out.as_str()), (20, "refused proof 21 0\n"), "{said}");
+    room.tool("cadical", "echo '-1 0'; echo 0; exit 20");
+    let (status, out, _) = room.run(&["prove", "none.aspif", "--store", "6", "-o", "d"]);
+    assert_eq!((status, out.as_str()), (20, "refused proof 34 1\n"));
+    assert_eq!(room.files(), ["none.aspif", "p.aspif"]);
+    assert!(room.run(&["prove", "--help"]).1.contains("refused proof 21 0 "));
+    let readme = fs::read_to_string(concat!(env!("CARGO_MANIFEST_DIR"), "/../README.md")).unwrap();
+    assert!(readme.contains("beyond 65,535 bytes (21) or the store (34)"));
 }
 
 #[test]

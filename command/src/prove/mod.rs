@@ -36,9 +36,12 @@ pub const SUBCOMMAND: Subcommand = Subcommand {
 A plan is grounded with gringo (package gringo); cadical (package cadical) solves the completion. Prints
     answer set: ATOM..       the set test says yes to it; by name where there are names
     inconsistent N R S K     the check's verdict on the proof, which -o writes
-    undecided                no proof within the format was found; the reason is on the standard error
+    undecided                no proof that the format has lines and names for was found; the reason is on the standard error
+    refused proof 21 0       the shortest proof found is beyond 65,535 bytes
+    refused proof 34 STEP    the proof found needs a longer store
+    refused program NUMBER LINE
 --table N and --store N are the words for rules and nogoods, 16384 each where nothing is said, as in `verdict`.
-Status 0 for an answer set and for 'inconsistent', 10 for 'undecided'.",
+Status 0 for an answer set and for 'inconsistent', 10 for 'undecided', 20 for a refusal.",
     options: &["-o", "--table", "--store"],
     inputs: &[0],
     operands: (1, 1),
