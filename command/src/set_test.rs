@@ -116,7 +116,11 @@ fn broken(rule: usize, program: &Program, ground: &Ground) -> Outcome {
     let line = ground.line(rule + 1);
     let text = explain::nth_line(&ground.text, rule + 1).map_or(&b""[..], |(text, _)| text);
     let text = String::from_utf8_lossy(text).into_owned();
-    let words = vec![format!("no answer set: a constraint is broken, line {line} of the {}:", ground.called()), format!("    {text}"), format!("    {constraint}")];
+    let words = vec![
+        format!("no answer set: a constraint is broken, line {line} of the {}:", ground.called()),
+        format!("    {text}"),
+        format!("    {constraint}"),
+    ];
     let fields = vec![
         ("answer", Json::text("no")),
         ("rule", Json::count(rule)),

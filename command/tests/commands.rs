@@ -371,7 +371,9 @@ fn the_ending_says_what_is_ground() {
             assert_eq!((status, out.as_str()), (20, "refused program 2 1\n"), "{words:?} {text:?}");
         }
     }
-    for (name, text, is_plan) in [("p.lp", GOOD, true), ("p.lp", "", true), ("p", "", true), ("p", GOOD, false), ("p.txt", "asp :- b.", true)] {
+    for (name, text, is_plan) in
+        [("p.lp", GOOD, true), ("p.lp", "", true), ("p", "", true), ("p", GOOD, false), ("p.txt", "asp :- b.", true)]
+    {
         room.file(name, text);
         let expected = if is_plan { "asp 1 0 0\n0\n" } else { GOOD };
         assert_eq!(room.run(&["ground", name]).1, expected, "{name} {text:?}");
