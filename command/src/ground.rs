@@ -1,8 +1,11 @@
 //! `aspdrupe ground`: the ground program of a plan, cut down to what the checker takes.
 
+use std::path::Path;
+
 use crate::arguments::{Subcommand, Words};
 use crate::json::Json;
 use crate::outcome::{Failure, Outcome, Status};
+use crate::statements::Ground;
 use crate::{explain, files, library, source};
 
 pub const SUBCOMMAND: Subcommand = Subcommand {
@@ -32,7 +35,7 @@ fn run(words: &Words) -> Result<Outcome, Failure> {
     let mut outcome = Outcome {
         status: Status::Good,
         line: String::new(),
-        words: ground.notes,
+        words: ground.notes.clone(),
         fields: vec![
             ("atoms", Json::count(program.atoms)),
             ("rules", Json::count(program.rules)),
@@ -40,15 +43,8 @@ fn run(words: &Words) -> Result<Outcome, Failure> {
         ],
     };
     match words.output("-o") {
-        Some(path) if path.extension().is_some_and(|ending| ending == "names") => {
-            return Err(Failure::misuse(format!("{} is a place for names: another ending, like `.aspif`", path.display())));
-        }
         Some(path) => {
-            // A device or a pipe has nothing beside it. The names come first: of a program that is not written they are not used.
-            if path.is_file() || !path.exists() {
-                ground.names.write_beside(&path, &ground.text)?;
-            }
-            files::write(&path, &ground.text)?;
+            write(&path, &ground)?;
             outcome.line = format!("ground {} {}", program.atoms, program.rules);
             outcome.words.push(format!("largest atom {}, {} rules: {}", program.atoms, program.rules, path.display()));
         }
@@ -58,4 +54,16 @@ fn run(words: &Words) -> Result<Outcome, Failure> {
         }
     }
     Ok(outcome)
+}
+
+/// Writes the program, and its names beside it; a device or a pipe has nothing beside it.
+fn write(path: &Path, ground: &Ground) -> Result<(), Failure> {
+    if path.extension().is_some_and(|ending| ending == "names") {
+        return Err(Failure::misuse(format!("{} is a place for names: another ending, like `.aspif`", path.display())));
+    }
+    // The names come first: where the program is then not written, they are not of what stands there, and are not used.
+    if path.is_file() || !path.exists() {
+        ground.names.write_beside(path, &ground.text)?;
+    }
+    files::write(path, &ground.text)
 }
