@@ -3,6 +3,7 @@
 use std::ffi::{OsStr, OsString};
 use std::path::{Path, PathBuf};
 
+use crate::files;
 use crate::outcome::{Failure, Outcome};
 
 /// A subcommand: how it is called, and what it does.
@@ -16,6 +17,8 @@ pub struct Subcommand {
     pub more: &'static str,
     /// The options with a value, beside `--json` and `--help`.
     pub options: &'static [&'static str],
+    /// The places of the operands that are files to read.
+    pub inputs: &'static [usize],
     /// The fewest and the most operands.
     pub operands: (usize, usize),
     pub run: fn(&Words) -> Result<Outcome, Failure>,
@@ -109,6 +112,22 @@ pub fn read(subcommand: &Subcommand, words: &[OsString]) -> Result<Given, String
     }
 }
 
+/// The options that name a file to write.
+const OUTPUTS: [&str; 3] = ["-o", "--program", "--proof"];
+
+/// Refuses to write over what is read, and two outputs to one place.
+pub fn keep_inputs(subcommand: &Subcommand, words: &Words) -> Result<(), Failure> {
+    let mut taken: Vec<&Path> = subcommand.inputs.iter().filter_map(|place| words.path(*place).ok()).collect();
+    for (option, value) in words.values.iter().filter(|(option, _)| OUTPUTS.contains(option)) {
+        let path = Path::new(value);
+        if taken.iter().any(|other| files::one_place(path, other)) {
+            return Err(Failure::misuse(format!("{option} {} is an input or another output: another place for it", path.display())));
+        }
+        taken.push(path);
+    }
+    Ok(())
+}
+
 /// The help of the whole command.
 pub fn overview(subcommands: &[&Subcommand]) -> String {
     let mut text = String::from("aspdrupe: from a program to a certified answer. What decides is a proved library.\n\n");
@@ -137,6 +156,7 @@ mod tests {
         about: "",
         more: "",
         options: &["-o", "--store"],
+        inputs: &[0],
         operands: (1, 2),
         run: |_| Err(Failure::misuse("")),
     };

@@ -4,12 +4,14 @@ use aspdrupe::{Counts, ProgramRefusal, ProofRefusal, Verdict};
 
 use crate::json::Json;
 use crate::outcome::{Outcome, Status};
+use crate::statements::Ground;
 use crate::{library, locate, quote};
 
 /// A refusal as the subcommands show it. Where the line, the step or the column is not told, there is none.
 struct Refusal<'a> {
-    /// What is refused, and how its lines are called.
+    /// What is refused, what it is called in words, and how its lines are called.
     of: &'static str,
+    called: &'static str,
     place: &'static str,
     number: u8,
     question: String,
@@ -21,18 +23,29 @@ struct Refusal<'a> {
 
 /// A refused program.
 pub fn program(refusal: ProgramRefusal, text: &[u8]) -> Outcome {
+    program_at(refusal, text, refusal.line, "program")
+}
+
+/// A refused ground program, with the line of the text that it came from.
+pub fn ground(refusal: ProgramRefusal, ground: &Ground) -> Outcome {
+    program_at(refusal, &ground.text, ground.line(refusal.line), ground.called())
+}
+
+/// A refused program whose refused line is told as another.
+fn program_at(refusal: ProgramRefusal, text: &[u8], at: usize, called: &'static str) -> Outcome {
     let line = nth_line(text, refusal.line);
     Refusal {
         of: "program",
+        called,
         place: "line",
         number: refusal.question.number(),
         question: refusal.question.to_string(),
         mend: refusal.question.mend(),
-        at: refusal.line,
+        at,
         text: line.map(|(line, _)| line),
         column: line.and_then(|(line, ended)| locate::in_program(refusal.question, line, ended)),
     }
-    .outcome(refusal.to_string())
+    .outcome(ProgramRefusal { line: at, ..refusal }.to_string())
 }
 
 /// A refused proof of the program.
@@ -43,6 +56,7 @@ pub fn proof(refusal: ProofRefusal, program: &[u8], text: &[u8], table: usize) -
     let names: Vec<i64> = before.filter_map(locate::introduced).collect();
     Refusal {
         of: "proof",
+        called: "proof",
         place: "step",
         number: refusal.question.number(),
         question: refusal.question.to_string(),
@@ -77,7 +91,7 @@ fn count_fields(counts: Counts) -> Vec<(&'static str, Json)> {
 
 /// A question of a service that names no place, answered no.
 pub fn question(of: &'static str, number: u8, question: String, mend: &'static str) -> Outcome {
-    Refusal { of, place: "", number, question, mend, at: 0, text: None, column: None }.outcome(format!("refused {of} {number}"))
+    Refusal { of, called: of, place: "", number, question, mend, at: 0, text: None, column: None }.outcome(format!("refused {of} {number}"))
 }
 
 impl Refusal<'_> {
@@ -95,7 +109,7 @@ impl Refusal<'_> {
         let mut fields = vec![("refused", Json::text(self.of)), ("number", Json::Number(i64::from(self.number)))];
         if self.at > 0 {
             let column = self.column.map_or(String::new(), |at| format!(", column {}", at + 1));
-            words.push(format!("{} {} of the {}{column}:", self.place, self.at, self.of));
+            words.push(format!("{} {} of the {}{column}:", self.place, self.at, self.called));
             words.extend(self.text.map_or(vec![String::from("    (the text ends before it)")], |text| quote::quote(text, self.column)));
             fields.push((self.place, Json::count(self.at)));
             fields.extend(self.column.map(|at| ("column", Json::count(at + 1))));
@@ -134,6 +148,7 @@ mod tests {
         let outcome = program(refusal, b"asp 1 0 0\n1 0 1 1 0 2 3 -3\n0\n");
         assert_eq!(outcome.line, "refused program 8 2");
         assert_eq!(outcome.words[..3], ["line 2 of the program, column 15:", "    1 0 1 1 0 2 3 -3", "                  ^"]);
+        assert!(outcome.words[4].ends_with("drop the rule; in a sum add up the weights"), "{}", outcome.words[4]);
         assert_eq!(outcome.words.len(), 5);
         assert_eq!(outcome.status, Status::Refused);
     }

@@ -2,6 +2,7 @@
 
 use std::fs::{self, File, OpenOptions};
 use std::io::{self, Read, Write};
+use std::os::unix::fs::MetadataExt;
 use std::path::{Path, PathBuf};
 
 use crate::outcome::Failure;
@@ -15,6 +16,29 @@ pub fn read(path: &Path, limit: usize) -> Result<Vec<u8>, Failure> {
     let opened = File::open(path).and_then(|file| file.take(limit as u64 + 1).read_to_end(&mut bytes));
     opened.map_err(|error| Failure::misuse(format!("{} cannot be read: {}", path.display(), reason(&error))))?;
     Ok(bytes)
+}
+
+/// Whether another program that opens the path reads the same bytes again: it is a regular file, and not our standard input, which the other has not.
+pub fn reads_again(path: &Path) -> bool {
+    fs::metadata(path).is_ok_and(|about| about.is_file()) && !same(path, Path::new("/dev/stdin"))
+}
+
+/// Whether what is written to the one is written over the other: they are one regular file, or would be. A device or a pipe takes everything.
+pub fn one_place(one: &Path, other: &Path) -> bool {
+    let folder = |path: &Path| path.parent().map(|folder| if folder.as_os_str().is_empty() { PathBuf::from(".") } else { folder.into() });
+    match (fs::metadata(one), fs::metadata(other)) {
+        (Ok(about), Ok(_)) => about.is_file() && same(one, other),
+        (Err(_), Err(_)) if one.file_name() == other.file_name() => {
+            folder(one).zip(folder(other)).is_some_and(|(one, other)| same(&one, &other))
+        }
+        _ => false,
+    }
+}
+
+/// Whether both are there, and one file.
+fn same(one: &Path, other: &Path) -> bool {
+    let place = |path: &Path| fs::metadata(path).map(|about| (about.dev(), about.ino())).ok();
+    place(one).is_some_and(|found| place(other) == Some(found))
 }
 
 /// Writes the file beside its place and renames it, so that no half of it is ever there. What is no regular file, like a device or a pipe, is

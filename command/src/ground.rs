@@ -1,20 +1,23 @@
 //! `aspdrupe ground`: the ground program of a plan, cut down to what the checker takes.
 
+use std::path::Path;
+
 use crate::arguments::{Subcommand, Words};
 use crate::json::Json;
-use crate::names::Names;
 use crate::outcome::{Failure, Outcome, Status};
+use crate::statements::Ground;
 use crate::{explain, files, library, source};
 
 pub const SUBCOMMAND: Subcommand = Subcommand {
     name: "ground",
     form: "PLAN.lp [-o OUT.aspif]",
     about: "Grounds a plan with gringo and keeps what the checker takes; says of everything dropped why it cannot matter.",
-    more: "Without -o the ground program goes to the standard output. With it the names of atoms are kept too, in a file beside OUT.aspif that ends in
-`.names`: `prove` and `test` then show atoms by name. A program that is ground already is cut down in the same way.
+    more: "Without -o the ground program goes to the standard output. With it the names of atoms are kept too, in the file OUT.aspif.names:
+`prove` and `test` then show atoms by name, as long as OUT.aspif is the program that they are of. A program that is ground already is cut down in the same way.
 Output, minimize, project and heuristic statements are dropped. External, assumption, edge and theory statements and
 disjunctive heads are refused.",
     options: &["-o"],
+    inputs: &[0],
     operands: (1, 1),
     run,
 };
@@ -24,7 +27,7 @@ fn run(words: &Words) -> Result<Outcome, Failure> {
     let program = match library::read_program(&ground.text, library::EVERY_TABLE)? {
         Ok(program) => program,
         Err(refusal) => {
-            let mut outcome = explain::program(refusal, &ground.text);
+            let mut outcome = explain::ground(refusal, &ground);
             outcome.words.insert(0, String::from("the ground program is none that the checker takes:"));
             return Ok(outcome);
         }
@@ -32,7 +35,7 @@ fn run(words: &Words) -> Result<Outcome, Failure> {
     let mut outcome = Outcome {
         status: Status::Good,
         line: String::new(),
-        words: ground.notes,
+        words: ground.notes.clone(),
         fields: vec![
             ("atoms", Json::count(program.atoms)),
             ("rules", Json::count(program.rules)),
@@ -40,14 +43,8 @@ fn run(words: &Words) -> Result<Outcome, Failure> {
         ],
     };
     match words.output("-o") {
-        Some(path) if path.extension().is_some_and(|ending| ending == "names") => {
-            return Err(Failure::misuse(format!("{} is a place for names: another ending, like `.aspif`", path.display())));
-        }
         Some(path) => {
-            files::write(&path, &ground.text)?;
-            if path.is_file() {
-                files::write(&Names::path(&path), ground.names.text().as_bytes())?;
-            }
+            write(&path, &ground)?;
             outcome.line = format!("ground {} {}", program.atoms, program.rules);
             outcome.words.push(format!("largest atom {}, {} rules: {}", program.atoms, program.rules, path.display()));
         }
@@ -57,4 +54,16 @@ fn run(words: &Words) -> Result<Outcome, Failure> {
         }
     }
     Ok(outcome)
+}
+
+/// Writes the program, and its names beside it; a device or a pipe has nothing beside it.
+fn write(path: &Path, ground: &Ground) -> Result<(), Failure> {
+    if path.extension().is_some_and(|ending| ending == "names") {
+        return Err(Failure::misuse(format!("{} is a place for names: another ending, like `.aspif`", path.display())));
+    }
+    // The names come first: where the program is then not written, they are not of what stands there, and are not used.
+    if path.is_file() || !path.exists() {
+        ground.names.write_beside(path, &ground.text)?;
+    }
+    files::write(path, &ground.text)
 }

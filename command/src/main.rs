@@ -96,7 +96,7 @@ fn outcome(words: Vec<OsString>) -> (&'static str, Result<Outcome, Failure>) {
     };
     let run = match arguments::read(subcommand, others) {
         Ok(Given::Help) => Ok(Outcome::text(arguments::help(subcommand))),
-        Ok(Given::Work(given)) => (subcommand.run)(&given),
+        Ok(Given::Work(given)) => arguments::keep_inputs(subcommand, &given).and_then(|()| (subcommand.run)(&given)),
         Err(message) => Err(Failure::misuse(format!("{message}; `aspdrupe {} --help` says more", subcommand.name))),
     };
     (subcommand.name, run)

@@ -1,6 +1,7 @@
-//! Names of atoms: the output statements of a ground program. They stand in a file beside the program's, with the ending `names`, and say which
-//! term is shown where a condition holds.
+//! Names of atoms: the output statements of a ground program. They say which term is shown where a condition holds. They stand in a file beside the
+//! program's, with `.names` behind its name; the first line says what it is, with a digest of the program that the names are of.
 
+use std::ffi::OsString;
 use std::path::{Path, PathBuf};
 
 use crate::files;
@@ -9,6 +10,9 @@ use crate::rules::{Body, Rule};
 
 /// The most bytes of such a file.
 const LIMIT: usize = 1 << 24;
+
+/// How the first line of such a file begins; the digest stands behind it.
+const FIRST: &str = "names of atoms, written by aspdrupe ground, of the program with digest ";
 
 /// A term, and the literals under which it is shown.
 #[derive(Debug, Clone, PartialEq, Eq)]
@@ -29,25 +33,44 @@ impl Names {
         term.is_some()
     }
 
-    /// The names that stand beside a program's file; none where there is no such file.
-    pub fn beside(program: &Path) -> Result<Names, Failure> {
+    /// The names that stand beside a program's file; none where there are none of the program with these bytes, and why where there is such a file.
+    pub fn beside(program: &Path, bytes: &[u8]) -> Result<(Names, Option<String>), Failure> {
         let path = Names::path(program);
         let mut names = Names::default();
-        if path != program && path.is_file() {
-            for line in files::read(&path, LIMIT)?.split(|byte| *byte == b'\n') {
-                names.take(line);
-            }
+        if !path.is_file() {
+            return Ok((names, None));
         }
-        Ok(names)
+        let text = files::read(&path, LIMIT)?;
+        let mut lines = text.split(|byte| *byte == b'\n');
+        if lines.next() != Some(first_line(bytes).as_bytes()) {
+            let why = format!("{} is not of this program, and its names are not used: `aspdrupe ground -o` writes both", path.display());
+            return Ok((names, Some(why)));
+        }
+        lines.for_each(|line| {
+            names.take(line);
+        });
+        Ok((names, None))
+    }
+
+    /// Writes the names of the program with these bytes beside its file. Another file is not overwritten.
+    pub fn write_beside(&self, program: &Path, bytes: &[u8]) -> Result<(), Failure> {
+        let path = Names::path(program);
+        if path.is_file() && !files::read(&path, FIRST.len())?.starts_with(FIRST.as_bytes()) {
+            let why = "is no file of names that this command wrote, and is not overwritten: another place for -o";
+            return Err(Failure::misuse(format!("{} {why}", path.display())));
+        }
+        files::write(&path, format!("{}\n{}", first_line(bytes), self.text()).as_bytes())
     }
 
     /// Where the names of a program's file stand.
-    pub fn path(program: &Path) -> PathBuf {
-        program.with_extension("names")
+    fn path(program: &Path) -> PathBuf {
+        let mut path = OsString::from(program);
+        path.push(".names");
+        PathBuf::from(path)
     }
 
     /// The statements.
-    pub fn text(&self) -> String {
+    fn text(&self) -> String {
         let statement = |term: &Term| {
             let literals: String = term.condition.iter().map(|literal| format!(" {literal}")).collect();
             format!("4 {} {} {}{literals}\n", term.text.len(), term.text, term.condition.len())
@@ -67,6 +90,16 @@ impl Names {
     pub fn atom(&self, name: &str) -> Option<i32> {
         let named = |term: &&Term| term.text == name && matches!(term.condition[..], [atom] if atom > 0);
         self.0.iter().find(named).map(|term| term.condition[0])
+    }
+
+    /// The terms that are shown whatever the set: facts, whose statements name no atom.
+    pub fn facts(&self) -> impl Iterator<Item = &str> {
+        self.0.iter().filter(|term| term.condition.is_empty()).map(|term| term.text.as_str())
+    }
+
+    /// Whether the atom has a name.
+    pub fn has(&self, atom: i32) -> bool {
+        self.0.iter().any(|term| term.condition[..] == [atom])
     }
 
     /// An atom's name, or its number where it has none.
@@ -99,6 +132,16 @@ impl Names {
         let head = if rule.choice { format!("{{{heads}}}") } else { heads };
         format!("{head} :- {body}.").trim_start().replace(" :- .", ".")
     }
+}
+
+/// The first line of the names of the program with these bytes.
+fn first_line(program: &[u8]) -> String {
+    format!("{FIRST}{:016x}", digest(program))
+}
+
+/// FNV-1a of 64 bits: it tells programs apart that were changed, not ones that were made to look alike.
+fn digest(bytes: &[u8]) -> u64 {
+    bytes.iter().fold(0xcbf2_9ce4_8422_2325, |sum, byte| (sum ^ u64::from(*byte)).wrapping_mul(0x0100_0000_01b3))
 }
 
 fn term_of(statement: &[u8]) -> Option<Term> {
@@ -150,6 +193,11 @@ mod tests {
         for line in ["", "4", "4 9 a(1) 1 1", "4 4 a(1) 2 1", "4 4 a(1) x", "4 -1 a 0", "5 1 a 0", "4 1 a"] {
             assert!(!again.take(line.as_bytes()), "{line}");
         }
+    }
+
+    #[test]
+    fn digests() {
+        assert_eq!([&b""[..], b"a", b"foobar"].map(digest), [0xcbf2_9ce4_8422_2325, 0xaf63_dc4c_8601_ec8c, 0x8594_4171_f739_67e8]);
     }
 
     #[test]

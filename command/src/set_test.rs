@@ -7,7 +7,7 @@ use crate::json::Json;
 use crate::library::{self, Program};
 use crate::names::Names;
 use crate::outcome::{Failure, Outcome, Status};
-use crate::rules::rules;
+use crate::rules::{rules, Body, Rule};
 use crate::statements::Ground;
 use crate::{explain, source};
 
@@ -16,12 +16,13 @@ pub const SUBCOMMAND: Subcommand = Subcommand {
     form: "PROGRAM ATOM..",
     about: "Tests whether the atoms, and no others, are an answer set; if not, says which atom differs or which constraint is broken.",
     more: "PROGRAM is a ground program or a plan. An ATOM is a number, or a name where the program has names;
-without any it is the empty set. Prints
+without any it is the empty set. Facts are given by name all together, or by number. Prints
     yes
     no atom N        the lowest atom that lies in just one of the set and the least model of its reduct
     no rule N        the first broken constraint
 and on the standard error on which side the atom lies, or the constraint with its line.",
     options: &[],
+    inputs: &[0],
     operands: (1, usize::MAX),
     run,
 };
@@ -30,28 +31,60 @@ fn run(words: &Words) -> Result<Outcome, Failure> {
     let ground = source::load(words.path(0)?)?;
     let program = match library::read_program(&ground.text, library::EVERY_TABLE)? {
         Ok(program) => program,
-        Err(refusal) => return Ok(explain::program(refusal, &ground.text)),
+        Err(refusal) => return Ok(explain::ground(refusal, &ground)),
     };
-    let set = set_of(&words.texts_from(1), &ground.names)?;
+    let atoms = words.texts_from(1);
+    let mut set = set_of(&atoms, &ground.names)?;
+    let facts = if names_facts(&atoms, &ground.names)? { nameless_facts(&program, &ground.names) } else { Vec::new() };
+    set.extend(&facts);
+    set.sort_unstable();
+    set.dedup();
     let (answer, least_model) = library::test_set(&program, &set)?;
-    Ok(match answer {
+    let mut outcome = match answer {
         SetAnswer::Yes => yes(&set, &ground.names),
         SetAnswer::Differs(atom) => differs(atom, least_model.get(usize::from(atom)) == Some(&true), &ground.names),
         SetAnswer::Broken(rule) => broken(rule, &program, &ground),
         SetAnswer::Refused(question) => explain::question("set", question.number(), question.to_string(), question.mend()),
-    })
+    };
+    if !facts.is_empty() {
+        let numbers = facts.iter().map(u16::to_string).collect::<Vec<_>>().join(" ");
+        outcome.words.push(format!("the set names the facts, so that the atoms of facts without a name are in it: {numbers}"));
+    }
+    Ok(outcome)
 }
 
-/// The atoms that the words name, ascending, each once.
+/// The atoms that the words name; the name of a fact names none.
 fn set_of(words: &[String], names: &Names) -> Result<Vec<u16>, Failure> {
     let atom = |word: &String| {
         let number = word.parse().ok().or_else(|| names.atom(word).and_then(|atom| u16::try_from(atom).ok()));
         number.ok_or_else(|| Failure::misuse(format!("`{word}` is neither an atom's number nor a name that the program has")))
     };
-    let mut set = words.iter().map(atom).collect::<Result<Vec<u16>, Failure>>()?;
-    set.sort_unstable();
-    set.dedup();
-    Ok(set)
+    words.iter().filter(|word| !is_fact(word, names)).map(atom).collect()
+}
+
+/// Whether a word is the name of a fact and of no atom.
+fn is_fact(word: &str, names: &Names) -> bool {
+    word.parse::<u16>().is_err() && names.atom(word).is_none() && names.facts().any(|fact| fact == word)
+}
+
+/// Whether the words name the facts. Which atom is which fact is not known, so that they name all or none.
+fn names_facts(words: &[String], names: &Names) -> Result<bool, Failure> {
+    let Some(fact) = words.iter().find(|word| is_fact(word, names)) else { return Ok(false) };
+    match names.facts().find(|other| !words.iter().any(|word| word == other)) {
+        None => Ok(true),
+        Some(other) => Err(Failure::misuse(format!(
+            "`{fact}` is a fact, and `{other}` is one too: which atoms they are is not known, so give all facts by name, or all by number"
+        ))),
+    }
+}
+
+/// The atoms without a name that rules without a body give.
+fn nameless_facts(program: &Program, names: &Names) -> Vec<u16> {
+    let fact = |rule: &Rule| match (&rule.heads[..], &rule.body) {
+        ([atom], Body::Plain(literals)) if !rule.choice && literals.is_empty() && !names.has(*atom) => u16::try_from(*atom).ok(),
+        _ => None,
+    };
+    rules(program).iter().filter_map(fact).collect()
 }
 
 fn yes(set: &[u16], names: &Names) -> Outcome {
@@ -80,10 +113,14 @@ fn differs(atom: u16, in_least_model: bool, names: &Names) -> Outcome {
 
 fn broken(rule: usize, program: &Program, ground: &Ground) -> Outcome {
     let constraint = rules(program).get(rule.wrapping_sub(1)).map_or(String::new(), |rule| ground.names.rule(rule));
-    let line = ground.lines.get(rule).copied().unwrap_or(0);
+    let line = ground.line(rule + 1);
     let text = explain::nth_line(&ground.text, rule + 1).map_or(&b""[..], |(text, _)| text);
     let text = String::from_utf8_lossy(text).into_owned();
-    let words = vec![format!("no answer set: a constraint is broken, line {line}:"), format!("    {text}"), format!("    {constraint}")];
+    let words = vec![
+        format!("no answer set: a constraint is broken, line {line} of the {}:", ground.called()),
+        format!("    {text}"),
+        format!("    {constraint}"),
+    ];
     let fields = vec![
         ("answer", Json::text("no")),
         ("rule", Json::count(rule)),
@@ -102,8 +139,9 @@ mod tests {
     fn sets_of_words() {
         let mut names = Names::default();
         names.take(b"4 1 a 1 7");
+        names.take(b"4 1 f 0");
         let words = |line: &str| line.split(' ').map(String::from).collect::<Vec<_>>();
-        assert_eq!(set_of(&words("9 a 3 9"), &names), Ok(vec![3, 7, 9]));
+        assert_eq!(set_of(&words("9 a f 3"), &names), Ok(vec![9, 7, 3]));
         for wrong in ["b", "-3", "65536", "1.5", ""] {
             assert!(set_of(&words(wrong), &names).is_err(), "{wrong}");
         }

@@ -9,11 +9,31 @@ use crate::outcome::Failure;
 pub struct Ground {
     /// The text that the checker takes: header, rules, the line `0`.
     pub text: Vec<u8>,
-    /// For each of its lines, the line of the text that it came from, counted from 1.
+    /// For each of its lines, and for the place after the last, the line of the text that it came from, counted from 1.
     pub lines: Vec<usize>,
+    /// Whether that text is what gringo made of a plan, and not the file's own.
+    pub of_plan: bool,
+    /// Whether that text was another.
+    pub cut: bool,
     pub names: Names,
     /// What was dropped or changed, and why that cannot matter.
     pub notes: Vec<String>,
+}
+
+impl Ground {
+    /// The line of the text that a line, counted from 1, came from; 0 is the text as a whole.
+    pub fn line(&self, line: usize) -> usize {
+        line.checked_sub(1).and_then(|place| self.lines.get(place)).copied().unwrap_or(0)
+    }
+
+    /// What the lines are of, in words.
+    pub fn called(&self) -> &'static str {
+        if self.of_plan {
+            "ground program"
+        } else {
+            "program"
+        }
+    }
 }
 
 /// What goes, by kind of statement: what it is, and why it cannot matter.
@@ -40,10 +60,11 @@ const REFUSED: [(&str, &str); 4] = [
 
 /// Cuts a text down. Lines that are no statements stay as they are: the library refuses them, and says which.
 pub fn cut_down(text: &[u8]) -> Result<Ground, Failure> {
-    let mut ground = Ground { text: Vec::new(), lines: Vec::new(), names: Names::default(), notes: Vec::new() };
+    let mut ground = Ground { text: Vec::new(), lines: Vec::new(), of_plan: false, cut: false, names: Names::default(), notes: Vec::new() };
     let mut dropped = [0; DROPPED.len()];
     let mut shortened = 0;
-    for (place, line) in text.split_inclusive(|byte| *byte == b'\n').enumerate() {
+    let lines = text.split_inclusive(|byte| *byte == b'\n');
+    for (place, line) in lines.clone().enumerate() {
         let statement = line.strip_suffix(b"\n").unwrap_or(line);
         let words = String::from_utf8_lossy(statement);
         let mut kept = line.to_vec();
@@ -62,6 +83,8 @@ pub fn cut_down(text: &[u8]) -> Result<Ground, Failure> {
         ground.text.extend(kept);
         ground.lines.push(place + 1);
     }
+    ground.lines.push(lines.count() + 1);
+    ground.cut = ground.text != text;
     let counted = DROPPED.iter().zip(dropped).filter(|(_, count)| *count > 0);
     ground.notes.extend(counted.map(|((_, what, why), count)| format!("dropped, which cannot matter: {count} {what}; {why}")));
     if shortened > 0 {
@@ -132,7 +155,9 @@ mod tests {
         let text = b"asp 1 0 0\n1 0 1 1 0 0\n2 0 1 6 1\n4 1 a 1 1\n1 0 1 8 0 2 2 2\n1 0 0 0 2 -2 2\n10 note\n1 0 0 1 2 1 3 2\n0\n";
         let ground = cut_down(text).unwrap();
         assert_eq!(ground.text, b"asp 1 0 0\n1 0 1 1 0 0\n1 0 1 8 0 1 2\n1 0 0 1 2 1 3 2\n0\n");
-        assert_eq!(ground.lines, [1, 2, 5, 8, 9]);
+        assert_eq!(ground.lines, [1, 2, 5, 8, 9, 10]);
+        assert!(ground.cut);
+        assert_eq!([0, 3, 6, 7].map(|line| ground.line(line)), [0, 5, 10, 0]);
         assert_eq!(ground.names.of(1), "a");
         let parts = ["1 minimize", "1 comments", "1 rules with an atom and its negation", "1 rules that named"];
         assert!(ground.notes.iter().zip(parts).all(|(note, part)| note.contains(part)), "{:?}", ground.notes);
@@ -142,7 +167,7 @@ mod tests {
     #[test]
     fn output_statements() {
         let ground = cut_down(b"asp 1 0 0\n4 3 a\xe9b 1 1\n4 9 a 1 1\n1 0 1 1 0 0\n0\n").unwrap();
-        assert_eq!((ground.names.count(), ground.lines), (1, vec![1, 4, 5]));
+        assert_eq!((ground.names.count(), ground.lines), (1, vec![1, 4, 5, 6]));
         assert_eq!(ground.notes, ["dropped, which cannot matter: 1 malformed output statements; they say what is shown"]);
     }
 
@@ -164,7 +189,8 @@ mod tests {
             b"asp 1 0 0\n1 0 1 1 0 9 1\nnoise\n\n0\nmore",
             b"1 0 -1 0\n1 1 9223372036854775807 1\n1 0 0 0 1 -9223372036854775808\n1 1\n",
         ] {
-            assert_eq!(cut_down(text).unwrap().text, text);
+            let ground = cut_down(text).unwrap();
+            assert!(ground.text == text && !ground.cut);
         }
     }
 }

@@ -19,6 +19,7 @@ pub const SUBCOMMAND: Subcommand = Subcommand {
 The time grows with the square of the number of steps: some seconds for the longest proofs.
 --table N and --store N are the words for rules and nogoods, 16384 each where nothing is said, as in `verdict`.",
     options: &["-o", "--table", "--store"],
+    inputs: &[0, 1],
     operands: (2, 2),
     run,
 };

@@ -122,9 +122,27 @@ fn sets() {
     assert!(test(&["3"]).2.contains("in the set only"));
     let (status, out, said) = test(&["2"]);
     assert_eq!((status, out.as_str()), (10, "no rule 3\n"));
-    assert!(said.contains("line 4:\n    1 0 0 0 2 2 -1\n    :- not a, #2."), "{said}");
+    assert!(said.contains("line 4 of the program:\n    1 0 0 0 2 2 -1\n    :- not a, #2."), "{said}");
     assert_eq!((test(&["9"]).0, test(&["9"]).1.as_str()), (20, "refused set 42\n"));
     assert_misuse(test(&["b"]), "`b` is neither");
+}
+
+// gringo names no atom of a fact: the names of all facts stand for their atoms.
+#[test]
+fn sets_with_facts() {
+    let room = Room::of("facts");
+    room.file("p.aspif", "asp 1 0 0\n1 0 1 1 0 0\n1 0 1 2 0 0\n1 1 1 3 0 0\n1 0 0 0 1 -3\n4 1 c 1 3\n4 1 a 0\n4 1 b 0\n0\n");
+    let test = |words: &[&str]| room.run(&[&["test", "p.aspif"], words].concat());
+    room.tool("cadical", "echo 's SATISFIABLE'; echo 'v 1 2 3 4 -5 0'; exit 10");
+    let found = room.run(&["prove", "p.aspif"]).1;
+    assert_eq!(found, "answer set: c a b\n");
+    let (status, out, said) = test(&found.split_whitespace().skip(2).collect::<Vec<_>>());
+    assert_eq!((status, out.as_str()), (0, "yes\n"));
+    assert!(said.ends_with("the atoms of facts without a name are in it: 1 2\n"), "{said}");
+    assert_eq!(test(&["1", "2", "3"]).2, "an answer set: c a b\n");
+    assert_eq!(test(&["a", "b"]).1, "no rule 4\n");
+    assert_eq!(test(&["c"]).1, "no atom 1\n");
+    assert_misuse(test(&["c", "a"]), "`a` is a fact, and `b` is one too");
 }
 
 /// A proof of lines that stand without their closing 0, with two spaces or more between them.
@@ -272,7 +290,7 @@ fn noise_and_limits() {
         (&["test", "many"], 20, "refused program 9 1026\n"),
         (&["prove", "many"], 20, "refused program 9 1026\n"),
         (&["ground", "many", "-o", "out"], 20, "refused program 9 1026\n"),
-        (&["packet", "read", "noise", "--program", "out", "--proof", "out"], 20, "refused packet 51\n"),
+        (&["packet", "read", "noise", "--program", "out", "--proof", "out2"], 20, "refused packet 51\n"),
         (&["packet", "up", "noise", "-o", "out"], 20, "refused packet 51\n"),
         (&["packet", "down", "noise", "-o", "out"], 20, "refused packet 51\n"),
         (&["merge", "p", "1", "noise", "p", "-o", "out"], 20, "refused merge 57\n"),
@@ -303,6 +321,8 @@ fn a_grounder_that_complains() {
     let (status, out, said) = room.run(&["prove", "plan.lp"]);
     assert_eq!((status, out.as_str()), (20, ""));
     assert_eq!(said, "gringo does not ground plan.lp: plan.lp:1:6-7: error: syntax error\n");
+    room.tool("gringo", "echo 'more' >&2; echo '*** ERROR: (gringo): out of memory' >&2; exit 33");
+    assert_eq!(room.run(&["prove", "plan.lp"]).2, "gringo does not ground plan.lp: *** ERROR: (gringo): out of memory\n");
     for (statement, part) in [("5 1 2", "external"), ("1 0 2 1 2 0 0", "disjunctive")] {
         room.tool("gringo", &format!("printf 'asp 1 0 0\\n{statement}\\n0\\n'"));
         let (status, _, said) = room.run(&["ground", "plan.lp", "-o", "out"]);
@@ -313,6 +333,51 @@ fn a_grounder_that_complains() {
     room.tool("gringo", "while :; do echo '10 again and again and again and again and again'; done");
     assert!(room.run(&["ground", "plan.lp"]).2.contains("more than 16777216 bytes"));
     assert_eq!(room.files(), ["plan.lp"]);
+}
+
+// A plan that can be read once only, or that gringo cannot open as the command does, is handed on as it was read.
+#[test]
+fn a_plan_that_is_no_regular_file() {
+    let room = Room::of("pipes");
+    let plan = room.file("plan.lp", "1 1 1 1 0 0");
+    // As if gringo read rules: what it is given stands between header and end.
+    room.tool("gringo", r#"shift; echo 'asp 1 0 0'; if [ "$1" = - ]; then read line; else read line < "$1"; fi; echo "$line"; echo 0"#);
+    let expected = (0, String::from("asp 1 0 0\n1 1 1 1 0 0\n0\n"), String::new());
+    let ground = |path: &str, input: Stdio| ended(room.command(&["ground", path]).stdin(input).output().unwrap());
+    assert_eq!(ground("plan.lp", Stdio::null()), expected);
+    assert_eq!(ground("/dev/stdin", fs::File::open(&plan).unwrap().into()), expected);
+    let mut cat = Command::new("/bin/cat").arg(&plan).stdout(Stdio::piped()).spawn().unwrap();
+    assert_eq!(ground("/dev/stdin", cat.stdout.take().unwrap().into()), expected);
+    cat.wait().unwrap();
+    assert!(Command::new("/usr/bin/mkfifo").arg(room.0.join("fifo")).status().unwrap().success());
+    let mut cat = Command::new("/bin/sh").args(["-c", "/bin/cat plan.lp > fifo"]).current_dir(&room.0).spawn().unwrap();
+    assert_eq!(ground("fifo", Stdio::null()), expected);
+    cat.wait().unwrap();
+    // What is not read whole is not handed on.
+    room.file("plan.lp", vec![b' '; (1 << 24) + 1]);
+    let (status, _, said) = ground("/dev/stdin", fs::File::open(&plan).unwrap().into());
+    assert!(status == 20 && said.contains("more than 16777216 bytes"), "{said}");
+}
+
+// An empty ground program is refused, as by `check`; gringo is asked for plans only.
+#[test]
+fn the_ending_says_what_is_ground() {
+    let room = Room::of("endings");
+    room.tool("gringo", "echo 'asp 1 0 0'; echo 0");
+    for text in ["", "a.", "asp 2 0 0\n0\n"] {
+        room.file("p.aspif", text);
+        for words in [&["prove", "p.aspif"][..], &["test", "p.aspif"], &["ground", "p.aspif"], &["check", "p.aspif", "p.aspif"]] {
+            let (status, out, _) = room.run(words);
+            assert_eq!((status, out.as_str()), (20, "refused program 2 1\n"), "{words:?} {text:?}");
+        }
+    }
+    for (name, text, is_plan) in
+        [("p.lp", GOOD, true), ("p.lp", "", true), ("p", "", true), ("p", GOOD, false), ("p.txt", "asp :- b.", true)]
+    {
+        room.file(name, text);
+        let expected = if is_plan { "asp 1 0 0\n0\n" } else { GOOD };
+        assert_eq!(room.run(&["ground", name]).1, expected, "{name} {text:?}");
+    }
 }
 
 #[test]
@@ -326,7 +391,32 @@ fn what_is_ground() {
     assert_eq!(fs::read_to_string(room.0.join("out.aspif")).unwrap(), "asp 1 0 0\n1 1 1 1 0 0\n0\n");
     assert_eq!(room.run(&["test", "out.aspif", "a"]).2, "an answer set: a\n");
     assert_eq!(room.run(&["ground", "plan.lp"]).1, "asp 1 0 0\n1 1 1 1 0 0\n0\n");
-    assert_eq!(room.files(), ["out.aspif", "out.names", "plan.lp"]);
+    assert_eq!(room.files(), ["out.aspif", "out.aspif.names", "plan.lp"]);
+}
+
+#[test]
+fn names_are_of_their_program() {
+    let room = Room::of("names");
+    room.file("plan.lp", "");
+    for (name, term) in [("w.1", "a"), ("w.2", "b")] {
+        room.tool("gringo", &format!("printf 'asp 1 0 0\\n1 1 1 1 0 0\\n4 1 {term} 1 1\\n0\\n'"));
+        assert_eq!(room.run(&["ground", "plan.lp", "-o", name]).0, 0);
+    }
+    assert_eq!(room.run(&["test", "w.1", "a"]).2, "an answer set: a\n");
+    assert_eq!(room.run(&["test", "w.2", "b"]).2, "an answer set: b\n");
+    // Of another program the names are not used.
+    room.file("w.1", GOOD);
+    let (status, _, said) = room.run(&["test", "w.1", "1"]);
+    assert_eq!(status, 0);
+    assert!(said.starts_with("w.1.names is not of this program") && said.ends_with("\nan answer set: 1\n"), "{said}");
+    assert!(room.run(&["prove", "w.1"]).2.starts_with("w.1.names is not of this program"));
+    // Another file is not overwritten, and nothing is written beside it.
+    room.file("own.names", "mine");
+    assert_misuse(room.run(&["ground", "plan.lp", "-o", "own"]), "own.names is no file of names");
+    assert_eq!(fs::read_to_string(room.0.join("own.names")).unwrap(), "mine");
+    assert_eq!(room.run(&["ground", "plan.lp", "-o", "w.1"]).0, 0);
+    assert_eq!(room.run(&["test", "w.1", "b"]).2, "an answer set: b\n");
+    assert_eq!(room.files(), ["own.names", "plan.lp", "w.1", "w.1.names", "w.2", "w.2.names"]);
 }
 
 // Nothing is believed of what a solver says: a model is tested, a log is checked.
@@ -369,6 +459,111 @@ fn outputs_that_cannot_be_written() {
     let full = fs::OpenOptions::new().write(true).open("/dev/full").unwrap();
     let (status, _, said) = ended(room.command(&["check", "p.aspif", "p.aspif"]).stdout(full).output().unwrap());
     assert!(status == 2 && said.contains("the answer cannot be written: No space left"), "{said}");
+}
+
+/// Atoms in rows: the first row is demanded, each row demands the next, and the last is forbidden. Every rule is needed.
+fn rows(count: usize) -> String {
+    const WIDTH: usize = 20;
+    let row = |place: usize| (place * WIDTH + 1..=(place + 1) * WIDTH).map(|atom| atom.to_string()).collect::<Vec<_>>();
+    let all: String = (0..=count).map(|place| format!("1 1 {WIDTH} {} 0 0\n", row(place).join(" "))).collect();
+    let first: String = row(0).iter().map(|atom| format!("1 0 0 0 1 -{atom}\n")).collect();
+    let demanded = |place: usize| -> String {
+        row(place).iter().map(|atom| format!("1 0 0 0 {} {} -{atom}\n", WIDTH + 1, row(place - 1).join(" "))).collect()
+    };
+    let others: String = (1..=count).map(demanded).collect();
+    format!("asp 1 0 0\n{all}{first}{others}1 0 0 0 {WIDTH} {}\n0\n", row(count).join(" "))
+}
+
+// A proof beyond a limit is the library's refusal, as README and the help say.
+#[test]
+fn proofs_beyond_the_limits() {
+    let room = Room::of("limits");
+    room.file("p.aspif", rows(33));
+    room.file("none.aspif", NONE);
+    room.tool("cadical", "echo 0; exit 20");
+    let (status, out, said) = room.run(&["prove", "p.aspif", "--table", "65536", "--store", "300000", "-o", "d"]);
+    assert_eq!((status, out.as_str()), (20, "refused proof 21 0\n"), "{said}");
+    room.tool("cadical", "echo '-1 0'; echo 0; exit 20");
+    let (status, out, _) = room.run(&["prove", "none.aspif", "--store", "6", "-o", "d"]);
+    assert_eq!((status, out.as_str()), (20, "refused proof 34 1\n"));
+    assert_eq!(room.files(), ["none.aspif", "p.aspif"]);
+    assert!(room.run(&["prove", "--help"]).1.contains("refused proof 21 0 "));
+    let readme = fs::read_to_string(concat!(env!("CARGO_MANIFEST_DIR"), "/../README.md")).unwrap();
+    assert!(readme.contains("beyond 65,535 bytes (21) or the store (34)"));
+}
+
+#[test]
+fn what_a_proof_is_of() {
+    let room = Room::of("proof-of");
+    let raw = "asp 1 0 0\n1 0 1 1 0 1 -1\n4 1 a 1 1\n0\n";
+    room.file("plan.lp", "a :- not a.");
+    room.file("raw.aspif", raw);
+    room.file("none.aspif", NONE);
+    room.tool("gringo", &format!("printf '{}'", raw.replace('\n', "\\n")));
+    room.tool("cadical", "echo '-1 0'; echo 0; exit 20");
+    for (name, of) in [
+        ("plan.lp", "\nthe proof is of the ground program, which `aspdrupe ground plan.lp -o OUT.aspif` writes\n"),
+        ("raw.aspif", "\nthe proof is of the program as it was cut down, which `aspdrupe ground raw.aspif -o OUT.aspif` writes\n"),
+        ("none.aspif", "and needs a store of 21 words\n"),
+    ] {
+        let (status, out, said) = room.run(&["prove", name, "-o", "d"]);
+        assert_eq!((status, out.as_str()), (0, "inconsistent 1 1 5 6\n"));
+        assert!(said.ends_with(of), "{said}");
+    }
+}
+
+// A refusal names the line of the file given, or of what gringo wrote.
+#[test]
+fn lines_of_the_text_given() {
+    let room = Room::of("lines");
+    let raw = "asp 1 0 0\n4 1 a 1 1\n10 note\n1 0 1 9000 0 0\n0\n";
+    room.file("plan.lp", "a.");
+    room.file("raw.aspif", raw);
+    room.file("ends.aspif", "asp 1 0 0\n10 note\n1 0 1 1 0 0\n10 note\n");
+    room.tool("gringo", &format!("printf '{}'", raw.replace('\n', "\\n")));
+    for way in ["prove", "test", "ground"] {
+        let (status, out, said) = room.run(&[way, "raw.aspif"]);
+        assert_eq!((status, out.as_str()), (20, "refused program 4 4\n"), "{way}");
+        assert!(said.contains("line 4 of the program, column 7:\n    1 0 1 9000 0 0\n"), "{said}");
+        let (_, out, said) = room.run(&[way, "plan.lp"]);
+        assert_eq!(out, "refused program 4 4\n", "{way}");
+        assert!(said.contains("line 4 of the ground program, column 7:\n"), "{said}");
+        assert_eq!(room.run(&[way, "ends.aspif"]).1, "refused program 3 5\n", "{way}");
+    }
+    assert!(room.run(&["test", "raw.aspif", "--json"]).1.contains(r#""line": 4, "column": 7"#));
+}
+
+#[test]
+fn inputs_are_not_written_over() {
+    let room = Room::of("inputs");
+    room.file("p.aspif", NONE);
+    room.file("d", proof("b 2 -1  c 2 1  s 1 2  a 1  a"));
+    assert_eq!(room.run(&["packet", "write", "p.aspif", "d", "-o", "packet"]).0, 0);
+    std::os::unix::fs::symlink("p.aspif", room.0.join("link")).unwrap();
+    fs::create_dir(room.0.join("folder")).unwrap();
+    let before: Vec<_> = ["p.aspif", "d", "packet"].map(|name| fs::read(room.0.join(name)).unwrap()).into();
+    for words in [
+        &["ground", "p.aspif", "-o", "./p.aspif"][..],
+        &["ground", "p.aspif", "-o", "link"],
+        &["prove", "link", "-o", "p.aspif"],
+        &["trim", "p.aspif", "d", "-o", "d"],
+        &["trim", "p.aspif", "d", "-o", "folder/../p.aspif"],
+        &["merge", "p.aspif", "1", "d", "d", "-o", "d"],
+        &["packet", "write", "p.aspif", "d", "-o", "d"],
+        &["packet", "up", "packet", "-o", "packet"],
+        &["packet", "read", "packet", "--program", "packet", "--proof", "new"],
+        &["packet", "read", "packet", "--program", "new", "--proof", "./new"],
+        &["packet", "read", "packet", "--program", "new", "--proof", "folder/../new"],
+    ] {
+        assert_misuse(room.run(words), "is an input or another output");
+    }
+    let after: Vec<_> = ["p.aspif", "d", "packet"].map(|name| fs::read(room.0.join(name)).unwrap()).into();
+    assert_eq!(before, after);
+    // A device takes both, and an atom's number is no file.
+    assert_eq!(room.run(&["packet", "read", "packet", "--program", "/dev/null", "--proof", "/dev/null"]).0, 0);
+    room.file("1", "");
+    assert_eq!(room.run(&["merge", "p.aspif", "1", "d", "d", "-o", "1"]).0, 0);
+    assert_eq!(room.files(), ["1", "d", "folder", "link", "p.aspif", "packet"]);
 }
 
 #[test]

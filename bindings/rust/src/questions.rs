@@ -100,7 +100,7 @@ questions! {
         HeadCount = 7, "Does the head count suit the head kind?",
             "normal: 0 or 1 heads, choice: 1 to 64; disjunction is not taken";
         Literals = 8, "Are heads positive and distinct, literals nonzero with no atom twice?",
-            "the rule; drop one with `a, not a`: it never holds";
+            "the rule; a plain body with `a, not a` never holds: drop the rule; in a sum add up the weights";
         RuleCount = 9, "Are there fewer than 1,024 rules before it?",
             "a smaller program";
         Table = 10, "Does the table hold the rule?",

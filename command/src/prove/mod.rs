@@ -22,6 +22,7 @@ use crate::names::Names;
 use crate::outcome::{Failure, Outcome, Status};
 use crate::progress::{Part, Progress};
 use crate::rules::rules;
+use crate::statements::Ground;
 use crate::{explain, source};
 use completion::Completion;
 use solver::Found;
@@ -31,13 +32,18 @@ pub const SUBCOMMAND: Subcommand = Subcommand {
     name: "prove",
     form: "PLAN.lp|PROGRAM.aspif [-o PROOF.drupe] [--table N] [--store N]",
     about: "Finds an answer set or a proof that there is none, and has the library test the one or check the other.",
-    more: "A plan is grounded with gringo (package gringo); cadical (package cadical) solves the completion. Prints
+    more: "A file that ends in `.lp` is a plan, one in `.aspif` a ground program, and of others one that begins with `asp 1 ` is ground.
+A plan is grounded with gringo (package gringo); cadical (package cadical) solves the completion. Prints
     answer set: ATOM..       the set test says yes to it; by name where there are names
     inconsistent N R S K     the check's verdict on the proof, which -o writes
-    undecided                no proof within the format was found; the reason is on the standard error
+    undecided                no proof that the format has lines and names for was found; the reason is on the standard error
+    refused proof 21 0       the shortest proof found is beyond 65,535 bytes
+    refused proof 34 STEP    the proof found needs a longer store
+    refused program NUMBER LINE
 --table N and --store N are the words for rules and nogoods, 16384 each where nothing is said, as in `verdict`.
-Status 0 for an answer set and for 'inconsistent', 10 for 'undecided'.",
+Status 0 for an answer set and for 'inconsistent', 10 for 'undecided', 20 for a refusal.",
     options: &["-o", "--table", "--store"],
+    inputs: &[0],
     operands: (1, 1),
     run,
 };
@@ -77,7 +83,7 @@ fn run(words: &Words) -> Result<Outcome, Failure> {
     let ground = timed(&mut times.grounding, || source::load(words.path(0)?))?;
     let program = match library::read_program(&ground.text, table)? {
         Ok(program) => program,
-        Err(refusal) => return Ok(explain::program(refusal, &ground.text)),
+        Err(refusal) => return Ok(explain::ground(refusal, &ground)),
     };
     progress.begin(Part::Solving);
     let mut completion = Completion::of(&rules(&program), program.atoms);
@@ -88,12 +94,26 @@ fn run(words: &Words) -> Result<Outcome, Failure> {
         Answer::Refutation(proof) => {
             progress.begin(Part::Checking);
             let verdict = timed(&mut times.checking, || library::check_texts(&ground.text, proof.text.as_bytes(), table, store))?;
-            refutation(verdict, &proof, (&ground.text, table), words.output("-o").as_deref())?
+            let mut outcome = refutation(verdict, &proof, (&ground.text, table), words.output("-o").as_deref())?;
+            if outcome.status == Status::Good {
+                outcome.words.extend(proved(&ground, words.path(0)?));
+            }
+            outcome
         }
     };
     outcome.words.splice(0..0, ground.notes);
     outcome.fields.extend([("loops", Json::count(completion.loop_count())), times.field()]);
     Ok(outcome)
+}
+
+/// What a proof is of, and how to keep it, where that is not the file's own text.
+fn proved(ground: &Ground, path: &Path) -> Option<String> {
+    let of = match (ground.of_plan, ground.cut) {
+        (true, _) => "the ground program",
+        (_, true) => "the program as it was cut down",
+        _ => return None,
+    };
+    Some(format!("the proof is of {of}, which `aspdrupe ground {} -o OUT.aspif` writes", path.display()))
 }
 
 fn timed<T>(time: &mut Duration, work: impl FnOnce() -> T) -> T {
