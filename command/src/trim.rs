@@ -16,7 +16,7 @@ pub const SUBCOMMAND: Subcommand = Subcommand {
     more: "Prints the verdict on what is left, `inconsistent N R S K`, or
     refused program NUMBER LINE
     refused trim NUMBER      the proof is not accepted; what `aspdrupe check` says of it is on the standard error
-The time grows with the square of the number of steps: some seconds for the longest proofs.
+A pass is a whole check for each step, and there can be as many passes as steps: most long proofs take some seconds, with two passes.
 --table N and --store N are the words for rules and nogoods, 16384 each where nothing is said, as in `verdict`.",
     options: &["-o", "--table", "--store"],
     inputs: &[0, 1],
