@@ -187,7 +187,7 @@ fn move_parts(
 fn move_packet(from: Version, to: Version, packet: &[u8], output: &mut [u8]) -> PacketWriting
     ensures { λ r. ⌜ Moved to (pairIn from (now (packet .entry))) (now (output .entry)) (now (output .exit)) r ⌝ }
 {
-    numbers::zero_all(output);
+    words::zero_bytes(output);
     if !versions::is_marked(from, packet) {
         return PacketWriting::Refused(51);
     }

@@ -323,7 +323,7 @@ fn refuse(number: u8, table: &mut [i32], proof: &mut [u8]) -> PacketReading
         (now (proof .exit)) r ⌝ }
 {
     words::zero_all(table);
-    numbers::zero_all(proof);
+    words::zero_bytes(proof);
     PacketReading::Refused(number)
 }
 

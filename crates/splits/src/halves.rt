@@ -35,7 +35,7 @@ fn know_atoms(known: &mut [u8], atoms: usize)
     requires { ⌜ (length (now known) ≡ entries) × (atoms ≤ largest) ⌝ }
     ensures { λ _. ⌜ Marks (now (known .exit)) (upTo atoms) ⌝ }
 {
-    marks::zero_marks(known);
+    words::zero_bytes(known);
     let mut left = atoms;
     while 0 < left {
         marks::mark(known, left);

@@ -40,7 +40,7 @@ fn refuse(table: &mut [i32], store: &mut [i32], output: &mut [u8], number: u8) -
 {
     words::zero_all(table);
     words::zero_all(store);
-    marks::zero_marks(output);
+    words::zero_bytes(output);
     MergeAnswer::Refused(number)
 }
 
@@ -147,7 +147,7 @@ pub fn merge_halves(
         (now (table .exit)) (now (store .exit)) (now (output .entry)) (now (output .exit)) r ⌝ }
 {
     words::zero_all(store);
-    marks::zero_marks(output);
+    words::zero_bytes(output);
     let read = aspif::read_program(program, table);
     match read {
         ProgramReading::Refused(refusal) => MergeAnswer::RefusedProgram(refusal),
