@@ -14,6 +14,10 @@ ghost use Rattle.aspif.specs.Reading.{allWeights};
 ghost use Rattle.aspif.specs.Tables.{kindOf, isKind, isWeighted, headStart, bodyLength, isHeaded, sizeAt, headsAt, bodyWordsAt};
 ghost use Rattle.aspif.specs.Tables.{boundAt, bodyAt, ruleAt, shapeSound, weightsSound, bodySound, soundAt, rulesAt, soundRules, soundTable};
 use crate::Kind;
+use words::MOST_LITERALS;
+
+// The words of the longest rule: four before its heads and its body. One with a weight body has fewer.
+pub const LONGEST_RULE: usize = 4 + MOST_LITERALS + MOST_LITERALS;
 
 // The number that word i holds, its sign aside.
 fn size_at(words: &[i32], i: usize) -> usize
