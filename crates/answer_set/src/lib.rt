@@ -1,7 +1,7 @@
 // The set test: least model, marks and answer for a set, over a table that the program reader leaves. What it means is
 // specs/SetTest.antt.
 mod answers;
-mod models;
+pub mod models;
 mod worklist;
 
 ghost use Rattle.answer_set.specs.SetTest.{SetTested};

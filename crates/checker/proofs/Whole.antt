@@ -26,6 +26,7 @@ use Rattle.drupe.specs.Texts.{Step, StepsRead, steps, refused, after, textOf, s
 use Rattle.drupe.proofs.Texts.{steps-exact, read-back}
 use Rattle.derivation.specs.Steps.{Outcome, next, byLetter, step, emptyLive}
 use Rattle.derivation.specs.Steps as Steps
+use Rattle.derivation.specs.Claims.{NoneAsWritten}
 use Rattle.derivation.proofs.AsWritten.{soundness-as-written}
 use Rattle.nogoods.specs.Store.{Stored, wordsFor}
 use Rattle.steps.specs.After.{storedAfter}
@@ -266,6 +267,14 @@ module _ (size : ℕ) (ws : List InputRule) (text : List ℕ) where
       by (steps ts) e = (ts, e, sym (text-accepted (steps ts) e) ∙ a)
       by (refused ts k n) e =
           absurd (true≢false (sym a ∙ text-accepted (refused ts k n) e ∙ unread-open k n (runSteps (atoms ws) (expand ws) size 0 start [] ts)))
+
+  -- a program for which a text is accepted has no answer set
+  pub accepted-none : isAccepted size ws text ≡ true → NoneAsWritten ws
+  accepted-none a = let s = accepted-steps a in by (s .0) (runSteps (atoms ws) (expand ws) size 0 start [] (s .0)) refl (s .2)
+    where
+      by : (ts : List Step) (c : Course) → runSteps (atoms ws) (expand ws) size 0 start [] ts ≡ c → endsEmpty c ≡ true → NoneAsWritten ws
+      by ts (stopped k n) r e = absurd (true≢false (sym e))
+      by ts (through n z b) r e = soundness-as-written ws ts z (run-through (atoms ws) (expand ws) size 0 n start z [] b ts r .0) e
 
 -- the two verdicts of a course that went through tell whether the empty nogood is live, and the counts
 same-saying : (a b : Bool) (c d : Counts) → saying a c ≡ saying b d → (a ≡ b) × (d ≡ c)
