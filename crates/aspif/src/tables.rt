@@ -383,7 +383,7 @@ pub fn all_plain(table: &[i32], rules: usize) -> bool
 }
 
 // How many words of the table the rules take.
-fn words_used(table: &[i32], rules: usize) -> usize
+pub fn words_used(table: &[i32], rules: usize) -> usize
     requires { ⌜ soundRules rules (now table) ≡ true ⌝ }
     ensures used { λ r. ⌜ (r ≡ length (programWords (rulesAt rules (now (table .entry))))) × (r ≤ length (now (table .entry))) ⌝ }
 {
