@@ -1,7 +1,7 @@
 // The set test: least model, marks and answer for a set, over a table that the program reader leaves. What it means is
 // specs/SetTest.antt.
 mod answers;
-mod models;
+pub mod models;
 mod worklist;
 
 ghost use Rattle.answer_set.specs.SetTest.{SetTested};
@@ -23,7 +23,7 @@ pub enum SetAnswer {
 pub fn test_set(table: &[i32], rules: usize, set: &[u16], marks: &mut [u8]) -> SetAnswer
     ensures { λ r. ⌜ SetTested (now (table .entry)) rules (now (set .entry)) (now (marks .entry)) (now (marks .exit)) r ⌝ }
 {
-    marks::zero_marks(marks);
+    words::zero_bytes(marks);
     if !tables::is_readable(table, rules) {
         return SetAnswer::Refused(41);
     }

@@ -48,7 +48,7 @@ fn weight_held(literal: i32, weight: i32, inside: &[u8], marks: &[u8]) -> usize
 }
 
 // What the weights of the literals that hold add up to.
-fn sum_held(pairs: &[i32], inside: &[u8], marks: &[u8]) -> usize
+pub fn sum_held(pairs: &[i32], inside: &[u8], marks: &[u8]) -> usize
     requires { ⌜ sum (paired (now pairs)) ≤ mostSum ⌝ }
     ensures { λ r. ⌜ r ≡ heldSum (marked (now (inside .entry))) (marked (now (marks .entry))) (paired (now (pairs .entry))) ⌝ }
 {

@@ -12,6 +12,7 @@ pub mod Written
 pub mod RuleTests
 pub mod Cursors
 pub mod Readable
+pub mod Used
 pub mod Shorter
 pub mod InTurn
 pub mod SoundWeights

@@ -93,13 +93,17 @@ weight-own (p ∷ l) d x (List·Memᴰ·tail m) =
     let e : same (p .literal) (x .literal) ≡ false = failed _ n in
     rw e (weight-own l (o .1) x m)
 
--- pairs whose literals ascend already stay as they are
-pub arranged-same : (l : List Weighted) → distinct (literals l) ≡ true → ascending (literals l) ≡ literals l → arranged l ≡ l
-unfolding arranged
-arranged-same l d e = rw e (by l (weight-own l d))
+-- literals that stand once, each with its own weight, are the pairs
+pub own-weights : (l : List Weighted) → distinct (literals l) ≡ true → map (withWeight l) (literals l) ≡ l
+own-weights l d = by l (weight-own l d)
   where
     by : (k : List Weighted) → ((x : Weighted) → x ∈ k → weightIn l (x .literal) ≡ x .weight)
         → map (λ x. record { literal = x; weight = weightIn l x }) (literals k) ≡ k
     by [] h = refl
     by (x ∷ k) h =
         ap₂ (λ n j. record { literal = x .literal; weight = n } ∷ j) (h x (List·Memᴰ·head refl)) (by k (λ y m. h y (List·Memᴰ·tail m)))
+
+-- pairs whose literals ascend already stay as they are
+pub arranged-same : (l : List Weighted) → distinct (literals l) ≡ true → ascending (literals l) ≡ literals l → arranged l ≡ l
+unfolding arranged
+arranged-same l d e = rw e (own-weights l d)

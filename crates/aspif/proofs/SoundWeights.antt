@@ -22,12 +22,12 @@ use Rattle.aspif.proofs.PairWords.{up-to}
 use Rattle.aspif.specs.Tables.{headsSound, isWeighted, headCount, bodyCount, headStart, bodyLength, headsAt, bodyWordsAt, boundAt, shapeSound, weightsSound, bodySound, soundAt}
 
 -- two words for each pair
-pairs-half : (ws : List ℤ) → 2 * length (paired ws) ≤ length ws
+pub pairs-half : (ws : List ℤ) → 2 * length (paired ws) ≤ length ws
 pairs-half [] = omega arith
 pairs-half (z ∷ []) = omega arith
 pairs-half (z ∷ w ∷ ws) = omega (arith, pairs-half ws)
 
-sum-small : (ws : List ℤ) → allWeights ws ≡ true → sum (paired ws) ≤ length (paired ws) * mostWeight
+pub sum-small : (ws : List ℤ) → allWeights ws ≡ true → sum (paired ws) ≤ length (paired ws) * mostWeight
 unfolding allWeights
 sum-small [] e = omega arith
 sum-small (z ∷ []) e = omega arith

@@ -1,7 +1,7 @@
 // Ground programs as ASPIF text, read into a lent table: document 01, 'Program text' and questions 1 to 11, 54 and 55.
 // The public service is `read_program`; what it means is specs/Reading.antt.
 mod lines;
-mod rules;
+pub mod rules;
 pub mod tables;
 
 ghost use mathlib.Core.Path.{_≡_};

@@ -291,7 +291,7 @@ fn add_rule(
 }
 
 // The literals of some pairs, in their order.
-fn copy_literals(pairs: &[i32], row: &mut [i32])
+pub fn copy_literals(pairs: &[i32], row: &mut [i32])
     requires { ⌜ length (now pairs) ≡ 2 * length (now row) ⌝ }
     ensures { λ _. ⌜ now (row .exit) ≡ literals (paired (now (pairs .entry))) ⌝ }
 {
@@ -318,7 +318,7 @@ fn weight_in(pairs: &[i32], literal: i32) -> i32
 }
 
 // The literals, each with its weight in the pairs behind it, at the front of the free words.
-fn write_pairs(free: &mut [i32], pairs: &[i32], literals: &[i32])
+pub fn write_pairs(free: &mut [i32], pairs: &[i32], literals: &[i32])
     requires weights { ⌜ allWeights (now pairs) ≡ true ⌝ }
     requires sizes { ⌜ (length (now literals) ≤ mostWeighted) × (2 * length (now literals) ≤ length (now free)) ⌝ }
     ensures { λ _. ⌜ now (free .exit) ≡ pairWords (weighted (now (pairs .entry)) (now (literals .entry)))

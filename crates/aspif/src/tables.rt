@@ -1,19 +1,23 @@
-// Question 41, and the parts of the rule at the front of some words of the table.
+// Question 41, the parts of the rule at the front of some words of the table, and a table with one rule more.
 ghost use mathlib.Core.Path.{_≡_};
 ghost use mathlib.Core.Bool.{true};
-ghost use mathlib.Core.List.{map};
-ghost use Prim.Native.Nat.{_+_, _≤_};
+ghost use mathlib.Core.List.{_++_, map};
+ghost use Prim.Native.Nat.{ℕ, _+_, _≤_};
 ghost use lib.IntN.{pos};
-ghost use lib.ListN.{length, drop, getD};
+ghost use lib.ListN.{length, drop, getD, replicate};
 ghost use Rattle.words.specs.Limits.{largest};
 ghost use Rattle.words.specs.Lists.{all, ascends};
 ghost use Rattle.words.specs.Literals.{variable, same, top};
 ghost use Rattle.weights.specs.Weights.{literals, paired};
-ghost use Rattle.aspif.specs.Rules.{literalsOf, allPlain, suits, isCount, isWeight, ruleTop, atoms};
+ghost use Rattle.aspif.specs.Rules.{literalsOf, allPlain, suits, isCount, isWeight, ruleTop, atoms, programWords};
 ghost use Rattle.aspif.specs.Reading.{allWeights};
 ghost use Rattle.aspif.specs.Tables.{kindOf, isKind, isWeighted, headStart, bodyLength, isHeaded, sizeAt, headsAt, bodyWordsAt};
 ghost use Rattle.aspif.specs.Tables.{boundAt, bodyAt, ruleAt, shapeSound, weightsSound, bodySound, soundAt, rulesAt, soundRules, soundTable};
 use crate::Kind;
+use words::MOST_LITERALS;
+
+// The words of the longest rule: four before its heads and its body. One with a weight body has fewer.
+pub const LONGEST_RULE: usize = 4 + MOST_LITERALS + MOST_LITERALS;
 
 // The number that word i holds, its sign aside.
 fn size_at(words: &[i32], i: usize) -> usize
@@ -376,4 +380,31 @@ pub fn all_plain(table: &[i32], rules: usize) -> bool
         left -= 1;
     }
     true
+}
+
+// How many words of the table the rules take.
+pub fn words_used(table: &[i32], rules: usize) -> usize
+    requires { ⌜ soundRules rules (now table) ≡ true ⌝ }
+    ensures used { λ r. ⌜ (r ≡ length (programWords (rulesAt rules (now (table .entry))))) × (r ≤ length (now (table .entry))) ⌝ }
+{
+    let mut left = rules;
+    let mut i = 0;
+    while 0 < left {
+        i = next_rule(table, i);
+        left -= 1;
+    }
+    i
+}
+
+// The rules in a wider table that is 0 throughout, and behind them the words of one rule more.
+pub fn append_rule(table: &[i32], rules: usize, rule: &[i32], wide: &mut [i32])
+    requires rules { ⌜ soundRules rules (now table) ≡ true ⌝ }
+    requires short { ⌜ length (programWords (rulesAt rules (now table))) + length (now rule) ≤ length (now wide) ⌝ }
+    requires wide { ⌜ now wide ≡ replicate (length (now wide)) (pos 0) ⌝ }
+    ensures { λ _. ⌜ ((k : ℕ) × (now (wide .exit)
+        ≡ (programWords (rulesAt rules (now (table .entry))) ++ now (rule .entry)) ++ replicate k (pos 0))) ⌝ }
+{
+    let used = words_used(table, rules);
+    words::copy(wide, &table[..used]);
+    words::copy(&mut wide[used..], rule);
 }

@@ -77,7 +77,7 @@ zeros store n e = e ∙ ap (λ (k : ℕ). replicate k (pos 0)) (sym (ap length e
 
 -- The program
 
-lines-read : (t : ℕ) (text : List ℕ) (P : List InputRule) → readText t text ≡ program P → readLines t text ≡ program P
+pub lines-read : (t : ℕ) (text : List ℕ) (P : List InputRule) → readText t text ≡ program P → readLines t text ≡ program P
 unfolding readText
 lines-read t text P e = by (leb (length text) longest) e
   where

@@ -2,7 +2,7 @@
 -- list of steps accepted in turn, so what `soundness` says of every such list holds wherever the check says "inconsistent".
 -- Assumes nothing.
 use mathlib.Core.Path.{_≡_, refl, sym, _∙_, ap, ap₂, subst}
-use mathlib.Core.Bool.{Bool, true, false, cond}
+use mathlib.Core.Bool.{Bool, true, false, cond, true≢false}
 use mathlib.Core.Option.{Option, none, some}
 use mathlib.Core.List.{List, [], _∷_, _++_, List·Memᴰ·head, List·Memᴰ·tail}
 use Prim.Native.Nat.{ℕ, zero, suc, _+_, _<_, _≤_}
@@ -26,10 +26,11 @@ use Rattle.drupe.specs.Texts.{Step, StepsRead, steps, refused, after, textOf, s
 use Rattle.drupe.proofs.Texts.{steps-exact, read-back}
 use Rattle.derivation.specs.Steps.{Outcome, next, byLetter, step, emptyLive}
 use Rattle.derivation.specs.Steps as Steps
+use Rattle.derivation.specs.Claims.{NoneAsWritten}
 use Rattle.derivation.proofs.AsWritten.{soundness-as-written}
 use Rattle.nogoods.specs.Store.{Stored, wordsFor}
 use Rattle.steps.specs.After.{storedAfter}
-use Rattle.checker.specs.Check.{Course, stopped, through, thenStopped, fitting, runSteps, runRead, course}
+use Rattle.checker.specs.Check.{Course, stopped, through, thenStopped, fitting, runSteps, runRead, course, endsEmpty, isAccepted}
 use Rattle.checker.specs.Check.{countsOf, saying, judged, judgedReading, check, Checked}
 use Rattle.checker.specs.Claims.{Runs, ends, unread, unaccepted, full, good, StepByStep, Ended, Written, EndedWritten, VerdictExact, SoundWhole, ServiceExact, ServiceSound}
 use Rattle.checker.specs.declared.Counts.{Counts}
@@ -245,6 +246,35 @@ ended-written ws size proof b c = (to, from)
     from W =
         let a = run-through (atoms ws) (expand ws) size 0 _ start (W .1) [] (W .2) (W .0) (W .5) .0 in
         (W .0, W .1, W .2, steps-exact proof (W .0) .1 (W .3, W .4, steps-pass (atoms ws) (expand ws) start (W .1) (W .0) a), W .5, W .6, W .7)
+
+-- a text of which a line is refused is not accepted
+unread-open : (k n : ℕ) (c : Course) → endsEmpty (thenStopped k n c) ≡ false
+unread-open k n (stopped j m) = refl
+unread-open k n (through m z b) = refl
+
+module _ (size : ℕ) (ws : List InputRule) (text : List ℕ) where
+  -- a text is accepted as its steps are
+  pub text-accepted : (r : StepsRead) → stepsOf text ≡ r → isAccepted size ws text ≡ endsEmpty (runRead (atoms ws) (expand ws) size 0 start [] r)
+  unfolding course
+  text-accepted r e = ap (λ (x : StepsRead). endsEmpty (runRead (atoms ws) (expand ws) size 0 start [] x)) e
+
+  pub accepted-steps : isAccepted size ws text ≡ true
+      → (ts : List Step) × (stepsOf text ≡ steps ts) × (endsEmpty (runSteps (atoms ws) (expand ws) size 0 start [] ts) ≡ true)
+  accepted-steps a = by (stepsOf text) refl
+    where
+      by : (r : StepsRead) → stepsOf text ≡ r
+          → (ts : List Step) × (stepsOf text ≡ steps ts) × (endsEmpty (runSteps (atoms ws) (expand ws) size 0 start [] ts) ≡ true)
+      by (steps ts) e = (ts, e, sym (text-accepted (steps ts) e) ∙ a)
+      by (refused ts k n) e =
+          absurd (true≢false (sym a ∙ text-accepted (refused ts k n) e ∙ unread-open k n (runSteps (atoms ws) (expand ws) size 0 start [] ts)))
+
+  -- a program for which a text is accepted has no answer set
+  pub accepted-none : isAccepted size ws text ≡ true → NoneAsWritten ws
+  accepted-none a = let s = accepted-steps a in by (s .0) (runSteps (atoms ws) (expand ws) size 0 start [] (s .0)) refl (s .2)
+    where
+      by : (ts : List Step) (c : Course) → runSteps (atoms ws) (expand ws) size 0 start [] ts ≡ c → endsEmpty c ≡ true → NoneAsWritten ws
+      by ts (stopped k n) r e = absurd (true≢false (sym e))
+      by ts (through n z b) r e = soundness-as-written ws ts z (run-through (atoms ws) (expand ws) size 0 n start z [] b ts r .0) e
 
 -- the two verdicts of a course that went through tell whether the empty nogood is live, and the counts
 same-saying : (a b : Bool) (c d : Counts) → saying a c ≡ saying b d → (a ≡ b) × (d ≡ c)

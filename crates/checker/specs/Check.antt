@@ -1,7 +1,7 @@
 -- The whole check: document 01, 'The proof's seven letters', 'Questions put to the input' and 'What `verdict` prints'.
 -- Assumes nothing.
 use mathlib.Core.Path.{_≡_}
-use mathlib.Core.Bool.{Bool, false, cond}
+use mathlib.Core.Bool.{Bool, true, false, cond}
 use mathlib.Core.List.{List, [], _∷_}
 use Prim.Native.Nat.{ℕ, _+_}
 use lib.Dec.{leb}
@@ -66,6 +66,13 @@ endsEmpty (through n z stored) = emptyLive z
 -- document 02, Changes 9 and 10: the proof text is accepted for the rules with a store of so many words
 abbrev pub isAccepted : (size : ℕ) → List InputRule → List ℕ → Bool
 isAccepted size ws text = endsEmpty (course (atoms ws) (expand ws) size text)
+
+-- the verdict is "inconsistent"
+abbrev pub isInconsistent : Verdict → Bool
+isInconsistent (Inconsistent c) = true
+isInconsistent (Open c) = false
+isInconsistent (RefusedProgram r) = false
+isInconsistent (RefusedProof r) = false
 
 -- the verdict with N, R, S and K, every word of the table and every word of the store
 pub record Checked : Type 0 where

@@ -1,4 +1,4 @@
-// The verdict on a proof, once its program is read.
+// The verdict on a proof, once its program is read, and what services above the check ask of both.
 ghost use mathlib.Core.Path.{_≡_};
 ghost use mathlib.Core.List.{List};
 ghost use lib.IntN.{pos};
@@ -8,9 +8,10 @@ ghost use Rattle.words.specs.Limits.{mostHeld};
 ghost use Rattle.words.specs.Lists.{any};
 ghost use Rattle.aspif.specs.Rules.{Rule, InputRule, isEmpty, tableWords};
 ghost use Rattle.aspif.specs.Reading.{program};
+ghost use Rattle.derivation.specs.States.{isAtom};
 ghost use Rattle.nogoods.specs.Store.{Stored, live};
 ghost use Rattle.nogoods.specs.Keeps.{Holds};
-ghost use Rattle.checker.specs.Check.{Course, course, endsEmpty, isAccepted, saying, judgedReading};
+ghost use Rattle.checker.specs.Check.{Course, course, endsEmpty, isAccepted, isInconsistent, saying, judgedReading};
 ghost use Rattle.steps.specs.Held.{Program};
 ghost use Rattle.checker.specs.Held.{Ran};
 ghost use Rattle.checker.specs.declared.Verdict.the-variants.{RefusedProof};
@@ -83,6 +84,25 @@ pub fn is_accepted(
     let accepted = ends_empty(run, store);
     words::zero_all(store);
     accepted
+}
+
+// The verdict is "inconsistent".
+pub fn is_inconsistent(verdict: Verdict) -> bool
+    ensures { λ r. ⌜ r ≡ isInconsistent verdict ⌝ }
+{
+    match verdict {
+        Verdict::Inconsistent(_) => true,
+        Verdict::Open(_) => false,
+        Verdict::RefusedProgram(_) => false,
+        Verdict::RefusedProof(_) => false,
+    }
+}
+
+// The number is an atom of a program with the atoms 1 to `atoms`.
+pub fn is_atom(atoms: usize, v: usize) -> bool
+    ensures { λ r. ⌜ r ≡ isAtom atoms v ⌝ }
+{
+    (1 <= v) & (v <= atoms)
 }
 
 // The proof against a program that was read into the table. The store is 0 throughout.

@@ -11,7 +11,7 @@ use Rattle.derivation.specs.Claims.{NoAnswerSet, WrittenConstraint, None
 use Rattle.derivation.proofs.Sound.{soundness}
 
 -- the plain rules of constraints are constraints
-constraints : (further : List InputRule) → ((r : InputRule) → r ∈ further → WrittenConstraint r) → (r : Rule) → r ∈ expand further → Constraint r
+pub constraints : (further : List InputRule) → ((r : InputRule) → r ∈ further → WrittenConstraint r) → (r : Rule) → r ∈ expand further → Constraint r
 constraints further f r i = let x = expand→ further i in subst Constraint (x .is) (f (x .rule) (x .among))
 
 as-written : (ws : List InputRule) → NoAnswerSet (expand ws) → NoneAsWritten ws

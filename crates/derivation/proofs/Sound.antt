@@ -17,7 +17,7 @@ use Rattle.text.specs.Line.{anyOutside}
 use Rattle.text.specs.declared.Letter.{Letter}
 use Rattle.text.specs.declared.Letter.the-variants.{Addition, Body, Completion, Deletion, Extension, Loop, Support}
 use Rattle.aspif.specs.Rules.{Rule, plainAtoms}
-use Rattle.aspif.specs.AnswerSets.{Constraint, LeastModel, derive, AnswerSet}
+use Rattle.aspif.specs.AnswerSets.{Constraint, LeastModel, derive, Met, AnswerSet}
 use Rattle.drupe.specs.Lines.{signsOf, isPositive, signed, lineRefusal}
 use Rattle.words.specs.Limits.{mostNumbers}
 use Rattle.derivation.specs.Loops.{isLoop}
@@ -46,11 +46,22 @@ module _ (P C : List Rule) (M : ℕ → Type 0) (constraints : (r : Rule) → r 
   along : {a : ℕ} → LeastModel M P a → LeastModel M (P ++ C) a
   along (derive r m t g b) = derive r (Memᴰ·append-left C m) t g (λ c u. along (b c u))
 
-  answer-set-without : AnswerSet M (P ++ C) → AnswerSet M P
+  pub answer-set-without : AnswerSet M (P ++ C) → AnswerSet M P
   answer-set-without S = record {
     least = λ a. (λ m. without (S .least a .0 m), λ d. S .least a .1 (along d));
     kept = λ r m. S .kept r (Memᴰ·append-left C m);
   }
+
+  -- and an answer set that meets none of them is one with them
+  pub answer-set-with : AnswerSet M P → ((r : Rule) → r ∈ C → ¬ Met M r) → AnswerSet M (P ++ C)
+  answer-set-with S f = record {
+    least = λ a. (λ m. along (S .least a .0 m), λ d. S .least a .1 (without d));
+    kept = λ r m. go r (List·Memᴰ·append-cases P m);
+  }
+    where
+      go : (r : Rule) → (r ∈ P) ⊎ (r ∈ C) → Constraint r → ¬ Met M r
+      go r (inl m) = S .kept r m
+      go r (inr m) = λ c. f r m
 
 -- Steps
 

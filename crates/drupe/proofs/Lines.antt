@@ -4,11 +4,11 @@ use mathlib.Core.Path.{_≡_, refl, sym, ap, _∙_, subst}
 use mathlib.Core.Bool.{Bool, true, false, cond, not, _&&_, _||_, true≢false}
 use mathlib.Core.Option.{Option, none, some}
 use mathlib.Core.List.{List, [], _∷_}
-use Prim.Native.Nat.{ℕ, zero, suc, _+_, _-_, _<_, _≤_, max}
+use Prim.Native.Nat.{ℕ, suc, _+_, _-_, _<_, _≤_, max}
 use native.Mathlib.Omega.{arith}
 use lib.IntN.{ℤ, pos}
 use lib.Dec.{ltb, eqb}
-use lib.ListN.{length, take, drop, getD, replicate, length-drop, drop-of-length-le}
+use lib.ListN.{length, take, drop, getD, length-drop, drop-of-length-le}
 use borrow.Author.Tests.{le-ltb, lt-ltb, ltb-true, ltb-false, eq-eqb, ne-eqb}
 use Rattle.words.specs.Limits.{largest, longest, mostNumbers}
 use Rattle.words.specs.Lists.{all}
@@ -71,11 +71,6 @@ good-parts x zs {a} {b} {s} {d} p q r e = rw (outside-top zs, p, q, r, e) (by a 
     by false false true true = refl
     by false false true false = refl
     by false false false d = refl
-
-pub drop-replicate : {A : Type 0} (n m : ℕ) (a : A) → drop n (replicate m a) ≡ replicate (m - n) a
-drop-replicate zero m a = let e : m - 0 ≡ m = omega arith in rw e
-drop-replicate (suc n) zero a = let e : 0 - suc n ≡ 0 = omega arith in rw e
-drop-replicate (suc n) (suc m) a = let e : suc m - suc n ≡ m - n = omega arith in rw e (drop-replicate n m a)
 
 -- The numbers before a closing 0
 

@@ -12,7 +12,7 @@ use lib.Seq.{sets, sets-eq, set-getD, take-set-le, take-append-seam, length-take
 use Rattle.words.specs.Limits.{mostNumbers}
 use Rattle.words.specs.Literals.{ascending}
 use Rattle.words.proofs.Lists.{zero-one}
-use Rattle.words.proofs.Laws.{sets-append, padded}
+use Rattle.words.proofs.Laws.{sets-append, padded, drop-replicate}
 use Rattle.text.specs.Line.{anyOutside, isClosed}
 use Rattle.text.proofs.Lines.{capped-all, Numbered}
 use Rattle.text.specs.declared.Letter.{Letter}
@@ -20,7 +20,7 @@ use Rattle.drupe.specs.Lines.{lineRefusal, LineAt, end, refused, line, r
 use Rattle.drupe.specs.Rows.{InRows, Written, ReadInto, LineInto}
 use Rattle.drupe.specs.declared.LineAnswer.{LineAnswer}
 use Rattle.drupe.specs.declared.LineAnswer.the-variants.{Line as Answered, End, Refused}
-use Rattle.drupe.proofs.Lines.{drop-replicate, Passed, passed, few, answer-within}
+use Rattle.drupe.proofs.Lines.{Passed, passed, few, answer-within}
 use Rattle.drupe.proofs.Texts.{end-closed}
 
 -- a row of as many words that is written over

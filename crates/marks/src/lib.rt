@@ -3,7 +3,7 @@
 ghost use mathlib.Core.Path.{_≡_};
 ghost use mathlib.Core.List.{map};
 ghost use Prim.Native.Nat.{_≤_};
-ghost use lib.ListN.{length, replicate, set};
+ghost use lib.ListN.{set};
 ghost use Rattle.words.specs.Limits.{largest, entries};
 ghost use Rattle.words.specs.Lists.{all, ascends};
 ghost use Rattle.words.specs.Literals.{variable};
@@ -69,17 +69,6 @@ pub fn mark_all(set: &[u16], marks: &mut [u8])
     while i < set.len() {
         mark(marks, wide(set[i]));
         i += 1;
-    }
-}
-
-// Every mark becomes 0.
-pub fn zero_marks(marks: &mut [u8])
-    ensures { λ _. ⌜ now (marks .exit) ≡ replicate (length (now (marks .entry))) 0 ⌝ }
-{
-    let mut at = 0;
-    while at < marks.len() {
-        marks[at] = 0;
-        at += 1;
     }
 }
 

@@ -11,6 +11,7 @@ ghost use Rattle.packets.specs.Packets.{fills, rulePasses, hasWords, ruleIn, pa
 ghost use Rattle.packets.specs.Parts.{Zeros};
 ghost use Rattle.packets.specs.Writes.{ruleRoom, lastRuleEnd};
 ghost use Rattle.moves.specs.Moves.{Holds, PairTold, RuleMovedAs, Movable, RulesMoved, PairWritten, Moved};
+use aspif::tables::LONGEST_RULE;
 use packets::HEADER;
 use packets::PacketWriting;
 use packets::Version;
@@ -21,9 +22,6 @@ use packets::reader::RulesPart;
 use packets::versions;
 use packets::writer;
 use text::writing;
-
-// The words of the longest rule.
-const ROW: usize = 4 + words::MOST_LITERALS + words::MOST_LITERALS;
 
 // How many words the rules of a pair take in the version that it moves to, and whether that version can hold it; or that it is refused.
 enum Measured {
@@ -105,7 +103,7 @@ fn move_rule(
     requires words { ⌜ hasWords to (ruleIn from (numbersFrom 4 count (now bytes))) ≡ true ⌝ }
     ensures { λ r. ⌜ RuleMovedAs from to (numbersFrom 4 count (now (bytes .entry))) (now (output .entry)) (now (output .exit)) at r ⌝ }
 {
-    let mut row = [0; ROW];
+    let mut row = [0; LONGEST_RULE];
     let read = reader::read_rule(from, bytes, count, &mut row, 0);
     let end = writer::put_rule(to, output, at, &row);
     RuleMoved {
@@ -187,7 +185,7 @@ fn move_parts(
 fn move_packet(from: Version, to: Version, packet: &[u8], output: &mut [u8]) -> PacketWriting
     ensures { λ r. ⌜ Moved to (pairIn from (now (packet .entry))) (now (output .entry)) (now (output .exit)) r ⌝ }
 {
-    numbers::zero_all(output);
+    words::zero_bytes(output);
     if !versions::is_marked(from, packet) {
         return PacketWriting::Refused(51);
     }

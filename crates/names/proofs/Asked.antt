@@ -14,9 +14,8 @@ use Rattle.words.specs.Lists.{_∈_, any, filter}
 use Rattle.words.specs.Literals.{sameList}
 use Rattle.words.proofs.Lists.{if-true, failed, not-decides, any-decides}
 use Rattle.words.proofs.Literals.{sameList-decides}
-use Rattle.weights.specs.Weights.{Weighted, literals, bodies, paired, mostWeighted}
-use Rattle.weights.specs.Claims.{_⊑_, none, with-it, without}
-use Rattle.weights.proofs.Sublists.{filter-append, filter-map, filter-none, any-append, any-map, any-same, none-pass}
+use Rattle.weights.specs.Weights.{bodies, paired, mostWeighted}
+use Rattle.weights.proofs.Sublists.{filter-append, filter-map, filter-none, any-append, any-map, any-same, none-pass, sublist-short}
 use Rattle.weights.proofs.Minimal.{body→}
 use Rattle.aspif.specs.Rules.{Rule, Body, InputRule, isNormal, bodiesOf, withBody, expandRule, expand}
 use Rattle.aspif.specs.Tables.{isWeighted, bodyWordsAt, boundAt, bodyAt}
@@ -144,16 +143,11 @@ module _ (ws : List ℤ) where
     unfolding bodyAt
     plain-entry called = rw e
 
-part-short : {s l : List Weighted} → s ⊑ l → length s ≤ length l
-part-short none = omega arith
-part-short (with-it {s = s} {l = l} h) = omega (arith, part-short h)
-part-short (without {s = s} {l = l} h) = omega (arith, part-short h)
-
 -- a body of a weight rule has few literals
 pub body-short : {ws : List ℤ} (L : List ℤ) → Weighing ws → L ∈ bodies (boundAt ws) (paired (bodyWordsAt ws)) → length L ≤ mostWeighted
 body-short {ws} L w i =
     let s = body→ (boundAt ws) (paired (bodyWordsAt ws)) i in
-    rw (← s.3) (omega (arith, length-map (s .0) (λ x. x .literal), part-short (s .1), w .few))
+    rw (← s.3) (omega (arith, length-map (s .0) (λ x. x .literal), sublist-short (s .1), w .few))
 
 -- the literals are one of the bodies
 pub one-of : {B : List ℤ} {l : List (List ℤ)} → any (sameList B) l ≡ true → B ∈ l

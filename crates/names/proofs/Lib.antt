@@ -1,4 +1,5 @@
 -- The laws that the proofs share.
+pub mod Appended
 pub mod Asked
 pub mod ByRule
 pub mod Called

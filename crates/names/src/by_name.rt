@@ -2,10 +2,10 @@
 // Where no rule has a weight body no records are lent, and of an array of another length the public functions say and do nothing.
 ghost use mathlib.Core.Path.{_≡_};
 ghost use mathlib.Core.Bool.{true, cond};
-ghost use mathlib.Core.List.{List, _++_};
+ghost use mathlib.Core.List.{List};
 ghost use Prim.Native.Nat.{ℕ, _+_, _*_, _<_, _≤_};
 ghost use lib.IntN.{ℤ, pos};
-ghost use lib.ListN.{length, drop, getD};
+ghost use lib.ListN.{length, getD};
 ghost use lib.Seq.{sets};
 ghost use Rattle.words.specs.Limits.{largest, entries};
 ghost use Rattle.words.specs.Literals.{same, sameList, top};
@@ -34,14 +34,6 @@ pub enum Recorded {
     Nothing,
 }
 
-// The word at a place.
-fn word_of(bodies: &[i16], at: usize) -> i32
-    requires { ⌜ at < length (now bodies) ⌝ }
-    ensures { λ r. ⌜ r ≡ getD (now (bodies .entry)) at (pos 0) ⌝ }
-{
-    bodies[at] as i32
-}
-
 // As many words are the body's literals.
 fn is_body(words: &[i16], body: &[i32]) -> bool
     requires { ⌜ length (now words) ≡ length (now body) ⌝ }
@@ -49,7 +41,7 @@ fn is_body(words: &[i16], body: &[i32]) -> bool
 {
     let mut i = 0;
     while i < words.len() {
-        if words::is_same(word_of(words, i), body[i]) {
+        if words::is_same(words::word_of(words, i), body[i]) {
             i += 1;
         } else {
             return false;
@@ -64,7 +56,7 @@ fn stands_at(bodies: &[i16], v: usize, body: &[i32]) -> bool
     ensures { λ r. ⌜ r ≡ standsAt (now (bodies .entry)) v (now (body .entry)) ⌝ }
 {
     let at = WIDTH * v;
-    if words::is_same(word_of(bodies, at), (body.len() + 1) as i32) {
+    if words::is_same(words::word_of(bodies, at), (body.len() + 1) as i32) {
         return is_body(&bodies[at + 1..at + 1 + body.len()], body);
     }
     false
@@ -100,7 +92,7 @@ fn name_in(bodies: &[i16], place: usize) -> usize
     requires { ⌜ (length (now bodies) ≡ bodyWords) × (place < entries) ⌝ }
     ensures { λ r. ⌜ r ≤ largest ⌝ }
 {
-    let v = words::variable_of(word_of(bodies, INDEX + place));
+    let v = words::variable_of(words::word_of(bodies, INDEX + place));
     if v <= LARGEST {
         return v;
     }
@@ -112,7 +104,7 @@ fn is_free(bodies: &[i16], place: usize) -> bool
     requires { ⌜ (length (now bodies) ≡ bodyWords) × (place < entries) ⌝ }
     ensures { λ r. ⌜ r ≡ same (getD (now (bodies .entry)) (width * entries + place) (pos 0)) (pos 0) ⌝ }
 {
-    words::is_same(word_of(bodies, INDEX + place), 0)
+    words::is_same(words::word_of(bodies, INDEX + place), 0)
 }
 
 // A name of the body that the index tells from a place on, or 0.
@@ -220,7 +212,7 @@ fn count_of(bodies: &[i16], name: usize) -> usize
     requires { ⌜ (length (now bodies) ≡ bodyWords) × (name ≤ largest) ⌝ }
     ensures { λ r. ⌜ Counted (getD (now (bodies .entry)) (width * name) (pos 0)) r ⌝ }
 {
-    let first = word_of(bodies, WIDTH * name);
+    let first = words::word_of(bodies, WIDTH * name);
     if words::is_positive(first) {
         let count = words::variable_of(first);
         if count <= WIDTH {
@@ -228,18 +220,6 @@ fn count_of(bodies: &[i16], name: usize) -> usize
         }
     }
     0
-}
-
-// The words, from the row's first word on.
-fn copy_out(words: &[i16], row: &mut [i32])
-    requires { ⌜ length (now words) ≤ length (now row) ⌝ }
-    ensures { λ _. ⌜ now (row .exit) ≡ now (words .entry) ++ drop (length (now (words .entry))) (now (row .entry)) ⌝ }
-{
-    let mut i = 0;
-    while i < words.len() {
-        row[i] = word_of(words, i);
-        i += 1;
-    }
 }
 
 // The body with the name, in the row.
@@ -255,6 +235,6 @@ pub fn body_of(bodies: &[i16], name: usize, row: &mut [i32]) -> Recorded
         return Recorded::Nothing;
     }
     let at = WIDTH * name;
-    copy_out(&bodies[at + 1..at + count], row);
+    words::widen(&bodies[at + 1..at + count], row);
     Recorded::Body(count - 1)
 }

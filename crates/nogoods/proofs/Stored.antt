@@ -12,11 +12,11 @@ use lib.IntN.{ℤ, pos, negℤ}
 use lib.ListN.{length, take, drop, getD, set, replicate, length-append, length-replicate}
 use lib.Seq.{drop-drop, drop-at, set-at, getD-at}
 use borrow.Rule.Slice.PartMut.{putMid}
+use Rattle.words.proofs.Laws.{drop-replicate}
 use Rattle.words.specs.Lists.{_∈_}
 use Rattle.words.proofs.Lists.{concat-append}
 use Rattle.words.proofs.Segments.{Segment}
 use Rattle.words.proofs.Parts.{put-next}
-use Rattle.drupe.proofs.Lines.{drop-replicate}
 use Rattle.nogoods.specs.Store.{Stored, recordOf, addedIn, live, closed, killed, deadOf, isTarget, originWord, keptFor, keptWith, storedWords, recordSize, wordsOf, wordsFor}
 use Rattle.nogoods.specs.Keeps.{WrittenFront, Literals, Holds}
 use Rattle.nogoods.specs.Finds.{foundAt}

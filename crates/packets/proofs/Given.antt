@@ -11,13 +11,13 @@ use lib.Dec.{leb}
 use lib.IntN.{ℤ, pos}
 use lib.ListN.{length, replicate, length-replicate}
 use lib.Seq.{sets, sets-eq}
+use Rattle.words.proofs.Laws.{drop-replicate}
 use Rattle.words.specs.Limits.{mostRules}
 use Rattle.words.proofs.Lists.{zero-one}
 use Rattle.words.specs.Lists.{all}
 use Rattle.aspif.specs.Rules.{InputRule, allPlain, atoms, programWords}
 use Rattle.text.specs.Strings.{startsWith}
 use Rattle.drupe.specs.Texts.{Step, textOf}
-use Rattle.drupe.proofs.Lines.{drop-replicate}
 use Rattle.packets.specs.Bytes.{numbersFrom}
 use Rattle.packets.specs.Packets.{limit, hasWords, mark, stepsTop, pairTop, fits, versionOf, wordCount, stepCount, wordPart, stepPart, lengthsFit, rulesIn, stepsIn, PacketRead, refused, pair, paired, ifFits, partsRead, pairIn, ifHeld, reading, readingOf, filled, ReadLeaves}
 use Rattle.packets.specs.Parts.{TableTold, TextTold, Parts, Given, Zeros}

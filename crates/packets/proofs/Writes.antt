@@ -13,6 +13,7 @@ use lib.IntN.{ℤ, pos, negsuc}
 use lib.Signed.{ltZ}
 use lib.ListN.{length, set, take, drop, getD, replicate, drop-of-length-le, length-append, length-replicate}
 use lib.Seq.{drop-cons, take-append-seam, set-comm, sets, sets-eq, length-sets}
+use Rattle.words.proofs.Laws.{drop-replicate}
 use Rattle.words.specs.Limits.{longest, mostNumbers}
 use Rattle.words.specs.Lists.{all}
 use Rattle.words.specs.Literals.{variable, top}
@@ -31,7 +32,7 @@ use Rattle.drupe.specs.Texts as Texts
 use Rattle.drupe.specs.declared.LineAnswer.{LineAnswer}
 use Rattle.drupe.specs.declared.LineAnswer.the-variants as Answer
 use Rattle.drupe.specs.declared.LineReading.{LineReading}
-use Rattle.drupe.proofs.Lines.{drop-replicate, passed-line}
+use Rattle.drupe.proofs.Lines.{passed-line}
 use Rattle.drupe.proofs.Rows.{lineTold}
 use Rattle.drupe.proofs.Texts.{Walked, walked-start, walked-on, walked-end, walked-refused, refused-exact}
 use Rattle.packets.specs.Bytes.{little, flipIf, signedBytes, bytesOf}

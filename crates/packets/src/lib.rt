@@ -40,7 +40,7 @@ pub fn write_packet(
     ensures { λ r. ⌜ WrittenPacket version (now (table .entry)) rules (now (proof .entry)) (now (packet .entry))
         (now (packet .exit)) r ⌝ }
 {
-    numbers::zero_all(packet);
+    words::zero_bytes(packet);
     match version {
         1 => writer::write_as(Version::One, table, rules, proof, packet),
         2 => writer::write_as(Version::Two, table, rules, proof, packet),
@@ -60,7 +60,7 @@ pub fn read_packet(
         (now (proof .exit)) r ⌝ }
 {
     words::zero_all(table);
-    numbers::zero_all(proof);
+    words::zero_bytes(proof);
     match version {
         1 => reader::read_as(Version::One, packet, table, proof),
         2 => reader::read_as(Version::Two, packet, table, proof),

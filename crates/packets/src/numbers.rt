@@ -2,7 +2,7 @@
 ghost use mathlib.Core.Path.{_≡_};
 ghost use mathlib.Core.List.{map};
 ghost use Prim.Native.Nat.{_<_, _≤_, _*_};
-ghost use lib.ListN.{length, replicate};
+ghost use lib.ListN.{length};
 ghost use Rattle.packets.specs.Bytes.{value, flipIf, signedValue, numbersFrom};
 
 // A byte, taken from 255 where the number is negative.
@@ -55,16 +55,5 @@ pub fn read_numbers(row: &mut [i32], bytes: &[u8], k: usize)
         row[i] = signed_of(&bytes[at..end]);
         at = end;
         i += 1;
-    }
-}
-
-// Every byte becomes 0.
-pub fn zero_all(bytes: &mut [u8])
-    ensures { λ _. ⌜ now (bytes .exit) ≡ replicate (length (now (bytes .entry))) 0 ⌝ }
-{
-    let mut place = 0;
-    while place < bytes.len() {
-        bytes[place] = 0;
-        place += 1;
     }
 }

@@ -26,7 +26,7 @@ use text::Letter;
 const FRONT: usize = 3;
 
 // The words of the longest rule, and the place before them.
-const ROW: usize = 1 + 4 + words::MOST_LITERALS + words::MOST_LITERALS;
+const ROW: usize = 1 + tables::LONGEST_RULE;
 
 // How many bytes of text the steps come to, with their largest variable; or that they are refused.
 pub enum Part {
@@ -323,7 +323,7 @@ fn refuse(number: u8, table: &mut [i32], proof: &mut [u8]) -> PacketReading
         (now (proof .exit)) r ⌝ }
 {
     words::zero_all(table);
-    numbers::zero_all(proof);
+    words::zero_bytes(proof);
     PacketReading::Refused(number)
 }
 

@@ -278,7 +278,7 @@ fn write_pair(
             answer
         }
         PacketWriting::Refused(_) => {
-            numbers::zero_all(packet);
+            words::zero_bytes(packet);
             answer
         }
     }

@@ -21,12 +21,12 @@ use Rattle.drupe.specs.Texts.{textOf}
 use Rattle.derivation.specs.Steps.{emptyLive}
 use Rattle.nogoods.specs.Store.{storeWords}
 use Rattle.merging.specs.Merge.{allFit}
-use Rattle.checker.specs.Check.{Course, stopped, through, course, saying, countsOf, Checked, judged}
+use Rattle.checker.specs.Check.{Course, stopped, through, course, saying, countsOf, Checked, judged, isInconsistent}
 use Rattle.checker.specs.declared.Verdict.{Verdict}
 use Rattle.checker.specs.declared.Verdict.the-variants.{Inconsistent, Open, RefusedProof}
 use Rattle.splits.specs.Service.{areHalves, mergedSteps, isWritable, MergeLeft, leavesNothing, judgedText, mergedReading, merge}
 use Rattle.splits.specs.Joined.{WrittenBy}
-use Rattle.splits.specs.Judging.{isInconsistent, judgedAs}
+use Rattle.splits.specs.Judging.{judgedAs}
 use Rattle.splits.specs.declared.MergeAnswer.{MergeAnswer}
 use Rattle.splits.specs.declared.MergeAnswer.the-variants.{Merged, RefusedProgram, Refused}
 use Rattle.splits.specs.declared.texts.Written.{Written}

@@ -14,6 +14,7 @@ use lib.Seq.{sets-eq, take-take, take-at}
 use Rattle.words.specs.Limits.{largest, entries, longest}
 use Rattle.words.specs.Lists.{any}
 use Rattle.words.specs.Literals.{complement, sameList}
+use Rattle.words.proofs.Laws.{drop-replicate}
 use Rattle.words.proofs.Lists.{same-test, zero-one, passed, is-true, answered, and-left, and-decides, not-decides, leb-decides}
 use Rattle.words.proofs.Literals.{sameList-decides, complement-twice}
 use Rattle.marks.proofs.Sets.{none-marked}
@@ -21,7 +22,6 @@ use Rattle.weights.proofs.Sublists.{any-same, all-append}
 use Rattle.aspif.specs.Rules.{Rule, InputRule, allPlain, isNormal, expand, atoms}
 use Rattle.drupe.specs.Texts.{Step, StepsRead, steps, textOf, stepsOf}
 use Rattle.drupe.specs.Texts as Texts
-use Rattle.drupe.proofs.Lines.{drop-replicate}
 use Rattle.derivation.specs.States.{Named, State, start, isAtom}
 use Rattle.derivation.specs.Steps.{next}
 use Rattle.derivation.specs.Steps as Steps

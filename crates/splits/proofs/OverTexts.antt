@@ -14,16 +14,16 @@ use Rattle.words.specs.Limits.{longest}
 use Rattle.words.proofs.Lists.{zero-one, if-true, leb-decides, and-left, and-right}
 use Rattle.aspif.specs.Rules.{Rule, InputRule, expand, atoms, tableWords}
 use Rattle.aspif.specs.Reading.{Reading, program, readText}
-use Rattle.drupe.specs.Texts.{Step, StepsRead, steps, textOf, stepsOf}
+use Rattle.drupe.specs.Texts.{Step, StepsRead, steps, textOf}
 use Rattle.drupe.specs.Texts as Texts
 use Rattle.derivation.specs.States.{State, start, isAtom}
 use Rattle.derivation.specs.Steps.{Outcome, refused, next, step, emptyLive}
 use Rattle.nogoods.specs.Store.{Stored, storeWords}
 use Rattle.steps.specs.After.{storedAfter}
-use Rattle.checker.specs.Check.{Course, stopped, through, thenStopped, fitting, runSteps, runRead, course, endsEmpty, isAccepted, countsOf, judged, check}
+use Rattle.checker.specs.Check.{Course, stopped, through, fitting, runSteps, course, endsEmpty, isAccepted, countsOf, judged, check}
 use Rattle.checker.specs.declared.Counts.{Counts}
 use Rattle.checker.specs.declared.Verdict.the-variants.{Inconsistent, RefusedProof}
-use Rattle.checker.proofs.Whole.{course-written, steps-pass}
+use Rattle.checker.proofs.Whole.{accepted-steps, course-written, steps-pass}
 use Rattle.merging.specs.Merge.{allFit}
 use Rattle.merging.specs.Claims.{AcceptedAsWritten, demandingAsWritten}
 use Rattle.merging.specs.Claims as Claims
@@ -59,22 +59,15 @@ module _ (N : ℕ) (P : List Rule) (size : ℕ) where
           fits false = (n + 1, refl)
 
 -- a text that is accepted: its steps are
-accepted-steps : (size : ℕ) (ws : List InputRule) (text : List ℕ) → isAccepted size ws text ≡ true → AcceptedAsWritten (fitting size) ws (stepsIn text)
-unfolding course
-accepted-steps size ws text e = by (stepsOf text) e
+half-accepted : (size : ℕ) (ws : List InputRule) (text : List ℕ) → isAccepted size ws text ≡ true → AcceptedAsWritten (fitting size) ws (stepsIn text)
+half-accepted size ws text a =
+    let s = accepted-steps size ws text a in
+    subst (λ (r : StepsRead). AcceptedAsWritten (fitting size) ws (elim r as (λ x. List Step) [ steps ts ↦ ts | Texts.refused ts k n ↦ ts ])) (sym (s .1))
+    (ran (s .0) _ (runSteps (atoms ws) (expand ws) size 0 start [] (s .0)) (runs-as (atoms ws) (expand ws) size 0 start [] (s .0)) (s .2))
   where
-    unread : (k n : ℕ) (c : Course) → endsEmpty (thenStopped k n c) ≡ true → ⊥
-    unread k n (stopped j m) e = true≢false (sym e)
-    unread k n (through m z b) e = true≢false (sym e)
-
     ran : (ts : List Step) (o : Outcome) (c : Course) → RunsAs o c → endsEmpty c ≡ true → (z : State) × (o ≡ next z) × (emptyLive z ≡ true)
     ran ts (refused k) c r e = absurd (true≢false (sym (ap endsEmpty (sym (r .1)) ∙ e)))
     ran ts (next z) c r e = (z, refl, ap endsEmpty (sym (r .2)) ∙ e)
-
-    by : (s : StepsRead) → endsEmpty (runRead (atoms ws) (expand ws) size 0 start [] s) ≡ true
-        → AcceptedAsWritten (fitting size) ws (elim s as (λ x. List Step) [ steps ts ↦ ts | Texts.refused ts k n ↦ ts ])
-    by (steps ts) e = ran ts _ (runSteps (atoms ws) (expand ws) size 0 start [] ts) (runs-as (atoms ws) (expand ws) size 0 start [] ts) e
-    by (Texts.refused ts k n) e = absurd (unread k n (runSteps (atoms ws) (expand ws) size 0 start [] ts) e)
 
 -- The merged text
 
@@ -87,11 +80,11 @@ module _ (size : ℕ) (ws : List InputRule) (v : ℕ) (first second : List ℕ) 
   both = and-right (isAtom (atoms ws) v) _ halves
 
   first-half : AcceptedAsWritten (fitting size) (demandingAsWritten ws (pos v)) (stepsIn first)
-  first-half = accepted-steps size (demandingAsWritten ws (pos v)) first (and-left (isAccepted size (demandingAsWritten ws (pos v)) first) _ both)
+  first-half = half-accepted size (demandingAsWritten ws (pos v)) first (and-left (isAccepted size (demandingAsWritten ws (pos v)) first) _ both)
 
   second-half : AcceptedAsWritten (fitting size) (demandingAsWritten ws (negℤ (pos v))) (stepsIn second)
   second-half =
-      accepted-steps size (demandingAsWritten ws (negℤ (pos v))) second (and-right (isAccepted size (demandingAsWritten ws (pos v)) first) _ both)
+      half-accepted size (demandingAsWritten ws (negℤ (pos v))) second (and-right (isAccepted size (demandingAsWritten ws (pos v)) first) _ both)
 
   -- the text is read back as the merged steps
   merged-course : length (textOf (mergedSteps ws v first second)) ≤ longest

@@ -1,19 +1,10 @@
 -- What the functions below `merge_halves` leave, of a program that was read. No reader of a public contract needs it.
 -- Assumes nothing.
-use mathlib.Core.Bool.{Bool, true, false}
 use mathlib.Core.List.{List}
 use Prim.Native.Nat.{ℕ}
 use Rattle.aspif.specs.Rules.{InputRule, expand, atoms}
 use Rattle.checker.specs.Check.{course}
-use Rattle.checker.specs.declared.Verdict.{Verdict}
-use Rattle.checker.specs.declared.Verdict.the-variants.{Inconsistent, Open, RefusedProgram, RefusedProof}
 use Rattle.splits.specs.Service.{MergeLeft, judgedText}
-
-abbrev pub isInconsistent : Verdict → Bool
-isInconsistent (Inconsistent c) = true
-isInconsistent (Open c) = false
-isInconsistent (RefusedProgram r) = false
-isInconsistent (RefusedProof r) = false
 
 -- 59, of a merged text that keeps to its limits
 abbrev pub judgedAs : (tableSize storeSize outputSize : ℕ) → List InputRule → (text : List ℕ) → MergeLeft

@@ -23,19 +23,12 @@ use words::LONGEST;
 // The words of a program, and of a constraint behind it.
 const WIDE: usize = LONGEST + 5;
 
-// The number is an atom of the program.
-fn is_atom(atoms: usize, v: usize) -> bool
-    ensures { λ r. ⌜ r ≡ isAtom atoms v ⌝ }
-{
-    (1 <= v) & (v <= atoms)
-}
-
 // "the atoms alone are known".
 fn know_atoms(known: &mut [u8], atoms: usize)
     requires { ⌜ (length (now known) ≡ entries) × (atoms ≤ largest) ⌝ }
     ensures { λ _. ⌜ Marks (now (known .exit)) (upTo atoms) ⌝ }
 {
-    marks::zero_marks(known);
+    words::zero_bytes(known);
     let mut left = atoms;
     while 0 < left {
         marks::mark(known, left);
@@ -149,7 +142,7 @@ pub fn accept_halves(
         → HalvesChecked atoms (length (now (store .entry))) ws v (now (first .entry)) (now (second .entry))
         (now (known1 .exit)) (now (known2 .exit)) (now (names .exit)) (now (bodies .exit)) r) ⌝ }
 {
-    if !is_atom(atoms, v) {
+    if !judging::is_atom(atoms, v) {
         return false;
     }
     let atom = v as i32;

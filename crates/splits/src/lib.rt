@@ -18,12 +18,11 @@ ghost use Rattle.aspif.specs.Tables.{rulesAt};
 ghost use Rattle.steps.specs.Held.{Program};
 ghost use Rattle.splits.specs.Service.{leavesNothing, mergedReading, MergedHalves};
 ghost use Rattle.splits.specs.Joined.{WrittenBy};
-ghost use Rattle.splits.specs.Judging.{isInconsistent, judgedAs};
+ghost use Rattle.splits.specs.Judging.{judgedAs};
 ghost use Rattle.splits.specs.declared.MergeAnswer.the-variants.{Refused};
 use crate::texts::Written;
 use aspif::ProgramReading;
 use aspif::ProgramRefusal;
-use checker::Verdict;
 use checker::judging;
 
 // The length of the text written; the question that the program fails, with its line; or 57, 58 or 59.
@@ -40,19 +39,8 @@ fn refuse(table: &mut [i32], store: &mut [i32], output: &mut [u8], number: u8) -
 {
     words::zero_all(table);
     words::zero_all(store);
-    marks::zero_marks(output);
+    words::zero_bytes(output);
     MergeAnswer::Refused(number)
-}
-
-fn is_inconsistent(verdict: Verdict) -> bool
-    ensures { λ r. ⌜ r ≡ isInconsistent verdict ⌝ }
-{
-    match verdict {
-        Verdict::Inconsistent(_) => true,
-        Verdict::Open(_) => false,
-        Verdict::RefusedProgram(_) => false,
-        Verdict::RefusedProof(_) => false,
-    }
 }
 
 // 59: the check of the merged text, which is the output's first n bytes.
@@ -74,7 +62,7 @@ fn judge(
         ≡ judgedAs (length (now (table .entry))) (length (now (store .entry))) (length (now (output .entry))) ws text) ⌝ }
 {
     let verdict = judging::check_proof(&output[..n], table, atoms, rules, store);
-    if is_inconsistent(verdict) {
+    if judging::is_inconsistent(verdict) {
         return MergeAnswer::Merged(n);
     }
     refuse(table, store, output, 59)
@@ -147,7 +135,7 @@ pub fn merge_halves(
         (now (table .exit)) (now (store .exit)) (now (output .entry)) (now (output .exit)) r ⌝ }
 {
     words::zero_all(store);
-    marks::zero_marks(output);
+    words::zero_bytes(output);
     let read = aspif::read_program(program, table);
     match read {
         ProgramReading::Refused(refusal) => MergeAnswer::RefusedProgram(refusal),

@@ -11,20 +11,6 @@ ghost use Rattle.aspif.specs.Tables.{rulesAt, soundRules};
 ghost use Rattle.splits.specs.Halves.{demandWords};
 use aspif::tables;
 
-// How many words of the table the rules take.
-fn words_used(table: &[i32], rules: usize) -> usize
-    requires { ⌜ soundRules rules (now table) ≡ true ⌝ }
-    ensures used { λ r. ⌜ (r ≡ length (programWords (rulesAt rules (now (table .entry))))) × (r ≤ length (now (table .entry))) ⌝ }
-{
-    let mut left = rules;
-    let mut i = 0;
-    while 0 < left {
-        i = tables::next_rule(table, i);
-        left -= 1;
-    }
-    i
-}
-
 // The rules in a wider table that is 0 throughout, and behind them a constraint with just the literal in its body.
 pub fn append_demand(table: &[i32], rules: usize, literal: i32, wide: &mut [i32])
     requires rules { ⌜ soundRules rules (now table) ≡ true ⌝ }
@@ -33,8 +19,6 @@ pub fn append_demand(table: &[i32], rules: usize, literal: i32, wide: &mut [i32]
     ensures { λ _. ⌜ ((k : ℕ) × (now (wide .exit)
         ≡ (programWords (rulesAt rules (now (table .entry))) ++ demandWords literal) ++ replicate k (pos 0))) ⌝ }
 {
-    let used = words_used(table, rules);
-    words::copy(wide, &table[..used]);
     let constraint = [0, 0, 0, 1, literal];
-    words::copy(&mut wide[used..], &constraint);
+    tables::append_rule(table, rules, &constraint, wide);
 }

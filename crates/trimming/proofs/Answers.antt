@@ -1,7 +1,7 @@
 -- What the service leaves, from what its parts leave. Assumes nothing.
 use mathlib.Core.Path.{_≡_, refl, sym, ap, _∙_}
 use mathlib.Core.Bool.{true, false, true≢false}
-use mathlib.Core.List.{List, [], _++_}
+use mathlib.Core.List.{List, _++_}
 use Prim.Native.Nat.{ℕ, _-_, _≤_}
 use borrow.Rule.Slice.PartMut.{putMid}
 use lib.IntN.{ℤ, pos}
@@ -18,9 +18,9 @@ use Rattle.aspif.specs.declared.ProgramRefusal.{ProgramRefusal}
 use Rattle.drupe.specs.Texts.{Step, StepsRead, steps, textOf, stepsOf}
 use Rattle.drupe.specs.Texts as Texts
 use Rattle.drupe.proofs.Texts.{steps-exact, spelled}
-use Rattle.derivation.specs.States.{start}
-use Rattle.checker.specs.Check.{Course, stopped, through, thenStopped, runSteps, runRead, course, endsEmpty, isAccepted, Checked, judged, judgedReading}
+use Rattle.checker.specs.Check.{Course, stopped, through, course, endsEmpty, isAccepted, Checked, judged, judgedReading}
 use Rattle.checker.specs.declared.Verdict.{Verdict}
+use Rattle.checker.proofs.Whole.{text-accepted, accepted-steps}
 use Rattle.trimming.specs.Service.{courseOf, accepted, trimmedSteps, untouched, storeAfter, trimmedRead, trimmedReading, trim}
 use Rattle.trimming.specs.Passing.{Reads}
 use Rattle.trimming.specs.declared.TrimAnswer.the-variants.{Trimmed, RefusedProgram, Refused}
@@ -38,24 +38,6 @@ zeros-behind n xs ys h e =
 -- the front is as it was
 pub front-kept : (n k : ℕ) (xs : List ℕ) → n ≤ length xs → {ys : List ℕ} → ys ≡ take n xs ++ replicate k 0 → take n ys ≡ take n xs
 front-kept n k xs h e = ap (take n) e ∙ take-at (take n xs) (replicate k 0) n (length-take-le n xs h)
-
--- a text of which a line is refused is not accepted
-unread : (k n : ℕ) (c : Course) → endsEmpty (thenStopped k n c) ≡ false
-unread k n (stopped j m) = refl
-unread k n (through m z b) = refl
-
-module _ (size : ℕ) (ws : List InputRule) (text : List ℕ) where
-  -- a text is accepted as its steps are
-  text-accepted : (r : StepsRead) → stepsOf text ≡ r → isAccepted size ws text ≡ endsEmpty (runRead (atoms ws) (expand ws) size 0 start [] r)
-  unfolding course
-  text-accepted r e = ap (λ (x : StepsRead). endsEmpty (runRead (atoms ws) (expand ws) size 0 start [] x)) e
-
-  pub accepted-steps : isAccepted size ws text ≡ true → (ts : List Step) × (stepsOf text ≡ steps ts) × (accepted size ws ts ≡ true)
-  accepted-steps a = by (stepsOf text) refl
-    where
-      by : (r : StepsRead) → stepsOf text ≡ r → (ts : List Step) × (stepsOf text ≡ steps ts) × (accepted size ws ts ≡ true)
-      by (steps ts) e = (ts, e, sym (text-accepted (steps ts) e) ∙ a)
-      by (Texts.refused ts k n) e = absurd (true≢false (sym a ∙ text-accepted (Texts.refused ts k n) e ∙ unread k n (runSteps (atoms ws) (expand ws) size 0 start [] ts)))
 
 -- what a check leaves of steps that are accepted
 left-by : (t s : ℕ) (proof : List ℕ) (ws : List InputRule) (c : Course) → endsEmpty c ≡ true

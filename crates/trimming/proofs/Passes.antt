@@ -8,15 +8,9 @@ use lib.Dec.{eqb}
 use lib.ListN.{length}
 use Rattle.words.proofs.Lists.{passed, eqb-decides, is-true}
 use Rattle.weights.specs.Claims.{none, with-it, without}
-use Rattle.weights.proofs.Sublists.{itself, through}
+use Rattle.weights.proofs.Sublists.{sublist-short, itself, through}
 use Rattle.trimming.specs.Trims.{pass, passes, trimmed, Sublist}
 use Rattle.trimming.specs.Claims.{TrimmedOrder, TrimmedMinimal, TrimmedAgain}
-
-module _ {A : Type 0} where
-  pub shorter : {ks ls : List A} → Sublist ks ls → length ks ≤ length ls
-  shorter none = omega arith
-  shorter (with-it a) = omega (arith, shorter a)
-  shorter (without a) = omega (arith, shorter a)
 
 module _ {A : Type 0} (accepted : List A → Bool) where
   pass-accepted : (front ts : List A) → accepted (front ++ ts) ≡ true → accepted (front ++ pass accepted front ts) ≡ true
@@ -60,7 +54,7 @@ module _ {A : Type 0} (accepted : List A → Bool) where
 
       go : (b : Bool) → accepted (front ++ rest) ≡ b → length (cond b rest (t ∷ rest)) ≡ length (t ∷ ts)
           → (length rest ≡ length ts → (rest ≡ ts) × ((a : List A) (u : A) (c : List A) → ts ≡ a ++ (u ∷ c) → accepted ((front ++ (t ∷ [])) ++ (a ++ c)) ≡ false)) → Tells b
-      go true p h below = absurd (omega (arith, h, shorter (pass-order (front ++ (t ∷ [])) ts)))
+      go true p h below = absurd (omega (arith, h, sublist-short (pass-order (front ++ (t ∷ [])) ts)))
       go false p h below = let r = below (omega (arith, h)) in (ap (λ (l : List A). t ∷ l) (r .0), single (r .0) (r .1))
         where
           single : rest ≡ ts → ((a : List A) (u : A) (c : List A) → ts ≡ a ++ (u ∷ c) → accepted ((front ++ (t ∷ [])) ++ (a ++ c)) ≡ false)
@@ -87,7 +81,7 @@ module _ {A : Type 0} (accepted : List A → Bool) where
           → Settled (cond b ts (passes accepted turns (pass accepted [] ts)))
       go true p below = record { good = e; again = eqb-decides _ _ .to (passed _ .from p) }
       go false p below =
-          let s = shorter (pass-order [] ts) in
+          let s = sublist-short (pass-order [] ts) in
           let d : ¬ (length (pass accepted [] ts) ≡ length ts) = λ q. true≢false (sym (is-true (eqb-decides _ _) q) ∙ p) in
           below (omega (arith, s, h, d))
 

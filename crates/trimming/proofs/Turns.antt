@@ -13,7 +13,7 @@ use Rattle.words.specs.Limits.{longest}
 use Rattle.words.proofs.Lists.{passed, eqb-decides, is-true}
 use Rattle.weights.specs.Claims.{none, with-it}
 use Rattle.weights.specs.Claims as Sublists
-use Rattle.weights.proofs.Sublists.{itself, through, in-whole}
+use Rattle.weights.proofs.Sublists.{sublist-short, itself, through, in-whole}
 use Rattle.aspif.specs.Rules.{InputRule, expand, atoms}
 use Rattle.text.specs.Writing.{Put}
 use Rattle.drupe.specs.Texts.{Step, steps, stepText, textOf, stepsOf}
@@ -24,7 +24,7 @@ use Rattle.checker.proofs.Whole.{course-written}
 use Rattle.trimming.specs.Trims.{pass, passes, trimmed, Sublist}
 use Rattle.trimming.specs.Service.{courseOf, accepted}
 use Rattle.trimming.specs.Passing.{Reads, LastLine, without, triedText}
-use Rattle.trimming.proofs.Passes.{shorter, pass-order, pass-whole, trimmed-order}
+use Rattle.trimming.proofs.Passes.{pass-order, pass-whole, trimmed-order}
 use Rattle.trimming.proofs.Newlines.{text-last, last-step}
 
 -- Steps struck out
@@ -42,7 +42,7 @@ sub-text (Sublists.without {x = x} {l = ls} a) = omega (arith, sub-text a, some-
 sub-text (with-it {x = x} {s = ks} {l = ls} a) = omega (arith, sub-text a, length-append (stepText x) (textOf ls), length-append (stepText x) (textOf ks))
 
 pub sub-shorter : {ks ls : List Step} → Sublist ks ls → length (textOf ks) ≤ length (textOf ls)
-sub-shorter a = omega (arith, sub-text a, shorter a)
+sub-shorter a = omega (arith, sub-text a, sublist-short a)
 
 -- of steps that pass, in a text that is short enough
 module _ {ts : List Step} (good : AllPass ts) (short : length (textOf ts) ≤ longest) where
@@ -205,7 +205,7 @@ module _ (size : ℕ) (ws : List InputRule) (ts : List Step) where
     repeat-end e = pass-leaves ∙ ap textOf (pass-whole (accepted size ws) [] (R .steps) l .0 ∙ by (R .turns) (R .same))
       where
         l : length us ≡ length (R .steps)
-        l = omega (arith, sub-text (pass-order (accepted size ws) [] (R .steps)), shorter (pass-order (accepted size ws) [] (R .steps)), e, size-before, size-after)
+        l = omega (arith, sub-text (pass-order (accepted size ws) [] (R .steps)), sublist-short (pass-order (accepted size ws) [] (R .steps)), e, size-before, size-after)
 
         by : (n : ℕ) → passes (accepted size ws) n (R .steps) ≡ trimmed (accepted size ws) ts → R .steps ≡ trimmed (accepted size ws) ts
         by zero p = p
@@ -225,7 +225,7 @@ module _ (size : ℕ) (ws : List InputRule) (ts : List Step) where
                 absurd (d (size-after ∙ ap (λ (x : List Step). length (textOf x)) (pass-whole (accepted size ws) [] (R .steps) l .0) ∙ sym size-before))
             go false q =
                 let n : ¬ (length us ≡ length (R .steps)) = λ p. true≢false (sym (is-true (eqb-decides _ _) p) ∙ q) in
-                omega (arith, n, shorter (pass-order (accepted size ws) [] (R .steps)))
+                omega (arith, n, sublist-short (pass-order (accepted size ws) [] (R .steps)))
 
         differ : eqb (length us) (length (R .steps)) ≡ false
         differ = go (eqb (length us) (length (R .steps))) refl

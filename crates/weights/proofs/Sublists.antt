@@ -14,6 +14,12 @@ use Rattle.weights.specs.Claims.{_⊑_, none, with-it, without}
 
 -- Lists
 
+-- a sublist is no longer
+pub sublist-short : {A : Type 0} {s l : List A} → s ⊑ l → length s ≤ length l
+sublist-short none = omega arith
+sublist-short (with-it a) = omega (arith, sublist-short a)
+sublist-short (without a) = omega (arith, sublist-short a)
+
 module _ {A : Type 0} where
   pub filter-append : (f : A → Bool) (k l : List A) → filter f (k ++ l) ≡ filter f k ++ filter f l
   filter-append f [] l = refl

@@ -26,7 +26,7 @@ told : (c : tie.After-ascends-within)
 told c = rw (c .before .largest-atom .ensures) at (c .ascends-within .ensures)
 
 returns : tie.Need-returns
-returns c = refused-41 _ _ _ _ _ (c .before .before .before .before .zero-marks .ensures) (sym (c .before .is-readable .ensures) ∙ not-true _ (c .if1 .taken))
+returns c = refused-41 _ _ _ _ _ (c .before .before .before .before .zero-bytes .ensures) (sym (c .before .is-readable .ensures) ∙ not-true _ (c .if1 .taken))
 
 largest-atom-requires : tie.Need-largest-atom-requires
 largest-atom-requires c κs = sound-rules _ _ (sound c)
@@ -34,20 +34,20 @@ largest-atom-requires c κs = sound-rules _ _ (sound c)
 returns-2 : tie.Need-returns-2
 returns-2 c =
     let d = c .before in
-    refused-42 _ _ _ _ _ (d .before .before .before .before .before .before .zero-marks .ensures) (sound (d .before .before)) (sym (told d) ∙ not-true _ (c .if2 .taken))
+    refused-42 _ _ _ _ _ (d .before .before .before .before .before .before .zero-bytes .ensures) (sound (d .before .before)) (sym (told d) ∙ not-true _ (c .if2 .taken))
 
 returns-3 : tie.Need-returns-3
 returns-3 c =
     let d = c .before .before in
     let z = d .before .before .before .before .before in
-    refused-43 _ _ _ _ _ (z .before .zero-marks .ensures) (sound (d .before .before)) (sym (told d) ∙ not-false _ (c .before .if2 .left)) (λ e. c .if3 .taken (z .marks .given ∙ e))
+    refused-43 _ _ _ _ _ (z .before .zero-bytes .ensures) (sound (d .before .before)) (sym (told d) ∙ not-false _ (c .before .if2 .left)) (λ e. c .if3 .taken (z .marks .given ∙ e))
 
 mark-least-requires : tie.Need-mark-least-requires
 mark-least-requires c κs =
     let g = c .before .before .before .before .before in
     let d = g .before .before in
     let z = d .before .before .before .before .before in
-    (sound (d .before .before), (d .before .largest-atom .ensures, (g .if3 .left, z .before .zero-marks .ensures ∙ ap (λ k. replicate k 0) (sym (z .marks .given)))))
+    (sound (d .before .before), (d .before .largest-atom .ensures, (g .if3 .left, z .before .zero-bytes .ensures ∙ ap (λ k. replicate k 0) (sym (z .marks .given)))))
 
 judge-requires : tie.Need-judge-requires
 judge-requires c κs =

@@ -24,14 +24,14 @@ returns : tie.Need-returns
 returns c =
     let a = c .before .before .before .before .before .before .before .before .args in
     let m = sym (c .before .is-marked .ensures) ∙ not-true _ (c .if1 .taken) in
-    moved-early (a .to) _ 51 (no-mark (a .from) (a .packet .now) m) (c .before .before .before .before .zero-all .ensures)
+    moved-early (a .to) _ 51 (no-mark (a .from) (a .packet .now) m) (c .before .before .before .before .zero-bytes .ensures)
 
 returns-2 : tie.Need-returns-2
 returns-2 c =
     let a = c .before .before .before .before .before .before .before .before .before .before .args in
     let m = sym (c .before .before .before .is-marked .ensures) ∙ not-false _ (c .before .before .if1 .left) in
     let l = sym (c .before .lengths-fit .ensures) ∙ not-true _ (c .if2 .taken) in
-    moved-early (a .to) _ 52 (no-lengths (a .from) (a .packet .now) m l) (c .before .before .before .before .before .before .zero-all .ensures)
+    moved-early (a .to) _ 52 (no-lengths (a .from) (a .packet .now) m l) (c .before .before .before .before .before .before .zero-bytes .ensures)
 
 -- past the lengths
 module _ (c : tie.Else2) where
@@ -45,8 +45,8 @@ module _ (c : tie.Else2) where
   known = fit-parts packet fit
 
   -- the output holds zeros
-  cleared : Zeros 0 (c .before .before .before .before .before .before .zero-all .last .0) × (length (c .before .before .before .before .before .before .zero-all .last .0) ≡ length (c .before .before .before .before .before .before .before .before .before .before .args .output .now))
-  cleared = zeros-made 0 (c .before .before .before .before .before .before .zero-all .ensures)
+  cleared : Zeros 0 (c .before .before .before .before .before .before .zero-bytes .last .0) × (length (c .before .before .before .before .before .before .zero-bytes .last .0) ≡ length (c .before .before .before .before .before .before .before .before .before .before .args .output .now))
+  cleared = zeros-made 0 (c .before .before .before .before .before .before .zero-bytes .ensures)
 
 count-at-requires : tie.Need-count-at-requires
 count-at-requires c κs = omega (arith, known c .0)

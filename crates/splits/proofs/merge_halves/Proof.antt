@@ -27,12 +27,12 @@ merge-read-requires c κs =
     let d = c .before .before .before .before in
     let f = found d in
     let h = held _ _ _ _ (read d .answer) (read d .table) f (search needs) in
-    (((f .P, h .0), h .1), (rw (h .0 .holds .are) (read-shorter _ _ (f .P) (f .read)), (zeros _ (length (start d .args .store .now)) (c .before .before .before .before .before .before .before .before .before .before .before .before .before .before .zero-all .ensures), zero-bytes _ (length (start d .args .output .now)) (c .before .before .before .before .before .before .before .before .before .before .before .zero-marks .ensures))))
+    (((f .P, h .0), h .1), (rw (h .0 .holds .are) (read-shorter _ _ (f .P) (f .read)), (zeros _ (length (start d .args .store .now)) (c .before .before .before .before .before .before .before .before .before .before .before .before .before .before .zero-all .ensures), zero-bytes _ (length (start d .args .output .now)) (c .before .before .before .before .before .before .before .before .before .before .before .zero-bytes .ensures))))
 
 returns : tie.Need-returns
 returns c =
     let r = c .before .before .before .before .read-program .ensures in
-    unread _ _ _ _ _ _ _ (r .answer) (r .table) _ (c .before .read .given .1) (c .before .before .before .before .before .before .before .before .before .before .before .zero-all .ensures) (c .before .before .before .before .before .before .before .before .zero-marks .ensures)
+    unread _ _ _ _ _ _ _ (r .answer) (r .table) _ (c .before .read .given .1) (c .before .before .before .before .before .before .before .before .before .before .before .zero-all .ensures) (c .before .before .before .before .before .before .before .before .zero-bytes .ensures)
 
 returns-2 : tie.Need-returns-2
 returns-2 c =
@@ -40,7 +40,7 @@ returns-2 c =
     let f = found d in
     let t : length (q d .read-program .last .1 .0) ≡ length (start d .args .table .now) = search needs in
     let s : length (c .before .before .before .before .before .before .before .before .before .before .before .before .before .before .before .before .before .before .before .zero-all .last .0) ≡ length (start d .args .store .now) = search needs in
-    let o : length (c .before .before .before .before .before .before .before .before .before .before .before .before .before .before .before .before .zero-marks .last .0) ≡ length (start d .args .output .now) = search needs in
+    let o : length (c .before .before .before .before .before .before .before .before .before .before .before .before .before .before .before .before .zero-bytes .last .0) ≡ length (start d .args .output .now) = search needs in
     let h = held _ _ _ _ (read d .answer) (read d .table) f t in
     let a = start d .args in
     c .before .before .before .before .merge-read .ensures (f .P) (h .0) (h .2) ∙ reading-same (a .atom) (a .first .now) (a .second .now) (program (f .P)) t s o

@@ -8,7 +8,7 @@ returns : tie.Need-returns
 returns c =
     let a = c .before .before .before .before .before .before .before .before .before .before .before .args in
     left-nothing (length (a .table .now)) (length (a .store .now)) (length (a .output .now)) (c .before .before .before .before .before .before .before .before .zero-all .ensures) (c .before .before .before .before .before .zero-all2 .ensures)
-    (c .before .before .zero-marks .ensures)
+    (c .before .before .zero-bytes .ensures)
 
 pub refuse-spec : {M : Type 1} → statement M
 refuse-spec =

@@ -15,10 +15,11 @@ use Rattle.drupe.proofs.Texts.{steps-exact}
 use Rattle.checker.specs.Check.{isAccepted, judgedReading}
 use Rattle.steps.specs.Held.{Program}
 use Rattle.checker.proofs.Verdicts.{zeros}
+use Rattle.checker.proofs.Whole.{accepted-steps}
 use Rattle.trimming.specs.Service.{trimmedSteps}
 use Rattle.trimming.specs.Passing.{Reads}
 use Rattle.trimming.specs.declared.TrimAnswer.the-variants.{Trimmed}
-use Rattle.trimming.proofs.Answers.{zeros-behind, front-kept, accepted-steps, not-accepted, written}
+use Rattle.trimming.proofs.Answers.{zeros-behind, front-kept, not-accepted, written}
 use borrow.Author.Needs.{needs}
 use Rattle.trimming.proofs.trim_read.Statement.{statement}
 use Rattle.trimming.proofs.trim_read.Tie as tie
@@ -91,15 +92,15 @@ module _ (c : tie.After-passes) where
   within = omega (arith, c .passes .ensures .0, same-text)
 
 -- what is behind the text is zero
-module _ (c : tie.After-zero-marks) where
+module _ (c : tie.After-zero-bytes) where
   abbrev done : tie.After-passes
   done = c .before .before .before .before .before
 
   abbrev text″ : List ℕ
-  text″ = putMid (n done) (length (text′ done) - n done) (text′ done) (c .zero-marks .last .0)
+  text″ = putMid (n done) (length (text′ done) - n done) (text′ done) (c .zero-bytes .last .0)
 
   behind : text″ ≡ take (n done) (text′ done) ++ replicate (length (text′ done) - n done) 0
-  behind = zeros-behind (n done) (text′ done) (c .zero-marks .last .0) (within done) (c .zero-marks .ensures)
+  behind = zeros-behind (n done) (text′ done) (c .zero-bytes .last .0) (within done) (c .zero-bytes .ensures)
 
 slice-aggregate-check-proof : tie.Need-slice-aggregate-check-proof
 slice-aggregate-check-proof c =

@@ -56,7 +56,7 @@ returns-3 c =
     let n : width * a .name + count - (width * a .name + 1) ≡ count - 1 = omega arith in
     let p : count ≡ count - 1 + 1 = omega arith in
     let few : count - 1 ≤ mostWeighted = omega (arith, K .most) in
-    let row = rw n at (c .before .copy-out .ensures) in
+    let row = rw n at (c .before .widen .ensures) in
     (few, λ called C above L short. body (a .bodies .now) (a .name) (s .pre .0) C above L short (count - 1) _ _ few (K .is h ∙ ap pos p) row)
 
 pub body-of-spec : {M : Type 1} → statement M

@@ -93,7 +93,7 @@ returns-2 : tie.Need-returns-2
 returns-2 c =
     let d = c .before .before .before .before .before .before in
     let z : ℕ → List ℕ = λ n. replicate n 0 in
-    zeros-left (good d) (fits d) (whole d) (packet d) _ (comes-to d) (told d) _ (c .before .before .before .before .enum-told2 .given .1) (c .before .before .zero-all .ensures ∙ ap z (same d))
+    zeros-left (good d) (fits d) (whole d) (packet d) _ (comes-to d) (told d) _ (c .before .before .before .before .enum-told2 .given .1) (c .before .before .zero-bytes .ensures ∙ ap z (same d))
 
 pub write-pair-spec : {M : Type 1} → statement M
 write-pair-spec =

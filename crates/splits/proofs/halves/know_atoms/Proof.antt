@@ -21,7 +21,7 @@ no-marks : (m : List ℕ) (n : ℕ) → n ≡ entries → m ≡ replicate n 0 �
 no-marks m n e z l = subst (λ (k : List ℕ). MarkedSoFar k l l) (sym (z ∙ ap (λ (i : ℕ). replicate i 0) e)) (found-none l)
 
 loop-holds : tie.Need-loop-holds Inv-loop μ-loop
-loop-holds c = no-marks _ _ (c .before .before .before .before .before .pre .0) (c .before .before .zero-marks .ensures) _
+loop-holds c = no-marks _ _ (c .before .before .before .before .before .pre .0) (c .before .before .zero-bytes .ensures) _
 
 loop-again : tie.Need-loop-again Inv-loop μ-loop
 loop-again c =

@@ -1,9 +1,9 @@
 use native.Mathlib.Omega.{arith}
 use Rattle.aspif.proofs.Cursors.{at-rule}
-use Rattle.splits.proofs.Demands.{Passed, passed-on, passed-all}
+use Rattle.aspif.proofs.Used.{Passed, passed-on, passed-all}
 use borrow.Author.Needs.{needs}
-use Rattle.splits.proofs.tables.words_used.Statement.{statement}
-use Rattle.splits.proofs.tables.words_used.Tie as tie
+use Rattle.aspif.proofs.tables.words_used.Statement.{statement}
+use Rattle.aspif.proofs.tables.words_used.Tie as tie
 
 abbrev Inv-loop : tie.InvT-loop
 Inv-loop table rules left₀ i₀ left i = Passed table rules left i

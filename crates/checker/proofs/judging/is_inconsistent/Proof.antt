@@ -1,6 +1,6 @@
 use borrow.Author.Needs.{needs}
-use Rattle.splits.proofs.is_inconsistent.Statement.{statement}
-use Rattle.splits.proofs.is_inconsistent.Tie as tie
+use Rattle.checker.proofs.judging.is_inconsistent.Statement.{statement}
+use Rattle.checker.proofs.judging.is_inconsistent.Tie as tie
 
 returns : tie.Need-returns
 returns c = search needs
