@@ -1,5 +1,8 @@
 //! The families of cheapest answer sets: the cases of document 02; and random programs with random costs, of which all sets are tried. The set of
-//! least cost is certified with a refutation that a search finds, and no other with any proof.
+//! least cost is certified with a refutation that a search finds, and no other with any proof. At every bound the restricted program has the
+//! answer sets that cost less.
+
+use std::collections::BTreeSet;
 
 use inputs::ROOM;
 
@@ -94,6 +97,7 @@ pub fn run_random(comparison: &mut Comparison, _: u64) {
     let sets = answer_sets(&program, &costs);
     let offer = Offer { program: text, set: Vec::new(), costs: lent(&costs), proof: Vec::new() };
     compare_any_set(comparison, &offer, &program);
+    compare_bounds(comparison, &offer, &program, &costs, &sets);
     let Some((cheapest, least)) = sets.iter().min_by_key(|(_, cost)| *cost) else { return };
     let offer = Offer { set: listed(cheapest), ..offer };
     let proof = if (1..=WEIGHT_LARGEST).contains(least) { refutation(comparison, &program, &costs, *least) } else { None };
@@ -120,6 +124,17 @@ fn compare_any_set(comparison: &mut Comparison, offer: &Offer, program: &Program
     comparison.check_cheapest(&Offer { set, ..offer.clone() }, ROOM, 50);
 }
 
+/// "so that a cost of C or more breaks it": at the bounds where an answer set falls out, the restricted program has just those that cost less.
+fn compare_bounds(comparison: &mut Comparison, offer: &Offer, program: &Program, costs: &Costs, sets: &[(Set, i32)]) {
+    let next_to = sets.iter().flat_map(|(_, cost)| [*cost, cost + 1]).chain([1]);
+    let bounds: BTreeSet<i32> = next_to.filter(|bound| (1..=WEIGHT_LARGEST).contains(bound)).collect();
+    for bound in bounds {
+        let left = answer_sets(&restricted(program, costs, bound), costs);
+        let cheaper = sets.iter().filter(|(_, cost)| *cost < bound);
+        comparison.settle(left.iter().eq(cheaper), || format!("restricted to less than {bound} it has {left:?}: {}", told(offer)));
+    }
+}
+
 /// The least lengths, a word less of each and plenty; the pairs in another order.
 fn compare_certified(comparison: &mut Comparison, offer: &Offer, program: &Program, costs: &Costs, least: i32) {
     let table = table_words(&program.rules).len();
@@ -137,6 +152,20 @@ fn compare_certified(comparison: &mut Comparison, offer: &Offer, program: &Progr
     }
     let answer = comparison.check_cheapest(offer, table - 1, store);
     comparison.settle(matches!(answer, Answer::RefusedProgram { number: 10, .. }), || format!("{answer:?}: {}", told(offer)));
+    compare_written(comparison, offer, least);
+}
+
+/// The store is that of the whole check of a text which has the restriction, as it is lent, for its last rule.
+fn compare_written(comparison: &mut Comparison, offer: &Offer, bound: i32) {
+    let Some(rules) = offer.program.strip_suffix(b"0\n") else { return };
+    let pairs: String = offer.costs.iter().map(|number| format!(" {number}")).collect();
+    let wider = [rules, format!("1 0 0 1 {bound} {}{pairs}\n0\n", offer.costs.len() / 2).as_bytes()].concat();
+    let (mut table, mut certified, mut checked) = (vec![0; ROOM], vec![0; ROOM], vec![0; ROOM]);
+    let answer = aspdrupe::check_cheapest(&offer.program, &offer.set, &offer.costs, &offer.proof, &mut table, &mut certified);
+    let verdict = aspdrupe::check_texts(&wider, &offer.proof, &mut table, &mut checked);
+    let good = answer.is_ok() && matches!(verdict, Ok(aspdrupe::Verdict::Inconsistent(_))) && certified == checked;
+    comparison
+        .settle(good, || format!("{answer:?}, but {verdict:?} as written; store{}: {}", difference(&certified, &checked), told(offer)));
 }
 
 /// An answer set that costs more is refused with the proof for the least cost, which is one for a lower bound, and with what the search writes

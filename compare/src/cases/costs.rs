@@ -40,7 +40,22 @@ pub fn cases() -> Vec<Case> {
     cases.extend(dear());
     cases.extend(refused_programs());
     cases.extend(limits());
+    cases.extend(without_atoms());
     cases
+}
+
+/// A program without an atom: over none there is a literal, and the empty set costs nothing.
+fn without_atoms() -> Vec<Case> {
+    let of = |set: &[u16], costs: &[i16], rules: &[&str], answer| {
+        let offer = Offer { program: program(rules), set: set.to_vec(), costs: costs.to_vec(), proof: b"junk".to_vec() };
+        Case { name: format!("no atom, set {set:?}, costs {costs:?}"), offer, table: 20, store: 60, answer }
+    };
+    vec![
+        of(&[], &[], &[], Certified(0)),
+        of(&[], &[1, 0], &[], Refused(62)),
+        of(&[1], &[1, 0], &[], Refused(42)),
+        of(&[], &[], &["1 0 0 0 0"], Refused(63)),
+    ]
 }
 
 fn worked() -> Vec<Case> {
@@ -64,6 +79,9 @@ fn worked() -> Vec<Case> {
         case(&[], &[], b"junk", Refused(63)),
         case(&[1], &[2, 5], &[b'a'; 65_536], Certified(0)),
         case(&[1], &[-2, 7], b"", Refused(63)),
+        case(&[1], &[1, 3, 2, 5], b"", Refused(63)),
+        case(&[1], &[1, 3, 2, 5], b"junk", Refused(63)),
+        case(&[1], &[1, 3, 2, 5], &[b'a'; 65_536], Refused(63)),
         case(&[1], &[1, 3, 2, 5], &[&q[..], b"d 0\n"].concat(), Refused(63)),
     ]
 }
