@@ -1,7 +1,8 @@
-//! What is printed: a row for each input, lines on the packets, on the merge, on trimming and on reading, the rows of two programs side by side,
+//! What is printed: a row for each input, lines on the packets, on the merge, on trimming, on a cheapest set and on reading, the rows of two programs side by side,
 //! and those on growth.
 
 use crate::cases::{Goal, Input};
+use crate::costs::Certified;
 use crate::growth::Row;
 use crate::measure::{Answer, Measured, Times};
 use crate::merging::Merged;
@@ -127,6 +128,27 @@ pub fn trimming(trimmed: &Result<Trimmed, String>) {
         ),
         Err(name) => println!("FAILED: {name} is not trimmed, or to another number of steps"),
     }
+}
+
+/// The line on a cheapest set.
+pub fn certified(certified: Option<&Certified>) {
+    let Some(certified) = certified else {
+        println!("FAILED: a set is not certified as cheapest, or its proof is not accepted for the restricted program");
+        return;
+    };
+    println!(
+        "cheapest of {}: {} on {} literals, a program of {} bytes and {} steps of {} bytes, certified in {:.3} ms (least {:.3}); for the restricted program the proof is checked in {:.3} ms (least {:.3})",
+        certified.name,
+        certified.cost,
+        certified.literals,
+        certified.program,
+        certified.steps,
+        certified.proof,
+        milliseconds(certified.certifying.median),
+        milliseconds(certified.certifying.least),
+        milliseconds(certified.checking.median),
+        milliseconds(certified.checking.least),
+    );
 }
 
 /// The lines on reading.

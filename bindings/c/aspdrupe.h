@@ -1,14 +1,14 @@
-/* The ten services of the proof checker for C: the program reader, the set test, the proof-line reader, the whole check over two texts,
- * the writer and the reader of packets, their moves from one version to the other, the merge of two halves' proofs, and the trimming of a
- * proof. The functions are in target/staticlib/libexports.a, which `rt staticlib exports` writes, for x86-64 Linux.
+/* The eleven services of the proof checker for C: the program reader, the set test, the proof-line reader, the whole check over two texts,
+ * the writer and the reader of packets, their moves from one version to the other, the merge of two halves' proofs, the trimming of a
+ * proof, and the certificate of a cheapest answer set. The functions are in target/staticlib/libexports.a, which `rt staticlib exports` writes, for x86-64 Linux.
  *
  * Each function is proved to meet its contract (crates/exports/src/lib.rt and crates/exports/specs/) on every input: no text, no
  * number and no length is asked to be good. What the caller must see to is what C cannot say:
  *   - each pointer is valid for its length, counted in elements: readable where it is const, readable and writable where not;
  *     where the length is 0 it is not followed, and any pointer that is not null and is aligned for its type will do;
  *   - a buffer that is written overlaps no other argument;
- *   - the thread has ASPDRUPE_STACK bytes of stack for the call, ASPDRUPE_MERGE_STACK for aspdrupe_merge_halves, and ASPDRUPE_TRIM_STACK
- *     for aspdrupe_trim_proof.
+ *   - the thread has ASPDRUPE_STACK bytes of stack for the call, ASPDRUPE_MERGE_STACK for aspdrupe_merge_halves, ASPDRUPE_TRIM_STACK
+ *     for aspdrupe_trim_proof, and ASPDRUPE_CHEAPEST_STACK for aspdrupe_check_cheapest.
  * Nothing else: no function allocates, keeps a pointer, has a state of its own, or fails to return. Calls with buffers of their
  * own may run at the same time.
  *
@@ -35,6 +35,9 @@ extern "C" {
 
 /* The same for aspdrupe_trim_proof, which tries each step on a copy of the text: 812 KB were measured. */
 #define ASPDRUPE_TRIM_STACK 1048576
+
+/* The same for aspdrupe_check_cheapest, which checks the proof over a table of its own beside the one lent: 769 KB were measured. */
+#define ASPDRUPE_CHEAPEST_STACK 1048576
 
 /* The most numbers that an answer has. */
 #define ASPDRUPE_ANSWER 4
@@ -167,6 +170,23 @@ uint32_t aspdrupe_merge_halves(const uint8_t *program, size_t program_len, uint6
  * A pass is a whole check for each step, and there can be as many passes as steps. */
 uint32_t aspdrupe_trim_proof(const uint8_t *program, size_t program_len, uint8_t *text, size_t text_len, int32_t *table, size_t table_len,
                              int32_t *store, size_t store_len, uint64_t *answer, size_t answer_len);
+
+/* Certifies that a set is a cheapest answer set. `costs` holds literals over the program's atoms, each before its cost: at most 12 pairs, no
+ * atom twice, in any order, each cost 0 to 4,095. The set is ascending. It costs C, the sum of the costs whose literals it makes true. Where C is
+ * above 0 the proof is for the program with one constraint more, its last rule, with a weight body: the cost literals with their costs, and
+ * bound C, so that a cost of C or more breaks it.
+ * Returns 0 where the set is an answer set and, for C above 0, that proof comes to ASPDRUPE_INCONSISTENT with the store lent: answer[0] is C. No
+ * answer set of the program costs less. The table holds the program's rules, without the constraint, and the store is as aspdrupe_check_texts
+ * leaves it for the program with it. Where C is 0 no proof is read, and the store is 0 throughout.
+ * Returns the number of the question that the program fails, 1 to 11, 54 or 55: answer[0] is the line and answer[1] is 0, as
+ * aspdrupe_read_program has them.
+ * Otherwise returns 42 (no such set), 62 (costs_len is odd, more than 12 pairs, a literal that is 0 or over no atom of the program, an atom
+ * twice, a cost out of its range, or C above 4,095) or 63 (the set is no answer set, or for C above 0 the proof is refused or open), asked in
+ * this order: `answer` stays as it was. No marks are lent, so 43 is not asked.
+ * After a refusal, the program's too, table and store are 0 throughout. */
+uint32_t aspdrupe_check_cheapest(const uint8_t *program, size_t program_len, const uint16_t *set, size_t set_len, const int16_t *costs,
+                                 size_t costs_len, const uint8_t *proof, size_t proof_len, int32_t *table, size_t table_len,
+                                 int32_t *store, size_t store_len, uint64_t *answer, size_t answer_len);
 
 #ifdef __cplusplus
 }

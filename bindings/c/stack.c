@@ -1,7 +1,7 @@
 /* How much stack the services need. Every service is called, on inputs that reach its deepest paths, each call in a thread of its own:
  *
- *   stack           in threads with a stack of ASPDRUPE_STACK bytes, ASPDRUPE_MERGE_STACK for merges, or ASPDRUPE_TRIM_STACK for trimming:
- *                   the test, which bindings/c/run builds and runs
+ *   stack           in threads with a stack of ASPDRUPE_STACK bytes, ASPDRUPE_MERGE_STACK for merges, ASPDRUPE_TRIM_STACK for trimming, or
+ *                   ASPDRUPE_CHEAPEST_STACK for cheapest answer sets: the test, which bindings/c/run builds and runs
  *   stack SIZE      in threads with a stack of SIZE bytes
  *   stack measure   in threads with more than enough; prints how many bytes of it each has used, with what the thread itself takes
  *
@@ -267,6 +267,28 @@ static void make_proofs(void) {
     }
 }
 
+static struct text weight_certificate, full_certificate;
+static const uint16_t weight_set[] = {13};
+static const int16_t weight_costs[] = {1, 1, 2, 1, 3, 1, 4, 1, 5, 1, 6, 1, -7, 1, -8, 1, -9, 1, -10, 1, -11, 1, 13, 1};
+static const int16_t full_costs[] = {-1, 1, -2, 1, -3, 1, -4, 1, -5, 1, -6, 1, -7, 1, -8, 1};
+
+/* Proofs that no answer set is cheaper: with weights that fill the table and a restriction to less than 6 of 12, which has as many bodies as
+ * there may be; and with as many rules as there may be and a text that is nearly full. */
+static void make_certificates(void) {
+    weight_certificate = weight_steps;
+    for (int atom = 1; atom <= WEIGHTED; atom++) put(&weight_certificate, "s %d 0\n", atom);
+    put(&weight_certificate, "b 27 -7 -8 -9 -10 -11 13 0\nc 27 0\na 0\n");
+    put(&full_certificate, "b 9 2 3 4 5 6 0\nb 10 4 5 6 7 8 0\n");
+    for (int first = 2; first <= 8; first++) {
+        put(&full_certificate, "l %d", first);
+        put_range(&full_certificate, 2, first - 1);
+        put_range(&full_certificate, first + 1, 8);
+        put(&full_certificate, " 0\n");
+    }
+    put(&full_certificate, "s 1 0\nb 11 -1 -2 -3 -4 -5 -6 -7 -8 0\nc 11 0\na 0\n");
+    while (full_certificate.size < TEXT - 80) put(&full_certificate, "s 2 9 10 0\nd 2 -9 -10 0\nl 8 0\nd 8 -9 0\n");
+}
+
 static void make_inputs(void) {
     make_chain();
     make_wide();
@@ -277,6 +299,7 @@ static void make_inputs(void) {
     make_weight_split();
     make_full_split();
     make_proofs();
+    make_certificates();
     for (int i = 0; i < TEXT; i++) put(&newlines, "\n");
     put(&long_line, "a");
     while (long_line.size < TEXT - 10) put(&long_line, " -8191");
@@ -329,6 +352,12 @@ static uint32_t merge(const struct split *split, size_t store_size, size_t size)
 static uint32_t trim(const struct text *program, const struct text *proof, size_t size, size_t store_size) {
     memcpy(proof_text, proof->bytes, size);
     return aspdrupe_trim_proof(program->bytes, program->size, proof_text, size, table, WORDS, store, store_size, answer, ASPDRUPE_ANSWER);
+}
+
+static uint32_t certify(const struct text *program, const uint16_t *set, size_t count, const int16_t *costs, size_t costs_size,
+                        const struct text *proof, size_t store_size) {
+    return aspdrupe_check_cheapest(program->bytes, program->size, set, count, costs, costs_size, proof->bytes, proof->size, table, WORDS,
+                                   store, store_size, answer, ASPDRUPE_ANSWER);
 }
 
 static uint32_t read_full(void) { return read_program(&full_rules); }
@@ -398,6 +427,22 @@ static uint32_t trim_open(void) { return trim(&weight_split.program, &open_proof
 static uint32_t trim_small(void) { return trim(&full_split.program, &full_proof, full_proof.size, FULL_TRIMMED); }
 static uint32_t trim_long(void) { return trim(&one_rule, &long_line, TEXT + 1, WORDS); }
 static uint32_t trim_many(void) { return trim(&many_weights, &chain, chain.size, WORDS); }
+
+/* The numbers in the cost lists. */
+#define WEIGHT_COSTS (2 * WEIGHTED)
+#define FULL_COSTS 16
+
+static uint32_t certify_weights(void) {
+    return certify(&weight_rules, weight_set, 1, weight_costs, WEIGHT_COSTS, &weight_certificate, WORDS);
+}
+static uint32_t certify_full(void) { return certify(&full_rules, weight_set, 0, full_costs, FULL_COSTS, &full_certificate, WORDS); }
+static uint32_t certify_open(void) { return certify(&weight_rules, weight_set, 1, weight_costs, WEIGHT_COSTS, &weight_steps, WORDS); }
+static uint32_t certify_small(void) { return certify(&weight_rules, weight_set, 1, weight_costs, WEIGHT_COSTS, &weight_certificate, 99); }
+static uint32_t certify_none(void) { return certify(&weight_rules, weight_set, 0, weight_costs, WEIGHT_COSTS, &weight_certificate, WORDS); }
+static uint32_t certify_nothing(void) { return certify(&weight_rules, weight_set, 1, weight_costs, WEIGHTED, &long_line, WORDS); }
+static uint32_t certify_odd(void) { return certify(&full_rules, weight_set, 0, full_costs, FULL_COSTS - 1, &full_certificate, WORDS); }
+static uint32_t certify_foreign(void) { return certify(&full_rules, weight_set, 1, full_costs, FULL_COSTS, &full_certificate, WORDS); }
+static uint32_t certify_many(void) { return certify(&many_weights, weight_set, 1, weight_costs, WEIGHT_COSTS, &chain, WORDS); }
 
 /* A chain of rules against their order: the least model takes as many rounds as there are rules. It is the set that is tested. */
 static uint32_t test_chain(void) {
@@ -489,6 +534,18 @@ static const struct call trims[] = {
     {"trim_proof: 64 heads, 64 weights", trim_many, 55, {2, 0, 0, 0}},
 };
 
+static const struct call certificates[] = {
+    {"check_cheapest: rules with 12 weights", certify_weights, 0, {6, 0, 0, 0}},
+    {"check_cheapest: full text, 1,024 rules", certify_full, 0, {8, 0, 0, 0}},
+    {"check_cheapest: a set that costs nothing", certify_nothing, 0, {0, 0, 0, 0}},
+    {"check_cheapest: an atom of no program", certify_foreign, 42, {0, 0, 0, 0}},
+    {"check_cheapest: an odd cost list", certify_odd, 62, {0, 0, 0, 0}},
+    {"check_cheapest: no answer set", certify_none, 63, {0, 0, 0, 0}},
+    {"check_cheapest: an open proof", certify_open, 63, {0, 0, 0, 0}},
+    {"check_cheapest: a store too short", certify_small, 63, {0, 0, 0, 0}},
+    {"check_cheapest: 64 heads, 64 weights", certify_many, 55, {2, 0, 0, 0}},
+};
+
 #define COUNT(list) (sizeof list / sizeof *list)
 
 /* Calls, and the stack that the header names for them. */
@@ -499,6 +556,7 @@ static const struct {
     {calls, COUNT(calls), ASPDRUPE_STACK},
     {merges, COUNT(merges), ASPDRUPE_MERGE_STACK},
     {trims, COUNT(trims), ASPDRUPE_TRIM_STACK},
+    {certificates, COUNT(certificates), ASPDRUPE_CHEAPEST_STACK},
 };
 
 /* ---- The threads ---- */

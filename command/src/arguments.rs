@@ -1,6 +1,7 @@
 //! Subcommands, and the words of the command line that stand behind one.
 
 use std::ffi::{OsStr, OsString};
+use std::iter::Peekable;
 use std::path::{Path, PathBuf};
 
 use crate::files;
@@ -17,6 +18,8 @@ pub struct Subcommand {
     pub more: &'static str,
     /// The options with a value, beside `--json` and `--help`.
     pub options: &'static [&'static str],
+    /// The options with any number of values: all words up to the next option.
+    pub lists: &'static [&'static str],
     /// The places of the operands that are files to read.
     pub inputs: &'static [usize],
     /// The fewest and the most operands.
@@ -35,6 +38,7 @@ pub enum Given {
 pub struct Words {
     operands: Vec<OsString>,
     values: Vec<(&'static str, OsString)>,
+    lists: Vec<(&'static str, Vec<OsString>)>,
 }
 
 /// The words of a table or a store that may be asked for: 64 MB.
@@ -63,6 +67,12 @@ impl Words {
         self.value(option).map(|value| value.to_string_lossy().into_owned())
     }
 
+    /// The values of an option that takes a list, as text; none where it is not given.
+    pub fn texts(&self, option: &str) -> Vec<String> {
+        let list = self.lists.iter().find(|(name, _)| *name == option).map_or(&[][..], |(_, list)| list);
+        list.iter().map(|word| word.to_string_lossy().into_owned()).collect()
+    }
+
     /// The value of an option, as a path.
     pub fn output(&self, option: &str) -> Option<PathBuf> {
         self.value(option).map(PathBuf::from)
@@ -80,27 +90,51 @@ impl Words {
     fn value(&self, option: &str) -> Option<&OsStr> {
         self.values.iter().find(|(name, _)| *name == option).map(|(_, value)| value.as_os_str())
     }
+
+    /// Takes an option in, with its value or its list.
+    fn take<'a>(
+        &mut self,
+        subcommand: &Subcommand,
+        text: &str,
+        words: &mut Peekable<impl Iterator<Item = &'a OsString>>,
+    ) -> Result<(), String> {
+        let of = |known: &'static [&'static str]| known.iter().copied().find(|option| *option == text);
+        let twice = || Err(format!("`{text}` stands twice"));
+        if let Some(option) = of(subcommand.lists) {
+            if self.lists.iter().any(|(name, _)| *name == option) {
+                return twice();
+            }
+            let list = std::iter::from_fn(|| words.next_if(|word| !ends_list(subcommand, word)).cloned()).collect();
+            self.lists.push((option, list));
+            return Ok(());
+        }
+        let option = of(subcommand.options).ok_or(format!("there is no option `{text}`"))?;
+        let value = words.next().ok_or(format!("`{text}` needs a value"))?;
+        if self.value(option).is_some() {
+            return twice();
+        }
+        self.values.push((option, value.clone()));
+        Ok(())
+    }
+}
+
+/// Whether a word is an option, so that a list ends before it; a literal with its sign is none.
+fn ends_list(subcommand: &Subcommand, word: &OsStr) -> bool {
+    let text = word.to_str().unwrap_or("");
+    text.starts_with("--") || text == "-h" || subcommand.options.contains(&text)
 }
 
 /// Reads the words behind a subcommand's name. `--` ends the options.
 pub fn read(subcommand: &Subcommand, words: &[OsString]) -> Result<Given, String> {
     let mut given = Words::default();
-    let mut words = words.iter();
+    let mut words = words.iter().peekable();
     while let Some(word) = words.next() {
         let text = word.to_str().unwrap_or("");
         match text {
             "--help" | "-h" => return Ok(Given::Help),
             "--json" => {}
             "--" => given.operands.extend(words.by_ref().cloned()),
-            _ if text.starts_with('-') && text.len() > 1 => {
-                let listed = subcommand.options.iter().find(|option| **option == text);
-                let option = listed.ok_or(format!("there is no option `{text}`"))?;
-                let value = words.next().ok_or(format!("`{text}` needs a value"))?;
-                if given.value(option).is_some() {
-                    return Err(format!("`{text}` stands twice"));
-                }
-                given.values.push((option, value.clone()));
-            }
+            _ if text.starts_with('-') && text.len() > 1 => given.take(subcommand, text, &mut words)?,
             _ => given.operands.push(word.clone()),
         }
     }
@@ -144,7 +178,7 @@ pub fn help(subcommand: &Subcommand) -> String {
 
 const STATUS: &str = "Everywhere: --help; --json prints one object. `--` ends the options.
 Results go to the standard output, words for people to the standard error.
-Exit status: 0 'inconsistent' or 'yes', 10 'open' or 'no', 20 a refusal, 2 misuse (arguments, files, missing tools).\n";
+Exit status: 0 'inconsistent', 'yes' or 'cheapest', 10 'open' or 'no', 20 a refusal, 2 misuse (arguments, files, missing tools).\n";
 
 #[cfg(test)]
 mod tests {
@@ -156,6 +190,7 @@ mod tests {
         about: "",
         more: "",
         options: &["-o", "--store"],
+        lists: &["--set"],
         inputs: &[0],
         operands: (1, 2),
         run: |_| Err(Failure::misuse("")),
@@ -181,6 +216,15 @@ mod tests {
     }
 
     #[test]
+    fn lists() {
+        let words = given("a --set -2=7 b - -o out --json").unwrap();
+        assert_eq!(words.texts("--set"), ["-2=7", "b", "-"]);
+        assert_eq!((words.texts_from(0), words.output("-o")), (vec![String::from("a")], Some(PathBuf::from("out"))));
+        assert_eq!(given("--set b -- a").unwrap().texts_from(0), ["a"]);
+        assert!(given("a --set").unwrap().texts("--set").is_empty() && given("a").unwrap().texts("--set").is_empty());
+    }
+
+    #[test]
     fn misuse() {
         for (line, part) in [
             ("", "too few"),
@@ -188,6 +232,9 @@ mod tests {
             ("a -x", "no option `-x`"),
             ("a -o", "needs a value"),
             ("a -o b -o c", "twice"),
+            ("a --set b --set", "twice"),
+            ("--set a b", "too few"),
+            ("a --set b -h", "help"),
             ("a b --help", "help"),
         ] {
             assert!(given(line).unwrap_err().contains(part), "{line}");

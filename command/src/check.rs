@@ -16,6 +16,7 @@ pub const SUBCOMMAND: Subcommand = Subcommand {
     refused proof NUMBER STEP
 --table N and --store N are the words for rules and nogoods, 16384 each where nothing is said, as in `verdict`.",
     options: &["--table", "--store"],
+    lists: &[],
     inputs: &[0, 1],
     operands: (2, 2),
     run,

@@ -4,8 +4,8 @@ use std::path::Path;
 
 use crate::arguments::{Subcommand, Words};
 use crate::json::Json;
+use crate::names::Names;
 use crate::outcome::{Failure, Outcome, Status};
-use crate::statements::Ground;
 use crate::{explain, files, library, source};
 
 pub const SUBCOMMAND: Subcommand = Subcommand {
@@ -17,6 +17,7 @@ pub const SUBCOMMAND: Subcommand = Subcommand {
 Output, minimize, project and heuristic statements are dropped. External, assumption, edge and theory statements and
 disjunctive heads are refused.",
     options: &["-o"],
+    lists: &[],
     inputs: &[0],
     operands: (1, 1),
     run,
@@ -44,7 +45,7 @@ fn run(words: &Words) -> Result<Outcome, Failure> {
     };
     match words.output("-o") {
         Some(path) => {
-            write(&path, &ground)?;
+            write(&path, &ground.text, &ground.names)?;
             outcome.line = format!("ground {} {}", program.atoms, program.rules);
             outcome.words.push(format!("largest atom {}, {} rules: {}", program.atoms, program.rules, path.display()));
         }
@@ -57,13 +58,13 @@ fn run(words: &Words) -> Result<Outcome, Failure> {
 }
 
 /// Writes the program, and its names beside it; a device or a pipe has nothing beside it.
-fn write(path: &Path, ground: &Ground) -> Result<(), Failure> {
+pub fn write(path: &Path, text: &[u8], names: &Names) -> Result<(), Failure> {
     if path.extension().is_some_and(|ending| ending == "names") {
         return Err(Failure::misuse(format!("{} is a place for names: another ending, like `.aspif`", path.display())));
     }
     // The names come first: where the program is then not written, they are not of what stands there, and are not used.
     if path.is_file() || !path.exists() {
-        ground.names.write_beside(path, &ground.text)?;
+        names.write_beside(path, text)?;
     }
-    files::write(path, &ground.text)
+    files::write(path, text)
 }

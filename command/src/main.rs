@@ -4,6 +4,7 @@
 #![forbid(unsafe_code)]
 
 mod arguments;
+mod cheapest;
 mod check;
 mod explain;
 mod files;
@@ -34,10 +35,11 @@ use json::Json;
 use outcome::{Failure, Outcome, Status};
 
 /// In the order in which `--help` lists them.
-const SUBCOMMANDS: [&Subcommand; 7] = [
+const SUBCOMMANDS: [&Subcommand; 8] = [
     &prove::SUBCOMMAND,
     &check::SUBCOMMAND,
     &set_test::SUBCOMMAND,
+    &cheapest::SUBCOMMAND,
     &ground::SUBCOMMAND,
     &trim::SUBCOMMAND,
     &merge::SUBCOMMAND,

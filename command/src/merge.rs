@@ -19,6 +19,7 @@ pub const SUBCOMMAND: Subcommand = Subcommand {
     refused merge NUMBER
 --table N and --store N are the words for rules and nogoods, 16384 each where nothing is said, as in `verdict`.",
     options: &["-o", "--table", "--store"],
+    lists: &[],
     inputs: &[0, 2, 3],
     operands: (4, 4),
     run,

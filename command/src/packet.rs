@@ -24,6 +24,7 @@ Prints
     packet RULES BYTES       what was read: the rules, and the proof's bytes
     refused packet NUMBER",
     options: &["-o", "--program", "--proof", "--version"],
+    lists: &[],
     inputs: &[1, 2],
     operands: (2, 3),
     run,

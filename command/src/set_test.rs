@@ -22,6 +22,7 @@ without any it is the empty set. Facts are given by name all together, or by num
     no rule N        the first broken constraint
 and on the standard error on which side the atom lies, or the constraint with its line.",
     options: &[],
+    lists: &[],
     inputs: &[0],
     operands: (1, usize::MAX),
     run,
@@ -33,24 +34,46 @@ fn run(words: &Words) -> Result<Outcome, Failure> {
         Ok(program) => program,
         Err(refusal) => return Ok(explain::ground(refusal, &ground)),
     };
-    let atoms = words.texts_from(1);
-    let mut set = set_of(&atoms, &ground.names)?;
-    let facts = if names_facts(&atoms, &ground.names)? { nameless_facts(&program, &ground.names) } else { Vec::new() };
-    set.extend(&facts);
-    set.sort_unstable();
-    set.dedup();
-    let (answer, least_model) = library::test_set(&program, &set)?;
-    let mut outcome = match answer {
-        SetAnswer::Yes => yes(&set, &ground.names),
-        SetAnswer::Differs(atom) => differs(atom, least_model.get(usize::from(atom)) == Some(&true), &ground.names),
-        SetAnswer::Broken(rule) => broken(rule, &program, &ground),
-        SetAnswer::Refused(question) => explain::question("set", question.number(), question.to_string(), question.mend()),
-    };
-    if !facts.is_empty() {
-        let numbers = facts.iter().map(u16::to_string).collect::<Vec<_>>().join(" ");
-        outcome.words.push(format!("the set names the facts, so that the atoms of facts without a name are in it: {numbers}"));
-    }
+    let set = named(&words.texts_from(1), &program, &ground.names)?;
+    let mut outcome = told(&set.atoms, &program, &ground)?;
+    outcome.words.extend(set.note());
     Ok(outcome)
+}
+
+/// A set that is given by words: its atoms, ascending, and those of them that are facts without a name.
+pub struct Named {
+    pub atoms: Vec<u16>,
+    facts: Vec<u16>,
+}
+
+impl Named {
+    /// What is said where facts are in the set that no word names.
+    pub fn note(&self) -> Option<String> {
+        let numbers = self.facts.iter().map(u16::to_string).collect::<Vec<_>>().join(" ");
+        let note = format!("the set names the facts, so that the atoms of facts without a name are in it: {numbers}");
+        (!self.facts.is_empty()).then_some(note)
+    }
+}
+
+/// The set that the words name.
+pub fn named(words: &[String], program: &Program, names: &Names) -> Result<Named, Failure> {
+    let mut atoms = set_of(words, names)?;
+    let facts = if names_facts(words, names)? { nameless_facts(program, names) } else { Vec::new() };
+    atoms.extend(&facts);
+    atoms.sort_unstable();
+    atoms.dedup();
+    Ok(Named { atoms, facts })
+}
+
+/// What the set test says of a set.
+pub fn told(set: &[u16], program: &Program, ground: &Ground) -> Result<Outcome, Failure> {
+    let (answer, least_model) = library::test_set(program, set)?;
+    Ok(match answer {
+        SetAnswer::Yes => yes(set, &ground.names),
+        SetAnswer::Differs(atom) => differs(atom, least_model.get(usize::from(atom)) == Some(&true), &ground.names),
+        SetAnswer::Broken(rule) => broken(rule, program, ground),
+        SetAnswer::Refused(question) => explain::question("set", question.number(), question.to_string(), question.mend()),
+    })
 }
 
 /// The atoms that the words name; the name of a fact names none.

@@ -19,6 +19,7 @@ pub const SUBCOMMAND: Subcommand = Subcommand {
 A pass is a whole check for each step, and there can be as many passes as steps: most long proofs take some seconds, with two passes.
 --table N and --store N are the words for rules and nogoods, 16384 each where nothing is said, as in `verdict`.",
     options: &["-o", "--table", "--store"],
+    lists: &[],
     inputs: &[0, 1],
     operands: (2, 2),
     run,

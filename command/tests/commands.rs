@@ -242,6 +242,103 @@ fn merges() {
     assert_eq!(room.files(), ["1", "2", "out", "p"]);
 }
 
+/// A program with the answer sets {1}, {2} and {1, 2}, and the proof that none costs less than 3 where 1 costs 3 and 2 costs 5.
+const EITHER: &str = "asp 1 0 0\n1 1 2 1 2 0 0\n1 0 0 0 2 -1 -2\n0\n";
+const NONE_BELOW: &str = "b 3 1  c 3  b 4 2  c 4  b 5 -1 -2  c 5  a";
+
+// The worked cases of Change 12.
+#[test]
+fn cheapest_sets() {
+    let room = Room::of("cheapest");
+    room.file("p", EITHER);
+    room.file("q", proof(NONE_BELOW));
+    room.file("bad.aspif", proof(NONE_BELOW));
+    let cheapest = |words: &str| room.run(&["cheapest"].into_iter().chain(words.split(' ')).collect::<Vec<_>>());
+    for (words, status, line) in [
+        ("p q --set 1 --costs 1=3 2=5", 0, "cheapest 3\n"),
+        ("p q --costs 2=5 1=3 --set 1 --store 40 --table 12", 0, "cheapest 3\n"),
+        ("p q --set 1 --costs 1=3 2=5 --store 39", 20, "refused cheapest 63\n"),
+        ("p q --set 1 --costs 1=3 2=5 --table 11", 20, "refused program 10 3\n"),
+        ("p q --set 2 --costs 1=3 2=5", 20, "refused cheapest 63\n"),
+        ("p q --set --costs 1=3 2=5", 20, "refused cheapest 63\n"),
+        ("p --set 1 --costs 1=3 2=5", 20, "refused cheapest 63\n"),
+        ("p --set 1 --costs 2=5", 0, "cheapest 0\n"),
+        ("p --set 1", 0, "cheapest 0\n"),
+        ("p p --set 1 --costs 1=0 2=5", 0, "cheapest 0\n"),
+        ("p --set 1 --costs -2=7", 20, "refused cheapest 63\n"),
+        ("p q --set 3 --costs 1=3", 20, "refused cheapest 42\n"),
+        ("p q --set 1 --costs 3=1", 20, "refused cheapest 62\n"),
+        ("p q --set 1 --costs 1=1 -1=1", 20, "refused cheapest 62\n"),
+        ("p q --set 1 2 --costs 1=4000 2=96", 20, "refused cheapest 62\n"),
+        ("p q --set 1 2 --costs 1=4000 2=95", 20, "refused cheapest 63\n"),
+        ("bad.aspif q --set 1", 20, "refused program 2 1\n"),
+    ] {
+        let (ended, out, said) = cheapest(words);
+        assert_eq!((ended, out.as_str()), (status, line), "{words}");
+        assert_eq!(said.contains("to mend: "), status == 20, "{words}: {said}");
+    }
+    assert!(cheapest("p q --set 1 --costs 1=3 2=5").2.starts_with("an answer set: 1\nit costs 3, and no answer set costs less"));
+    assert!(cheapest("p q --set 1 --costs 3=1").2.ends_with("\n3 is over no atom of the program, whose largest is 2\n"));
+    assert!(cheapest("p q --set 1 2 --costs 1=4000 2=96").2.ends_with("\nthe set costs 4096\n"));
+    let json = cheapest("p q --set 1 --costs 1=3 2=5 --json").1;
+    assert_eq!(json, "{\"command\": \"cheapest\", \"status\": 0, \"answer\": \"cheapest\", \"cost\": 3, \"shown\": [\"1\"]}\n");
+    assert_eq!(room.files(), ["bad.aspif", "p", "q"]);
+}
+
+// 63 has several reasons: which of them it is, is told.
+#[test]
+fn why_a_set_is_not_certified() {
+    let room = Room::of("uncertified");
+    room.file("p", EITHER);
+    room.file("q", proof(NONE_BELOW));
+    room.file("open", proof("b 3 1"));
+    let cheapest = |words: &str| room.run(&["cheapest"].into_iter().chain(words.split(' ')).collect::<Vec<_>>());
+    let (_, _, said) = cheapest("p q --set --costs 1=3 -o r");
+    assert!(said.contains("\nthe set test says: no rule 2\nno answer set: a constraint is broken, line 3 of the program:\n"), "{said}");
+    assert!(said.ends_with("\nr is not written: the set is no answer set, or does not cost 1 to 4095\n"), "{said}");
+    assert!(cheapest("p q --costs 1=3 --json").1.contains(r#""test": {"answer": "no", "rule": 2, "line": 3, "#));
+    let (_, _, said) = cheapest("p q --set 2 --costs 1=3 2=5");
+    assert!(said.contains("costs 5; the proof is for the program and this constraint:\n    :- #sum { 3: #1; 5: #2 } >= 5.\n"), "{said}");
+    assert!(said.contains("\nthe check of the proof for them says: refused proof 28 1\nstep 1 of the proof:\n    b 3 1 0\n"), "{said}");
+    assert!(cheapest("p open --set 1 --costs 1=3 2=5").2.contains(" says: open 2 3 1 2\n"));
+    assert!(cheapest("p q --set 1 --costs 1=3 2=5 --store 39 --json")
+        .1
+        .contains(r#""cost": 3, "check": {"refused": "proof", "number": 34, "#));
+    // With the restriction it would be a text with 1,025 rules.
+    room.file("many", format!("asp 1 0 0\n1 1 1 1 0 0\n{}0\n", "1 0 0 0 2 1 2\n".repeat(1_023)));
+    let (status, _, said) = cheapest("many q --set 1 --costs 1=3");
+    assert!(status == 20 && said.contains("beyond a limit of texts"), "{said}");
+    assert_eq!(room.files(), ["many", "open", "p", "q"]);
+}
+
+// Without a proof the restricted program is written, of which `prove` finds one, or a set that costs less.
+#[test]
+fn from_costs_to_a_certificate() {
+    let room = Room::of("costs");
+    room.file("p.aspif", EITHER.replace("\n0\n", "\n4 4 a(1) 1 1\n4 3 b=c 1 2\n4 1 f 0\n0\n"));
+    let cheapest = |words: &[&str]| room.run(&[&["cheapest", "p.aspif"], words].concat());
+    let of_a = ["--set", "a(1)", "--costs", "a(1)=3", "b=c=5"];
+    let (status, out, said) = cheapest(&[&of_a[..], &["-o", "r.aspif"]].concat());
+    assert_eq!((status, out.as_str()), (20, "refused cheapest 63\n"));
+    assert!(said.contains("\n    :- #sum { 3: a(1); 5: b=c } >= 3.\nno PROOF is given: "), "{said}");
+    assert!(said.ends_with("\nthe program restricted to less than 3 is r.aspif\n"), "{said}");
+    let text = fs::read_to_string(room.0.join("r.aspif")).unwrap();
+    assert_eq!(text, EITHER.replace("\n0\n", "\n1 0 0 1 3 2 1 3 2 5\n0\n"));
+    room.file("q", proof(NONE_BELOW));
+    assert_eq!(room.run(&["check", "r.aspif", "q"]).1, "inconsistent 2 3 7 11\n");
+    let (status, out, said) = cheapest(&[&["q"][..], &of_a].concat());
+    assert_eq!((status, out.as_str()), (0, "cheapest 3\n"));
+    assert!(said.contains("an answer set: a(1) f\nit costs 3"), "{said}");
+    // Of a set that is not cheapest the restricted program has a cheaper one, by name.
+    let (status, _, _) = cheapest(&["--set", "b=c", "--costs", "a(1)=3", "b=c=5", "-o", "r.aspif"]);
+    room.tool("cadical", "echo 's SATISFIABLE'; echo 'v 1 -2 3 -4 -5 0'; exit 10");
+    assert_eq!((status, room.run(&["prove", "r.aspif"]).1.as_str()), (20, "answer set: a(1) f\n"));
+    assert_eq!(cheapest(&["--set", "a(1)", "b=c", "--costs", "not b=c=5"]).1, "cheapest 0\n");
+    assert_misuse(cheapest(&["--set", "c", "--costs", "a(1)=3"]), "`c` is neither");
+    assert_misuse(cheapest(&["--set", "a(1)", "--costs", "-a(1)=3"]), "`-a(1)` in `-a(1)=3` is over neither");
+    assert_eq!(room.files(), ["p.aspif", "q", "r.aspif", "r.aspif.names"]);
+}
+
 #[test]
 fn misuse() {
     let room = Room::of("misuse");
@@ -264,6 +361,13 @@ fn misuse() {
         (&["packet", "up", "p"], "-o names the packet"),
         (&["packet", "down", "missing", "-o", "p"], "missing cannot be read"),
         (&["trim", "p"], "too few operands"),
+        (&["cheapest", "--set", "p"], "too few operands"),
+        (&["cheapest", "p", "p", "p"], "too many operands"),
+        (&["cheapest", "p", "missing", "--set", "1"], "missing cannot be read"),
+        (&["cheapest", "p", "--set", "1", "--costs", "1"], "`1` is no LITERAL=COST"),
+        (&["cheapest", "p", "--set", "1", "--costs", "1=many"], "`many` in `1=many` is no cost"),
+        (&["cheapest", "p", "--set", "1", "--set", "1"], "`--set` stands twice"),
+        (&["check", "p", "p", "--set", "1"], "no option `--set`"),
     ] {
         assert_misuse(room.run(words), part);
     }
@@ -290,6 +394,7 @@ fn noise_and_limits() {
         (&["test", "many"], 20, "refused program 9 1026\n"),
         (&["prove", "many"], 20, "refused program 9 1026\n"),
         (&["ground", "many", "-o", "out"], 20, "refused program 9 1026\n"),
+        (&["cheapest", "p", "noise", "--set", "1"], 20, "refused cheapest 63\n"),
         (&["packet", "read", "noise", "--program", "out", "--proof", "out2"], 20, "refused packet 51\n"),
         (&["packet", "up", "noise", "-o", "out"], 20, "refused packet 51\n"),
         (&["packet", "down", "noise", "-o", "out"], 20, "refused packet 51\n"),
@@ -548,6 +653,8 @@ fn inputs_are_not_written_over() {
         &["prove", "link", "-o", "p.aspif"],
         &["trim", "p.aspif", "d", "-o", "d"],
         &["trim", "p.aspif", "d", "-o", "folder/../p.aspif"],
+        &["cheapest", "p.aspif", "d", "-o", "d"],
+        &["cheapest", "p.aspif", "-o", "link"],
         &["merge", "p.aspif", "1", "d", "d", "-o", "d"],
         &["packet", "write", "p.aspif", "d", "-o", "d"],
         &["packet", "up", "packet", "-o", "packet"],

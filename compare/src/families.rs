@@ -7,6 +7,7 @@ use inputs::{programs, Pair, ROOM};
 use crate::cases::refutations::{go_on, refute, Author, Found};
 use crate::cases::{self, bytes, changes, deep, deletions, fixed, guided, limits, loops, noise, weights};
 use crate::comparison::Comparison;
+use crate::costs;
 use crate::merges;
 use crate::packets;
 use crate::reference::check::{check, store_lengths, verdict_line};
@@ -54,6 +55,8 @@ pub fn families() -> Vec<Family> {
         family("splits", 50, merges::run_random),
         listed("trims", cases::trims::cases().len(), trims::run_worked),
         family("trimmed", 10, trims::run_random),
+        listed("costs", cases::costs::cases().len(), costs::run_worked),
+        family("cheapest", 50, costs::run_random),
     ]
 }
 

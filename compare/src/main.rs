@@ -14,6 +14,7 @@ mod binary;
 mod brute;
 mod cases;
 mod comparison;
+mod costs;
 mod families;
 mod merges;
 mod packets;

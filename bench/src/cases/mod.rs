@@ -32,6 +32,18 @@ pub struct Split {
     pub halves: [Vec<Line>; 2],
 }
 
+/// A program with a set that is to be certified as cheapest: the costs as they are lent, what the set costs, a refutation of the program
+/// restricted to less, and that program.
+pub struct Priced {
+    pub name: String,
+    pub program: Vec<u8>,
+    pub set: Vec<u16>,
+    pub costs: Vec<i16>,
+    pub cost: usize,
+    pub proof: Vec<Line>,
+    pub restricted: Vec<u8>,
+}
+
 /// What the time of the verified check is to reach.
 #[derive(Clone, Copy)]
 pub enum Goal {
@@ -72,6 +84,11 @@ pub fn slow() -> Vec<Input> {
 /// The split whose halves are merged.
 pub fn split() -> Split {
     searched::split()
+}
+
+/// The set that is certified as cheapest.
+pub fn priced() -> Priced {
+    weights::priced()
 }
 
 /// Refutations of growing size.

@@ -3,13 +3,14 @@
 //! `hours-12` has constraints on sums that no choice meets: what is chosen may not reach a bound, and what is left out may not reach what the
 //! bound leaves of the whole. Nearly all of their bodies are named and completed, and a search refutes them. `hours-wide` has as many rules of
 //! one head as the table holds beside two plain ones, by which the head is a loop, alone and with positive literals of the others; all bodies
-//! are named, and then there are `s` and `l` lines in turn until the store is full.
+//! are named, and then there are `s` and `l` lines in turn until the store is full. `costs-12` has a cheapest choice of twelve: what is chosen has to
+//! reach a bound, and as many rules as there may be forbid others.
 
 use super::completion::{bodies_of, definition_words, definitions, externals, nogood_words, supports};
-use super::{refutations, Input};
+use super::{refutations, Input, Priced};
 use inputs::lines::{line_of, proof_text, Line};
 use inputs::random::Random;
-use inputs::rules::{choice, largest_atom, normal, weighted, Rule};
+use inputs::rules::{choice, constraint, largest_atom, normal, program_text, weighted, Rule};
 use inputs::{ROOM, TEXT_LIMIT};
 
 /// The most literals of a weight body.
@@ -22,11 +23,21 @@ pub fn inputs() -> Vec<Input> {
 /// The seed of the weights and of the search.
 const SEED: u64 = 5;
 
+/// Twelve weights.
+fn weights() -> Vec<i32> {
+    let mut random = Random::from_seed(SEED);
+    (0..MOST).map(|_| random.between(2, 9)).collect()
+}
+
+/// The weights on the atoms, or on their complements.
+fn signed(weights: &[i32], sign: i32) -> Vec<(i32, i32)> {
+    weights.iter().zip(1..).map(|(weight, atom)| (sign * atom, *weight)).collect()
+}
+
 /// A choice of twelve, two constraints on their sum that leave nothing, and a third one that is not named.
 fn sums() -> Input {
-    let mut random = Random::from_seed(SEED);
-    let weights: Vec<i32> = (0..MOST).map(|_| random.between(2, 9)).collect();
-    let signed = |sign: i32| -> Vec<(i32, i32)> { weights.iter().zip(1..).map(|(weight, atom)| (sign * atom, *weight)).collect() };
+    let weights = weights();
+    let signed = |sign| signed(&weights, sign);
     let all: i32 = weights.iter().sum();
     let bound = all * 3 / 10;
     let mut rules = vec![choice(&(1..=MOST).collect::<Vec<_>>(), &[])];
@@ -35,6 +46,47 @@ fn sums() -> Input {
     let lines = refutations::refute(&rules, 4_000, SEED).expect("no sum is both below the bound and not below it");
     rules.push(weighted(&[], all - 20, &signed(1)));
     Input::of("hours-12", &rules, &lines)
+}
+
+/// The most rules of a program, the restriction among them so that the restricted program can be checked as a text.
+const RULES: usize = 1_024;
+
+/// A choice of twelve that has to reach a bound, the set of them that costs least, and constraints against others.
+pub fn priced() -> Priced {
+    let weights = weights();
+    let all: i32 = weights.iter().sum();
+    let bound = all * 3 / 10;
+    let (set, cost) = cheapest(&weights, bound);
+    let mut rules = vec![choice(&(1..=MOST).collect::<Vec<_>>(), &[]), weighted(&[], all - bound + 1, &signed(&weights, -1))];
+    let restriction = weighted(&[], cost, &signed(&weights, 1));
+    let proof = refutations::refute(&[&rules[..], std::slice::from_ref(&restriction)].concat(), 4_000, SEED);
+    let mut random = Random::from_seed(SEED);
+    rules.extend((rules.len()..RULES - 1).map(|_| against_others(&set, &mut random)));
+    Priced {
+        name: String::from("costs-12"),
+        program: program_text(&rules),
+        costs: signed(&weights, 1).into_iter().flat_map(|(atom, weight)| [atom as i16, weight as i16]).collect(),
+        set: set.into_iter().map(|atom| atom as u16).collect(),
+        cost: cost as usize,
+        proof: proof.expect("none of those that reach the bound costs less"),
+        restricted: program_text(&[&rules[..], &[restriction]].concat()),
+    }
+}
+
+/// A set of atoms whose weights reach the bound and are least in sum, and that sum.
+fn cheapest(weights: &[i32], bound: i32) -> (Vec<i32>, i32) {
+    let set_of = |bits: u32| -> Vec<i32> { (1..=MOST).filter(|atom| bits >> (atom - 1) & 1 == 1).collect() };
+    let sum_of = |set: &[i32]| -> i32 { set.iter().map(|atom| weights[*atom as usize - 1]).sum() };
+    let sets = (0..1 << MOST).map(set_of).map(|set| (sum_of(&set), set));
+    sets.filter(|(sum, _)| *sum >= bound).min().map(|(sum, set)| (set, sum)).expect("all weights together reach the bound")
+}
+
+/// A constraint of eleven literals, one of which is false in the set.
+fn against_others(set: &[i32], random: &mut Random) -> Rule {
+    let atoms = random.different(MOST as usize - 1, MOST);
+    let mut body: Vec<i32> = atoms.into_iter().map(|atom| random.signed(atom)).collect();
+    body[0] = if set.contains(&body[0].abs()) { -body[0].abs() } else { body[0].abs() };
+    constraint(&body)
 }
 
 /// As many rules as the table holds.

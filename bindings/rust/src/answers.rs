@@ -1,6 +1,8 @@
 //! What the services answer.
 
-use crate::questions::{Letter, MergeQuestion, PacketQuestion, ProgramQuestion, ProofQuestion, SetQuestion, TrimQuestion};
+use crate::questions::{
+    CheapestQuestion, Letter, MergeQuestion, PacketQuestion, ProgramQuestion, ProofQuestion, SetQuestion, TrimQuestion,
+};
 use std::fmt;
 
 /// Why a program text is refused. It is displayed as `refused program NUMBER LINE`.
@@ -156,6 +158,17 @@ pub enum Trimming {
     RefusedProgram(ProgramRefusal),
     /// The proof is refused.
     Refused(TrimQuestion),
+}
+
+/// What is said of a set that is to be a cheapest answer set.
+#[derive(Debug, Clone, Copy, PartialEq, Eq, Hash)]
+pub enum Cheapest {
+    /// The set is an answer set and costs so much, and no answer set costs less.
+    Certified(usize),
+    /// The program is refused.
+    RefusedProgram(ProgramRefusal),
+    /// The set, the costs or the proof are refused.
+    Refused(CheapestQuestion),
 }
 
 impl fmt::Display for ProgramRefusal {

@@ -1,9 +1,12 @@
 //! From what a function of the library returns and leaves, a code and numbers, to the answer of its service.
 
 use crate::answers::{
-    Counts, LineAnswer, Merging, PacketReading, PacketWriting, ProgramReading, ProgramRefusal, ProofRefusal, SetAnswer, Trimming, Verdict,
+    Cheapest, Counts, LineAnswer, Merging, PacketReading, PacketWriting, ProgramReading, ProgramRefusal, ProofRefusal, SetAnswer, Trimming,
+    Verdict,
 };
-use crate::questions::{Letter, MergeQuestion, PacketQuestion, ProgramQuestion, ProofQuestion, SetQuestion, TrimQuestion, UnknownAnswer};
+use crate::questions::{
+    CheapestQuestion, Letter, MergeQuestion, PacketQuestion, ProgramQuestion, ProofQuestion, SetQuestion, TrimQuestion, UnknownAnswer,
+};
 
 /// What the program reader returns.
 #[derive(Debug, Clone, Copy, PartialEq, Eq)]
@@ -74,6 +77,14 @@ enum TrimCode {
     Trimmed,
     RefusedProgram(ProgramQuestion),
     Refused(TrimQuestion),
+}
+
+/// What the check of a cheapest answer set returns.
+#[derive(Debug, Clone, Copy, PartialEq, Eq)]
+enum CheapestCode {
+    Certified,
+    RefusedProgram(ProgramQuestion),
+    Refused(CheapestQuestion),
 }
 
 fn unknown(wanted: &'static str, code: u32) -> UnknownAnswer {
@@ -208,6 +219,19 @@ impl TryFrom<u32> for TrimCode {
     }
 }
 
+impl TryFrom<u32> for CheapestCode {
+    type Error = UnknownAnswer;
+
+    fn try_from(code: u32) -> Result<Self, UnknownAnswer> {
+        match code {
+            0 => Ok(CheapestCode::Certified),
+            1..=11 | 54 | 55 => ProgramQuestion::try_from(u64::from(code)).map(CheapestCode::RefusedProgram),
+            42 | 62 | 63 => CheapestQuestion::try_from(u64::from(code)).map(CheapestCode::Refused),
+            _ => Err(unknown("code of the cheapest answer set", code)),
+        }
+    }
+}
+
 /// The program reader's answer.
 pub fn program_reading(code: u32, answer: [u64; 2]) -> Result<ProgramReading, UnknownAnswer> {
     let [first, second] = answer.map(|number| number as usize);
@@ -306,6 +330,16 @@ pub fn trimming(code: u32, answer: u64) -> Result<Trimming, UnknownAnswer> {
     })
 }
 
+/// The answer of the cheapest answer set.
+pub fn cheapest(code: u32, answer: u64) -> Result<Cheapest, UnknownAnswer> {
+    let number = answer as usize;
+    Ok(match CheapestCode::try_from(code)? {
+        CheapestCode::Certified => Cheapest::Certified(number),
+        CheapestCode::RefusedProgram(question) => Cheapest::RefusedProgram(ProgramRefusal { question, line: number }),
+        CheapestCode::Refused(question) => Cheapest::Refused(question),
+    })
+}
+
 #[cfg(test)]
 mod tests {
     use super::*;
@@ -330,6 +364,7 @@ mod tests {
         assert_eq!(known::<DownCode>(), [0, 51, 52, 53, 61]);
         assert_eq!(known::<MergeCode>(), (0..=11).chain([54, 55, 57, 58, 59]).collect::<Vec<_>>());
         assert_eq!(known::<TrimCode>(), (0..=11).chain([54, 55, 60]).collect::<Vec<_>>());
+        assert_eq!(known::<CheapestCode>(), (0..=11).chain([42, 54, 55, 62, 63]).collect::<Vec<_>>());
     }
 
     #[test]
@@ -375,6 +410,9 @@ mod tests {
         assert_eq!(trimming(0, 35), Ok(Trimming::Trimmed(35)));
         assert_eq!(trimming(5, 7), Ok(Trimming::RefusedProgram(refusal)));
         assert_eq!(trimming(60, 9), Ok(Trimming::Refused(TrimQuestion::Accepted)));
+        assert_eq!(cheapest(0, 3), Ok(Cheapest::Certified(3)));
+        assert_eq!(cheapest(5, 7), Ok(Cheapest::RefusedProgram(refusal)));
+        assert_eq!(cheapest(62, 9), Ok(Cheapest::Refused(CheapestQuestion::Costs)));
         for (code, answer, line) in
             [(0, [1, 2, 3, 4], "inconsistent 1 2 3 4"), (1, [5, 6, 7, 8], "open 5 6 7 8"), (2, [10, 3, 0, 0], "refused program 10 3")]
         {

@@ -1,6 +1,6 @@
-//! The ten services of the proof checker for Rust: the program reader, the set test, the proof-line reader, the whole check over two
-//! texts, the writer and the reader of packets, their moves from one version to the other, the merge of two halves' proofs, and the trimming
-//! of a proof. The work is done by functions that are proved to meet their contracts on every input (`crates/exports`); here they are declared
+//! The eleven services of the proof checker for Rust: the program reader, the set test, the proof-line reader, the whole check over two
+//! texts, the writer and the reader of packets, their moves from one version to the other, the merge of two halves' proofs, the trimming
+//! of a proof, and the certificate of a cheapest answer set. The work is done by functions that are proved to meet their contracts on every input (`crates/exports`); here they are declared
 //! and wrapped, and their codes become enums. No input panics.
 //!
 //! Each function answers an [`UnknownAnswer`] where the library returns what its contract does not allow, which a library of the
@@ -27,10 +27,12 @@ mod questions;
 mod raw;
 
 pub use answers::{
-    Counts, LineAnswer, Merging, PacketReading, PacketWriting, ProgramReading, ProgramRefusal, ProofRefusal, SetAnswer, Trimming, Verdict,
-    Version,
+    Cheapest, Counts, LineAnswer, Merging, PacketReading, PacketWriting, ProgramReading, ProgramRefusal, ProofRefusal, SetAnswer, Trimming,
+    Verdict, Version,
 };
-pub use questions::{Letter, MergeQuestion, PacketQuestion, ProgramQuestion, ProofQuestion, SetQuestion, TrimQuestion, UnknownAnswer};
+pub use questions::{
+    CheapestQuestion, Letter, MergeQuestion, PacketQuestion, ProgramQuestion, ProofQuestion, SetQuestion, TrimQuestion, UnknownAnswer,
+};
 
 /// The most numbers of a proof line.
 pub const MOST_NUMBERS: usize = 65;
@@ -38,7 +40,7 @@ pub const MOST_NUMBERS: usize = 65;
 /// The marks that the set test asks for.
 pub const MARKS: usize = 8192;
 
-/// The bytes of stack with which a thread has enough for any call but [`merge_halves`] and [`trim_proof`], as
+/// The bytes of stack with which a thread has enough for any call but [`merge_halves`], [`trim_proof`] and [`check_cheapest`], as
 /// `std::thread::Builder::stack_size` takes them. What your own code takes comes on top.
 pub const STACK: usize = 524_288;
 
@@ -47,6 +49,9 @@ pub const MERGE_STACK: usize = 1_048_576;
 
 /// The same for [`trim_proof`].
 pub const TRIM_STACK: usize = 1_048_576;
+
+/// The same for [`check_cheapest`].
+pub const CHEAPEST_STACK: usize = 1_048_576;
 
 // Each call below hands over what its slices point to, with their lengths. A slice is valid for its length, an empty one has a
 // pointer that is aligned and not null, and Rust lets no other argument overlap one that is written: nothing more is asked.
@@ -339,4 +344,55 @@ pub fn trim_proof(program: &[u8], text: &mut [u8], table: &mut [i32], store: &mu
         )
     };
     codes::trimming(code, answer[0])
+}
+
+/// Certifies that a set is a cheapest answer set. The costs are literals over the program's atoms, each before its cost of 0 to 4,095: at most
+/// 12 pairs, no atom twice, in any order. The set is ascending, and costs the sum of the costs whose literals it makes true, C. Where C is above
+/// 0 the proof must be inconsistent when it is checked with the store for the program and one constraint more, its last rule, with a weight body:
+/// the cost literals with their costs, and bound C. Where C is 0 no proof is read.
+///
+/// The table then holds the program's rules, and the store is as [`check_texts`] leaves it for the program with that constraint, 0 throughout
+/// where C is 0; both are 0 throughout where anything is refused. A thread needs [`CHEAPEST_STACK`] bytes of stack.
+///
+/// ```
+/// use aspdrupe::{check_cheapest, Cheapest};
+///
+/// // 1 or 2 or both; 1 costs 3 and 2 costs 5
+/// let program = b"asp 1 0 0\n1 1 2 1 2 0 0\n1 0 0 0 2 -1 -2\n0\n";
+/// let costs = [1, 3, 2, 5];
+/// // for the program with `1 0 0 1 3 2 1 3 2 5`: each of 1 and 2 alone costs 3 or more
+/// let proof = b"b 3 1 0\nc 3 0\nb 4 2 0\nc 4 0\nb 5 -1 -2 0\nc 5 0\na 0\n";
+/// let (mut table, mut store) = ([0; 12], [0; 40]);
+/// assert_eq!(check_cheapest(program, &[1], &costs, proof, &mut table, &mut store)?, Cheapest::Certified(3));
+/// # Ok::<(), aspdrupe::UnknownAnswer>(())
+/// ```
+pub fn check_cheapest(
+    program: &[u8],
+    set: &[u16],
+    costs: &[i16],
+    proof: &[u8],
+    table: &mut [i32],
+    store: &mut [i32],
+) -> Result<Cheapest, UnknownAnswer> {
+    let mut answer = [0; 2];
+    // SAFETY: as said above.
+    let code = unsafe {
+        raw::aspdrupe_check_cheapest(
+            program.as_ptr(),
+            program.len(),
+            set.as_ptr(),
+            set.len(),
+            costs.as_ptr(),
+            costs.len(),
+            proof.as_ptr(),
+            proof.len(),
+            table.as_mut_ptr(),
+            table.len(),
+            store.as_mut_ptr(),
+            store.len(),
+            answer.as_mut_ptr(),
+            answer.len(),
+        )
+    };
+    codes::cheapest(code, answer[0])
 }

@@ -193,6 +193,19 @@ questions! {
     }
 }
 
+questions! {
+    /// A question put to a set that is to be a cheapest answer set, after those put to the program. A refusal names the first that is answered
+    /// no.
+    CheapestQuestion, "question put to a cheapest answer set" {
+        Set = 42, "Is the set strictly ascending within 1 to the largest atom?",
+            "the set";
+        Costs = 62, "Are there at most 12 literals over the program's atoms, no atom twice, each with a cost of 0 to 4,095, and does the set cost at most 4,095?",
+            "the costs; divide them";
+        Certificate = 63, "Is the set an answer set, and where it costs more than 0 the proof inconsistent for the program restricted to lower costs?",
+            "the set, by the set test; the proof, by a check of its own with the restriction as the last rule; a cheaper set; a longer store";
+    }
+}
+
 numbered! {
     /// The letter of a proof line; its number is its byte.
     Letter, "letter of a proof line" {
@@ -224,6 +237,7 @@ mod tests {
         assert_eq!(known(PacketQuestion::number), [51, 52, 53, 61]);
         assert_eq!(known(MergeQuestion::number), (57..=59).collect::<Vec<_>>());
         assert_eq!(known(TrimQuestion::number), [60]);
+        assert_eq!(known(CheapestQuestion::number), [42, 62, 63]);
         assert_eq!(known(Letter::number), b"abcdels".map(u64::from));
         assert_eq!(Letter::ALL.iter().map(Letter::to_string).collect::<String>(), "abcdels");
     }
@@ -254,7 +268,8 @@ mod tests {
             + &rows("set test", SetQuestion::ALL, SetQuestion::number, SetQuestion::mend)
             + &rows("packet", PacketQuestion::ALL, PacketQuestion::number, PacketQuestion::mend)
             + &rows("merge", MergeQuestion::ALL, MergeQuestion::number, MergeQuestion::mend)
-            + &rows("trim", TrimQuestion::ALL, TrimQuestion::number, TrimQuestion::mend);
+            + &rows("trim", TrimQuestion::ALL, TrimQuestion::number, TrimQuestion::mend)
+            + &rows("cheapest", CheapestQuestion::ALL, CheapestQuestion::number, CheapestQuestion::mend);
         let readme = std::fs::read_to_string(concat!(env!("CARGO_MANIFEST_DIR"), "/../../README.md")).unwrap();
         let head = "| number | question that is answered no | what to mend |\n|---|---|---|\n";
         let (_, after) = readme.split_once(head).expect("README has the table's head");

@@ -109,6 +109,22 @@ extern "C" {
         answer: *mut u64,
         answer_len: usize,
     ) -> u32;
+    pub fn aspdrupe_check_cheapest(
+        program: *const u8,
+        program_len: usize,
+        set: *const u16,
+        set_len: usize,
+        costs: *const i16,
+        costs_len: usize,
+        proof: *const u8,
+        proof_len: usize,
+        table: *mut i32,
+        table_len: usize,
+        store: *mut i32,
+        store_len: usize,
+        answer: *mut u64,
+        answer_len: usize,
+    ) -> u32;
 }
 
 // What does not fit is not written, and what stands after an answer stays.
@@ -385,6 +401,49 @@ mod tests {
             left[size.min(2)..].fill(9);
             assert_eq!(trimmed(5, 21, size), (10, left));
             assert_eq!(trimmed(6, 20, size), (60, [9; 3]));
+        }
+    }
+
+    /// A choice over 1 and 2 of which one must hold, where 1 costs 3 and 2 costs 5: the set {1} with a table and a store of so many words. The
+    /// code, and what is left in an answer of so many numbers.
+    fn cheapest(costs: &[i16], table: usize, store: usize, size: usize) -> (u32, [u64; 3]) {
+        let program = b"asp 1 0 0\n1 1 2 1 2 0 0\n1 0 0 0 2 -1 -2\n0\n";
+        let proof = b"b 3 1 0\nc 3 0\nb 4 2 0\nc 4 0\nb 5 -1 -2 0\nc 5 0\na 0\n";
+        let (set, mut table, mut store) = ([1], vec![7; table], vec![7; store]);
+        let mut answer = [9u64; 3];
+        // SAFETY: as above.
+        let code = unsafe {
+            aspdrupe_check_cheapest(
+                program.as_ptr(),
+                program.len(),
+                set.as_ptr(),
+                set.len(),
+                costs.as_ptr(),
+                costs.len(),
+                proof.as_ptr(),
+                proof.len(),
+                table.as_mut_ptr(),
+                table.len(),
+                store.as_mut_ptr(),
+                store.len(),
+                answer.as_mut_ptr(),
+                size,
+            )
+        };
+        (code, answer)
+    }
+
+    #[test]
+    fn costs_that_do_not_fit() {
+        for size in 0..=3 {
+            let mut left = [3, 9, 9];
+            left[size.min(1)..].fill(9);
+            assert_eq!(cheapest(&[1, 3, 2, 5], 12, 40, size), (0, left));
+            let mut left = [3, 0, 9];
+            left[size.min(2)..].fill(9);
+            assert_eq!(cheapest(&[1, 3, 2, 5], 11, 40, size), (10, left));
+            assert_eq!(cheapest(&[1, 3, 2], 12, 40, size), (62, [9; 3]));
+            assert_eq!(cheapest(&[1, 3, 2, 5], 12, 39, size), (63, [9; 3]));
         }
     }
 }

@@ -16,6 +16,7 @@ fn same_constants() {
     assert_eq!(STACK, defined("STACK"));
     assert_eq!(MERGE_STACK, defined("MERGE_STACK"));
     assert_eq!(TRIM_STACK, defined("TRIM_STACK"));
+    assert_eq!(CHEAPEST_STACK, defined("CHEAPEST_STACK"));
     assert_eq!(MARKS, defined("MARKS"));
     assert_eq!(MOST_NUMBERS, defined("NUMBERS"));
 }
@@ -75,4 +76,15 @@ fn stack_of_a_thread_that_trims() {
     };
     let thread = std::thread::Builder::new().stack_size(TRIM_STACK).spawn(trim).unwrap();
     assert_eq!(thread.join().unwrap(), Ok(Trimming::Trimmed(35)));
+}
+
+#[test]
+fn stack_of_a_thread_that_certifies() {
+    let certify = || {
+        let program = b"asp 1 0 0\n1 1 2 1 2 0 0\n1 0 0 0 2 -1 -2\n0\n";
+        let proof = b"b 3 1 0\nc 3 0\nb 4 2 0\nc 4 0\nb 5 -1 -2 0\nc 5 0\na 0\n";
+        check_cheapest(program, &[1], &[1, 3, 2, 5], proof, &mut [0; 12], &mut [0; 40])
+    };
+    let thread = std::thread::Builder::new().stack_size(CHEAPEST_STACK).spawn(certify).unwrap();
+    assert_eq!(thread.join().unwrap(), Ok(Cheapest::Certified(3)));
 }

@@ -1,4 +1,4 @@
-//! The ten services on document 01's starred examples, on rules with weights, and on buffers that are too small or empty.
+//! The eleven services on document 01's starred examples, on rules with weights, and on buffers that are too small or empty.
 
 use aspdrupe::*;
 
@@ -490,4 +490,64 @@ fn not_trimmed() {
     assert_eq!(trimmed(PROGRAM, PROOF, 5, 21), (short, PROOF.to_vec(), vec![0; 5], vec![0; 21]));
     let cut = refusal(ProgramQuestion::Numbers, 3);
     assert_eq!(trimmed(&PROGRAM[..PROGRAM.len() - 1], PROOF, 6, 21), (cut, PROOF.to_vec(), vec![0; 6], vec![0; 21]));
+}
+
+// A choice over 1 and 2 of which one must hold, that program with the restriction of the costs 1 3 2 5 to less than 3, and a proof for it.
+const EITHER: &[u8] = b"asp 1 0 0\n1 1 2 1 2 0 0\n1 0 0 0 2 -1 -2\n0\n";
+const EITHER_WORDS: [i32; 12] = [1, 2, 0, 0, 1, 2, 0, 0, 0, 2, -1, -2];
+const RESTRICTED: &[u8] = b"asp 1 0 0\n1 1 2 1 2 0 0\n1 0 0 0 2 -1 -2\n1 0 0 1 3 2 1 3 2 5\n0\n";
+const DEAR: &[u8] = b"b 3 1 0\nc 3 0\nb 4 2 0\nc 4 0\nb 5 -1 -2 0\nc 5 0\na 0\n";
+
+/// What is said of a set with its costs, with every word of buffers of so many.
+fn certified(set: &[u16], costs: &[i16], proof: &[u8], table: usize, store: usize) -> (Cheapest, Vec<i32>, Vec<i32>) {
+    let (mut table, mut store) = (vec![7; table], vec![7; store]);
+    let cheapest = check_cheapest(EITHER, set, costs, proof, &mut table, &mut store).unwrap();
+    (cheapest, table, store)
+}
+
+#[test]
+fn cheapest_sets() {
+    for more in [0, 1, 20] {
+        let (line, _, store) = checked(RESTRICTED, DEAR, 99, 40 + more);
+        assert_eq!(line, "inconsistent 2 3 7 11");
+        for costs in [[1, 3, 2, 5], [2, 5, 1, 3]] {
+            let found = certified(&[1], &costs, DEAR, 12 + more, 40 + more);
+            assert_eq!(found, (Cheapest::Certified(3), and_zeros(&EITHER_WORDS, more), store.clone()));
+        }
+        for costs in [&[2, 5][..], &[], &[1, 0, 2, 5]] {
+            let found = certified(&[1], costs, b"junk", 12 + more, more);
+            assert_eq!(found, (Cheapest::Certified(0), and_zeros(&EITHER_WORDS, more), vec![0; more]));
+        }
+    }
+}
+
+#[test]
+fn not_certified() {
+    let refused = |question| (Cheapest::Refused(question), vec![0; 20], vec![0; 60]);
+    for set in [&[][..], &[2]] {
+        assert_eq!(certified(set, &[1, 3, 2, 5], DEAR, 20, 60), refused(CheapestQuestion::Certificate));
+    }
+    assert_eq!(certified(&[1], &[-2, 7], b"", 20, 60), refused(CheapestQuestion::Certificate));
+    for costs in [&[1][..], &[1, 3, 2], &[0, 1], &[3, 1], &[-3, 1], &[1, -1], &[1, 4_096], &[1, 1, -1, 1], &[i16::MIN, 1], &[1, i16::MIN]] {
+        for (set, question) in [
+            (&[1][..], CheapestQuestion::Costs),
+            (&[], CheapestQuestion::Costs),
+            (&[3], CheapestQuestion::Set),
+            (&[2, 1], CheapestQuestion::Set),
+        ] {
+            assert_eq!(certified(set, costs, DEAR, 20, 60), refused(question), "{set:?} {costs:?}");
+        }
+    }
+    for (set, costs, question) in [
+        (&[1, 2][..], [1, 4_000, 2, 96], CheapestQuestion::Costs),
+        (&[1, 2], [1, 4_000, 2, 95], CheapestQuestion::Certificate),
+        (&[], [-1, 4_000, -2, 96], CheapestQuestion::Costs),
+        (&[], [-1, 4_000, -2, 95], CheapestQuestion::Certificate),
+    ] {
+        assert_eq!(certified(set, &costs, b"", 20, 60), refused(question), "{set:?} {costs:?}");
+    }
+    let short = (Cheapest::Refused(CheapestQuestion::Certificate), vec![0; 12], vec![0; 39]);
+    assert_eq!(certified(&[1], &[1, 3, 2, 5], DEAR, 12, 39), short);
+    let refusal = ProgramRefusal { question: ProgramQuestion::Table, line: 3 };
+    assert_eq!(certified(&[9], &[1], DEAR, 11, 60), (Cheapest::RefusedProgram(refusal), vec![0; 11], vec![0; 60]));
 }

@@ -43,6 +43,7 @@ A plan is grounded with gringo (package gringo); cadical (package cadical) solve
 --table N and --store N are the words for rules and nogoods, 16384 each where nothing is said, as in `verdict`.
 Status 0 for an answer set and for 'inconsistent', 10 for 'undecided', 20 for a refusal.",
     options: &["-o", "--table", "--store"],
+    lists: &[],
     inputs: &[0],
     operands: (1, 1),
     run,

@@ -1,7 +1,8 @@
-//! Where the texts, packets, splits and proofs to be trimmed come from: fixed cases, cases at the limits, random proofs for programs, changes of them, and noise.
+//! Where the texts, packets, splits, proofs to be trimmed and sets to be certified come from: fixed cases, cases at the limits, random proofs for programs, changes of them, and noise.
 
 pub mod bytes;
 pub mod changes;
+pub mod costs;
 pub mod deep;
 pub mod deletions;
 pub mod fixed;

@@ -1,5 +1,5 @@
-//! The slow and plain reference: every service of document 01, and the packets of both versions, the merge and the trimming of document 02,
-//! once more, written from their words.
+//! The slow and plain reference: every service of document 01, and the packets of both versions, the merge, the trimming and the cheapest
+//! answer set of document 02, once more, written from their words.
 //!
 //! Where its words left room for doubt, this is how they are read here:
 //! - A refused proof zeroes the table too: the whole check "is lent both texts and a table and a store to fill", and every refusal
@@ -38,7 +38,10 @@
 //! - All lines stay as often as they stand, but for the second `b` of a body that both halves name. `a 0` is added also after an `a 0`.
 //! - A pass of Change 10 tries each step once, against what is left at that moment; after a removal it goes on with the step before. "accepted"
 //!   is with the lent store, and the lent text is the proof to its last byte, zero bytes too.
+//! - C of Change 12 is reckoned for the set as given, be it an answer set or not, since 62 is asked before 63. With C 0 the proof's length is not
+//!   asked either. The restriction is counted by none of the questions 1, 9 and 10; literals of cost 0 stay in it.
 
+pub mod cheapest;
 pub mod check;
 pub mod closure;
 pub mod lines;

@@ -22,6 +22,8 @@ use Rattle.splits.specs.declared.MergeAnswer.{MergeAnswer}
 use Rattle.splits.specs.declared.MergeAnswer.the-variants as Merge
 use Rattle.trimming.specs.declared.TrimAnswer.{TrimAnswer}
 use Rattle.trimming.specs.declared.TrimAnswer.the-variants as Trim
+use Rattle.costs.specs.declared.CheapestAnswer.{CheapestAnswer}
+use Rattle.costs.specs.declared.CheapestAnswer.the-variants as Cheapest
 
 -- the code is returned, and the numbers stand at the front of the lent buffer, as many as fit; no other number of it has changed
 pub record Told (code : ℕ) (numbers before after : List ℕ) (result : ℕ) : Type 0 where
@@ -128,3 +130,15 @@ abbrev pub trimNumbers : TrimAnswer → List ℕ
 trimNumbers (Trim.Trimmed n) = n ∷ []
 trimNumbers (Trim.RefusedProgram r) = r .line ∷ 0 ∷ []
 trimNumbers (Trim.Refused k) = []
+
+-- The cheapest answer set: 0 with C; the program's number and line, as its reader tells them; 42, 62 and 63
+
+abbrev pub cheapestCode : CheapestAnswer → ℕ
+cheapestCode (Cheapest.Cheapest C) = 0
+cheapestCode (Cheapest.RefusedProgram r) = r .number
+cheapestCode (Cheapest.Refused k) = k
+
+abbrev pub cheapestNumbers : CheapestAnswer → List ℕ
+cheapestNumbers (Cheapest.Cheapest C) = C ∷ []
+cheapestNumbers (Cheapest.RefusedProgram r) = r .line ∷ 0 ∷ []
+cheapestNumbers (Cheapest.Refused k) = []

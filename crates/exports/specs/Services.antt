@@ -1,5 +1,7 @@
--- What the ten functions for C return and leave: an answer told by its code and numbers. Of the program reader, of the whole check, of
--- the merge and of trimming it is the one for which the service's own contract holds, which is an equation; of the others it is said outright. A primed name is what a lent slice holds afterwards; `answer` is the buffer for the numbers.
+-- What the eleven functions for C return and leave: an answer told by its code and numbers. Of the program reader, of the whole check,
+-- of the merge, of trimming and of the cheapest answer set it is the one for which the service's own contract holds, which is an
+-- equation; of the others it is said outright. A primed name is what a lent slice holds afterwards; `answer` is the buffer for the
+-- numbers.
 -- Assumes nothing.
 use mathlib.Core.Path.{_≡_}
 use mathlib.Core.List.{List}
@@ -18,7 +20,9 @@ use Rattle.splits.specs.Service.{MergedHalves}
 use Rattle.splits.specs.declared.MergeAnswer.{MergeAnswer}
 use Rattle.trimming.specs.Service.{TrimmedProof}
 use Rattle.trimming.specs.declared.TrimAnswer.{TrimAnswer}
-use Rattle.exports.specs.Codes.{Told, programCode, programNumbers, setCode, setNumbers, lineCode, lineNumbers, writingCode, writingNumbers, readingCode, readingNumbers, verdictCode, verdictNumbers, mergeCode, mergeNumbers, trimCode, trimNumbers}
+use Rattle.costs.specs.Service.{CheckedCheapest}
+use Rattle.costs.specs.declared.CheapestAnswer.{CheapestAnswer}
+use Rattle.exports.specs.Codes.{Told, programCode, programNumbers, setCode, setNumbers, lineCode, lineNumbers, writingCode, writingNumbers, readingCode, readingNumbers, verdictCode, verdictNumbers, mergeCode, mergeNumbers, trimCode, trimNumbers, cheapestCode, cheapestNumbers}
 
 -- the program reader's answer and every word of the table
 pub record ProgramService (text : List ℕ) (table table′ : List ℤ) (answer answer′ : List ℕ) (result : ℕ) : Type 0 where
@@ -72,3 +76,10 @@ pub record TrimService (program text text′ : List ℕ) (table store table′ s
   pub answered : TrimAnswer
   pub trimmed : TrimmedProof program text text′ table store table′ store′ answered
   pub told : Told (trimCode answered) (trimNumbers answered) answer answer′ result
+
+-- the answer of the cheapest answer set, and every word of the table and of the store
+pub record CheapestService (program set : List ℕ) (costs : List ℤ) (proof : List ℕ) (table store table′ store′ : List ℤ) (answer answer′ : List ℕ)
+    (result : ℕ) : Type 0 where
+  pub answered : CheapestAnswer
+  pub checked : CheckedCheapest program set costs proof table store table′ store′ answered
+  pub told : Told (cheapestCode answered) (cheapestNumbers answered) answer answer′ result

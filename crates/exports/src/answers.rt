@@ -4,6 +4,7 @@ use answer_set::SetAnswer;
 use aspif::ProgramReading;
 use checker::Counts;
 use checker::Verdict;
+use costs::CheapestAnswer;
 use drupe::LineAnswer;
 use packets::PacketReading;
 use packets::PacketWriting;
@@ -14,7 +15,7 @@ ghost use mathlib.Core.Path.{_≡_};
 ghost use mathlib.Core.List.{[], _∷_};
 ghost use lib.ListN.{set};
 ghost use lib.Seq.{sets};
-ghost use Rattle.exports.specs.Codes.{Told, programCode, programNumbers, setCode, setNumbers, lineCode, lineNumbers, writingCode, writingNumbers, readingCode, readingNumbers, verdictCode, verdictNumbers, countNumbers, mergeCode, mergeNumbers, trimCode, trimNumbers};
+ghost use Rattle.exports.specs.Codes.{Told, programCode, programNumbers, setCode, setNumbers, lineCode, lineNumbers, writingCode, writingNumbers, readingCode, readingNumbers, verdictCode, verdictNumbers, countNumbers, mergeCode, mergeNumbers, trimCode, trimNumbers, cheapestCode, cheapestNumbers};
 
 // The codes of the cases to which document 01 gives no number.
 const READ: u32 = 0;
@@ -22,6 +23,8 @@ const READ: u32 = 0;
 const WRITTEN: u32 = 0;
 
 const YES: u32 = 0;
+
+const CHEAPEST: u32 = 0;
 
 const DIFFERS: u32 = 1;
 
@@ -195,5 +198,22 @@ pub fn tell_trim(trimmed: TrimAnswer, answer: &mut [u64]) -> u32
             refusal.number as u32
         }
         TrimAnswer::Refused(number) => number as u32,
+    }
+}
+
+// The answer of the cheapest answer set.
+pub fn tell_cheapest(checked: CheapestAnswer, answer: &mut [u64]) -> u32
+    ensures { λ r. ⌜ Told (cheapestCode checked) (cheapestNumbers checked) (now (answer .entry)) (now (answer .exit)) r ⌝ }
+{
+    match checked {
+        CheapestAnswer::Cheapest(cost) => {
+            put(answer, 0, cost);
+            CHEAPEST
+        }
+        CheapestAnswer::RefusedProgram(refusal) => {
+            put_two(answer, refusal.line, 0);
+            refusal.number as u32
+        }
+        CheapestAnswer::Refused(number) => number as u32,
     }
 }

@@ -1,10 +1,10 @@
-// The ten services for programs in C and Rust, on numbers and slices. An answer's case is the code that is returned, and its
+// The eleven services for programs in C and Rust, on numbers and slices. An answer's case is the code that is returned, and its
 // numbers are put at the front of the lent `answer`, as many as fit; what the codes and numbers are is specs/Codes.antt, and what
 // each function returns and leaves is specs/Services.antt. bindings/c/aspdrupe.h declares the functions for C.
 mod answers;
 
 ghost use Rattle.packets.specs.Packets.{up, down};
-ghost use Rattle.exports.specs.Services.{ProgramService, SetService, LineService, WriteService, ReadService, MoveService, CheckService, MergeService, TrimService};
+ghost use Rattle.exports.specs.Services.{ProgramService, SetService, LineService, WriteService, ReadService, MoveService, CheckService, MergeService, TrimService, CheapestService};
 
 // Reads a program text into the table.
 #[no_mangle]
@@ -153,4 +153,22 @@ pub extern "C" fn aspdrupe_trim_proof(
 {
     let trimmed = trimming::trim_proof(program, text, table, store);
     answers::tell_trim(trimmed, answer)
+}
+
+// Certifies that a set is a cheapest answer set.
+#[no_mangle]
+pub extern "C" fn aspdrupe_check_cheapest(
+    program: &[u8],
+    set: &[u16],
+    costs: &[i16],
+    proof: &[u8],
+    table: &mut [i32],
+    store: &mut [i32],
+    answer: &mut [u64],
+) -> u32
+    ensures { λ r. ⌜ CheapestService (now (program .entry)) (now (set .entry)) (now (costs .entry)) (now (proof .entry)) (now (table .entry))
+        (now (store .entry)) (now (table .exit)) (now (store .exit)) (now (answer .entry)) (now (answer .exit)) r ⌝ }
+{
+    let checked = costs::check_cheapest(program, set, costs, proof, table, store);
+    answers::tell_cheapest(checked, answer)
 }
