@@ -177,7 +177,8 @@ uint32_t aspdrupe_trim_proof(const uint8_t *program, size_t program_len, uint8_t
  * bound C, so that a cost of C or more breaks it.
  * Returns 0 where the set is an answer set and, for C above 0, that proof comes to ASPDRUPE_INCONSISTENT with the store lent: answer[0] is C. No
  * answer set of the program costs less. The table holds the program's rules, without the constraint, and the store is as aspdrupe_check_texts
- * leaves it for the program with it. Where C is 0 no proof is read, and the store is 0 throughout.
+ * leaves it for the program with it. Where C is 0 no proof is read, and the store is 0 throughout. Two totals returned for one program under
+ * lists that differ in one cost by D differ by at most D.
  * Returns the number of the question that the program fails, 1 to 11, 54 or 55: answer[0] is the line and answer[1] is 0, as
  * aspdrupe_read_program has them.
  * Otherwise returns 42 (no such set), 62 (costs_len is odd, more than 12 pairs, a literal that is 0 or over no atom of the program, an atom

@@ -19,6 +19,7 @@ mod families;
 mod merges;
 mod packets;
 mod prove;
+mod rates;
 mod reference;
 mod shrink;
 mod tables;

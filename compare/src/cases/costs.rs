@@ -1,4 +1,4 @@
-//! Sets to be certified as cheapest: the worked cases of Change 12 of document 02 with the answer of each, cases at the limits, and random
+//! Sets to be certified as cheapest: the worked cases of Changes 12 and 13 of document 02 with the answer of each, cases at the limits, and random
 //! programs with random costs.
 
 use inputs::random::Random;
@@ -83,6 +83,18 @@ fn worked() -> Vec<Case> {
         case(&[1], &[1, 3, 2, 5], b"junk", Refused(63)),
         case(&[1], &[1, 3, 2, 5], &[b'a'; 65_536], Refused(63)),
         case(&[1], &[1, 3, 2, 5], &[&q[..], b"d 0\n"].concat(), Refused(63)),
+    ]
+}
+
+/// The worked cases of Change 13: two cases of program B under lists that differ in one cost, and by how much that cost differs.
+pub fn rates() -> Vec<([Case; 2], i32)> {
+    let q = closed(&Q);
+    let first = |costs: &[i16]| case(&[1], costs, &q, Certified(3));
+    vec![
+        ([first(&[1, 3, 2, 5]), first(&[1, 3, 2, 4])], 1),
+        ([first(&[1, 3, 2, 5]), case(&[2], &[1, 7, 2, 5], &q, Certified(5))], 4),
+        ([first(&[1, 3, 2, 5]), case(&[1], &[1, 0, 2, 5], &q, Certified(0))], 3),
+        ([first(&[1, 3, 2, 3]), case(&[2], &[1, 4, 2, 3], &q, Certified(3))], 1),
     ]
 }
 

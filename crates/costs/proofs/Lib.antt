@@ -6,3 +6,5 @@ pub mod Words
 pub mod Answers
 pub mod Verdicts
 pub mod Examples
+pub mod OneRate
+pub mod RateExamples

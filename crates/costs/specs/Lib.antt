@@ -5,3 +5,5 @@ pub mod Service
 pub mod Private
 pub mod Claims
 pub mod Examples
+pub mod OneRate
+pub mod RateExamples

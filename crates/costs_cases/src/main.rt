@@ -1,4 +1,4 @@
-// Worked cases of the cheapest answer set: document 02, Change 12, questions 42, 62 and 63. A case on standard input is a name with a
+// Worked cases of the cheapest answer set: document 02, Changes 12 and 13, questions 42, 62 and 63. A case on standard input is a name with a
 // colon, `[`, the lengths of the table and of the store that are lent, `;`, the set, `;`, the costs, a newline, two texts with `|` between
 // them and `]`. Before each number of the set and of the costs stands a space; the texts are the program and the proof. In the texts `{`, a
 // number, a newline, a part and `}` stand for the part so many times.
