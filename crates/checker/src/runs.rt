@@ -19,6 +19,7 @@ ghost use Rattle.loops.specs.Relevance.{Relevant};
 ghost use Rattle.checker.specs.Check.{course};
 ghost use Rattle.steps.specs.Held.{Program, Tracks, Tracked, NoBodies, HoldsState};
 ghost use Rattle.checker.specs.Held.{proofTurn, LineLeaves, Ran, Ended};
+ghost use Rattle.checker.specs.declared.runs.Run.the-variants.{Through};
 use crate::ProofRefusal;
 use aspif::tables;
 use drupe::LineAnswer;
@@ -129,6 +130,16 @@ fn turn_at(
     }
 }
 
+// What the lines come to in the state after the last.
+fn through(state: CheckingState) -> Run
+    ensures { λ r. ⌜ r ≡ Through (state .steps) (state .used) ⌝ }
+{
+    Run::Through {
+        steps: state.steps,
+        used: state.used,
+    }
+}
+
 // All lines of a proof text: "At the start there are no nogoods and no names, and the atoms alone are known." The first refusal ends them.
 fn run_lines(
     proof: &[u8],
@@ -158,16 +169,12 @@ fn run_lines(
     let mut sorted = [0; CheckingState::NUMBERS];
     let mut index = [0u16; INDEX];
     let mut assignment = [0u8; ENTRIES];
-    let CheckingState {
-        mut used,
-        mut at,
-        mut steps,
-    } = CheckingState::start();
+    let mut state = CheckingState::start();
     loop {
-        let step = steps + 1;
+        let step = state.steps + 1;
         match turn_at(
             proof,
-            at,
+            state.at,
             &classes,
             &mut numbers,
             &mut sorted,
@@ -180,17 +187,17 @@ fn run_lines(
             names,
             bodies,
             store,
-            used,
+            state.used,
             &mut index,
             step,
             &mut assignment,
         ) {
-            ProofTurn::Ends => return Run::Through { steps, used },
+            ProofTurn::Ends => return through(state),
             ProofTurn::Fails(number) => return Run::Stopped(ProofRefusal { number, step }),
-            ProofTurn::Goes { next, used: n } => {
-                at = next;
-                used = n;
-                steps = step;
+            ProofTurn::Goes { next, used } => {
+                state.at = next;
+                state.used = used;
+                state.steps = step;
             }
         }
     }

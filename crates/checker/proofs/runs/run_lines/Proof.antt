@@ -19,17 +19,17 @@ use Rattle.checker.proofs.runs.run_lines.Statement.{statement}
 use Rattle.checker.proofs.runs.run_lines.Tie as tie
 
 abbrev Inv-loop : tie.InvT-loop
-Inv-loop proof table rules lookup relevant atoms known₀ names₀ bodies₀ store₀ classes numbers₀ sorted₀ index₀ assignment₀ used₀ at₀ steps₀ known names bodies store numbers sorted index assignment used at steps =
-    (ws : List InputRule) × Program table rules atoms ws × Going atoms ws (length store₀) proof store index known names bodies used at steps × (length known ≡ length known₀) × (length names ≡ length names₀)
+Inv-loop proof table rules lookup relevant atoms known₀ names₀ bodies₀ store₀ classes numbers₀ sorted₀ index₀ assignment₀ state₀ known names bodies store numbers sorted index assignment state =
+    (ws : List InputRule) × Program table rules atoms ws × Going atoms ws (length store₀) proof store index known names bodies (state .used) (state .at) (state .steps) × (length known ≡ length known₀) × (length names ≡ length names₀)
     × (length bodies ≡ length bodies₀) × (length numbers ≡ mostNumbers) × (length sorted ≡ mostNumbers) × (assignment ≡ replicate entries 0)
 
 abbrev μ-loop : tie.MeasureT-loop
-μ-loop proof table rules lookup relevant atoms known₀ names₀ bodies₀ store₀ classes numbers₀ sorted₀ index₀ assignment₀ used₀ at₀ steps₀ known names bodies store numbers sorted index assignment used at steps = length proof - at
+μ-loop proof table rules lookup relevant atoms known₀ names₀ bodies₀ store₀ classes numbers₀ sorted₀ index₀ assignment₀ state₀ known names bodies store numbers sorted index assignment state = length proof - state .at
 
 -- where the loop stands, and what the turn there left
 module _ (c : tie.After-turn-at Inv-loop μ-loop) where
   abbrev l : tie.At-loop Inv-loop μ-loop
-  l = c .before .before .before .before .before .before .before .before .before .before
+  l = c .before .before .before .before .before .before .before .before .before .before .before
 
   abbrev start : tie.Start Inv-loop μ-loop
   start = l .before .before .before .before .before .before .before
@@ -52,12 +52,12 @@ module _ (c : tie.After-turn-at Inv-loop μ-loop) where
   abbrev bodies′ : List ℤ
   bodies′ = c .turn-at .last .1 .1 .1 .1 .1 .1 .1 .1 .1 .1 .1 .1 .0
 
-  G : Going (start .args .atoms) ws (length (start .args .store .now)) (start .args .proof .now) (l .loop .store) (l .loop .index) (l .loop .known) (l .loop .names) (l .loop .bodies) (l .loop .used) (l .loop .at) (l .loop .steps)
+  G : Going (start .args .atoms) ws (length (start .args .store .now)) (start .args .proof .now) (l .loop .store) (l .loop .index) (l .loop .known) (l .loop .names) (l .loop .bodies) (l .loop .state .used) (l .loop .state .at) (l .loop .state .steps)
   G = l .loop .inv .2
 
-  turned : LineLeaves (start .args .atoms) ws known′ names′ bodies′ store′ index′ (l .loop .used) (l .loop .steps + 1) (length (start .args .store .now)) (G .z) (G .stored) (lineAt (start .args .proof .now) (l .loop .at)) (c .turn-at .result)
+  turned : LineLeaves (start .args .atoms) ws known′ names′ bodies′ store′ index′ (l .loop .state .used) (l .loop .state .steps + 1) (length (start .args .store .now)) (G .z) (G .stored) (lineAt (start .args .proof .now) (l .loop .state .at)) (c .turn-at .result)
   turned =
-      subst (λ n. LineLeaves (start .args .atoms) ws known′ names′ bodies′ store′ index′ (l .loop .used) (l .loop .steps + 1) n (G .z) (G .stored) (lineAt (start .args .proof .now) (l .loop .at)) (c .turn-at .result))
+      subst (λ n. LineLeaves (start .args .atoms) ws known′ names′ bodies′ store′ index′ (l .loop .state .used) (l .loop .state .steps + 1) n (G .z) (G .stored) (lineAt (start .args .proof .now) (l .loop .state .at)) (c .turn-at .result))
       (G .long) (c .turn-at .ensures .0 ws (l .loop .inv .1) (G .z) (G .stored) (G .tracks) (G .keeps))
 
   -- as many words as were lent
@@ -91,21 +91,21 @@ loop-holds c =
 -- the number of the next step
 add-step : tie.Need-add-step Inv-loop μ-loop
 add-step c =
-    let g = c .loop .inv .2 in
-    let p = c .before .before .before .before .before .before .before .pre .1 .1 .1 .1 .1 .0 in
+    let g = c .before .loop .inv .2 in
+    let p = c .before .before .before .before .before .before .before .before .pre .1 .1 .1 .1 .1 .0 in
     search (needs, g .count, g .within, p)
 
 slice-aggregate-turn-at : tie.Need-slice-aggregate-turn-at Inv-loop μ-loop
-slice-aggregate-turn-at c = let p = c .before .before .loop .inv .6 in search needs
+slice-aggregate-turn-at c = let p = c .before .before .before .loop .inv .6 in search needs
 
 slice-aggregate-turn-at-2 : tie.Need-slice-aggregate-turn-at-2 Inv-loop μ-loop
-slice-aggregate-turn-at-2 c = let p = c .before .before .before .loop .inv .7 in search needs
+slice-aggregate-turn-at-2 c = let p = c .before .before .before .before .loop .inv .7 in search needs
 
 turn-at-requires : tie.Need-turn-at-requires Inv-loop μ-loop
 unfolding byteClasses
 turn-at-requires c κs =
-    let i = c .before .before .before .before .before .before .before .before .before .loop .inv in
-    let p = c .before .before .before .before .before .before .before .before .before .before .before .before .before .before .before .before .pre in
+    let i = c .before .before .before .before .before .before .before .before .before .before .loop .inv in
+    let p = c .before .before .before .before .before .before .before .before .before .before .before .before .before .before .before .before .before .pre in
     ((i .0, i .2 .z, i .1, i .2 .tracks), (p .1 .0, (p .1 .1 .0, (((i .2 .stored, i .2 .keeps .keeps), omega (arith, i .2 .count)), (p .1 .1 .1 .1 .1 .0, (refl, ((i .6, i .7), i .8)))))))
 
 enum-told : tie.Need-enum-told Inv-loop μ-loop
@@ -113,8 +113,8 @@ enum-told c = search needs
 
 returns : tie.Need-returns Inv-loop μ-loop
 returns c =
-    let t = c .before .before .before .before .before .before .before .before .before .before in
-    λ Q q. rw (same t q) (going-ends _ _ _ _ (start t .pre .1 .1 .1 .1 .1 .0) (G t) (store′ t) (index′ t) (known′ t) (names′ t) (bodies′ t) (search needs) (c .enum-told .given .1) (turned t))
+    let t = c .before .before .before .before .before .before .before .before .before .before .before in
+    λ Q q. rw (same t q, c .through .ensures) (going-ends _ _ _ _ (start t .pre .1 .1 .1 .1 .1 .0) (G t) (store′ t) (index′ t) (known′ t) (names′ t) (bodies′ t) (search needs) (c .before .enum-told .given .1) (turned t))
 
 returns-2 : tie.Need-returns-2 Inv-loop μ-loop
 returns-2 c =
@@ -123,7 +123,7 @@ returns-2 c =
 
 onward : (c : tie.After-known-told2 Inv-loop μ-loop)
     → (let t = c .before .before .before .before .before .before .before .before .before .before .before in let g = c .before .next .given .0 in
-    Going (start t .args .atoms) (ws t) (length (start t .args .store .now)) (start t .args .proof .now) (store′ t) (index′ t) (known′ t) (names′ t) (bodies′ t) (g .1 .0) (g .0) (l t .loop .steps + 1) × (l t .loop .at < g .0))
+    Going (start t .args .atoms) (ws t) (length (start t .args .store .now)) (start t .args .proof .now) (store′ t) (index′ t) (known′ t) (names′ t) (bodies′ t) (g .1 .0) (g .0) (l t .loop .state .steps + 1) × (l t .loop .state .at < g .0))
 onward c =
     let t = c .before .before .before .before .before .before .before .before .before .before .before in
     going-on _ _ _ _ (start t .pre .1 .1 .1 .1 .1 .0) (G t) (store′ t) (index′ t) (known′ t) (names′ t) (bodies′ t) (search needs) _ _ (c .before .next .given .1) (turned t)
@@ -150,9 +150,10 @@ run-lines-spec =
     slice-aggregate-turn-at-2
     turn-at-requires
     enum-told
-    (λ c. same-known (c .before .before .before .before .before .before .before .before .before .before))
-    (λ c. same-names (c .before .before .before .before .before .before .before .before .before .before))
-    (λ c. same-bodies (c .before .before .before .before .before .before .before .before .before .before))
+    (λ c κs. search needs)
+    (λ c. same-known (c .before .before .before .before .before .before .before .before .before .before .before))
+    (λ c. same-names (c .before .before .before .before .before .before .before .before .before .before .before))
+    (λ c. same-bodies (c .before .before .before .before .before .before .before .before .before .before .before))
     (λ c. search needs)
     returns
     (λ c. search needs)
