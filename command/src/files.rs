@@ -5,6 +5,7 @@ use std::io::{self, Read, Write};
 use std::os::unix::fs::MetadataExt;
 use std::path::{Path, PathBuf};
 
+use crate::interrupt;
 use crate::outcome::Failure;
 
 /// The most bytes of a text that the library takes.
@@ -55,12 +56,9 @@ pub fn write(path: &Path, bytes: &[u8]) -> Result<(), Failure> {
 
 fn write_beside(path: &Path, bytes: &[u8]) -> io::Result<()> {
     let beside = beside(path)?;
-    let mut file = OpenOptions::new().write(true).create_new(true).open(&beside)?;
-    let written = file.write_all(bytes).and_then(|()| file.sync_all()).and_then(|()| fs::rename(&beside, path));
-    if written.is_err() {
-        let _ = fs::remove_file(&beside);
-    }
-    written
+    let mut file = interrupt::create(&beside)?;
+    let whole = file.write_all(bytes).and_then(|()| file.sync_all());
+    interrupt::settle(&beside, whole, path)
 }
 
 /// A hidden name in the same folder that no other run takes.

@@ -9,7 +9,7 @@ use crate::outcome::Failure;
 use crate::statements::{cut_down, Ground};
 use crate::tools::Tool;
 
-const GRINGO: Tool = Tool { name: "gringo", package: "gringo" };
+const GRINGO: Tool = Tool { name: "gringo", package: "gringo", good: &[0] };
 
 /// The most bytes of a ground program, the statements that go included.
 const LIMIT: usize = 1 << 24;

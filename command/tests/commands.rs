@@ -3,8 +3,10 @@
 
 use std::fs;
 use std::os::unix::fs::PermissionsExt;
+use std::os::unix::process::{CommandExt, ExitStatusExt};
 use std::path::{Path, PathBuf};
-use std::process::{Command, Output, Stdio};
+use std::process::{Child, Command, Output, Stdio};
+use std::time::{Duration, Instant};
 
 const EXAMPLES: &str = concat!(env!("CARGO_MANIFEST_DIR"), "/../examples");
 
@@ -566,21 +568,124 @@ fn inputs_are_not_written_over() {
     assert_eq!(room.files(), ["1", "d", "folder", "link", "p.aspif", "packet"]);
 }
 
+/// The command as a process group of its own, with signals as a terminal's foreground has them, also where the tests are run in the background.
+fn in_foreground(room: &Room, words: &[&str]) -> Child {
+    let mut command = Command::new("/usr/bin/env");
+    command.args(["--default-signal=HUP,INT,TERM", env!("CARGO_BIN_EXE_aspdrupe")]).args(words);
+    command.current_dir(&room.0).env("PATH", room.0.join("tools")).process_group(0);
+    command.stdin(Stdio::null()).stdout(Stdio::piped()).stderr(Stdio::piped()).spawn().unwrap()
+}
+
+extern "C" {
+    fn kill(to: i32, signal: i32) -> i32;
+}
+
+const HUP: i32 = 1;
+const INT: i32 = 2;
+const TERM: i32 = 15;
+const CONT: i32 = 18;
+const STOP: i32 = 19;
+
+/// Sends a signal to a process that was started here, or to its group.
+fn send(signal: i32, running: &Child, to_group: bool) {
+    let number = running.id() as i32;
+    // SAFETY: it touches no memory of ours.
+    assert_eq!(unsafe { kill(if to_group { -number } else { number }, signal) }, 0);
+}
+
+fn wait_until(is_so: impl Fn() -> bool) {
+    let started = Instant::now();
+    while !is_so() {
+        assert!(started.elapsed() < Duration::from_secs(60));
+        std::thread::sleep(Duration::from_micros(200));
+    }
+}
+
+const INTERRUPTED: &str = "interrupted: there is no answer, and no file is left half-written\n";
+
 #[test]
-fn interrupted_while_solving() {
+fn interrupted_while_a_tool_runs() {
     let room = Room::of("interrupted");
     room.file("p.aspif", NONE);
-    let started = room.0.join("tools/started");
-    room.tool("cadical", &format!("echo >'{}'\nexec /bin/sleep 5", started.display()));
-    let mut running = room.command(&["prove", "p.aspif", "-o", "out"]).stderr(Stdio::null()).stdout(Stdio::null()).spawn().unwrap();
-    while !Path::new(&started).exists() {
-        std::thread::sleep(std::time::Duration::from_millis(5));
+    room.file("plan.lp", "a.");
+    let number = room.0.join("tools/number");
+    for tool in ["gringo", "cadical"] {
+        room.tool(tool, &format!("echo $$ >'{0}.new'; /bin/mv '{0}.new' '{0}'; exec /bin/sleep 60", number.display()));
     }
-    let killed = Command::new("/bin/kill")
-        .args(["-INT", &running.id().to_string()])
-        .status()
-        .or_else(|_| Command::new("/bin/sh").args(["-c", &format!("kill -INT {}", running.id())]).status());
-    assert!(killed.unwrap().success());
-    assert_eq!(running.wait().unwrap().code(), None);
-    assert_eq!(room.files(), ["p.aspif"]);
+    // A ctrl-C at a terminal goes to the whole group.
+    for (file, signal, to_group) in
+        [("p.aspif", INT, false), ("plan.lp", INT, false), ("p.aspif", INT, true), ("plan.lp", TERM, true), ("p.aspif", HUP, false)]
+    {
+        let running = in_foreground(&room, &["prove", file, "-o", "out", "--json"]);
+        wait_until(|| number.exists());
+        let tool = fs::read_to_string(&number).unwrap();
+        let started = Instant::now();
+        send(signal, &running, to_group);
+        let output = running.wait_with_output().unwrap();
+        assert!(started.elapsed() < Duration::from_secs(30));
+        assert_eq!(output.status.signal(), Some(signal), "{file}");
+        let (_, out, said) = ended(output);
+        assert_eq!(said, INTERRUPTED);
+        let error = INTERRUPTED.trim_end();
+        assert_eq!(out, format!("{{\"command\": \"prove\", \"status\": {}, \"error\": \"{error}\"}}\n", 128 + signal));
+        assert!(!Path::new("/proc").join(tool.trim()).exists(), "{file} {signal}");
+        assert_eq!(room.files(), ["p.aspif", "plan.lp"]);
+        fs::remove_file(&number).unwrap();
+    }
+}
+
+// The names are long enough to be met while they are written.
+#[test]
+fn interrupted_while_writing() {
+    let room = Room::of("writing");
+    let names: String = (0..30_000).map(|place| format!("4 149 {} 1 1\n", format!("a{place:06}").repeat(22).split_at(149).0)).collect();
+    room.file("raw.aspif", format!("asp 1 0 0\n1 1 1 1 0 0\n{names}0\n"));
+    let hidden = |name: &String| name.starts_with(".out");
+    let mut met = 0;
+    for _ in 0..20 {
+        let mut running = in_foreground(&room, &["ground", "raw.aspif", "-o", "out"]);
+        wait_until(|| room.files().iter().any(hidden) || has_ended(&running));
+        send(STOP, &running, false);
+        met += usize::from(room.files().iter().any(hidden));
+        send(INT, &running, false);
+        send(CONT, &running, false);
+        running.wait().unwrap();
+        let files = room.files();
+        assert!(!files.iter().any(hidden), "{files:?}");
+        for file in files.iter().filter(|file| *file != "raw.aspif") {
+            fs::remove_file(room.0.join(file)).unwrap();
+        }
+        if met == 2 {
+            return;
+        }
+    }
+    panic!("it was met {met} times");
+}
+
+/// Whether a process has ended; it may still be waited for.
+fn has_ended(running: &Child) -> bool {
+    fs::read_to_string(format!("/proc/{}/stat", running.id())).map_or(true, |stat| stat.contains(") Z "))
+}
+
+// As `nohup` and the background of a script have it.
+#[test]
+fn a_signal_that_was_ignored_stays_so() {
+    let room = Room::of("ignored");
+    room.file("p.aspif", NONE);
+    let (started, go_on) = (room.0.join("tools/started"), room.0.join("tools/go-on"));
+    let script = format!(
+        "echo >'{}'; until [ -e '{}' ]; do /bin/sleep 0.01; done; echo '-1 0'; echo 0; exit 20",
+        started.display(),
+        go_on.display()
+    );
+    room.tool("cadical", &script);
+    let mut command = Command::new("/usr/bin/env");
+    command.args(["--ignore-signal=HUP,INT", env!("CARGO_BIN_EXE_aspdrupe"), "prove", "p.aspif"]);
+    command.current_dir(&room.0).env("PATH", room.0.join("tools")).stdin(Stdio::null()).stdout(Stdio::piped()).stderr(Stdio::piped());
+    let running = command.spawn().unwrap();
+    wait_until(|| started.exists());
+    send(INT, &running, false);
+    send(HUP, &running, false);
+    fs::write(go_on, "").unwrap();
+    assert_eq!(ended(running.wait_with_output().unwrap()).1, "inconsistent 1 1 5 6\n");
 }
