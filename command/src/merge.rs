@@ -1,6 +1,6 @@
 //! `aspdrupe merge`: the proofs of two halves into one proof of the program itself.
 
-use aspdrupe::Merging;
+use aspdrupe::{MergeQuestion, Merging, Verdict};
 
 use crate::arguments::{Subcommand, Words};
 use crate::files::{self, TEXT_LIMIT};
@@ -16,7 +16,7 @@ pub const SUBCOMMAND: Subcommand = Subcommand {
         "FIRST is a proof for the program with the constraint `1 0 0 0 1 -ATOM` added, which demands the atom, SECOND for the program with
 `1 0 0 0 1 ATOM` added, which forbids it. Prints the verdict on the merged proof, `inconsistent N R S K`, or
     refused program NUMBER LINE
-    refused merge NUMBER
+    refused merge NUMBER     of 57, what `aspdrupe check` says of a half that is not accepted is on the standard error
 --table N and --store N are the words for rules and nogoods, 16384 each where nothing is said, as in `verdict`.",
     options: &["-o", "--table", "--store"],
     inputs: &[0, 2, 3],
@@ -36,7 +36,14 @@ fn run(words: &Words) -> Result<Outcome, Failure> {
         aspdrupe::merge_halves(&program, atom, &first, &second, &mut library::lent(table)?, &mut library::lent(store)?, &mut output)?;
     let bytes = match merging {
         Merging::RefusedProgram(refusal) => return Ok(explain::program(refusal, &program)),
-        Merging::Refused(question) => return Ok(explain::question("merge", question.number(), question.to_string(), question.mend())),
+        Merging::Refused(question) => {
+            let refusal = explain::question("merge", question.number(), question.to_string(), question.mend());
+            return if question == MergeQuestion::Halves {
+                Split { program, atom, store }.explained(refusal, [&first, &second])
+            } else {
+                Ok(refusal)
+            };
+        }
         Merging::Merged(bytes) => bytes,
     };
     output.truncate(bytes);
@@ -48,4 +55,59 @@ fn run(words: &Words) -> Result<Outcome, Failure> {
     outcome.words.push(format!("the merged proof has {bytes} bytes"));
     outcome.fields.push(("bytes", Json::count(bytes)));
     Ok(outcome)
+}
+
+/// A program, the atom at which it is split, and the words of the store for the halves.
+struct Split {
+    program: Vec<u8>,
+    atom: usize,
+    store: usize,
+}
+
+/// The words of a table for a half, which has a constraint more than its program.
+const HALF_TABLE: usize = library::EVERY_TABLE + 8;
+
+impl Split {
+    /// Question 57 with what it does not say: whether it is the atom, and what the check says of a half that it does not accept.
+    fn explained(&self, mut refusal: Outcome, proofs: [&[u8]; 2]) -> Result<Outcome, Failure> {
+        let largest = library::read_program(&self.program, library::EVERY_TABLE)?.map_or(0, |program| program.atoms);
+        if !(1..=largest).contains(&self.atom) {
+            refusal.words.push(format!("{} is no atom of the program; its largest is {largest}", self.atom));
+            return Ok(refusal);
+        }
+        for (half, proof) in proofs.into_iter().enumerate() {
+            let text = self.half(half);
+            let verdict = library::check_texts(&text, proof, HALF_TABLE, self.store)?;
+            if let Verdict::RefusedProgram(over) = verdict {
+                let why = "which half it is cannot be told: with a constraint more the program has too many bytes or rules for a check of its own";
+                refusal.words.push(format!("{why} (question {})", over.question.number()));
+                return Ok(refusal);
+            }
+            if !matches!(verdict, Verdict::Inconsistent(_)) {
+                let named = ["first", "second"][half];
+                let of = format!("the {named} half, the program with `{}` added,", self.constraint(half));
+                refusal.explain_by(named, &of, explain::verdict(verdict, (&text, proof), HALF_TABLE));
+            }
+        }
+        if self.accepts(0, proofs[1])? && self.accepts(1, proofs[0])? {
+            refusal.words.push(String::from("the other way round both are accepted: FIRST is the half that demands the atom"));
+        }
+        Ok(refusal)
+    }
+
+    fn accepts(&self, half: usize, proof: &[u8]) -> Result<bool, Failure> {
+        let verdict = library::check_texts(&self.half(half), proof, HALF_TABLE, self.store)?;
+        Ok(matches!(verdict, Verdict::Inconsistent(_)))
+    }
+
+    /// The constraint of half 0, which demands the atom, or of half 1, which forbids it.
+    fn constraint(&self, half: usize) -> String {
+        format!("1 0 0 0 1 {}{}", ["-", ""][half], self.atom)
+    }
+
+    /// The program with the constraint behind its rules. It is one that was taken, and so ends with the line `0`.
+    fn half(&self, half: usize) -> Vec<u8> {
+        let rules = self.program.strip_suffix(b"0\n").unwrap_or(&self.program);
+        [rules, self.constraint(half).as_bytes(), b"\n0\n"].concat()
+    }
 }

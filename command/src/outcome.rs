@@ -32,6 +32,13 @@ impl Outcome {
     pub fn text(text: String) -> Outcome {
         Outcome { status: Status::Good, fields: vec![("text", Json::text(&text))], line: text, words: Vec::new() }
     }
+
+    /// Adds what the check of something says: to the words, and as a field.
+    pub fn explain_by(&mut self, field: &'static str, of: &str, check: Outcome) {
+        self.words.push(format!("the check of {of} says: {}", check.line));
+        self.words.extend(check.words);
+        self.fields.push((field, Json::Object(check.fields)));
+    }
 }
 
 /// Why there is no answer, in one line.

@@ -34,8 +34,10 @@ fn run(words: &Words) -> Result<Outcome, Failure> {
     let bytes = match aspdrupe::trim_proof(&program, &mut proof, &mut library::lent(table)?, &mut library::lent(store)?)? {
         Trimming::RefusedProgram(refusal) => return Ok(explain::program(refusal, &program)),
         Trimming::Refused(question) => {
-            let refusal = explain::question("trim", question.number(), question.to_string(), question.mend());
-            return explained(refusal, (&program, &proof), (table, store));
+            let mut refusal = explain::question("trim", question.number(), question.to_string(), question.mend());
+            let verdict = library::check_texts(&program, &proof, table, store)?;
+            refusal.explain_by("check", "the proof", explain::verdict(verdict, (&program, &proof), table));
+            return Ok(refusal);
         }
         Trimming::Trimmed(bytes) => bytes,
     };
@@ -55,13 +57,4 @@ fn run(words: &Words) -> Result<Outcome, Failure> {
 /// The steps of a proof that is accepted: its lines.
 fn steps(proof: &[u8]) -> usize {
     proof.iter().filter(|byte| **byte == b'\n').count()
-}
-
-/// The refusal of a proof that is not accepted, with what the check says of it.
-fn explained(mut refusal: Outcome, texts: (&[u8], &[u8]), (table, store): (usize, usize)) -> Result<Outcome, Failure> {
-    let check = explain::verdict(library::check_texts(texts.0, texts.1, table, store)?, texts, table);
-    refusal.words.push(format!("the check of the proof says: {}", check.line));
-    refusal.words.extend(check.words);
-    refusal.fields.push(("check", Json::Object(check.fields)));
-    Ok(refusal)
 }

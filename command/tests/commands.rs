@@ -240,8 +240,48 @@ fn merges() {
     assert!(said.ends_with("the merged proof has 167 bytes\n"), "{said}");
     assert_eq!(room.run(&["check", "p", "out"]).1, out);
     assert_eq!(room.run(&["merge", "p", "1", "1", "2", "--store", "123", "-o", "other"]).1, "refused merge 59\n");
-    assert_eq!(room.run(&["merge", "p", "1", "2", "1", "-o", "other"]).1, "refused merge 57\n");
     assert_eq!(room.files(), ["1", "2", "out", "p"]);
+}
+
+// Question 57 names neither the atom nor a half: the check of each half does.
+#[test]
+fn halves_that_are_not_accepted() {
+    let room = Room::of("halves");
+    let rules = "1 1 2 1 2 0 0\n1 0 0 0 2 1 2\n1 0 0 0 2 1 -2\n1 0 0 0 2 -1 2\n1 0 0 0 2 -1 -2\n";
+    room.file("p", format!("asp 1 0 0\n{rules}0\n"));
+    room.file("first", proof("b 3 -1  c 3  b 4 1 2  c 4  b 5 1 -2  c 5  a 2  a -2  a"));
+    room.file("second", proof("b 3 1  c 3  b 4 -1 2  c 4  b 5 -1 -2  c 5  a 2  a -2  a"));
+    room.file("wrong", proof("b 3 -1  c 4"));
+    room.file("open", proof("b 3 1 2"));
+    let merge = |atom: &str, first: &str, second: &str| {
+        let (status, out, said) = room.run(&["merge", "p", atom, first, second, "-o", "out"]);
+        assert_eq!((status, out.as_str()), (20, "refused merge 57\n"));
+        said
+    };
+    assert_eq!(room.run(&["merge", "p", "1", "first", "second"]).0, 0);
+    let check = |half: &str, added: &str| format!("the check of the {half} half, the program with `{added}` added, says: ");
+    let (of_first, of_second) = (check("first", "1 0 0 0 1 -1"), check("second", "1 0 0 0 1 1"));
+    let said = merge("1", "wrong", "second");
+    assert!(said.contains(&format!("{of_first}refused proof 26 2\nstep 2 of the proof, column 3:\n    c 4 0\n")), "{said}");
+    assert!(!said.contains(&of_second) && !said.contains("the other way round"), "{said}");
+    let said = merge("1", "first", "open");
+    assert!(said.contains(&format!("{of_second}open 2 6 1 3\n")) && !said.contains(&of_first), "{said}");
+    let said = merge("1", "second", "first");
+    assert!(
+        said.contains(&format!("{of_first}refused proof 28 1\n")) && said.contains(&format!("{of_second}refused proof 28 1\n")),
+        "{said}"
+    );
+    assert!(said.ends_with("\nthe other way round both are accepted: FIRST is the half that demands the atom\n"), "{said}");
+    for atom in ["0", "3"] {
+        assert!(merge(atom, "first", "second").ends_with(&format!("\n{atom} is no atom of the program; its largest is 2\n")));
+    }
+    let (_, out, _) = room.run(&["merge", "p", "1", "wrong", "second", "--json"]);
+    assert!(out.contains(r#", "first": {"refused": "proof", "number": 26, "step": 2, "#) && !out.contains(r#""second""#), "{out}");
+    // With a constraint more it has 1,025 rules, which a check of its own refuses.
+    room.file("p", format!("asp 1 0 0\n{rules}{}0\n", "1 0 0 0 1 2\n".repeat(1_019)));
+    assert_eq!(room.run(&["merge", "p", "1", "first", "second"]).0, 0);
+    assert!(merge("1", "open", "second").contains("\nwhich half it is cannot be told: "));
+    assert_eq!(room.files(), ["first", "open", "p", "second", "wrong"]);
 }
 
 #[test]
