@@ -5,7 +5,7 @@ use std::path::Path;
 use crate::arguments::{Subcommand, Words};
 use crate::json::Json;
 use crate::outcome::{Failure, Outcome, Status};
-use crate::statements::Ground;
+use crate::statements::{cut_down, Ground};
 use crate::{explain, files, library, source};
 
 pub const SUBCOMMAND: Subcommand = Subcommand {
@@ -23,7 +23,7 @@ disjunctive heads are refused.",
 };
 
 fn run(words: &Words) -> Result<Outcome, Failure> {
-    let ground = source::load(words.path(0)?)?;
+    let ground = source::load(words.path(0)?, cut_down)?;
     let program = match library::read_program(&ground.text, library::EVERY_TABLE)? {
         Ok(program) => program,
         Err(refusal) => {

@@ -115,7 +115,8 @@ fn a_refusal_with_its_line() {
 #[test]
 fn sets() {
     let room = Room::of("sets");
-    room.file("p.aspif", "asp 1 0 0\n1 1 2 1 2 0 0\n1 0 1 3 0 1 1\n1 0 0 0 2 2 -1\n4 1 a 1 1\n0\n");
+    room.file("raw.aspif", "asp 1 0 0\n1 1 2 1 2 0 0\n1 0 1 3 0 1 1\n1 0 0 0 2 2 -1\n4 1 a 1 1\n0\n");
+    assert_eq!(room.run(&["ground", "raw.aspif", "-o", "p.aspif"]).0, 0);
     let test = |words: &[&str]| room.run(&[&["test", "p.aspif"], words].concat());
     assert_eq!(test(&["3", "a", "1"]).1, "yes\n");
     let (status, out, said) = test(&["1"]);
@@ -133,7 +134,8 @@ fn sets() {
 #[test]
 fn sets_with_facts() {
     let room = Room::of("facts");
-    room.file("p.aspif", "asp 1 0 0\n1 0 1 1 0 0\n1 0 1 2 0 0\n1 1 1 3 0 0\n1 0 0 0 1 -3\n4 1 c 1 3\n4 1 a 0\n4 1 b 0\n0\n");
+    room.file("raw.aspif", "asp 1 0 0\n1 0 1 1 0 0\n1 0 1 2 0 0\n1 1 1 3 0 0\n1 0 0 0 1 -3\n4 1 c 1 3\n4 1 a 0\n4 1 b 0\n0\n");
+    assert_eq!(room.run(&["ground", "raw.aspif", "-o", "p.aspif"]).0, 0);
     let test = |words: &[&str]| room.run(&[&["test", "p.aspif"], words].concat());
     room.tool("cadical", "echo 's SATISFIABLE'; echo 'v 1 2 3 4 -5 0'; exit 10");
     let found = room.run(&["prove", "p.aspif"]).1;
@@ -537,21 +539,53 @@ fn proofs_beyond_the_limits() {
 #[test]
 fn what_a_proof_is_of() {
     let room = Room::of("proof-of");
-    let raw = "asp 1 0 0\n1 0 1 1 0 1 -1\n4 1 a 1 1\n0\n";
     room.file("plan.lp", "a :- not a.");
-    room.file("raw.aspif", raw);
     room.file("none.aspif", NONE);
-    room.tool("gringo", &format!("printf '{}'", raw.replace('\n', "\\n")));
+    room.tool("gringo", "printf 'asp 1 0 0\\n1 0 1 1 0 1 -1\\n4 1 a 1 1\\n0\\n'");
     room.tool("cadical", "echo '-1 0'; echo 0; exit 20");
     for (name, of) in [
         ("plan.lp", "\nthe proof is of the ground program, which `aspdrupe ground plan.lp -o OUT.aspif` writes\n"),
-        ("raw.aspif", "\nthe proof is of the program as it was cut down, which `aspdrupe ground raw.aspif -o OUT.aspif` writes\n"),
         ("none.aspif", "and needs a store of 21 words\n"),
     ] {
         let (status, out, said) = room.run(&["prove", name, "-o", "d"]);
         assert_eq!((status, out.as_str()), (0, "inconsistent 1 1 5 6\n"));
         assert!(said.ends_with(of), "{said}");
     }
+}
+
+// What the library refuses of a ground file `prove` and `test` refuse too, with the line that `check` prints.
+#[test]
+fn a_ground_file_is_taken_as_it_is() {
+    let room = Room::of("as-it-is");
+    room.file("d", "");
+    for line in [
+        "1 0 1 2 0 2 02 +2",
+        "1 7 1 2 0 2 3 3",
+        "1 7 1 2 0 2 3 -3",
+        "1 0 1 2 0 2 3 -3",
+        "1 0 1 2 0 2 3 3",
+        "1 0 2 1 2 0 0",
+        "2 0 1 6 1",
+        "4 1 a 1 1",
+        "5 1 2",
+        "10 note",
+        "noise",
+    ] {
+        room.file("p.aspif", format!("asp 1 0 0\n1 0 1 1 0 1 -1\n{line}\n0\n"));
+        let (status, refused, _) = room.run(&["check", "p.aspif", "d"]);
+        assert!(status == 20 && refused.starts_with("refused program ") && refused.ends_with(" 3\n"), "{line} {refused}");
+        for words in [&["prove", "p.aspif"][..], &["test", "p.aspif", "1"]] {
+            let (status, out, said) = room.run(words);
+            assert_eq!((status, out), (20, refused.clone()), "{words:?} {line}");
+            // `ground` mends some of them.
+            let (mended, _, _) = room.run(&["ground", "p.aspif"]);
+            let told = said.ends_with("\n`aspdrupe ground p.aspif -o OUT.aspif` drops what cannot matter, and OUT.aspif is taken\n");
+            assert_eq!(mended == 0, told, "{line} {said}");
+        }
+    }
+    room.file("long.aspif", vec![b' '; (1 << 24) + 2]);
+    assert_eq!(room.run(&["prove", "long.aspif"]).1, "refused program 1 0\n");
+    assert_eq!(room.files(), ["d", "long.aspif", "p.aspif"]);
 }
 
 // A refusal names the line of the file given, or of what gringo wrote.
@@ -563,16 +597,16 @@ fn lines_of_the_text_given() {
     room.file("raw.aspif", raw);
     room.file("ends.aspif", "asp 1 0 0\n10 note\n1 0 1 1 0 0\n10 note\n");
     room.tool("gringo", &format!("printf '{}'", raw.replace('\n', "\\n")));
+    let (status, out, said) = room.run(&["ground", "raw.aspif"]);
+    assert_eq!((status, out.as_str()), (20, "refused program 4 4\n"));
+    assert!(said.contains("line 4 of the program, column 7:\n    1 0 1 9000 0 0\n"), "{said}");
+    assert_eq!(room.run(&["ground", "ends.aspif"]).1, "refused program 3 5\n");
     for way in ["prove", "test", "ground"] {
-        let (status, out, said) = room.run(&[way, "raw.aspif"]);
-        assert_eq!((status, out.as_str()), (20, "refused program 4 4\n"), "{way}");
-        assert!(said.contains("line 4 of the program, column 7:\n    1 0 1 9000 0 0\n"), "{said}");
         let (_, out, said) = room.run(&[way, "plan.lp"]);
         assert_eq!(out, "refused program 4 4\n", "{way}");
         assert!(said.contains("line 4 of the ground program, column 7:\n"), "{said}");
-        assert_eq!(room.run(&[way, "ends.aspif"]).1, "refused program 3 5\n", "{way}");
     }
-    assert!(room.run(&["test", "raw.aspif", "--json"]).1.contains(r#""line": 4, "column": 7"#));
+    assert!(room.run(&["test", "plan.lp", "--json"]).1.contains(r#""line": 4, "column": 7"#));
 }
 
 #[test]
