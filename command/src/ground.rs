@@ -61,9 +61,9 @@ fn write(path: &Path, ground: &Ground) -> Result<(), Failure> {
     if path.extension().is_some_and(|ending| ending == "names") {
         return Err(Failure::misuse(format!("{} is a place for names: another ending, like `.aspif`", path.display())));
     }
-    // The names come first: where the program is then not written, they are not of what stands there, and are not used.
-    if path.is_file() || !path.exists() {
-        ground.names.write_beside(path, &ground.text)?;
+    if path.exists() && !path.is_file() {
+        return files::write(path, &ground.text);
     }
-    files::write(path, &ground.text)
+    let (beside, names) = ground.names.file_beside(path, &ground.text)?;
+    files::write_together(&[(&beside, &names), (path, &ground.text)])
 }

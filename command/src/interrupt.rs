@@ -93,15 +93,24 @@ pub fn create(path: &Path) -> io::Result<File> {
     Ok(file)
 }
 
-/// Renames a file that was created here and is whole; one that is not, or cannot be renamed, goes.
-pub fn settle(path: &Path, whole: io::Result<()>, to: &Path) -> io::Result<()> {
+/// Removes a file that was created here and will not be whole.
+pub fn remove(path: &Path) {
     let mut work = at_work();
     work.files.retain(|file| file != path);
-    let renamed = whole.and_then(|()| fs::rename(path, to));
-    if renamed.is_err() {
-        let _ = fs::remove_file(path);
+    let _ = fs::remove_file(path);
+}
+
+/// Renames files that were created here and are whole. Where one cannot be renamed, it and those after it are removed.
+pub fn rename(places: &[(PathBuf, PathBuf)]) -> Result<(), (PathBuf, io::Error)> {
+    let mut work = at_work();
+    work.files.retain(|file| !places.iter().any(|(from, _)| from == file));
+    for (place, (from, to)) in places.iter().enumerate() {
+        if let Err(error) = fs::rename(from, to) {
+            places[place..].iter().for_each(|(from, _)| drop(fs::remove_file(from)));
+            return Err((to.clone(), error));
+        }
     }
-    renamed
+    Ok(())
 }
 
 /// A tool that runs: its number, and its pipes.
@@ -174,20 +183,23 @@ mod tests {
 
     #[test]
     fn files_are_at_work_until_they_are_whole() {
-        let folder = std::env::temp_dir().join(format!("aspdrupe-settle-{}", std::process::id()));
-        fs::create_dir_all(&folder).unwrap();
-        let (part, whole) = (folder.join("part"), folder.join("whole"));
-        let is_at_work = || locked().files.contains(&part);
-        create(&part).unwrap();
-        assert!(is_at_work() && create(&part).is_err());
-        settle(&part, Ok(()), &whole).unwrap();
-        assert!(!is_at_work() && whole.exists() && !part.exists());
-        create(&part).unwrap();
-        assert!(settle(&part, Err(io::ErrorKind::StorageFull.into()), &whole).is_err());
-        assert!(!is_at_work() && !part.exists());
-        create(&part).unwrap();
-        assert!(settle(&part, Ok(()), &folder).is_err());
-        assert!(!is_at_work() && !part.exists());
+        let folder = std::env::temp_dir().join(format!("aspdrupe-rename-{}", std::process::id()));
+        fs::create_dir_all(folder.join("folder")).unwrap();
+        let names = ["part", "more", "whole", "folder"].map(|name| folder.join(name));
+        let [part, more, whole, taken] = &names;
+        let is_there = || (locked().files.iter().any(|file| file == part || file == more), part.exists(), whole.exists());
+        create(part).unwrap();
+        assert!(create(part).is_err());
+        assert_eq!(is_there(), (true, true, false));
+        rename(&[(part.clone(), whole.clone())]).unwrap();
+        assert_eq!(is_there(), (false, false, true));
+        create(part).unwrap();
+        remove(part);
+        assert_eq!(is_there(), (false, false, true));
+        create(part).unwrap();
+        create(more).unwrap();
+        assert_eq!(rename(&[(part.clone(), taken.clone()), (more.clone(), whole.clone())]).unwrap_err().0, *taken);
+        assert!(is_there() == (false, false, true) && !more.exists());
         fs::remove_dir_all(folder).unwrap();
     }
 }
