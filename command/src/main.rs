@@ -77,7 +77,7 @@ fn run(words: Vec<OsString>) -> Status {
         (Ok(()), Ok(outcome)) => outcome.status,
         (Ok(()), Err(failure)) => failure.status,
         (Err(error), _) => {
-            say(&format!("the answer cannot be written: {error}"));
+            say(&format!("the answer cannot be written: {}", files::reason(&error)));
             Status::Misuse
         }
     }
@@ -91,13 +91,15 @@ fn named(first: &OsString) -> Option<&'static Subcommand> {
     SUBCOMMANDS.into_iter().find(|listed| first == listed.name)
 }
 
-/// What the words come to, with the subcommand's name where one is named.
+/// What the words come to, with the subcommand's name where one is named. `--json` may stand before it too.
 fn outcome(words: Vec<OsString>) -> (&'static str, Result<Outcome, Failure>) {
-    let Some((first, others)) = words.split_first() else {
+    let before = words.iter().take_while(|word| *word == "--json").count();
+    let Some((first, others)) = words[before..].split_first() else {
         return ("", Err(Failure::misuse("which subcommand? `aspdrupe --help` lists them")));
     };
     if first == "--help" || first == "-h" || first == "help" {
-        return ("", Ok(Outcome::text(arguments::overview(&SUBCOMMANDS))));
+        let text = others.iter().find_map(named).map_or_else(|| arguments::overview(&SUBCOMMANDS), arguments::help);
+        return ("", Ok(Outcome::text(text)));
     }
     if first == "--version" {
         return ("", Ok(Outcome::text(format!("aspdrupe {}", env!("CARGO_PKG_VERSION")))));
@@ -114,14 +116,15 @@ fn outcome(words: Vec<OsString>) -> (&'static str, Result<Outcome, Failure>) {
     (subcommand.name, run)
 }
 
-/// Writes the result to the standard output and the words for people to the standard error.
+/// Writes the result to the standard output and then the words for people to the standard error.
 fn show(name: &str, outcome: &Outcome, json: bool) -> std::io::Result<()> {
-    outcome.words.iter().for_each(|line| say(line));
     let mut result = if json { whole(name, outcome.status as i64, outcome.fields.clone()).to_string() } else { outcome.line.clone() };
     if !result.is_empty() && !result.ends_with('\n') {
         result.push('\n');
     }
-    print(&result)
+    print(&result)?;
+    outcome.words.iter().for_each(|line| say(line));
+    Ok(())
 }
 
 fn show_failure(name: &str, status: i64, message: &str, json: bool) -> std::io::Result<()> {
@@ -135,7 +138,7 @@ fn show_failure(name: &str, status: i64, message: &str, json: bool) -> std::io::
 
 /// The last words of a run that a signal ends; the status is the one that a shell tells of it.
 fn show_interrupt(signal: i32, words: &[OsString]) {
-    let name = words.first().and_then(named).map_or("", |subcommand| subcommand.name);
+    let name = words.iter().find_map(named).map_or("", |subcommand| subcommand.name);
     let message = "interrupted: there is no answer, and no file is left half-written";
     let _ = show_failure(name, 128 + i64::from(signal), message, asks_for_json(words));
 }

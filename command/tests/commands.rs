@@ -313,10 +313,24 @@ fn misuse() {
     }
     let (status, out, _) = room.run(&["check", "p", "missing", "--json"]);
     assert!(status == 2 && out.starts_with(r#"{"command": "check", "status": 2, "error": "missing cannot"#), "{out}");
-    for words in [&["--help"][..], &["prove", "--help"], &["packet", "x", "-h"], &["--version"]] {
+    for (words, part) in [
+        (&["--help"][..], "aspdrupe: from a program"),
+        (&["help"], "aspdrupe: from a program"),
+        (&["prove", "--help"], "aspdrupe prove PLAN.lp|PROGRAM.aspif "),
+        (&["help", "prove"], "aspdrupe prove PLAN.lp|PROGRAM.aspif "),
+        (&["packet", "x", "-h"], "aspdrupe packet write "),
+        (&["--version"], "aspdrupe "),
+        (&["--json", "--help"], r#"{"command": "", "status": 0, "text": "aspdrupe: from"#),
+        (&["test", "--json", "--help"], r#"{"command": "test", "status": 0, "text": "aspdrupe test "#),
+    ] {
         let (status, out, said) = room.run(words);
-        assert!(status == 0 && out.contains("aspdrupe") && said.is_empty(), "{words:?}");
+        assert!(status == 0 && out.starts_with(part) && said.is_empty(), "{words:?} {out}");
     }
+    // Before the subcommand or behind it, but no operand.
+    room.file("--json", "");
+    assert!(room.run(&["--json", "check", "p", "missing"]).1.starts_with(r#"{"command": "check", "status": 2"#));
+    assert_eq!(room.run(&["check", "--", "p", "--json"]).1, "open 1 1 0 0\n");
+    assert_misuse(room.run(&["--table", "check"]), "no subcommand `--table`");
 }
 
 #[test]
@@ -501,8 +515,27 @@ fn outputs_that_cannot_be_written() {
     assert_misuse(room.run(&["prove", "p.aspif", "-o", "no/such/folder"]), "cannot be written: No such file");
     assert_eq!(room.files(), ["p.aspif"]);
     let full = fs::OpenOptions::new().write(true).open("/dev/full").unwrap();
-    let (status, _, said) = ended(room.command(&["check", "p.aspif", "p.aspif"]).stdout(full).output().unwrap());
-    assert!(status == 2 && said.contains("the answer cannot be written: No space left"), "{said}");
+    let (status, _, said) = ended(room.command(&["prove", "p.aspif"]).stdout(full).output().unwrap());
+    assert_eq!((status, said.as_str()), (2, "the answer cannot be written: No space left on device\n"));
+    // Of two outputs both are written or none.
+    room.file("d", "a 0\n");
+    assert_eq!(room.run(&["packet", "write", "p.aspif", "d", "-o", "packet"]).0, 0);
+    for proof in ["no/such/folder", ".", "/dev/full"] {
+        assert_misuse(room.run(&["packet", "read", "packet", "--program", "new", "--proof", proof]), "cannot be written");
+    }
+    assert_eq!(room.files(), ["d", "p.aspif", "packet"]);
+}
+
+// Where both go to one place, the result comes first.
+#[test]
+fn results_before_words() {
+    let room = Room::of("order");
+    room.file("p", NONE);
+    room.file("d", "");
+    let both = fs::File::create(room.0.join("both")).unwrap();
+    let status = room.command(&["check", "p", "d"]).stdout(both.try_clone().unwrap()).stderr(both).status().unwrap();
+    assert_eq!(status.code(), Some(10));
+    assert!(fs::read_to_string(room.0.join("both")).unwrap().starts_with("open 1 1 0 0\nevery step is good"));
 }
 
 /// Atoms in rows: the first row is demanded, each row demands the next, and the last is forbidden. Every rule is needed.
@@ -714,7 +747,7 @@ fn interrupted_while_writing() {
     let room = Room::of("writing");
     let names: String = (0..30_000).map(|place| format!("4 149 {} 1 1\n", format!("a{place:06}").repeat(22).split_at(149).0)).collect();
     room.file("raw.aspif", format!("asp 1 0 0\n1 1 1 1 0 0\n{names}0\n"));
-    let hidden = |name: &String| name.starts_with(".out");
+    let hidden = |name: &String| name.starts_with('.');
     let mut met = 0;
     for _ in 0..20 {
         let mut running = in_foreground(&room, &["ground", "raw.aspif", "-o", "out"]);
