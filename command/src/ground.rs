@@ -42,28 +42,41 @@ fn run(words: &Words) -> Result<Outcome, Failure> {
             ("names", Json::count(ground.names.count())),
         ],
     };
-    match words.output("-o") {
+    let kept = match words.output("-o") {
         Some(path) => {
-            write(&path, &ground)?;
             outcome.line = format!("ground {} {}", program.atoms, program.rules);
             outcome.words.push(format!("largest atom {}, {} rules: {}", program.atoms, program.rules, path.display()));
+            write(&path, &ground)?
         }
         None => {
             outcome.line = String::from_utf8_lossy(&ground.text).into_owned();
             outcome.fields.push(("program", Json::text(&outcome.line)));
+            false
         }
-    }
+    };
+    outcome.words.extend(shown(ground.names.count(), kept));
     Ok(outcome)
 }
 
-/// Writes the program, and its names beside it; a device or a pipe has nothing beside it.
-fn write(path: &Path, ground: &Ground) -> Result<(), Failure> {
+/// What became of the output statements.
+fn shown(count: usize, kept: bool) -> Option<String> {
+    match (count, kept) {
+        (0, _) => None,
+        (_, true) => Some(format!("{count} output statements, which name atoms, are kept beside it")),
+        (_, false) => {
+            Some(format!("dropped, which cannot matter: {count} output statements; they say what is shown, and a file of -o keeps them"))
+        }
+    }
+}
+
+/// Writes the program, and its names beside it; a device or a pipe has nothing beside it. Whether the names are kept.
+fn write(path: &Path, ground: &Ground) -> Result<bool, Failure> {
     if path.extension().is_some_and(|ending| ending == "names") {
         return Err(Failure::misuse(format!("{} is a place for names: another ending, like `.aspif`", path.display())));
     }
     if path.exists() && !path.is_file() {
-        return files::write(path, &ground.text);
+        return files::write(path, &ground.text).map(|()| false);
     }
     let (beside, names) = ground.names.file_beside(path, &ground.text)?;
-    files::write_together(&[(&beside, &names), (path, &ground.text)])
+    files::write_together(&[(&beside, &names), (path, &ground.text)]).map(|()| true)
 }

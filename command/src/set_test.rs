@@ -8,7 +8,7 @@ use crate::library::{self, Program};
 use crate::names::Names;
 use crate::outcome::{Failure, Outcome, Status};
 use crate::rules::{rules, Body, Rule};
-use crate::statements::Ground;
+use crate::statements::{as_it_is, Ground};
 use crate::{explain, source};
 
 pub const SUBCOMMAND: Subcommand = Subcommand {
@@ -28,7 +28,7 @@ and on the standard error on which side the atom lies, or the constraint with it
 };
 
 fn run(words: &Words) -> Result<Outcome, Failure> {
-    let ground = source::load(words.path(0)?, source::as_it_is)?;
+    let ground = source::load(words.path(0)?, as_it_is)?;
     let program = match library::read_program(&ground.text, library::EVERY_TABLE)? {
         Ok(program) => program,
         Err(refusal) => return source::refused(refusal, &ground, words.path(0)?),

@@ -34,12 +34,6 @@ pub fn load(path: &Path, taken: fn(&[u8]) -> Result<Ground, Failure>) -> Result<
     Ok(ground)
 }
 
-/// A ground program's own bytes, which the library takes or refuses as they stand in the file.
-pub fn as_it_is(bytes: &[u8]) -> Result<Ground, Failure> {
-    let lines = 1..=bytes.split(|byte| *byte == b'\n').count() + 1;
-    Ok(Ground { text: bytes.to_vec(), lines: lines.collect(), ..Ground::default() })
-}
-
 /// The refusal of a program that was loaded, and how it would be taken, where it is ground and has only to be cut down.
 pub fn refused(refusal: ProgramRefusal, ground: &Ground, path: &Path) -> Result<Outcome, Failure> {
     let mut outcome = explain::ground(refusal, ground);

@@ -65,10 +65,19 @@ const REFUSED: [(&str, &str); 4] = [
     ("9", "a theory statement: what it means is not in the program; state it as rules"),
 ];
 
-/// Cuts a text down. Lines that are no statements stay as they are: the library refuses them, and says which.
+/// The text's own bytes, which the library takes or refuses as they are.
+pub fn as_it_is(text: &[u8]) -> Result<Ground, Failure> {
+    let lines = 1..=text.split(|byte| *byte == b'\n').count() + 1;
+    Ok(Ground { text: text.to_vec(), lines: lines.collect(), ..Ground::default() })
+}
+
+/// Cuts a text down. Lines that are no statements stay as they are: the library refuses them, and says which. Without a header there are none.
 pub fn cut_down(text: &[u8]) -> Result<Ground, Failure> {
     if text.len() > LIMIT {
         return Err(too_large());
+    }
+    if !text.starts_with(b"asp ") {
+        return as_it_is(text);
     }
     let mut ground = Ground::default();
     let mut dropped = [0; DROPPED.len()];
@@ -197,10 +206,11 @@ mod tests {
         for text in [
             &b""[..],
             b"\xff\n\xfe",
+            b"5 1 2\n10 note\n1 0 1 1 0 0\n0\n",
             b"asp 1 0 0\n1 0 1 1 0 9 1\nnoise\n\n0\nmore",
-            b"1 0 -1 0\n1 1 9223372036854775807 1\n1 0 0 0 1 -9223372036854775808\n1 1\n",
+            b"asp 1 0 0\n1 0 -1 0\n1 1 9223372036854775807 1\n1 0 0 0 1 -9223372036854775808\n1 1\n",
             // What would be shorter, or go, if it were a rule.
-            b"1 0 1 8 0 2 02 +2\n1 7 1 8 0 2 2 2\n1 7 1 8 0 2 2 -2\n1 0 1 0 0 2 2 -2\n1 1 0 0 2 2 -2\n1 0 0 0 3 2 -2 0\n1 0 0 0 2 1 -01\n",
+            b"asp 1 0 0\n1 0 1 8 0 2 02 +2\n1 7 1 8 0 2 2 2\n1 7 1 8 0 2 2 -2\n1 0 1 0 0 2 2 -2\n1 1 0 0 2 2 -2\n1 0 0 0 3 2 -2 0\n1 0 0 0 2 1 -01\n",
         ] {
             let ground = cut_down(text).unwrap();
             assert_eq!(ground.text, text);

@@ -338,6 +338,7 @@ fn noise_and_limits() {
     let room = Room::of("noise");
     let noise: Vec<u8> = (0..10_000_000u32).map(|place| (place.wrapping_mul(2_654_435_761) >> 13) as u8).collect();
     room.file("noise", &noise);
+    room.file("noise.aspif", [b"noise\n5 1 2\n", &noise[..]].concat());
     room.file("p", NONE);
     let rules = "1 0 0 0 1 1\n".repeat(1_025);
     room.file("many", format!("asp 1 0 0\n{rules}0\n"));
@@ -348,6 +349,8 @@ fn noise_and_limits() {
         (&["test", "many"], 20, "refused program 9 1026\n"),
         (&["prove", "many"], 20, "refused program 9 1026\n"),
         (&["ground", "many", "-o", "out"], 20, "refused program 9 1026\n"),
+        (&["prove", "noise.aspif", "-o", "out"], 20, "refused program 1 0\n"),
+        (&["ground", "noise.aspif", "-o", "out"], 20, "refused program 1 0\n"),
         (&["packet", "read", "noise", "--program", "out", "--proof", "out2"], 20, "refused packet 51\n"),
         (&["packet", "up", "noise", "-o", "out"], 20, "refused packet 51\n"),
         (&["packet", "down", "noise", "-o", "out"], 20, "refused packet 51\n"),
@@ -358,7 +361,7 @@ fn noise_and_limits() {
         let (ended, out, said) = room.run(words);
         assert_eq!((ended, out.as_str()), (status, line), "{words:?} {said}");
     }
-    assert_eq!(room.files(), ["many", "noise", "p"]);
+    assert_eq!(room.files(), ["many", "noise", "noise.aspif", "p"]);
 }
 
 #[test]
@@ -446,9 +449,14 @@ fn what_is_ground() {
     let (status, out, said) = room.run(&["ground", "plan.lp", "-o", "out.aspif"]);
     assert_eq!((status, out.as_str()), (0, "ground 1 1\n"));
     assert!(said.starts_with("dropped, which cannot matter: 1 minimize statements; "), "{said}");
+    assert!(said.ends_with("\n1 output statements, which name atoms, are kept beside it\n"), "{said}");
     assert_eq!(fs::read_to_string(room.0.join("out.aspif")).unwrap(), "asp 1 0 0\n1 1 1 1 0 0\n0\n");
     assert_eq!(room.run(&["test", "out.aspif", "a"]).2, "an answer set: a\n");
-    assert_eq!(room.run(&["ground", "plan.lp"]).1, "asp 1 0 0\n1 1 1 1 0 0\n0\n");
+    for words in [&["ground", "plan.lp"][..], &["ground", "plan.lp", "-o", "/dev/stdout"]] {
+        let (_, out, said) = room.run(words);
+        assert!(out.starts_with("asp 1 0 0\n1 1 1 1 0 0\n0\n"), "{out}");
+        assert!(said.contains("\ndropped, which cannot matter: 1 output statements; "), "{said}");
+    }
     assert_eq!(room.files(), ["out.aspif", "out.aspif.names", "plan.lp"]);
 }
 

@@ -22,7 +22,7 @@ use crate::names::Names;
 use crate::outcome::{Failure, Outcome, Status};
 use crate::progress::{Part, Progress};
 use crate::rules::rules;
-use crate::statements::Ground;
+use crate::statements::{as_it_is, Ground};
 use crate::{explain, source};
 use completion::Completion;
 use solver::Found;
@@ -80,7 +80,7 @@ fn run(words: &Words) -> Result<Outcome, Failure> {
     let (table, store) = (words.room("--table")?, words.room("--store")?);
     let mut times = Times::default();
     let progress = Progress::start();
-    let ground = timed(&mut times.grounding, || source::load(words.path(0)?, source::as_it_is))?;
+    let ground = timed(&mut times.grounding, || source::load(words.path(0)?, as_it_is))?;
     let program = match library::read_program(&ground.text, table)? {
         Ok(program) => program,
         Err(refusal) => return source::refused(refusal, &ground, words.path(0)?),
