@@ -72,16 +72,14 @@ impl Split {
     fn explained(&self, mut refusal: Outcome, proofs: [&[u8]; 2]) -> Result<Outcome, Failure> {
         let largest = library::read_program(&self.program, library::EVERY_TABLE)?.map_or(0, |program| program.atoms);
         if !(1..=largest).contains(&self.atom) {
-            refusal.words.push(format!("{} is no atom of the program; its largest is {largest}", self.atom));
-            return Ok(refusal);
+            return Ok(refusal.for_reason(format!("{} is no atom of the program; its largest is {largest}", self.atom)));
         }
         for (half, proof) in proofs.into_iter().enumerate() {
             let text = self.half(half);
             let verdict = library::check_texts(&text, proof, HALF_TABLE, self.store)?;
             if let Verdict::RefusedProgram(over) = verdict {
                 let why = "which half it is cannot be told: with a constraint more the program has too many bytes or rules for a check of its own";
-                refusal.words.push(format!("{why} (question {})", over.question.number()));
-                return Ok(refusal);
+                return Ok(refusal.for_reason(format!("{why} (question {})", over.question.number())));
             }
             if !matches!(verdict, Verdict::Inconsistent(_)) {
                 let named = ["first", "second"][half];
@@ -90,7 +88,7 @@ impl Split {
             }
         }
         if self.accepts(0, proofs[1])? && self.accepts(1, proofs[0])? {
-            refusal.words.push(String::from("the other way round both are accepted: FIRST is the half that demands the atom"));
+            refusal = refusal.for_reason(String::from("the other way round both are accepted: FIRST is the half that demands the atom"));
         }
         Ok(refusal)
     }

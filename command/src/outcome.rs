@@ -33,6 +33,13 @@ impl Outcome {
         Outcome { status: Status::Good, fields: vec![("text", Json::text(&text))], line: text, words: Vec::new() }
     }
 
+    /// With a reason, in the words and as a field.
+    pub fn for_reason(mut self, why: String) -> Outcome {
+        self.fields.push(("reason", Json::text(&why)));
+        self.words.push(why);
+        self
+    }
+
     /// Adds what the check of something says: to the words, and as a field.
     pub fn explain_by(&mut self, field: &'static str, of: &str, check: Outcome) {
         self.words.push(format!("the check of {of} says: {}", check.line));

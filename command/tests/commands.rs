@@ -279,6 +279,8 @@ fn halves_that_are_not_accepted() {
     }
     let (_, out, _) = room.run(&["merge", "p", "1", "wrong", "second", "--json"]);
     assert!(out.contains(r#", "first": {"refused": "proof", "number": 26, "step": 2, "#) && !out.contains(r#""second""#), "{out}");
+    let (_, out, _) = room.run(&["merge", "p", "3", "first", "second", "--json"]);
+    assert!(out.ends_with(", \"reason\": \"3 is no atom of the program; its largest is 2\"}\n"), "{out}");
     // With a constraint more it has 1,025 rules, which a check of its own refuses.
     room.file("p", format!("asp 1 0 0\n{rules}{}0\n", "1 0 0 0 1 2\n".repeat(1_019)));
     assert_eq!(room.run(&["merge", "p", "1", "first", "second"]).0, 0);
