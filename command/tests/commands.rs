@@ -245,47 +245,57 @@ fn merges() {
     assert_eq!(room.files(), ["1", "2", "out", "p"]);
 }
 
-// Question 57 names neither the atom nor a half: the check of each half does.
-#[test]
-fn halves_that_are_not_accepted() {
-    let room = Room::of("halves");
+/// A program with five rules and more, the proofs of its halves at atom 1, and proofs that are refused and open.
+fn halves(name: &str, more: &str) -> Room {
+    let room = Room::of(name);
     let rules = "1 1 2 1 2 0 0\n1 0 0 0 2 1 2\n1 0 0 0 2 1 -2\n1 0 0 0 2 -1 2\n1 0 0 0 2 -1 -2\n";
-    room.file("p", format!("asp 1 0 0\n{rules}0\n"));
+    room.file("p", format!("asp 1 0 0\n{rules}{more}0\n"));
     room.file("first", proof("b 3 -1  c 3  b 4 1 2  c 4  b 5 1 -2  c 5  a 2  a -2  a"));
     room.file("second", proof("b 3 1  c 3  b 4 -1 2  c 4  b 5 -1 -2  c 5  a 2  a -2  a"));
     room.file("wrong", proof("b 3 -1  c 4"));
     room.file("open", proof("b 3 1 2"));
-    let merge = |atom: &str, first: &str, second: &str| {
-        let (status, out, said) = room.run(&["merge", "p", atom, first, second, "-o", "out"]);
-        assert_eq!((status, out.as_str()), (20, "refused merge 57\n"));
-        said
-    };
     assert_eq!(room.run(&["merge", "p", "1", "first", "second"]).0, 0);
+    room
+}
+
+/// What is said of halves for which question 57 is answered no.
+fn not_accepted(room: &Room, atom: &str, first: &str, second: &str) -> String {
+    let (status, out, said) = room.run(&["merge", "p", atom, first, second, "-o", "out"]);
+    assert_eq!((status, out.as_str()), (20, "refused merge 57\n"));
+    assert_eq!(room.files(), ["first", "open", "p", "second", "wrong"]);
+    said
+}
+
+// Question 57 names neither the atom nor a half: the check of each half does.
+#[test]
+fn halves_that_are_not_accepted() {
+    let room = halves("halves", "");
     let check = |half: &str, added: &str| format!("the check of the {half} half, the program with `{added}` added, says: ");
     let (of_first, of_second) = (check("first", "1 0 0 0 1 -1"), check("second", "1 0 0 0 1 1"));
-    let said = merge("1", "wrong", "second");
+    let said = not_accepted(&room, "1", "wrong", "second");
     assert!(said.contains(&format!("{of_first}refused proof 26 2\nstep 2 of the proof, column 3:\n    c 4 0\n")), "{said}");
     assert!(!said.contains(&of_second) && !said.contains("the other way round"), "{said}");
-    let said = merge("1", "first", "open");
+    let said = not_accepted(&room, "1", "first", "open");
     assert!(said.contains(&format!("{of_second}open 2 6 1 3\n")) && !said.contains(&of_first), "{said}");
-    let said = merge("1", "second", "first");
-    assert!(
-        said.contains(&format!("{of_first}refused proof 28 1\n")) && said.contains(&format!("{of_second}refused proof 28 1\n")),
-        "{said}"
-    );
+    let said = not_accepted(&room, "1", "second", "first");
+    let both = [of_first, of_second].map(|of| format!("{of}refused proof 28 1\n"));
+    assert!(both.iter().all(|line| said.contains(line)), "{said}");
     assert!(said.ends_with("\nthe other way round both are accepted: FIRST is the half that demands the atom\n"), "{said}");
-    for atom in ["0", "3"] {
-        assert!(merge(atom, "first", "second").ends_with(&format!("\n{atom} is no atom of the program; its largest is 2\n")));
-    }
     let (_, out, _) = room.run(&["merge", "p", "1", "wrong", "second", "--json"]);
     assert!(out.contains(r#", "first": {"refused": "proof", "number": 26, "step": 2, "#) && !out.contains(r#""second""#), "{out}");
+}
+
+#[test]
+fn halves_that_are_none() {
+    let room = halves("none", "");
+    for atom in ["0", "3"] {
+        assert!(not_accepted(&room, atom, "first", "second").ends_with(&format!("\n{atom} is no atom of the program; its largest is 2\n")));
+    }
     let (_, out, _) = room.run(&["merge", "p", "3", "first", "second", "--json"]);
     assert!(out.ends_with(", \"reason\": \"3 is no atom of the program; its largest is 2\"}\n"), "{out}");
     // With a constraint more it has 1,025 rules, which a check of its own refuses.
-    room.file("p", format!("asp 1 0 0\n{rules}{}0\n", "1 0 0 0 1 2\n".repeat(1_019)));
-    assert_eq!(room.run(&["merge", "p", "1", "first", "second"]).0, 0);
-    assert!(merge("1", "open", "second").contains("\nwhich half it is cannot be told: "));
-    assert_eq!(room.files(), ["first", "open", "p", "second", "wrong"]);
+    let room = halves("many", &"1 0 0 0 1 2\n".repeat(1_019));
+    assert!(not_accepted(&room, "1", "open", "second").contains("\nwhich half it is cannot be told: "));
 }
 
 #[test]
@@ -313,6 +323,12 @@ fn misuse() {
     ] {
         assert_misuse(room.run(words), part);
     }
+}
+
+#[test]
+fn json_and_help_everywhere() {
+    let room = Room::of("everywhere");
+    room.file("p", NONE);
     let (status, out, _) = room.run(&["check", "p", "missing", "--json"]);
     assert!(status == 2 && out.starts_with(r#"{"command": "check", "status": 2, "error": "missing cannot"#), "{out}");
     for (words, part) in [
@@ -625,6 +641,14 @@ fn a_ground_file_is_taken_as_it_is() {
             let told = said.ends_with("\n`aspdrupe ground p.aspif -o OUT.aspif` drops what cannot matter, and OUT.aspif is taken\n");
             assert_eq!(mended == 0, told, "{line} {said}");
         }
+    }
+    for text in
+        ["", "asp 1 0 0", "asp 1 0 0\n", "asp 1 0 0\n1 1 1 1 0 0\n", "asp 1 0 0\n0", "asp 1 0 0\n0\n0\n", "asp 1 0 0\n0\n4 1 a 1 1\n"]
+    {
+        room.file("p.aspif", text);
+        let (_, refused, _) = room.run(&["check", "p.aspif", "d"]);
+        assert!(refused.starts_with("refused program "), "{text:?}");
+        assert_eq!(room.run(&["prove", "p.aspif"]).1, refused, "{text:?}");
     }
     room.file("long.aspif", vec![b' '; (1 << 24) + 2]);
     assert_eq!(room.run(&["prove", "long.aspif"]).1, "refused program 1 0\n");
