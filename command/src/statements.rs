@@ -210,7 +210,7 @@ mod tests {
             b"asp 1 0 0\n1 0 1 1 0 9 1\nnoise\n\n0\nmore",
             b"asp 1 0 0\n1 0 -1 0\n1 1 9223372036854775807 1\n1 0 0 0 1 -9223372036854775808\n1 1\n",
             // What would be shorter, or go, if it were a rule.
-            b"asp 1 0 0\n1 0 1 8 0 2 02 +2\n1 7 1 8 0 2 2 2\n1 7 1 8 0 2 2 -2\n1 0 1 0 0 2 2 -2\n1 1 0 0 2 2 -2\n1 0 0 0 3 2 -2 0\n1 0 0 0 2 1 -01\n",
+            b"asp 1 0 0\n1 0 1 8 0 2 02 +2\n1 7 1 8 0 2 2 2\n1 7 1 8 0 2 2 -2\n1 2 2 8 9 0 2 2 -2\n1 0 1 0 0 2 2 -2\n1 1 0 0 2 2 -2\n1 0 0 0 3 2 -2 0\n1 0 0 0 2 1 -01\n",
         ] {
             let ground = cut_down(text).unwrap();
             assert_eq!(ground.text, text);

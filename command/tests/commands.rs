@@ -2,6 +2,7 @@
 //! a tool is asked for, a script stands in its place.
 
 use std::fs;
+use std::io::Read;
 use std::os::unix::fs::PermissionsExt;
 use std::os::unix::process::{CommandExt, ExitStatusExt};
 use std::path::{Path, PathBuf};
@@ -801,6 +802,22 @@ fn interrupted_while_writing() {
         }
     }
     panic!("it was met {met} times");
+}
+
+// Where an answer is being read, it is not said that there is none.
+#[test]
+fn interrupted_while_the_answer_is_shown() {
+    let room = Room::of("shown");
+    let rule = format!("1 1 11{} 0 0\n", (1_000..1_011).map(|atom| format!(" {atom}")).collect::<String>());
+    room.file("p.aspif", format!("asp 1 0 0\n{}0\n", rule.repeat(990)));
+    let mut running = in_foreground(&room, &["ground", "p.aspif", "--json"]);
+    // It is longer than a pipe holds, so that it waits for its reader.
+    let mut out = running.stdout.take().unwrap();
+    out.read_exact(&mut [0]).unwrap();
+    send(INT, &running, false);
+    wait_until(|| has_ended(&running));
+    let output = running.wait_with_output().unwrap();
+    assert_eq!((output.status.signal(), output.stderr), (Some(INT), Vec::new()));
 }
 
 /// Whether a process has ended; it may still be waited for.
