@@ -52,14 +52,14 @@ impl Names {
         Ok((names, None))
     }
 
-    /// Writes the names of the program with these bytes beside its file. Another file is not overwritten.
-    pub fn write_beside(&self, program: &Path, bytes: &[u8]) -> Result<(), Failure> {
+    /// The file of the names of the program with these bytes, and where it is to stand: beside the program's. Another file is not overwritten.
+    pub fn file_beside(&self, program: &Path, bytes: &[u8]) -> Result<(PathBuf, Vec<u8>), Failure> {
         let path = Names::path(program);
         if path.is_file() && !files::read(&path, FIRST.len())?.starts_with(FIRST.as_bytes()) {
             let why = "is no file of names that this command wrote, and is not overwritten: another place for -o";
             return Err(Failure::misuse(format!("{} {why}", path.display())));
         }
-        files::write(&path, format!("{}\n{}", first_line(bytes), self.text()).as_bytes())
+        Ok((path, format!("{}\n{}", first_line(bytes), self.text()).into_bytes()))
     }
 
     /// Where the names of a program's file stand.
