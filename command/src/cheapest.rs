@@ -8,7 +8,7 @@ use crate::json::Json;
 use crate::library::{self, Program};
 use crate::names::Names;
 use crate::outcome::{Failure, Outcome, Status};
-use crate::rules::{Body, Rule};
+use crate::rules::{holds, Body, Rule};
 use crate::statements::{as_it_is, Ground};
 use crate::{constrained, explain, ground, set_test, source};
 
@@ -16,8 +16,8 @@ pub const SUBCOMMAND: Subcommand = Subcommand {
     name: "cheapest",
     form: "PROGRAM [PROOF] --set ATOM.. --costs LITERAL=COST.. [-o OUT.aspif] [--table N] [--store N]",
     about: "Certifies that a set is an answer set and that no answer set costs less, by costs on up to 12 literals.",
-    more: "PROGRAM is a ground program, as the checker takes it, or a plan. An ATOM is a number, or a name where the program has names, as in `test`. A LITERAL is
-an ATOM, one with `not ` before it, or a number with `-` before it: -7=3 and \"not rest(2)=3\" cost 3 where the atom is not in the set.
+    more: "PROGRAM is a ground program, as the checker takes it, or a plan. An ATOM is a number, or a name where the program has names, as in `test`.
+A LITERAL is an ATOM, one with `not ` before it, or a number with `-` before it: -7=3 and \"not rest(2)=3\" cost 3 where the atom is not in the set.
 The set costs C, the sum of the costs whose literals it makes true. PROOF is for the program restricted to less than C: one constraint more,
 which a set breaks that costs C or more. Where C is 0 no proof is read, and PROOF may be left out. Prints
     cheapest C
@@ -94,9 +94,8 @@ impl Question<'_> {
 
     /// What the set costs; the library's own sum where it certifies.
     fn cost(&self) -> i32 {
-        let is_in = |atom: u16| self.set.binary_search(&atom).is_ok();
-        let holds = |literal: i16| is_in(literal.unsigned_abs()) == (literal > 0);
-        self.costs.iter().filter(|(literal, _)| holds(*literal)).map(|(_, cost)| i32::from(*cost)).fold(0, i32::saturating_add)
+        let held = self.costs.iter().filter(|(literal, _)| holds(i32::from(*literal), self.set));
+        held.map(|(_, cost)| i32::from(*cost)).fold(0, i32::saturating_add)
     }
 
     /// The constraint that a set breaks which costs as much as this one or more.
@@ -185,8 +184,7 @@ fn cost_of(word: &str, names: &Names) -> Result<(i16, i16), Failure> {
     let (literal, cost) = word.rsplit_once('=').ok_or_else(|| Failure::misuse(format!("`{word}` is no LITERAL=COST")))?;
     let cost = cost.parse().map_err(|_| Failure::misuse(format!("`{cost}` in `{word}` is no cost: a number, 0 to {MOST_COST}")))?;
     let (atom, negated) = literal.strip_prefix("not ").map_or((literal, false), |atom| (atom, true));
-    let number = atom.parse::<i16>().ok().or_else(|| names.atom(atom).and_then(|atom| i16::try_from(atom).ok()));
-    let number = number.and_then(|number| if negated { number.checked_neg() } else { Some(number) });
+    let number = names.number::<i16>(atom).and_then(|number| if negated { number.checked_neg() } else { Some(number) });
     let literal = number.ok_or_else(|| {
         Failure::misuse(format!("`{literal}` in `{word}` is over neither an atom's number nor a name that the program has"))
     })?;

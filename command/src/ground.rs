@@ -14,7 +14,8 @@ pub const SUBCOMMAND: Subcommand = Subcommand {
     form: "PLAN.lp [-o OUT.aspif]",
     about: "Grounds a plan with gringo and keeps what the checker takes; says of everything dropped why it cannot matter.",
     more: "Without -o the ground program goes to the standard output. With it the names of atoms are kept too, in the file OUT.aspif.names:
-`prove`, `test` and `cheapest` then show atoms by name, as long as OUT.aspif is the program that they are of. A program that is ground already is cut down in the same way.
+`prove`, `test` and `cheapest` then show atoms by name, as long as OUT.aspif is the program that they are of. A program that is ground already
+is cut down in the same way.
 Output, minimize, project and heuristic statements are dropped. External, assumption, edge and theory statements and
 disjunctive heads are refused.",
     options: &["-o"],

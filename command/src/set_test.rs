@@ -79,8 +79,7 @@ pub fn told(set: &[u16], program: &Program, ground: &Ground) -> Result<Outcome, 
 /// The atoms that the words name; the name of a fact names none.
 fn set_of(words: &[String], names: &Names) -> Result<Vec<u16>, Failure> {
     let atom = |word: &String| {
-        let number = word.parse().ok().or_else(|| names.atom(word).and_then(|atom| u16::try_from(atom).ok()));
-        number.ok_or_else(|| Failure::misuse(format!("`{word}` is neither an atom's number nor a name that the program has")))
+        names.number(word).ok_or_else(|| Failure::misuse(format!("`{word}` is neither an atom's number nor a name that the program has")))
     };
     words.iter().filter(|word| !is_fact(word, names)).map(atom).collect()
 }
