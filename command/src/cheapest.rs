@@ -1,6 +1,6 @@
 //! `aspdrupe cheapest`: whether a set is an answer set and no answer set costs less.
 
-use aspdrupe::{Cheapest, CheapestQuestion, Verdict};
+use aspdrupe::{Cheapest, CheapestQuestion};
 
 use crate::arguments::{Subcommand, Words};
 use crate::files::{self, TEXT_LIMIT};
@@ -8,16 +8,16 @@ use crate::json::Json;
 use crate::library::{self, Program};
 use crate::names::Names;
 use crate::outcome::{Failure, Outcome, Status};
-use crate::rules::{Body, Rule};
-use crate::statements::Ground;
-use crate::{explain, ground, set_test, source};
+use crate::rules::{holds, Body, Rule};
+use crate::statements::{as_it_is, Ground};
+use crate::{constrained, explain, ground, set_test, source};
 
 pub const SUBCOMMAND: Subcommand = Subcommand {
     name: "cheapest",
     form: "PROGRAM [PROOF] --set ATOM.. --costs LITERAL=COST.. [-o OUT.aspif] [--table N] [--store N]",
     about: "Certifies that a set is an answer set and that no answer set costs less, by costs on up to 12 literals.",
-    more: "PROGRAM is a ground program or a plan. An ATOM is a number, or a name where the program has names, as in `test`. A LITERAL is
-an ATOM, one with `not ` before it, or a number with `-` before it: -7=3 and \"not rest(2)=3\" cost 3 where the atom is not in the set.
+    more: "PROGRAM is a ground program, as the checker takes it, or a plan. An ATOM is a number, or a name where the program has names, as in `test`.
+A LITERAL is an ATOM, one with `not ` before it, or a number with `-` before it: -7=3 and \"not rest(2)=3\" cost 3 where the atom is not in the set.
 The set costs C, the sum of the costs whose literals it makes true. PROOF is for the program restricted to less than C: one constraint more,
 which a set breaks that costs C or more. Where C is 0 no proof is read, and PROOF may be left out. Prints
     cheapest C
@@ -33,10 +33,9 @@ OUT.aspif -o PROOF` finds the proof or an answer set that costs less.
     run,
 };
 
-/// The most literals with a cost, the most that one or a set may cost, and the words of the restriction's rule.
+/// The most literals with a cost, and the most that one or a set may cost.
 const MOST_LITERALS: usize = 12;
 const MOST_COST: i32 = 4_095;
-const RESTRICTION: usize = 5 + 2 * MOST_LITERALS;
 
 /// What is put to the library, and what it is read from.
 struct Question<'a> {
@@ -51,29 +50,28 @@ struct Question<'a> {
 
 fn run(words: &Words) -> Result<Outcome, Failure> {
     let (table, store) = (words.room("--table")?, words.room("--store")?);
-    let ground = source::load(words.path(0)?)?;
+    let ground = source::load(words.path(0)?, as_it_is)?;
     let proof = words.path(1).ok().map(|path| files::read(path, TEXT_LIMIT)).transpose()?;
     let program = match library::read_program(&ground.text, table)? {
         Ok(program) => program,
-        Err(refusal) => return Ok(explain::ground(refusal, &ground)),
+        Err(refusal) => return source::refused(refusal, &ground, words.path(0)?),
     };
     let set = set_test::named(&words.texts("--set"), &program, &ground.names)?;
     let costs = costs_of(&words.texts("--costs"), &ground.names)?;
     let question = Question { ground: &ground, program: &program, set: &set.atoms, costs, proof, table, store };
-    let mut outcome = match question.put()? {
+    let Answered { mut told, restricted } = match question.put()? {
         Cheapest::Certified(cost) => question.certified(cost),
-        Cheapest::RefusedProgram(refusal) => return Ok(explain::ground(refusal, &ground)),
+        Cheapest::RefusedProgram(refusal) => return source::refused(refusal, &ground, words.path(0)?),
         Cheapest::Refused(refused) => question.refused(refused)?,
     };
     if let Some(path) = words.output("-o") {
-        outcome.told.words.push(if outcome.restricted {
-            ground::write(&path, &question.restricted(), &ground.names)?;
+        told.words.push(if restricted {
+            ground::write(&path, &constrained::text(&ground.text, &question.restriction().line()), &ground.names)?;
             format!("the program restricted to less than {} is {}", question.cost(), path.display())
         } else {
             format!("{} is not written: the set is no answer set, or does not cost 1 to {MOST_COST}", path.display())
         });
     }
-    let mut told = outcome.told;
     told.words.extend(set.note());
     told.words.splice(0..0, ground.notes.iter().cloned());
     Ok(told)
@@ -96,21 +94,14 @@ impl Question<'_> {
 
     /// What the set costs; the library's own sum where it certifies.
     fn cost(&self) -> i32 {
-        let is_in = |atom: u16| self.set.binary_search(&atom).is_ok();
-        let holds = |literal: i16| is_in(literal.unsigned_abs()) == (literal > 0);
-        self.costs.iter().filter(|(literal, _)| holds(*literal)).map(|(_, cost)| i32::from(*cost)).sum()
+        let held = self.costs.iter().filter(|(literal, _)| holds(i32::from(*literal), self.set));
+        held.map(|(_, cost)| i32::from(*cost)).fold(0, i32::saturating_add)
     }
 
     /// The constraint that a set breaks which costs as much as this one or more.
     fn restriction(&self) -> Rule {
         let pairs = self.costs.iter().map(|(literal, cost)| (i32::from(*literal), i32::from(*cost))).collect();
         Rule { choice: false, heads: Vec::new(), body: Body::Weights { bound: self.cost(), pairs } }
-    }
-
-    /// The text of the program with that constraint as its last rule. The program was read, so that its last line is `0`.
-    fn restricted(&self) -> Vec<u8> {
-        let rules = self.ground.text.strip_suffix(b"0\n").unwrap_or(&self.ground.text);
-        [rules, format!("{}\n0\n", self.restriction().line()).as_bytes()].concat()
     }
 
     fn certified(&self, cost: usize) -> Answered {
@@ -125,50 +116,42 @@ impl Question<'_> {
 
     /// A refusal, with what is at fault where that can be told.
     fn refused(&self, question: CheapestQuestion) -> Result<Answered, Failure> {
-        let mut told = explain::question("cheapest", question.number(), question.to_string(), question.mend());
-        match question {
-            CheapestQuestion::Set => {}
-            CheapestQuestion::Costs => told.words.push(fault(&self.costs, self.program.atoms, self.cost())),
+        let told = explain::question("cheapest", question.number(), question.to_string(), question.mend());
+        let told = match question {
+            CheapestQuestion::Set => told,
+            CheapestQuestion::Costs => told.for_reason(fault(&self.costs, self.program.atoms, self.cost())),
             CheapestQuestion::Certificate => return self.uncertified(told),
-        }
+        };
         Ok(Answered { told, restricted: false })
     }
 
     /// 63: what the set test says of the set, or what is missing of the proof.
-    fn uncertified(&self, mut told: Outcome) -> Result<Answered, Failure> {
+    fn uncertified(&self, told: Outcome) -> Result<Answered, Failure> {
         let test = set_test::told(self.set, self.program, self.ground)?;
         if test.status != Status::Good {
-            told.words.push(format!("the set test says: {}", test.line));
-            told.words.extend(test.words);
-            told.fields.push(("test", Json::Object(test.fields)));
-            return Ok(Answered { told, restricted: false });
+            return Ok(Answered { told: told.explained_by("test", "the set test", test), restricted: false });
         }
-        let (cost, restriction) = (self.cost(), self.ground.names.rule(&self.restriction()));
-        told.words.push(format!("the set is an answer set and costs {cost}; the proof is for the program and this constraint:"));
-        told.words.push(format!("    {restriction}"));
-        told.fields.push(("cost", Json::Number(i64::from(cost))));
-        match &self.proof {
-            Some(proof) => self.explain_proof(&mut told, proof)?,
-            None => told.words.push(String::from(
-                "no PROOF is given: -o OUT.aspif writes that program, and `aspdrupe prove OUT.aspif -o PROOF` finds a proof or a cheaper set",
-            )),
-        }
-        Ok(Answered { told, restricted: true })
+        Ok(Answered { told: self.unproved(told)?, restricted: true })
     }
 
-    /// What the check says of the proof for the restricted program. As a text that may be beyond a limit, which the library does not ask of it.
-    fn explain_proof(&self, told: &mut Outcome, proof: &[u8]) -> Result<(), Failure> {
-        let (text, table) = (self.restricted(), self.table.saturating_add(RESTRICTION));
-        let verdict = library::check_texts(&text, proof, table, self.store)?;
-        if matches!(verdict, Verdict::RefusedProgram(_)) {
-            told.words.push(String::from("with it the program is beyond a limit of texts: the check of the proof alone cannot be shown"));
-            return Ok(());
-        }
-        let check = explain::verdict(verdict, (&text, proof), table);
-        told.words.push(format!("the check of the proof for them says: {}", check.line));
-        told.words.extend(check.words);
-        told.fields.push(("check", Json::Object(check.fields)));
-        Ok(())
+    /// What the proof is to be for, and what the check says of it. The restricted program may be beyond a limit of texts, which the library does
+    /// not ask of it.
+    fn unproved(&self, mut told: Outcome) -> Result<Outcome, Failure> {
+        let (cost, restriction) = (self.cost(), self.restriction());
+        told.words.push(format!("the set is an answer set and costs {cost}; the proof is for the program and this constraint:"));
+        told.words.push(format!("    {}", self.ground.names.rule(&restriction)));
+        told.fields.push(("cost", Json::Number(i64::from(cost))));
+        let Some(proof) = &self.proof else {
+            let why = "no PROOF is given: -o OUT.aspif writes that program, and `aspdrupe prove OUT.aspif -o PROOF` finds a proof or a cheaper set";
+            return Ok(told.for_reason(String::from(why)));
+        };
+        Ok(match constrained::check(&self.ground.text, &restriction.line(), proof, self.store)? {
+            Ok(check) => told.explained_by("check", "the check of the proof for them", check),
+            Err(question) => {
+                let why = "what is wrong with the proof cannot be told: with the constraint the program has too many bytes or rules for a check of its own";
+                told.for_reason(format!("{why} (question {})", question.number()))
+            }
+        })
     }
 }
 
@@ -201,8 +184,7 @@ fn cost_of(word: &str, names: &Names) -> Result<(i16, i16), Failure> {
     let (literal, cost) = word.rsplit_once('=').ok_or_else(|| Failure::misuse(format!("`{word}` is no LITERAL=COST")))?;
     let cost = cost.parse().map_err(|_| Failure::misuse(format!("`{cost}` in `{word}` is no cost: a number, 0 to {MOST_COST}")))?;
     let (atom, negated) = literal.strip_prefix("not ").map_or((literal, false), |atom| (atom, true));
-    let number = atom.parse::<i16>().ok().or_else(|| names.atom(atom).and_then(|atom| i16::try_from(atom).ok()));
-    let number = number.and_then(|number| if negated { number.checked_neg() } else { Some(number) });
+    let number = names.number::<i16>(atom).and_then(|number| if negated { number.checked_neg() } else { Some(number) });
     let literal = number.ok_or_else(|| {
         Failure::misuse(format!("`{literal}` in `{word}` is over neither an atom's number nor a name that the program has"))
     })?;

@@ -5,6 +5,7 @@ use std::io::{self, Read, Write};
 use std::os::unix::fs::MetadataExt;
 use std::path::{Path, PathBuf};
 
+use crate::interrupt;
 use crate::outcome::Failure;
 
 /// The most bytes of a text that the library takes.
@@ -41,35 +42,66 @@ fn same(one: &Path, other: &Path) -> bool {
     place(one).is_some_and(|found| place(other) == Some(found))
 }
 
-/// Writes the file beside its place and renames it, so that no half of it is ever there. What is no regular file, like a device or a pipe, is
-/// written as it is.
+/// Writes a file whole or not at all.
 pub fn write(path: &Path, bytes: &[u8]) -> Result<(), Failure> {
-    let written = match fs::metadata(path) {
-        Ok(about) if about.is_dir() => Err(io::Error::from(io::ErrorKind::IsADirectory)),
-        Ok(about) if !about.is_file() => OpenOptions::new().write(true).open(path).and_then(|mut file| file.write_all(bytes)),
-        Ok(_) => fs::canonicalize(path).and_then(|place| write_beside(&place, bytes)),
-        Err(_) => write_beside(path, bytes),
-    };
-    written.map_err(|error| Failure::misuse(format!("{} cannot be written: {}", path.display(), reason(&error))))
+    write_together(&[(path, bytes)])
 }
 
-fn write_beside(path: &Path, bytes: &[u8]) -> io::Result<()> {
-    let beside = beside(path)?;
-    let mut file = OpenOptions::new().write(true).create_new(true).open(&beside)?;
-    let written = file.write_all(bytes).and_then(|()| file.sync_all()).and_then(|()| fs::rename(&beside, path));
-    if written.is_err() {
-        let _ = fs::remove_file(&beside);
+/// Writes all of the files or none: each beside its place, and when all are whole they are renamed, so that no half of one is ever there. What is
+/// no regular file, like a device or a pipe, is written as it is.
+pub fn write_together(files: &[(&Path, &[u8])]) -> Result<(), Failure> {
+    let mut staged = Staged::default();
+    for (path, bytes) in files {
+        let written = match fs::metadata(path) {
+            Ok(about) if about.is_dir() => Err(io::Error::from(io::ErrorKind::IsADirectory)),
+            Ok(about) if !about.is_file() => OpenOptions::new().write(true).open(path).and_then(|mut file| file.write_all(bytes)),
+            Ok(about) => fs::canonicalize(path).and_then(|place| staged.add(&place, bytes, Some(about.permissions()))),
+            Err(_) => staged.add(path, bytes, None),
+        };
+        written.map_err(|error| unwritten(path, &error))?;
     }
-    written
+    let places = std::mem::take(&mut staged.0);
+    interrupt::rename(&places).map_err(|(path, error)| unwritten(&path, &error))
 }
 
-/// A hidden name in the same folder that no other run takes.
-fn beside(path: &Path) -> io::Result<PathBuf> {
-    let name = path.file_name().ok_or(io::ErrorKind::InvalidInput)?;
-    let mut hidden = std::ffi::OsString::from(".");
-    hidden.push(name);
-    hidden.push(format!(".{}", std::process::id()));
-    Ok(path.with_file_name(hidden))
+fn unwritten(path: &Path, error: &io::Error) -> Failure {
+    Failure::misuse(format!("{} cannot be written: {}", path.display(), reason(error)))
+}
+
+/// Files beside their places, with the places. Those that are left when this goes are removed.
+#[derive(Default)]
+struct Staged(Vec<(PathBuf, PathBuf)>);
+
+impl Staged {
+    fn add(&mut self, place: &Path, bytes: &[u8], permissions: Option<fs::Permissions>) -> io::Result<()> {
+        let (beside, mut file) = beside(place)?;
+        self.0.push((beside, place.into()));
+        if let Some(permissions) = permissions {
+            file.set_permissions(permissions)?;
+        }
+        file.write_all(bytes).and_then(|()| file.sync_all())
+    }
+}
+
+impl Drop for Staged {
+    fn drop(&mut self) {
+        self.0.iter().for_each(|(beside, _)| interrupt::remove(beside));
+    }
+}
+
+/// The names beside a place that are tried.
+const MOST_NAMES: usize = 100;
+
+/// A new file in the same folder, with a hidden name that no other run takes.
+fn beside(place: &Path) -> io::Result<(PathBuf, File)> {
+    place.file_name().ok_or(io::ErrorKind::InvalidInput)?;
+    let mut names = (0..MOST_NAMES).map(|number| place.with_file_name(format!(".aspdrupe.{}.{number}", std::process::id())));
+    let made = names.find_map(|path| match interrupt::create(&path) {
+        // One that another run with this number was made to leave.
+        Err(error) if error.kind() == io::ErrorKind::AlreadyExists => None,
+        made => Some(made.map(|file| (path, file))),
+    });
+    made.unwrap_or(Err(io::ErrorKind::AlreadyExists.into()))
 }
 
 /// The system's words without its number.
@@ -81,6 +113,7 @@ pub fn reason(error: &io::Error) -> String {
 #[cfg(test)]
 mod tests {
     use super::*;
+    use std::os::unix::fs::PermissionsExt;
 
     #[test]
     fn written_whole_or_not_at_all() {
@@ -96,6 +129,26 @@ mod tests {
         assert!(missing.message.ends_with("cannot be written: No such file or directory"), "{}", missing.message);
         assert!(write(&folder, b"four").unwrap_err().message.ends_with("is a directory"));
         assert!(read(&folder, 9).unwrap_err().message.ends_with("cannot be read: Is a directory"));
+        fs::remove_dir_all(folder).unwrap();
+    }
+
+    #[test]
+    fn all_are_written_or_none() {
+        let folder = std::env::temp_dir().join(format!("aspdrupe-together-{}", std::process::id()));
+        fs::create_dir_all(folder.join("folder")).unwrap();
+        let [one, two] = ["one", "two"].map(|name| folder.join(name));
+        let count = || fs::read_dir(&folder).unwrap().count();
+        for wrong in [folder.join("folder"), folder.join("no/such"), PathBuf::from("/dev/full")] {
+            assert!(write_together(&[(&one, b"1"), (&wrong, b"2"), (&two, b"3")]).is_err());
+            assert_eq!(count(), 1, "{}", wrong.display());
+        }
+        fs::write(&one, "").unwrap();
+        fs::set_permissions(&one, fs::Permissions::from_mode(0o600)).unwrap();
+        // As a run that was killed leaves it.
+        fs::write(folder.join(format!(".aspdrupe.{}.0", std::process::id())), "").unwrap();
+        write_together(&[(&one, b"1"), (&two, b"2")]).unwrap();
+        assert_eq!((fs::read(&one).unwrap(), fs::read(&two).unwrap(), count()), (b"1".to_vec(), b"2".to_vec(), 4));
+        assert_eq!(fs::metadata(&one).unwrap().permissions().mode() & 0o777, 0o600);
         fs::remove_dir_all(folder).unwrap();
     }
 

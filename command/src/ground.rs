@@ -6,6 +6,7 @@ use crate::arguments::{Subcommand, Words};
 use crate::json::Json;
 use crate::names::Names;
 use crate::outcome::{Failure, Outcome, Status};
+use crate::statements::cut_down;
 use crate::{explain, files, library, source};
 
 pub const SUBCOMMAND: Subcommand = Subcommand {
@@ -13,7 +14,8 @@ pub const SUBCOMMAND: Subcommand = Subcommand {
     form: "PLAN.lp [-o OUT.aspif]",
     about: "Grounds a plan with gringo and keeps what the checker takes; says of everything dropped why it cannot matter.",
     more: "Without -o the ground program goes to the standard output. With it the names of atoms are kept too, in the file OUT.aspif.names:
-`prove` and `test` then show atoms by name, as long as OUT.aspif is the program that they are of. A program that is ground already is cut down in the same way.
+`prove`, `test` and `cheapest` then show atoms by name, as long as OUT.aspif is the program that they are of. A program that is ground already
+is cut down in the same way.
 Output, minimize, project and heuristic statements are dropped. External, assumption, edge and theory statements and
 disjunctive heads are refused.",
     options: &["-o"],
@@ -24,7 +26,7 @@ disjunctive heads are refused.",
 };
 
 fn run(words: &Words) -> Result<Outcome, Failure> {
-    let ground = source::load(words.path(0)?)?;
+    let ground = source::load(words.path(0)?, cut_down)?;
     let program = match library::read_program(&ground.text, library::EVERY_TABLE)? {
         Ok(program) => program,
         Err(refusal) => {
@@ -43,28 +45,41 @@ fn run(words: &Words) -> Result<Outcome, Failure> {
             ("names", Json::count(ground.names.count())),
         ],
     };
-    match words.output("-o") {
+    let kept = match words.output("-o") {
         Some(path) => {
-            write(&path, &ground.text, &ground.names)?;
             outcome.line = format!("ground {} {}", program.atoms, program.rules);
             outcome.words.push(format!("largest atom {}, {} rules: {}", program.atoms, program.rules, path.display()));
+            write(&path, &ground.text, &ground.names)?
         }
         None => {
             outcome.line = String::from_utf8_lossy(&ground.text).into_owned();
             outcome.fields.push(("program", Json::text(&outcome.line)));
+            false
         }
-    }
+    };
+    outcome.words.extend(shown(ground.names.count(), kept));
     Ok(outcome)
 }
 
-/// Writes the program, and its names beside it; a device or a pipe has nothing beside it.
-pub fn write(path: &Path, text: &[u8], names: &Names) -> Result<(), Failure> {
+/// What became of the output statements.
+fn shown(count: usize, kept: bool) -> Option<String> {
+    match (count, kept) {
+        (0, _) => None,
+        (_, true) => Some(format!("{count} output statements, which name atoms, are kept beside it")),
+        (_, false) => {
+            Some(format!("dropped, which cannot matter: {count} output statements; they say what is shown, and a file of -o keeps them"))
+        }
+    }
+}
+
+/// Writes the program, and its names beside it; a device or a pipe has nothing beside it. Whether the names are kept.
+pub fn write(path: &Path, text: &[u8], names: &Names) -> Result<bool, Failure> {
     if path.extension().is_some_and(|ending| ending == "names") {
         return Err(Failure::misuse(format!("{} is a place for names: another ending, like `.aspif`", path.display())));
     }
-    // The names come first: where the program is then not written, they are not of what stands there, and are not used.
-    if path.is_file() || !path.exists() {
-        names.write_beside(path, text)?;
+    if path.exists() && !path.is_file() {
+        return files::write(path, text).map(|()| false);
     }
-    files::write(path, text)
+    let (beside, statements) = names.file_beside(path, text)?;
+    files::write_together(&[(&beside, &statements), (path, text)]).map(|()| true)
 }

@@ -1,14 +1,16 @@
 //! The command `aspdrupe`: from a program to a certified answer. What decides is the proved library (`bindings/rust`); here files are read,
 //! gringo and cadical are run, and what the library says is shown. `aspdrupe --help` has the subcommands.
 
-#![forbid(unsafe_code)]
+#![deny(unsafe_code)] // save in `signals`
 
 mod arguments;
 mod cheapest;
 mod check;
+mod constrained;
 mod explain;
 mod files;
 mod ground;
+mod interrupt;
 mod json;
 mod library;
 mod locate;
@@ -21,6 +23,7 @@ mod prove;
 mod quote;
 mod rules;
 mod set_test;
+mod signals;
 mod source;
 mod statements;
 mod tools;
@@ -29,6 +32,7 @@ mod trim;
 use std::ffi::OsString;
 use std::io::Write;
 use std::process::ExitCode;
+use std::sync::mpsc::channel;
 
 use arguments::{Given, Subcommand};
 use json::Json;
@@ -50,49 +54,60 @@ const SUBCOMMANDS: [&Subcommand; 8] = [
 const STACK: usize = 4 * aspdrupe::MERGE_STACK;
 
 fn main() -> ExitCode {
-    let words = std::env::args_os().skip(1).collect();
-    let run = std::thread::Builder::new().stack_size(STACK).spawn(|| run(words));
-    let status = match run.map(|running| running.join()) {
-        Ok(Ok(status)) => status,
-        Ok(Err(_)) => Status::Misuse,
-        Err(error) => {
-            say(&format!("there is no room for a thread: {error}"));
-            Status::Misuse
-        }
-    };
+    signals::catch();
+    let words: Vec<OsString> = std::env::args_os().skip(1).collect();
+    let (sender, receiver) = channel();
+    let work = words.clone();
+    let started = std::thread::Builder::new().stack_size(STACK).spawn(move || sender.send(run(work)));
+    if let Err(error) = started {
+        say(&format!("there is no room for a thread: {error}"));
+    }
+    // A thread that panics, or is none, sends nothing.
+    let status = interrupt::wait_for(&receiver, |signal| show_interrupt(signal, &words)).unwrap_or(Status::Misuse);
     ExitCode::from(status as u8)
 }
 
 /// The whole run; its status.
 fn run(words: Vec<OsString>) -> Status {
-    let json = words.iter().any(|word| word == "--json");
+    let json = asks_for_json(&words);
     let (name, outcome) = outcome(words);
+    interrupt::answer();
     let written = match &outcome {
         Ok(outcome) => show(name, outcome, json),
-        Err(failure) => show_failure(name, failure, json),
+        Err(failure) => show_failure(name, failure.status as i64, &failure.message, json),
     };
     match (written, outcome) {
         (Ok(()), Ok(outcome)) => outcome.status,
         (Ok(()), Err(failure)) => failure.status,
         (Err(error), _) => {
-            say(&format!("the answer cannot be written: {error}"));
+            say(&format!("the answer cannot be written: {}", files::reason(&error)));
             Status::Misuse
         }
     }
 }
 
-/// What the words come to, with the subcommand's name where one is named.
+fn asks_for_json(words: &[OsString]) -> bool {
+    words.iter().take_while(|word| *word != "--").any(|word| word == "--json")
+}
+
+fn named(first: &OsString) -> Option<&'static Subcommand> {
+    SUBCOMMANDS.into_iter().find(|listed| first == listed.name)
+}
+
+/// What the words come to, with the subcommand's name where one is named. `--json` may stand before it too.
 fn outcome(words: Vec<OsString>) -> (&'static str, Result<Outcome, Failure>) {
-    let Some((first, others)) = words.split_first() else {
+    let before = words.iter().take_while(|word| *word == "--json").count();
+    let Some((first, others)) = words[before..].split_first() else {
         return ("", Err(Failure::misuse("which subcommand? `aspdrupe --help` lists them")));
     };
     if first == "--help" || first == "-h" || first == "help" {
-        return ("", Ok(Outcome::text(arguments::overview(&SUBCOMMANDS))));
+        let text = others.iter().find_map(named).map_or_else(|| arguments::overview(&SUBCOMMANDS), arguments::help);
+        return ("", Ok(Outcome::text(text)));
     }
     if first == "--version" {
         return ("", Ok(Outcome::text(format!("aspdrupe {}", env!("CARGO_PKG_VERSION")))));
     }
-    let Some(subcommand) = SUBCOMMANDS.iter().find(|listed| first == listed.name) else {
+    let Some(subcommand) = named(first) else {
         let message = format!("there is no subcommand `{}`; `aspdrupe --help` lists them", first.to_string_lossy());
         return ("", Err(Failure::misuse(message)));
     };
@@ -104,27 +119,35 @@ fn outcome(words: Vec<OsString>) -> (&'static str, Result<Outcome, Failure>) {
     (subcommand.name, run)
 }
 
-/// Writes the result to the standard output and the words for people to the standard error.
+/// Writes the result to the standard output and then the words for people to the standard error.
 fn show(name: &str, outcome: &Outcome, json: bool) -> std::io::Result<()> {
-    outcome.words.iter().for_each(|line| say(line));
-    let mut result = if json { whole(name, outcome.status, outcome.fields.clone()).to_string() } else { outcome.line.clone() };
+    let mut result = if json { whole(name, outcome.status as i64, outcome.fields.clone()).to_string() } else { outcome.line.clone() };
     if !result.is_empty() && !result.ends_with('\n') {
         result.push('\n');
     }
-    print(&result)
+    print(&result)?;
+    outcome.words.iter().for_each(|line| say(line));
+    Ok(())
 }
 
-fn show_failure(name: &str, failure: &Failure, json: bool) -> std::io::Result<()> {
-    say(&failure.message);
+fn show_failure(name: &str, status: i64, message: &str, json: bool) -> std::io::Result<()> {
+    say(message);
     if json {
-        let fields = vec![("error", Json::text(&failure.message))];
-        return print(&format!("{}\n", whole(name, failure.status, fields)));
+        let fields = vec![("error", Json::text(message))];
+        return print(&format!("{}\n", whole(name, status, fields)));
     }
     Ok(())
 }
 
-fn whole(name: &str, status: Status, fields: Vec<(&'static str, Json)>) -> Json {
-    let before = [("command", Json::text(name)), ("status", Json::Number(status as i64))];
+/// The last words of a run that a signal ends; the status is the one that a shell tells of it.
+fn show_interrupt(signal: i32, words: &[OsString]) {
+    let name = words.iter().find_map(named).map_or("", |subcommand| subcommand.name);
+    let message = "interrupted: there is no answer, and no file is left half-written";
+    let _ = show_failure(name, 128 + i64::from(signal), message, asks_for_json(words));
+}
+
+fn whole(name: &str, status: i64, fields: Vec<(&'static str, Json)>) -> Json {
+    let before = [("command", Json::text(name)), ("status", Json::Number(status))];
     Json::Object(before.into_iter().chain(fields).collect())
 }
 

@@ -1,12 +1,12 @@
 //! `aspdrupe merge`: the proofs of two halves into one proof of the program itself.
 
-use aspdrupe::Merging;
+use aspdrupe::{MergeQuestion, Merging, ProgramQuestion};
 
 use crate::arguments::{Subcommand, Words};
 use crate::files::{self, TEXT_LIMIT};
 use crate::json::Json;
-use crate::outcome::{Failure, Outcome};
-use crate::{explain, library};
+use crate::outcome::{Failure, Outcome, Status};
+use crate::{constrained, explain, library};
 
 pub const SUBCOMMAND: Subcommand = Subcommand {
     name: "merge",
@@ -16,7 +16,7 @@ pub const SUBCOMMAND: Subcommand = Subcommand {
         "FIRST is a proof for the program with the constraint `1 0 0 0 1 -ATOM` added, which demands the atom, SECOND for the program with
 `1 0 0 0 1 ATOM` added, which forbids it. Prints the verdict on the merged proof, `inconsistent N R S K`, or
     refused program NUMBER LINE
-    refused merge NUMBER
+    refused merge NUMBER     of 57, what `aspdrupe check` says of a half that is not accepted is on the standard error
 --table N and --store N are the words for rules and nogoods, 16384 each where nothing is said, as in `verdict`.",
     options: &["-o", "--table", "--store"],
     lists: &[],
@@ -37,7 +37,14 @@ fn run(words: &Words) -> Result<Outcome, Failure> {
         aspdrupe::merge_halves(&program, atom, &first, &second, &mut library::lent(table)?, &mut library::lent(store)?, &mut output)?;
     let bytes = match merging {
         Merging::RefusedProgram(refusal) => return Ok(explain::program(refusal, &program)),
-        Merging::Refused(question) => return Ok(explain::question("merge", question.number(), question.to_string(), question.mend())),
+        Merging::Refused(question) => {
+            let refusal = explain::question("merge", question.number(), question.to_string(), question.mend());
+            return if question == MergeQuestion::Halves {
+                Split { program, atom, store }.explained(refusal, [&first, &second])
+            } else {
+                Ok(refusal)
+            };
+        }
         Merging::Merged(bytes) => bytes,
     };
     output.truncate(bytes);
@@ -49,4 +56,52 @@ fn run(words: &Words) -> Result<Outcome, Failure> {
     outcome.words.push(format!("the merged proof has {bytes} bytes"));
     outcome.fields.push(("bytes", Json::count(bytes)));
     Ok(outcome)
+}
+
+/// A program, the atom at which it is split, and the words of the store for the halves.
+struct Split {
+    program: Vec<u8>,
+    atom: usize,
+    store: usize,
+}
+
+impl Split {
+    /// Question 57 with what it does not say: whether it is the atom, and what the check says of a half that it does not accept.
+    fn explained(&self, mut refusal: Outcome, proofs: [&[u8]; 2]) -> Result<Outcome, Failure> {
+        let largest = library::read_program(&self.program, library::EVERY_TABLE)?.map_or(0, |program| program.atoms);
+        if !(1..=largest).contains(&self.atom) {
+            return Ok(refusal.for_reason(format!("{} is no atom of the program; its largest is {largest}", self.atom)));
+        }
+        for (half, proof) in proofs.into_iter().enumerate() {
+            match self.check(half, proof)? {
+                Ok(check) if check.status == Status::Good => {}
+                Ok(check) => {
+                    let named = ["first", "second"][half];
+                    let service = format!("the check of the {named} half, the program with `{}` added,", self.constraint(half));
+                    refusal = refusal.explained_by(named, &service, check);
+                }
+                Err(question) => {
+                    let why = "which half it is cannot be told: with a constraint more the program has too many bytes or rules for a check of its own";
+                    return Ok(refusal.for_reason(format!("{why} (question {})", question.number())));
+                }
+            }
+        }
+        if self.accepts(0, proofs[1])? && self.accepts(1, proofs[0])? {
+            refusal = refusal.for_reason(String::from("the other way round both are accepted: FIRST is the half that demands the atom"));
+        }
+        Ok(refusal)
+    }
+
+    fn accepts(&self, half: usize, proof: &[u8]) -> Result<bool, Failure> {
+        Ok(self.check(half, proof)?.is_ok_and(|check| check.status == Status::Good))
+    }
+
+    fn check(&self, half: usize, proof: &[u8]) -> Result<Result<Outcome, ProgramQuestion>, Failure> {
+        constrained::check(&self.program, &self.constraint(half), proof, self.store)
+    }
+
+    /// The constraint of half 0, which demands the atom, or of half 1, which forbids it.
+    fn constraint(&self, half: usize) -> String {
+        format!("1 0 0 0 1 {}{}", ["-", ""][half], self.atom)
+    }
 }

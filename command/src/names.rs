@@ -3,16 +3,17 @@
 
 use std::ffi::OsString;
 use std::path::{Path, PathBuf};
+use std::str::FromStr;
 
 use crate::files;
 use crate::outcome::Failure;
-use crate::rules::{Body, Rule};
+use crate::rules::{holds, Body, Rule};
 
 /// The most bytes of such a file.
 const LIMIT: usize = 1 << 24;
 
 /// How the first line of such a file begins; the digest stands behind it.
-const FIRST: &str = "names of atoms, written by aspdrupe ground, of the program with digest ";
+const FIRST: &str = "names of atoms, written by aspdrupe, of the program with digest ";
 
 /// A term, and the literals under which it is shown.
 #[derive(Debug, Clone, PartialEq, Eq)]
@@ -52,14 +53,14 @@ impl Names {
         Ok((names, None))
     }
 
-    /// Writes the names of the program with these bytes beside its file. Another file is not overwritten.
-    pub fn write_beside(&self, program: &Path, bytes: &[u8]) -> Result<(), Failure> {
+    /// The file of the names of the program with these bytes, and where it is to stand: beside the program's. Another file is not overwritten.
+    pub fn file_beside(&self, program: &Path, bytes: &[u8]) -> Result<(PathBuf, Vec<u8>), Failure> {
         let path = Names::path(program);
         if path.is_file() && !files::read(&path, FIRST.len())?.starts_with(FIRST.as_bytes()) {
             let why = "is no file of names that this command wrote, and is not overwritten: another place for -o";
             return Err(Failure::misuse(format!("{} {why}", path.display())));
         }
-        files::write(&path, format!("{}\n{}", first_line(bytes), self.text()).as_bytes())
+        Ok((path, format!("{}\n{}", first_line(bytes), self.text()).into_bytes()))
     }
 
     /// Where the names of a program's file stand.
@@ -92,6 +93,11 @@ impl Names {
         self.0.iter().find(named).map(|term| term.condition[0])
     }
 
+    /// The number that a word is, or that of the atom with that name.
+    pub fn number<T: FromStr + TryFrom<i32>>(&self, word: &str) -> Option<T> {
+        word.parse().ok().or_else(|| T::try_from(self.atom(word)?).ok())
+    }
+
     /// The terms that are shown whatever the set: facts, whose statements name no atom.
     pub fn facts(&self) -> impl Iterator<Item = &str> {
         self.0.iter().filter(|term| term.condition.is_empty()).map(|term| term.text.as_str())
@@ -113,9 +119,8 @@ impl Names {
         if self.is_empty() {
             return set.iter().map(u16::to_string).collect();
         }
-        let is_in = |atom: i32| u16::try_from(atom).is_ok_and(|atom| set.binary_search(&atom).is_ok());
-        let holds = |literal: &i32| is_in(literal.saturating_abs()) == (*literal > 0);
-        self.0.iter().filter(|term| term.condition.iter().all(holds)).map(|term| term.text.clone()).collect()
+        let is_shown = |term: &&Term| term.condition.iter().all(|literal| holds(*literal, set));
+        self.0.iter().filter(is_shown).map(|term| term.text.clone()).collect()
     }
 
     /// A rule by names.
@@ -180,6 +185,7 @@ mod tests {
         assert_eq!(names.shown(&[9]), ["f"]);
         assert_eq!(Names::default().shown(&[3, 5]), ["3", "5"]);
         assert_eq!((names.atom("a(1)"), names.atom("f"), names.atom("t")), (Some(1), None, None));
+        assert_eq!((names.number("a(1)"), names.number("-7"), names.number::<i16>("f")), (Some(1i16), Some(-7), None));
         assert_eq!([1, 3, 9].map(|atom| names.of(atom)), ["a(1)", "#3", "#9"]);
     }
 

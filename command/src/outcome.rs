@@ -5,7 +5,7 @@ use crate::json::Json;
 /// The exit status.
 #[derive(Debug, Clone, Copy, PartialEq, Eq)]
 pub enum Status {
-    /// 'inconsistent' or 'yes', or what was asked for is done.
+    /// 'inconsistent', 'yes' or 'cheapest', or what was asked for is done.
     Good = 0,
     /// The command cannot be carried out: arguments, files, tools.
     Misuse = 2,
@@ -31,6 +31,21 @@ impl Outcome {
     /// A text for people who asked for it.
     pub fn text(text: String) -> Outcome {
         Outcome { status: Status::Good, fields: vec![("text", Json::text(&text))], line: text, words: Vec::new() }
+    }
+
+    /// With a reason, in the words and as a field.
+    pub fn for_reason(mut self, why: String) -> Outcome {
+        self.fields.push(("reason", Json::text(&why)));
+        self.words.push(why);
+        self
+    }
+
+    /// With what another service says: in the words, and as a field.
+    pub fn explained_by(mut self, field: &'static str, service: &str, told: Outcome) -> Outcome {
+        self.words.push(format!("{service} says: {}", told.line));
+        self.words.extend(told.words);
+        self.fields.push((field, Json::Object(told.fields)));
+        self
     }
 }
 

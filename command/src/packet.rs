@@ -127,8 +127,7 @@ fn read(words: &Words) -> Result<Outcome, Failure> {
         PacketReading::Read { rules: count, bytes } => {
             proof.truncate(bytes);
             let text = program_text(&Program { atoms: 0, rules: count, table })?;
-            files::write(&to_program, text.as_bytes())?;
-            files::write(&to_proof, &proof)?;
+            files::write_together(&[(&to_program, text.as_bytes()), (&to_proof, &proof)])?;
             let words = vec![format!("{count} rules: {}; a proof of {bytes} bytes: {}", to_program.display(), to_proof.display())];
             let number = Json::Number(i64::from(version.number()));
             let fields = vec![("rules", Json::count(count)), ("bytes", Json::count(bytes)), ("version", number)];

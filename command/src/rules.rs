@@ -37,6 +37,12 @@ fn rule(words: &mut impl Iterator<Item = i32>) -> Rule {
     Rule { choice, heads, body }
 }
 
+/// Whether a literal holds in a set, which is ascending.
+pub fn holds(literal: i32, set: &[u16]) -> bool {
+    let is_in = u16::try_from(literal.saturating_abs()).is_ok_and(|atom| set.binary_search(&atom).is_ok());
+    is_in == (literal > 0)
+}
+
 impl Rule {
     /// The bodies of the plain rules that it stands for, each ascending by atom.
     pub fn bodies(&self) -> Vec<Vec<i32>> {
@@ -99,6 +105,13 @@ mod tests {
     pub fn read(lines: &[&str]) -> Vec<Rule> {
         let text = format!("asp 1 0 0\n{}\n0\n", lines.join("\n"));
         rules(&read_program(text.as_bytes(), 1_000).unwrap().unwrap())
+    }
+
+    #[test]
+    fn literals_of_a_set() {
+        let held = |literal: i32| holds(literal, &[1, 7, 32_768]);
+        assert!([1, 7, -2, 32_768, -40_000, -70_000, i32::MIN].into_iter().all(held));
+        assert!(![-1, -7, 2, -32_768, 40_000, 70_000, 65_543].into_iter().any(held));
     }
 
     #[test]

@@ -8,14 +8,14 @@ use crate::library::{self, Program};
 use crate::names::Names;
 use crate::outcome::{Failure, Outcome, Status};
 use crate::rules::{rules, Body, Rule};
-use crate::statements::Ground;
+use crate::statements::{as_it_is, Ground};
 use crate::{explain, source};
 
 pub const SUBCOMMAND: Subcommand = Subcommand {
     name: "test",
     form: "PROGRAM ATOM..",
     about: "Tests whether the atoms, and no others, are an answer set; if not, says which atom differs or which constraint is broken.",
-    more: "PROGRAM is a ground program or a plan. An ATOM is a number, or a name where the program has names;
+    more: "PROGRAM is a ground program, as the checker takes it, or a plan. An ATOM is a number, or a name where the program has names;
 without any it is the empty set. Facts are given by name all together, or by number. Prints
     yes
     no atom N        the lowest atom that lies in just one of the set and the least model of its reduct
@@ -29,10 +29,10 @@ and on the standard error on which side the atom lies, or the constraint with it
 };
 
 fn run(words: &Words) -> Result<Outcome, Failure> {
-    let ground = source::load(words.path(0)?)?;
+    let ground = source::load(words.path(0)?, as_it_is)?;
     let program = match library::read_program(&ground.text, library::EVERY_TABLE)? {
         Ok(program) => program,
-        Err(refusal) => return Ok(explain::ground(refusal, &ground)),
+        Err(refusal) => return source::refused(refusal, &ground, words.path(0)?),
     };
     let set = named(&words.texts_from(1), &program, &ground.names)?;
     let mut outcome = told(&set.atoms, &program, &ground)?;
@@ -79,8 +79,7 @@ pub fn told(set: &[u16], program: &Program, ground: &Ground) -> Result<Outcome, 
 /// The atoms that the words name; the name of a fact names none.
 fn set_of(words: &[String], names: &Names) -> Result<Vec<u16>, Failure> {
     let atom = |word: &String| {
-        let number = word.parse().ok().or_else(|| names.atom(word).and_then(|atom| u16::try_from(atom).ok()));
-        number.ok_or_else(|| Failure::misuse(format!("`{word}` is neither an atom's number nor a name that the program has")))
+        names.number(word).ok_or_else(|| Failure::misuse(format!("`{word}` is neither an atom's number nor a name that the program has")))
     };
     words.iter().filter(|word| !is_fact(word, names)).map(atom).collect()
 }

@@ -3,23 +3,20 @@
 use std::ffi::{OsStr, OsString};
 use std::path::Path;
 
+use aspdrupe::ProgramRefusal;
+
 use crate::files;
 use crate::names::Names;
-use crate::outcome::Failure;
-use crate::statements::{cut_down, Ground};
+use crate::outcome::{Failure, Outcome};
+use crate::statements::{cut_down, too_large, Ground, LIMIT};
 use crate::tools::Tool;
+use crate::{explain, library};
 
-const GRINGO: Tool = Tool { name: "gringo", package: "gringo" };
+const GRINGO: Tool = Tool { name: "gringo", package: "gringo", good: &[0] };
 
-/// The most bytes of a ground program, the statements that go included.
-const LIMIT: usize = 1 << 24;
-
-/// The ground program of a file. Beside one that is ground its names may stand.
-pub fn load(path: &Path) -> Result<Ground, Failure> {
+/// The program of a file. Of a plan it is what gringo makes of it, cut down; what is ground is taken as told, `as_it_is` or `cut_down`.
+pub fn load(path: &Path, taken: fn(&[u8]) -> Result<Ground, Failure>) -> Result<Ground, Failure> {
     let bytes = files::read(path, LIMIT)?;
-    if bytes.len() > LIMIT {
-        return Err(too_large());
-    }
     if !is_ground(path, &bytes) {
         let (text, complaints) = grounded(path, &bytes)?;
         let mut ground = cut_down(&text)?;
@@ -27,7 +24,7 @@ pub fn load(path: &Path) -> Result<Ground, Failure> {
         ground.notes.extend(complaints);
         return Ok(ground);
     }
-    let mut ground = cut_down(&bytes)?;
+    let mut ground = taken(&bytes)?;
     if ground.names.is_empty() {
         let (names, why) = Names::beside(path, &bytes)?;
         ground.names = names;
@@ -35,6 +32,20 @@ pub fn load(path: &Path) -> Result<Ground, Failure> {
         why.iter().for_each(|line| crate::say(line));
     }
     Ok(ground)
+}
+
+/// The refusal of a program that was loaded, and how it would be taken, where it is ground and has only to be cut down.
+pub fn refused(refusal: ProgramRefusal, ground: &Ground, path: &Path) -> Result<Outcome, Failure> {
+    let mut outcome = explain::ground(refusal, ground);
+    let cut = if ground.of_plan { None } else { cut_down(&ground.text).ok() };
+    if let Some(cut) = cut.filter(|cut| cut.text != ground.text) {
+        if library::read_program(&cut.text, library::EVERY_TABLE)?.is_ok() {
+            outcome
+                .words
+                .push(format!("`aspdrupe ground {} -o OUT.aspif` drops what cannot matter, and OUT.aspif is taken", path.display()));
+        }
+    }
+    Ok(outcome)
 }
 
 /// The ending decides, `.aspif` or `.lp`; where it is another, how the text begins.
@@ -46,16 +57,15 @@ fn is_ground(path: &Path, bytes: &[u8]) -> bool {
     }
 }
 
-fn too_large() -> Failure {
-    Failure::refused(format!("the program has more than {LIMIT} bytes: a smaller plan"))
-}
-
 /// The lines of gringo's complaints about a plan that it grounds all the same that are told.
 const MOST_COMPLAINTS: usize = 20;
 
 /// What gringo makes of a plan with these bytes, and what it complains of. It opens the file itself, for the sake of what the plan includes, where
 /// it would read the same bytes, and is handed the bytes where it would not.
 fn grounded(path: &Path, bytes: &[u8]) -> Result<(Vec<u8>, Vec<String>), Failure> {
+    if bytes.len() > LIMIT {
+        return Err(too_large());
+    }
     let (named, handed) = match files::reads_again(path) {
         // So that no file's name is an option.
         true if !path.is_absolute() => (Path::new(".").join(path).into_os_string(), &b""[..]),

@@ -1,20 +1,27 @@
 //! What a grounder writes (ASPIF), cut down to what the checker takes: rules stay, what decides nothing about which sets are answer sets goes,
 //! and what does decide about it and is not taken is refused.
 
+use std::collections::HashSet;
+
 use crate::names::Names;
 use crate::outcome::Failure;
 
+/// The most bytes of a ground program, the statements that go included.
+pub const LIMIT: usize = 1 << 24;
+
+pub fn too_large() -> Failure {
+    Failure::refused(format!("the program has more than {LIMIT} bytes: a smaller plan"))
+}
+
 /// A ground program.
-#[derive(Debug)]
+#[derive(Debug, Default)]
 pub struct Ground {
-    /// The text that the checker takes: header, rules, the line `0`.
+    /// The text that the library reads; cut down, it has the header, rules and the line `0`.
     pub text: Vec<u8>,
     /// For each of its lines, and for the place after the last, the line of the text that it came from, counted from 1.
     pub lines: Vec<usize>,
     /// Whether that text is what gringo made of a plan, and not the file's own.
     pub of_plan: bool,
-    /// Whether that text was another.
-    pub cut: bool,
     pub names: Names,
     /// What was dropped or changed, and why that cannot matter.
     pub notes: Vec<String>,
@@ -58,9 +65,21 @@ const REFUSED: [(&str, &str); 4] = [
     ("9", "a theory statement: what it means is not in the program; state it as rules"),
 ];
 
-/// Cuts a text down. Lines that are no statements stay as they are: the library refuses them, and says which.
+/// The text's own bytes, which the library takes or refuses as they are.
+pub fn as_it_is(text: &[u8]) -> Result<Ground, Failure> {
+    let lines = 1..=text.split(|byte| *byte == b'\n').count() + 1;
+    Ok(Ground { text: text.to_vec(), lines: lines.collect(), ..Ground::default() })
+}
+
+/// Cuts a text down. Lines that are no statements stay as they are: the library refuses them, and says which. Without a header there are none.
 pub fn cut_down(text: &[u8]) -> Result<Ground, Failure> {
-    let mut ground = Ground { text: Vec::new(), lines: Vec::new(), of_plan: false, cut: false, names: Names::default(), notes: Vec::new() };
+    if text.len() > LIMIT {
+        return Err(too_large());
+    }
+    if !text.starts_with(b"asp ") {
+        return as_it_is(text);
+    }
+    let mut ground = Ground::default();
     let mut dropped = [0; DROPPED.len()];
     let mut shortened = 0;
     let lines = text.split_inclusive(|byte| *byte == b'\n');
@@ -84,7 +103,6 @@ pub fn cut_down(text: &[u8]) -> Result<Ground, Failure> {
         ground.lines.push(place + 1);
     }
     ground.lines.push(lines.count() + 1);
-    ground.cut = ground.text != text;
     let counted = DROPPED.iter().zip(dropped).filter(|(_, count)| *count > 0);
     ground.notes.extend(counted.map(|((_, what, why), count)| format!("dropped, which cannot matter: {count} {what}; {why}")));
     if shortened > 0 {
@@ -115,26 +133,29 @@ fn fate(words: &[&str], line: usize) -> Result<Fate, Failure> {
     }
 }
 
-/// A rule with a plain body is a set of literals: one that is written twice counts once, and with its complement the body never holds.
+/// A rule with a plain body is a set of literals: one that is written twice counts once, and with its complement the body never holds. What is no
+/// rule but for that stays, and is refused.
 fn rule(words: &[&str], line: usize) -> Result<Fate, Failure> {
-    let Ok(numbers) = words.iter().map(|word| word.parse::<i64>()).collect::<Result<Vec<_>, _>>() else { return Ok(Fate::Stays) };
-    let [1, kind, count, ..] = numbers[..] else { return Ok(Fate::Stays) };
+    let numbers = words.iter().map(|word| word.parse().ok().filter(|number: &i64| number.to_string() == *word));
+    let Some(numbers) = numbers.collect::<Option<Vec<_>>>() else { return Ok(Fate::Stays) };
+    let [1, kind @ (0 | 1), count, ..] = numbers[..] else { return Ok(Fate::Stays) };
     if kind == 0 && count > 1 {
         let why = "a rule with a disjunctive head, which the checker does not take; shift it, where that keeps its answer sets, or choose";
         return Err(Failure::refused(format!("line {line} of the ground program is {why}")));
     }
     let body = usize::try_from(count).ok().and_then(|count| count.checked_add(3));
     let Some((before, [0, size, literals @ ..])) = body.and_then(|at| numbers.split_at_checked(at)) else { return Ok(Fate::Stays) };
-    if usize::try_from(*size) != Ok(literals.len()) {
+    let heads = &before[3..];
+    if usize::try_from(*size) != Ok(literals.len())
+        || heads.iter().any(|head| *head < 1)
+        || literals.contains(&0)
+        || heads.len() < kind as usize
+    {
         return Ok(Fate::Stays);
     }
-    let mut once: Vec<i64> = Vec::new();
-    for literal in literals {
-        if !once.contains(literal) {
-            once.push(*literal);
-        }
-    }
-    if once.iter().any(|literal| *literal != 0 && literal.checked_neg().is_some_and(|other| once.contains(&other))) {
+    let mut seen = HashSet::new();
+    let once: Vec<i64> = literals.iter().copied().filter(|literal| seen.insert(*literal)).collect();
+    if once.iter().any(|literal| literal.checked_neg().is_some_and(|other| seen.contains(&other))) {
         return Ok(Fate::Goes(NEVER));
     }
     if once.len() == literals.len() {
@@ -156,7 +177,6 @@ mod tests {
         let ground = cut_down(text).unwrap();
         assert_eq!(ground.text, b"asp 1 0 0\n1 0 1 1 0 0\n1 0 1 8 0 1 2\n1 0 0 1 2 1 3 2\n0\n");
         assert_eq!(ground.lines, [1, 2, 5, 8, 9, 10]);
-        assert!(ground.cut);
         assert_eq!([0, 3, 6, 7].map(|line| ground.line(line)), [0, 5, 10, 0]);
         assert_eq!(ground.names.of(1), "a");
         let parts = ["1 minimize", "1 comments", "1 rules with an atom and its negation", "1 rules that named"];
@@ -186,11 +206,14 @@ mod tests {
         for text in [
             &b""[..],
             b"\xff\n\xfe",
+            b"5 1 2\n10 note\n1 0 1 1 0 0\n0\n",
             b"asp 1 0 0\n1 0 1 1 0 9 1\nnoise\n\n0\nmore",
-            b"1 0 -1 0\n1 1 9223372036854775807 1\n1 0 0 0 1 -9223372036854775808\n1 1\n",
+            b"asp 1 0 0\n1 0 -1 0\n1 1 9223372036854775807 1\n1 0 0 0 1 -9223372036854775808\n1 1\n",
+            // What would be shorter, or go, if it were a rule.
+            b"asp 1 0 0\n1 0 1 8 0 2 02 +2\n1 7 1 8 0 2 2 2\n1 7 1 8 0 2 2 -2\n1 2 2 8 9 0 2 2 -2\n1 0 1 0 0 2 2 -2\n1 1 0 0 2 2 -2\n1 0 0 0 3 2 -2 0\n1 0 0 0 2 1 -01\n",
         ] {
             let ground = cut_down(text).unwrap();
-            assert!(ground.text == text && !ground.cut);
+            assert_eq!(ground.text, text);
         }
     }
 }

@@ -2,9 +2,10 @@
 
 use std::ffi::OsStr;
 use std::io::{self, BufRead, BufReader, Read, Write};
-use std::process::{Child, Command, Stdio};
+use std::process::{Command, Stdio};
 
 use crate::files::reason;
+use crate::interrupt::Running;
 use crate::outcome::Failure;
 
 /// The bytes of a tool's complaints that are kept.
@@ -14,6 +15,8 @@ const COMPLAINTS: u64 = 65_536;
 pub struct Tool {
     pub name: &'static str,
     pub package: &'static str,
+    /// The exit statuses of a run that came to its end.
+    pub good: &'static [i32],
 }
 
 /// How a tool ended.
@@ -28,27 +31,27 @@ impl Tool {
     /// Runs the tool on a text and goes through the lines that it writes, without their newlines. Where a line is not accepted, the tool is
     /// stopped.
     pub fn run(&self, arguments: &[&OsStr], text: &[u8], mut line: impl FnMut(&[u8]) -> Result<(), Failure>) -> Result<Ended, Failure> {
-        let mut child = self.start(arguments)?;
-        let (into, out, complaints) = (child.stdin.take(), child.stdout.take(), child.stderr.take());
+        let mut running = self.start(arguments)?;
+        let (into, out, complaints) = (running.into.take(), running.out.take(), running.complaints.take());
         let (gone, complaints) = std::thread::scope(|scope| {
             // A tool that ends early does not read all of its input: how it ends says what was wrong.
             scope.spawn(move || into.map(|mut pipe| pipe.write_all(text)));
             let said = scope.spawn(move || complaints.map(first_of));
             let gone = out.map_or(Ok(Ok(())), |pipe| each_line(pipe, &mut line));
             if gone.is_err() {
-                let _ = child.kill();
+                running.stop();
             }
             (gone, said.join().ok().flatten().unwrap_or_default())
         });
-        let ended = child.wait().map_err(|error| self.failed(&error))?;
+        let ended = running.ended(self.good).map_err(|error| self.failed(&error))?;
         gone?.map_err(|error| self.failed(&error))?;
         Ok(Ended { code: ended.code(), complaints })
     }
 
-    fn start(&self, arguments: &[&OsStr]) -> Result<Child, Failure> {
+    fn start(&self, arguments: &[&OsStr]) -> Result<Running, Failure> {
         let mut command = Command::new(self.name);
         command.args(arguments).stdin(Stdio::piped()).stdout(Stdio::piped()).stderr(Stdio::piped());
-        command.spawn().map_err(|error| match error.kind() {
+        Running::start(&mut command).map_err(|error| match error.kind() {
             io::ErrorKind::NotFound => {
                 Failure::misuse(format!("{} is not installed: it is in the Debian package `{}`", self.name, self.package))
             }
@@ -88,7 +91,7 @@ fn each_line(pipe: impl Read, line: &mut impl FnMut(&[u8]) -> Result<(), Failure
 mod tests {
     use super::*;
 
-    const CAT: Tool = Tool { name: "cat", package: "coreutils" };
+    const CAT: Tool = Tool { name: "cat", package: "coreutils", good: &[0] };
 
     #[test]
     fn lines_and_endings() {
@@ -105,7 +108,7 @@ mod tests {
 
     #[test]
     fn a_line_that_is_not_accepted_stops_it() {
-        let yes = Tool { name: "yes", package: "coreutils" };
+        let yes = Tool { name: "yes", package: "coreutils", good: &[0] };
         let mut count = 0;
         let stopped = yes.run(&[], b"", |_| {
             count += 1;
@@ -120,7 +123,7 @@ mod tests {
 
     #[test]
     fn a_tool_that_is_not_there() {
-        let none = Tool { name: "no-such-tool-anywhere", package: "nothing" };
+        let none = Tool { name: "no-such-tool-anywhere", package: "nothing", good: &[0] };
         let failure = none.run(&[], b"", |_| Ok(())).err().unwrap();
         assert_eq!(failure.message, "no-such-tool-anywhere is not installed: it is in the Debian package `nothing`");
     }

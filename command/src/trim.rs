@@ -36,7 +36,8 @@ fn run(words: &Words) -> Result<Outcome, Failure> {
         Trimming::RefusedProgram(refusal) => return Ok(explain::program(refusal, &program)),
         Trimming::Refused(question) => {
             let refusal = explain::question("trim", question.number(), question.to_string(), question.mend());
-            return explained(refusal, (&program, &proof), (table, store));
+            let check = explain::verdict(library::check_texts(&program, &proof, table, store)?, (&program, &proof), table);
+            return Ok(refusal.explained_by("check", "the check of the proof", check));
         }
         Trimming::Trimmed(bytes) => bytes,
     };
@@ -56,13 +57,4 @@ fn run(words: &Words) -> Result<Outcome, Failure> {
 /// The steps of a proof that is accepted: its lines.
 fn steps(proof: &[u8]) -> usize {
     proof.iter().filter(|byte| **byte == b'\n').count()
-}
-
-/// The refusal of a proof that is not accepted, with what the check says of it.
-fn explained(mut refusal: Outcome, texts: (&[u8], &[u8]), (table, store): (usize, usize)) -> Result<Outcome, Failure> {
-    let check = explain::verdict(library::check_texts(texts.0, texts.1, table, store)?, texts, table);
-    refusal.words.push(format!("the check of the proof says: {}", check.line));
-    refusal.words.extend(check.words);
-    refusal.fields.push(("check", Json::Object(check.fields)));
-    Ok(refusal)
 }

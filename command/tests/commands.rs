@@ -2,9 +2,12 @@
 //! a tool is asked for, a script stands in its place.
 
 use std::fs;
+use std::io::Read;
 use std::os::unix::fs::PermissionsExt;
+use std::os::unix::process::{CommandExt, ExitStatusExt};
 use std::path::{Path, PathBuf};
-use std::process::{Command, Output, Stdio};
+use std::process::{Child, Command, Output, Stdio};
+use std::time::{Duration, Instant};
 
 const EXAMPLES: &str = concat!(env!("CARGO_MANIFEST_DIR"), "/../examples");
 
@@ -113,7 +116,8 @@ fn a_refusal_with_its_line() {
 #[test]
 fn sets() {
     let room = Room::of("sets");
-    room.file("p.aspif", "asp 1 0 0\n1 1 2 1 2 0 0\n1 0 1 3 0 1 1\n1 0 0 0 2 2 -1\n4 1 a 1 1\n0\n");
+    room.file("raw.aspif", "asp 1 0 0\n1 1 2 1 2 0 0\n1 0 1 3 0 1 1\n1 0 0 0 2 2 -1\n4 1 a 1 1\n0\n");
+    assert_eq!(room.run(&["ground", "raw.aspif", "-o", "p.aspif"]).0, 0);
     let test = |words: &[&str]| room.run(&[&["test", "p.aspif"], words].concat());
     assert_eq!(test(&["3", "a", "1"]).1, "yes\n");
     let (status, out, said) = test(&["1"]);
@@ -131,7 +135,8 @@ fn sets() {
 #[test]
 fn sets_with_facts() {
     let room = Room::of("facts");
-    room.file("p.aspif", "asp 1 0 0\n1 0 1 1 0 0\n1 0 1 2 0 0\n1 1 1 3 0 0\n1 0 0 0 1 -3\n4 1 c 1 3\n4 1 a 0\n4 1 b 0\n0\n");
+    room.file("raw.aspif", "asp 1 0 0\n1 0 1 1 0 0\n1 0 1 2 0 0\n1 1 1 3 0 0\n1 0 0 0 1 -3\n4 1 c 1 3\n4 1 a 0\n4 1 b 0\n0\n");
+    assert_eq!(room.run(&["ground", "raw.aspif", "-o", "p.aspif"]).0, 0);
     let test = |words: &[&str]| room.run(&[&["test", "p.aspif"], words].concat());
     room.tool("cadical", "echo 's SATISFIABLE'; echo 'v 1 2 3 4 -5 0'; exit 10");
     let found = room.run(&["prove", "p.aspif"]).1;
@@ -238,8 +243,60 @@ fn merges() {
     assert!(said.ends_with("the merged proof has 167 bytes\n"), "{said}");
     assert_eq!(room.run(&["check", "p", "out"]).1, out);
     assert_eq!(room.run(&["merge", "p", "1", "1", "2", "--store", "123", "-o", "other"]).1, "refused merge 59\n");
-    assert_eq!(room.run(&["merge", "p", "1", "2", "1", "-o", "other"]).1, "refused merge 57\n");
     assert_eq!(room.files(), ["1", "2", "out", "p"]);
+}
+
+/// A program with five rules and more, the proofs of its halves at atom 1, and proofs that are refused and open.
+fn halves(name: &str, more: &str) -> Room {
+    let room = Room::of(name);
+    let rules = "1 1 2 1 2 0 0\n1 0 0 0 2 1 2\n1 0 0 0 2 1 -2\n1 0 0 0 2 -1 2\n1 0 0 0 2 -1 -2\n";
+    room.file("p", format!("asp 1 0 0\n{rules}{more}0\n"));
+    room.file("first", proof("b 3 -1  c 3  b 4 1 2  c 4  b 5 1 -2  c 5  a 2  a -2  a"));
+    room.file("second", proof("b 3 1  c 3  b 4 -1 2  c 4  b 5 -1 -2  c 5  a 2  a -2  a"));
+    room.file("wrong", proof("b 3 -1  c 4"));
+    room.file("open", proof("b 3 1 2"));
+    assert_eq!(room.run(&["merge", "p", "1", "first", "second"]).0, 0);
+    room
+}
+
+/// What is said of halves for which question 57 is answered no.
+fn not_accepted(room: &Room, atom: &str, first: &str, second: &str) -> String {
+    let (status, out, said) = room.run(&["merge", "p", atom, first, second, "-o", "out"]);
+    assert_eq!((status, out.as_str()), (20, "refused merge 57\n"));
+    assert_eq!(room.files(), ["first", "open", "p", "second", "wrong"]);
+    said
+}
+
+// Question 57 names neither the atom nor a half: the check of each half does.
+#[test]
+fn halves_that_are_not_accepted() {
+    let room = halves("halves", "");
+    let check = |half: &str, added: &str| format!("the check of the {half} half, the program with `{added}` added, says: ");
+    let (of_first, of_second) = (check("first", "1 0 0 0 1 -1"), check("second", "1 0 0 0 1 1"));
+    let said = not_accepted(&room, "1", "wrong", "second");
+    assert!(said.contains(&format!("{of_first}refused proof 26 2\nstep 2 of the proof, column 3:\n    c 4 0\n")), "{said}");
+    assert!(!said.contains(&of_second) && !said.contains("the other way round"), "{said}");
+    let said = not_accepted(&room, "1", "first", "open");
+    assert!(said.contains(&format!("{of_second}open 2 6 1 3\n")) && !said.contains(&of_first), "{said}");
+    let said = not_accepted(&room, "1", "second", "first");
+    let both = [of_first, of_second].map(|of| format!("{of}refused proof 28 1\n"));
+    assert!(both.iter().all(|line| said.contains(line)), "{said}");
+    assert!(said.ends_with("\nthe other way round both are accepted: FIRST is the half that demands the atom\n"), "{said}");
+    let (_, out, _) = room.run(&["merge", "p", "1", "wrong", "second", "--json"]);
+    assert!(out.contains(r#", "first": {"refused": "proof", "number": 26, "step": 2, "#) && !out.contains(r#""second""#), "{out}");
+}
+
+#[test]
+fn halves_that_are_none() {
+    let room = halves("none", "");
+    for atom in ["0", "3"] {
+        assert!(not_accepted(&room, atom, "first", "second").ends_with(&format!("\n{atom} is no atom of the program; its largest is 2\n")));
+    }
+    let (_, out, _) = room.run(&["merge", "p", "3", "first", "second", "--json"]);
+    assert!(out.ends_with(", \"reason\": \"3 is no atom of the program; its largest is 2\"}\n"), "{out}");
+    // With a constraint more it has 1,025 rules, which a check of its own refuses.
+    let room = halves("many", &"1 0 0 0 1 2\n".repeat(1_019));
+    assert!(not_accepted(&room, "1", "open", "second").contains("\nwhich half it is cannot be told: "));
 }
 
 /// A program with the answer sets {1}, {2} and {1, 2}, and the proof that none costs less than 3 where 1 costs 3 and 2 costs 5.
@@ -280,6 +337,8 @@ fn cheapest_sets() {
     assert!(cheapest("p q --set 1 --costs 1=3 2=5").2.starts_with("an answer set: 1\nit costs 3, and no answer set costs less"));
     assert!(cheapest("p q --set 1 --costs 3=1").2.ends_with("\n3 is over no atom of the program, whose largest is 2\n"));
     assert!(cheapest("p q --set 1 2 --costs 1=4000 2=96").2.ends_with("\nthe set costs 4096\n"));
+    let many = format!("p q --set 1 --costs {} --json", "1=32767 ".repeat(70_000).trim_end());
+    assert!(cheapest(&many).1.ends_with("\"reason\": \"70000 literals have a cost\"}\n"));
     let json = cheapest("p q --set 1 --costs 1=3 2=5 --json").1;
     assert_eq!(json, "{\"command\": \"cheapest\", \"status\": 0, \"answer\": \"cheapest\", \"cost\": 3, \"shown\": [\"1\"]}\n");
     assert_eq!(room.files(), ["bad.aspif", "p", "q"]);
@@ -307,7 +366,10 @@ fn why_a_set_is_not_certified() {
     // With the restriction it would be a text with 1,025 rules.
     room.file("many", format!("asp 1 0 0\n1 1 1 1 0 0\n{}0\n", "1 0 0 0 2 1 2\n".repeat(1_023)));
     let (status, _, said) = cheapest("many q --set 1 --costs 1=3");
-    assert!(status == 20 && said.contains("beyond a limit of texts"), "{said}");
+    assert!(
+        status == 20 && said.contains("\nwhat is wrong with the proof cannot be told: ") && said.ends_with(" (question 9)\n"),
+        "{said}"
+    );
     assert_eq!(room.files(), ["many", "open", "p", "q"]);
 }
 
@@ -315,7 +377,8 @@ fn why_a_set_is_not_certified() {
 #[test]
 fn from_costs_to_a_certificate() {
     let room = Room::of("costs");
-    room.file("p.aspif", EITHER.replace("\n0\n", "\n4 4 a(1) 1 1\n4 3 b=c 1 2\n4 1 f 0\n0\n"));
+    room.file("raw.aspif", EITHER.replace("\n0\n", "\n4 4 a(1) 1 1\n4 3 b=c 1 2\n4 1 f 0\n0\n"));
+    assert_eq!(room.run(&["ground", "raw.aspif", "-o", "p.aspif"]).0, 0);
     let cheapest = |words: &[&str]| room.run(&[&["cheapest", "p.aspif"], words].concat());
     let of_a = ["--set", "a(1)", "--costs", "a(1)=3", "b=c=5"];
     let (status, out, said) = cheapest(&[&of_a[..], &["-o", "r.aspif"]].concat());
@@ -336,7 +399,10 @@ fn from_costs_to_a_certificate() {
     assert_eq!(cheapest(&["--set", "a(1)", "b=c", "--costs", "not b=c=5"]).1, "cheapest 0\n");
     assert_misuse(cheapest(&["--set", "c", "--costs", "a(1)=3"]), "`c` is neither");
     assert_misuse(cheapest(&["--set", "a(1)", "--costs", "-a(1)=3"]), "`-a(1)` in `-a(1)=3` is over neither");
-    assert_eq!(room.files(), ["p.aspif", "q", "r.aspif", "r.aspif.names"]);
+    for (place, part) in [("r.names", "is a place for names"), ("no/such/folder", "cannot be written"), (".", "cannot be written")] {
+        assert_misuse(cheapest(&[&of_a[..], &["-o", place]].concat()), part);
+    }
+    assert_eq!(room.files(), ["p.aspif", "p.aspif.names", "q", "r.aspif", "r.aspif.names", "raw.aspif"]);
 }
 
 #[test]
@@ -371,12 +437,32 @@ fn misuse() {
     ] {
         assert_misuse(room.run(words), part);
     }
+}
+
+#[test]
+fn json_and_help_everywhere() {
+    let room = Room::of("everywhere");
+    room.file("p", NONE);
     let (status, out, _) = room.run(&["check", "p", "missing", "--json"]);
     assert!(status == 2 && out.starts_with(r#"{"command": "check", "status": 2, "error": "missing cannot"#), "{out}");
-    for words in [&["--help"][..], &["prove", "--help"], &["packet", "x", "-h"], &["--version"]] {
+    for (words, part) in [
+        (&["--help"][..], "aspdrupe: from a program"),
+        (&["help"], "aspdrupe: from a program"),
+        (&["prove", "--help"], "aspdrupe prove PLAN.lp|PROGRAM.aspif "),
+        (&["help", "prove"], "aspdrupe prove PLAN.lp|PROGRAM.aspif "),
+        (&["packet", "x", "-h"], "aspdrupe packet write "),
+        (&["--version"], "aspdrupe "),
+        (&["--json", "--help"], r#"{"command": "", "status": 0, "text": "aspdrupe: from"#),
+        (&["test", "--json", "--help"], r#"{"command": "test", "status": 0, "text": "aspdrupe test "#),
+    ] {
         let (status, out, said) = room.run(words);
-        assert!(status == 0 && out.contains("aspdrupe") && said.is_empty(), "{words:?}");
+        assert!(status == 0 && out.starts_with(part) && said.is_empty(), "{words:?} {out}");
     }
+    // Before the subcommand or behind it, but no operand.
+    room.file("--json", "");
+    assert!(room.run(&["--json", "check", "p", "missing"]).1.starts_with(r#"{"command": "check", "status": 2"#));
+    assert_eq!(room.run(&["check", "--", "p", "--json"]).1, "open 1 1 0 0\n");
+    assert_misuse(room.run(&["--table", "check"]), "no subcommand `--table`");
 }
 
 #[test]
@@ -384,6 +470,7 @@ fn noise_and_limits() {
     let room = Room::of("noise");
     let noise: Vec<u8> = (0..10_000_000u32).map(|place| (place.wrapping_mul(2_654_435_761) >> 13) as u8).collect();
     room.file("noise", &noise);
+    room.file("noise.aspif", [b"noise\n5 1 2\n", &noise[..]].concat());
     room.file("p", NONE);
     let rules = "1 0 0 0 1 1\n".repeat(1_025);
     room.file("many", format!("asp 1 0 0\n{rules}0\n"));
@@ -394,6 +481,8 @@ fn noise_and_limits() {
         (&["test", "many"], 20, "refused program 9 1026\n"),
         (&["prove", "many"], 20, "refused program 9 1026\n"),
         (&["ground", "many", "-o", "out"], 20, "refused program 9 1026\n"),
+        (&["prove", "noise.aspif", "-o", "out"], 20, "refused program 1 0\n"),
+        (&["ground", "noise.aspif", "-o", "out"], 20, "refused program 1 0\n"),
         (&["cheapest", "p", "noise", "--set", "1"], 20, "refused cheapest 63\n"),
         (&["packet", "read", "noise", "--program", "out", "--proof", "out2"], 20, "refused packet 51\n"),
         (&["packet", "up", "noise", "-o", "out"], 20, "refused packet 51\n"),
@@ -405,7 +494,7 @@ fn noise_and_limits() {
         let (ended, out, said) = room.run(words);
         assert_eq!((ended, out.as_str()), (status, line), "{words:?} {said}");
     }
-    assert_eq!(room.files(), ["many", "noise", "p"]);
+    assert_eq!(room.files(), ["many", "noise", "noise.aspif", "p"]);
 }
 
 #[test]
@@ -471,7 +560,13 @@ fn the_ending_says_what_is_ground() {
     room.tool("gringo", "echo 'asp 1 0 0'; echo 0");
     for text in ["", "a.", "asp 2 0 0\n0\n"] {
         room.file("p.aspif", text);
-        for words in [&["prove", "p.aspif"][..], &["test", "p.aspif"], &["ground", "p.aspif"], &["check", "p.aspif", "p.aspif"]] {
+        for words in [
+            &["prove", "p.aspif"][..],
+            &["test", "p.aspif"],
+            &["cheapest", "p.aspif"],
+            &["ground", "p.aspif"],
+            &["check", "p.aspif", "p.aspif"],
+        ] {
             let (status, out, _) = room.run(words);
             assert_eq!((status, out.as_str()), (20, "refused program 2 1\n"), "{words:?} {text:?}");
         }
@@ -493,9 +588,14 @@ fn what_is_ground() {
     let (status, out, said) = room.run(&["ground", "plan.lp", "-o", "out.aspif"]);
     assert_eq!((status, out.as_str()), (0, "ground 1 1\n"));
     assert!(said.starts_with("dropped, which cannot matter: 1 minimize statements; "), "{said}");
+    assert!(said.ends_with("\n1 output statements, which name atoms, are kept beside it\n"), "{said}");
     assert_eq!(fs::read_to_string(room.0.join("out.aspif")).unwrap(), "asp 1 0 0\n1 1 1 1 0 0\n0\n");
     assert_eq!(room.run(&["test", "out.aspif", "a"]).2, "an answer set: a\n");
-    assert_eq!(room.run(&["ground", "plan.lp"]).1, "asp 1 0 0\n1 1 1 1 0 0\n0\n");
+    for words in [&["ground", "plan.lp"][..], &["ground", "plan.lp", "-o", "/dev/stdout"]] {
+        let (_, out, said) = room.run(words);
+        assert!(out.starts_with("asp 1 0 0\n1 1 1 1 0 0\n0\n"), "{out}");
+        assert!(said.contains("\ndropped, which cannot matter: 1 output statements; "), "{said}");
+    }
     assert_eq!(room.files(), ["out.aspif", "out.aspif.names", "plan.lp"]);
 }
 
@@ -562,8 +662,27 @@ fn outputs_that_cannot_be_written() {
     assert_misuse(room.run(&["prove", "p.aspif", "-o", "no/such/folder"]), "cannot be written: No such file");
     assert_eq!(room.files(), ["p.aspif"]);
     let full = fs::OpenOptions::new().write(true).open("/dev/full").unwrap();
-    let (status, _, said) = ended(room.command(&["check", "p.aspif", "p.aspif"]).stdout(full).output().unwrap());
-    assert!(status == 2 && said.contains("the answer cannot be written: No space left"), "{said}");
+    let (status, _, said) = ended(room.command(&["prove", "p.aspif"]).stdout(full).output().unwrap());
+    assert_eq!((status, said.as_str()), (2, "the answer cannot be written: No space left on device\n"));
+    // Of two outputs both are written or none.
+    room.file("d", "a 0\n");
+    assert_eq!(room.run(&["packet", "write", "p.aspif", "d", "-o", "packet"]).0, 0);
+    for proof in ["no/such/folder", ".", "/dev/full"] {
+        assert_misuse(room.run(&["packet", "read", "packet", "--program", "new", "--proof", proof]), "cannot be written");
+    }
+    assert_eq!(room.files(), ["d", "p.aspif", "packet"]);
+}
+
+// Where both go to one place, the result comes first.
+#[test]
+fn results_before_words() {
+    let room = Room::of("order");
+    room.file("p", NONE);
+    room.file("d", "");
+    let both = fs::File::create(room.0.join("both")).unwrap();
+    let status = room.command(&["check", "p", "d"]).stdout(both.try_clone().unwrap()).stderr(both).status().unwrap();
+    assert_eq!(status.code(), Some(10));
+    assert!(fs::read_to_string(room.0.join("both")).unwrap().starts_with("open 1 1 0 0\nevery step is good"));
 }
 
 /// Atoms in rows: the first row is demanded, each row demands the next, and the last is forbidden. Every rule is needed.
@@ -600,21 +719,61 @@ fn proofs_beyond_the_limits() {
 #[test]
 fn what_a_proof_is_of() {
     let room = Room::of("proof-of");
-    let raw = "asp 1 0 0\n1 0 1 1 0 1 -1\n4 1 a 1 1\n0\n";
     room.file("plan.lp", "a :- not a.");
-    room.file("raw.aspif", raw);
     room.file("none.aspif", NONE);
-    room.tool("gringo", &format!("printf '{}'", raw.replace('\n', "\\n")));
+    room.tool("gringo", "printf 'asp 1 0 0\\n1 0 1 1 0 1 -1\\n4 1 a 1 1\\n0\\n'");
     room.tool("cadical", "echo '-1 0'; echo 0; exit 20");
     for (name, of) in [
         ("plan.lp", "\nthe proof is of the ground program, which `aspdrupe ground plan.lp -o OUT.aspif` writes\n"),
-        ("raw.aspif", "\nthe proof is of the program as it was cut down, which `aspdrupe ground raw.aspif -o OUT.aspif` writes\n"),
         ("none.aspif", "and needs a store of 21 words\n"),
     ] {
         let (status, out, said) = room.run(&["prove", name, "-o", "d"]);
         assert_eq!((status, out.as_str()), (0, "inconsistent 1 1 5 6\n"));
         assert!(said.ends_with(of), "{said}");
     }
+}
+
+// What the library refuses of a ground file `prove`, `test` and `cheapest` refuse too, with the line that `check` prints.
+#[test]
+fn a_ground_file_is_taken_as_it_is() {
+    let room = Room::of("as-it-is");
+    room.file("d", "");
+    for line in [
+        "1 0 1 2 0 2 02 +2",
+        "1 7 1 2 0 2 3 3",
+        "1 7 1 2 0 2 3 -3",
+        "1 0 1 2 0 2 3 -3",
+        "1 0 1 2 0 2 3 3",
+        "1 0 2 1 2 0 0",
+        "2 0 1 6 1",
+        "4 1 a 1 1",
+        "5 1 2",
+        "10 note",
+        "noise",
+    ] {
+        room.file("p.aspif", format!("asp 1 0 0\n1 0 1 1 0 1 -1\n{line}\n0\n"));
+        let (status, refused, _) = room.run(&["check", "p.aspif", "d"]);
+        assert!(status == 20 && refused.starts_with("refused program ") && refused.ends_with(" 3\n"), "{line} {refused}");
+        for words in [&["prove", "p.aspif"][..], &["test", "p.aspif", "1"], &["cheapest", "p.aspif", "--set", "1"]] {
+            let (status, out, said) = room.run(words);
+            assert_eq!((status, out), (20, refused.clone()), "{words:?} {line}");
+            // `ground` mends some of them.
+            let (mended, _, _) = room.run(&["ground", "p.aspif"]);
+            let told = said.ends_with("\n`aspdrupe ground p.aspif -o OUT.aspif` drops what cannot matter, and OUT.aspif is taken\n");
+            assert_eq!(mended == 0, told, "{line} {said}");
+        }
+    }
+    for text in
+        ["", "asp 1 0 0", "asp 1 0 0\n", "asp 1 0 0\n1 1 1 1 0 0\n", "asp 1 0 0\n0", "asp 1 0 0\n0\n0\n", "asp 1 0 0\n0\n4 1 a 1 1\n"]
+    {
+        room.file("p.aspif", text);
+        let (_, refused, _) = room.run(&["check", "p.aspif", "d"]);
+        assert!(refused.starts_with("refused program "), "{text:?}");
+        assert_eq!(room.run(&["prove", "p.aspif"]).1, refused, "{text:?}");
+    }
+    room.file("long.aspif", vec![b' '; (1 << 24) + 2]);
+    assert_eq!(room.run(&["prove", "long.aspif"]).1, "refused program 1 0\n");
+    assert_eq!(room.files(), ["d", "long.aspif", "p.aspif"]);
 }
 
 // A refusal names the line of the file given, or of what gringo wrote.
@@ -626,16 +785,16 @@ fn lines_of_the_text_given() {
     room.file("raw.aspif", raw);
     room.file("ends.aspif", "asp 1 0 0\n10 note\n1 0 1 1 0 0\n10 note\n");
     room.tool("gringo", &format!("printf '{}'", raw.replace('\n', "\\n")));
-    for way in ["prove", "test", "ground"] {
-        let (status, out, said) = room.run(&[way, "raw.aspif"]);
-        assert_eq!((status, out.as_str()), (20, "refused program 4 4\n"), "{way}");
-        assert!(said.contains("line 4 of the program, column 7:\n    1 0 1 9000 0 0\n"), "{said}");
+    let (status, out, said) = room.run(&["ground", "raw.aspif"]);
+    assert_eq!((status, out.as_str()), (20, "refused program 4 4\n"));
+    assert!(said.contains("line 4 of the program, column 7:\n    1 0 1 9000 0 0\n"), "{said}");
+    assert_eq!(room.run(&["ground", "ends.aspif"]).1, "refused program 3 5\n");
+    for way in ["prove", "test", "cheapest", "ground"] {
         let (_, out, said) = room.run(&[way, "plan.lp"]);
         assert_eq!(out, "refused program 4 4\n", "{way}");
         assert!(said.contains("line 4 of the ground program, column 7:\n"), "{said}");
-        assert_eq!(room.run(&[way, "ends.aspif"]).1, "refused program 3 5\n", "{way}");
     }
-    assert!(room.run(&["test", "raw.aspif", "--json"]).1.contains(r#""line": 4, "column": 7"#));
+    assert!(room.run(&["test", "plan.lp", "--json"]).1.contains(r#""line": 4, "column": 7"#));
 }
 
 #[test]
@@ -673,21 +832,145 @@ fn inputs_are_not_written_over() {
     assert_eq!(room.files(), ["1", "d", "folder", "link", "p.aspif", "packet"]);
 }
 
+/// The command as a process group of its own, with signals as a terminal's foreground has them, also where the tests are run in the background.
+fn in_foreground(room: &Room, words: &[&str]) -> Child {
+    let mut command = Command::new("/usr/bin/env");
+    command.args(["--default-signal=HUP,INT,TERM", env!("CARGO_BIN_EXE_aspdrupe")]).args(words);
+    command.current_dir(&room.0).env("PATH", room.0.join("tools")).process_group(0);
+    command.stdin(Stdio::null()).stdout(Stdio::piped()).stderr(Stdio::piped()).spawn().unwrap()
+}
+
+extern "C" {
+    fn kill(to: i32, signal: i32) -> i32;
+}
+
+const HUP: i32 = 1;
+const INT: i32 = 2;
+const TERM: i32 = 15;
+const CONT: i32 = 18;
+const STOP: i32 = 19;
+
+/// Sends a signal to a process that was started here, or to its group.
+fn send(signal: i32, running: &Child, to_group: bool) {
+    let number = running.id() as i32;
+    // SAFETY: it touches no memory of ours.
+    assert_eq!(unsafe { kill(if to_group { -number } else { number }, signal) }, 0);
+}
+
+fn wait_until(is_so: impl Fn() -> bool) {
+    let started = Instant::now();
+    while !is_so() {
+        assert!(started.elapsed() < Duration::from_secs(60));
+        std::thread::sleep(Duration::from_micros(200));
+    }
+}
+
+const INTERRUPTED: &str = "interrupted: there is no answer, and no file is left half-written\n";
+
 #[test]
-fn interrupted_while_solving() {
+fn interrupted_while_a_tool_runs() {
     let room = Room::of("interrupted");
     room.file("p.aspif", NONE);
-    let started = room.0.join("tools/started");
-    room.tool("cadical", &format!("echo >'{}'\nexec /bin/sleep 5", started.display()));
-    let mut running = room.command(&["prove", "p.aspif", "-o", "out"]).stderr(Stdio::null()).stdout(Stdio::null()).spawn().unwrap();
-    while !Path::new(&started).exists() {
-        std::thread::sleep(std::time::Duration::from_millis(5));
+    room.file("plan.lp", "a.");
+    let number = room.0.join("tools/number");
+    for tool in ["gringo", "cadical"] {
+        room.tool(tool, &format!("echo $$ >'{0}.new'; /bin/mv '{0}.new' '{0}'; exec /bin/sleep 60", number.display()));
     }
-    let killed = Command::new("/bin/kill")
-        .args(["-INT", &running.id().to_string()])
-        .status()
-        .or_else(|_| Command::new("/bin/sh").args(["-c", &format!("kill -INT {}", running.id())]).status());
-    assert!(killed.unwrap().success());
-    assert_eq!(running.wait().unwrap().code(), None);
-    assert_eq!(room.files(), ["p.aspif"]);
+    // A ctrl-C at a terminal goes to the whole group.
+    for (way, file, signal, to_group) in [
+        ("prove", "p.aspif", INT, false),
+        ("prove", "plan.lp", INT, false),
+        ("prove", "p.aspif", INT, true),
+        ("cheapest", "plan.lp", INT, true),
+        ("prove", "plan.lp", TERM, true),
+        ("prove", "p.aspif", HUP, false),
+    ] {
+        let running = in_foreground(&room, &[way, file, "-o", "out", "--json"]);
+        wait_until(|| number.exists());
+        let tool = fs::read_to_string(&number).unwrap();
+        let started = Instant::now();
+        send(signal, &running, to_group);
+        let output = running.wait_with_output().unwrap();
+        assert!(started.elapsed() < Duration::from_secs(30));
+        assert_eq!(output.status.signal(), Some(signal), "{file}");
+        let (_, out, said) = ended(output);
+        assert_eq!(said, INTERRUPTED);
+        let error = INTERRUPTED.trim_end();
+        assert_eq!(out, format!("{{\"command\": \"{way}\", \"status\": {}, \"error\": \"{error}\"}}\n", 128 + signal));
+        assert!(!Path::new("/proc").join(tool.trim()).exists(), "{file} {signal}");
+        assert_eq!(room.files(), ["p.aspif", "plan.lp"]);
+        fs::remove_file(&number).unwrap();
+    }
+}
+
+// The names are long enough to be met while they are written.
+#[test]
+fn interrupted_while_writing() {
+    let room = Room::of("writing");
+    let names: String = (0..30_000).map(|place| format!("4 149 {} 1 1\n", format!("a{place:06}").repeat(22).split_at(149).0)).collect();
+    room.file("raw.aspif", format!("asp 1 0 0\n1 1 1 1 0 0\n{names}0\n"));
+    let hidden = |name: &String| name.starts_with('.');
+    let mut met = 0;
+    for _ in 0..20 {
+        let mut running = in_foreground(&room, &["ground", "raw.aspif", "-o", "out"]);
+        wait_until(|| room.files().iter().any(hidden) || has_ended(&running));
+        send(STOP, &running, false);
+        met += usize::from(room.files().iter().any(hidden));
+        send(INT, &running, false);
+        send(CONT, &running, false);
+        running.wait().unwrap();
+        let files = room.files();
+        assert!(!files.iter().any(hidden), "{files:?}");
+        for file in files.iter().filter(|file| *file != "raw.aspif") {
+            fs::remove_file(room.0.join(file)).unwrap();
+        }
+        if met == 2 {
+            return;
+        }
+    }
+    panic!("it was met {met} times");
+}
+
+// Where an answer is being read, it is not said that there is none.
+#[test]
+fn interrupted_while_the_answer_is_shown() {
+    let room = Room::of("shown");
+    let rule = format!("1 1 11{} 0 0\n", (1_000..1_011).map(|atom| format!(" {atom}")).collect::<String>());
+    room.file("p.aspif", format!("asp 1 0 0\n{}0\n", rule.repeat(990)));
+    let mut running = in_foreground(&room, &["ground", "p.aspif", "--json"]);
+    // It is longer than a pipe holds, so that it waits for its reader.
+    let mut out = running.stdout.take().unwrap();
+    out.read_exact(&mut [0]).unwrap();
+    send(INT, &running, false);
+    wait_until(|| has_ended(&running));
+    let output = running.wait_with_output().unwrap();
+    assert_eq!((output.status.signal(), output.stderr), (Some(INT), Vec::new()));
+}
+
+/// Whether a process has ended; it may still be waited for.
+fn has_ended(running: &Child) -> bool {
+    fs::read_to_string(format!("/proc/{}/stat", running.id())).map_or(true, |stat| stat.contains(") Z "))
+}
+
+// As `nohup` and the background of a script have it.
+#[test]
+fn a_signal_that_was_ignored_stays_so() {
+    let room = Room::of("ignored");
+    room.file("p.aspif", NONE);
+    let (started, go_on) = (room.0.join("tools/started"), room.0.join("tools/go-on"));
+    let script = format!(
+        "echo >'{}'; until [ -e '{}' ]; do /bin/sleep 0.01; done; echo '-1 0'; echo 0; exit 20",
+        started.display(),
+        go_on.display()
+    );
+    room.tool("cadical", &script);
+    let mut command = Command::new("/usr/bin/env");
+    command.args(["--ignore-signal=HUP,INT", env!("CARGO_BIN_EXE_aspdrupe"), "prove", "p.aspif"]);
+    command.current_dir(&room.0).env("PATH", room.0.join("tools")).stdin(Stdio::null()).stdout(Stdio::piped()).stderr(Stdio::piped());
+    let running = command.spawn().unwrap();
+    wait_until(|| started.exists());
+    send(INT, &running, false);
+    send(HUP, &running, false);
+    fs::write(go_on, "").unwrap();
+    assert_eq!(ended(running.wait_with_output().unwrap()).1, "inconsistent 1 1 5 6\n");
 }

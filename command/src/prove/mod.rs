@@ -22,7 +22,7 @@ use crate::names::Names;
 use crate::outcome::{Failure, Outcome, Status};
 use crate::progress::{Part, Progress};
 use crate::rules::rules;
-use crate::statements::Ground;
+use crate::statements::{as_it_is, Ground};
 use crate::{explain, source};
 use completion::Completion;
 use solver::Found;
@@ -81,10 +81,10 @@ fn run(words: &Words) -> Result<Outcome, Failure> {
     let (table, store) = (words.room("--table")?, words.room("--store")?);
     let mut times = Times::default();
     let progress = Progress::start();
-    let ground = timed(&mut times.grounding, || source::load(words.path(0)?))?;
+    let ground = timed(&mut times.grounding, || source::load(words.path(0)?, as_it_is))?;
     let program = match library::read_program(&ground.text, table)? {
         Ok(program) => program,
-        Err(refusal) => return Ok(explain::ground(refusal, &ground)),
+        Err(refusal) => return source::refused(refusal, &ground, words.path(0)?),
     };
     progress.begin(Part::Solving);
     let mut completion = Completion::of(&rules(&program), program.atoms);
@@ -107,14 +107,10 @@ fn run(words: &Words) -> Result<Outcome, Failure> {
     Ok(outcome)
 }
 
-/// What a proof is of, and how to keep it, where that is not the file's own text.
+/// What a proof of a plan is of, and how to keep that.
 fn proved(ground: &Ground, path: &Path) -> Option<String> {
-    let of = match (ground.of_plan, ground.cut) {
-        (true, _) => "the ground program",
-        (_, true) => "the program as it was cut down",
-        _ => return None,
-    };
-    Some(format!("the proof is of {of}, which `aspdrupe ground {} -o OUT.aspif` writes", path.display()))
+    let said = || format!("the proof is of the ground program, which `aspdrupe ground {} -o OUT.aspif` writes", path.display());
+    ground.of_plan.then(said)
 }
 
 fn timed<T>(time: &mut Duration, work: impl FnOnce() -> T) -> T {

@@ -6,7 +6,7 @@ use crate::outcome::Failure;
 use crate::progress::Progress;
 use crate::tools::Tool;
 
-const CADICAL: Tool = Tool { name: "cadical", package: "cadical" };
+const CADICAL: Tool = Tool { name: "cadical", package: "cadical", good: &[10, 20] };
 
 /// The literals of a log that are kept: no proof within the limits needs near as many.
 const MOST_LITERALS: usize = 30_000_000;
