@@ -2,8 +2,9 @@
 // nogoods that it went by, and `replay` decides. All that it keeps from step to step stands in the cells that it is lent, read and written by total
 // functions, so that no function here asks for anything but small numbers. Cells of zeros are a right start.
 //
-// A literal's code is the number itself modulo 16,384, found without a branch on its sign; 0 stands for a literal that is true in every nogood. A node
-// is 1 + 2 · place + (0 or 1), for the first and the second watch of the nogood at a place; 0 ends a chain. A place that may be none is one more, or 0.
+// A literal's code is the number itself modulo 16,384, found without a branch on its sign; 0 stands for a literal that is true in every nogood, and no
+// literal has the code 8,192. A node is 1 + 2 · place + (0 or 1), for the first and the second watch of the nogood at a place; 0 ends a chain. A place
+// that may be none is one more, or 0.
 //
 // The root is what is true without any assumption. Where a nogood has a literal that the root makes false, it is not to be looked at as long as the
 // root stays: its watches wait in the chain of that literal, which is not gone through.
@@ -32,7 +33,8 @@ const REASON: usize = 73728;
 
 const BLOCKS: usize = 81920;
 
-// How many are true; how many of them were propagated; a nogood that the root violates, and whether the path leads to it; where the path begins.
+// How many are true; how many of them were propagated; a nogood that the root violates, and whether the path leads to it; where the path begins; the
+// first place of a nogood that died since the store was closed up; before which place the nogoods stayed where they were then.
 const COUNT: usize = 82048;
 
 const DONE: usize = 82049;
@@ -41,8 +43,12 @@ const HINT: usize = 82050;
 
 pub const FIRST: usize = 82051;
 
+const DEAD: usize = 82052;
+
+const KEPT: usize = 82053;
+
 // All cells.
-pub const CELLS: usize = 82052;
+pub const CELLS: usize = 82054;
 
 // What is added to the place that gave a literal where the path needs that.
 const NEEDED: usize = 32768;
@@ -105,11 +111,14 @@ fn code_of(word: i32) -> usize
     ((word as i64) + 4294967296) as usize % 16384
 }
 
-// The code of the complement.
+// The code of the complement; of 0, a code that is never true.
 fn opposite(c: usize) -> usize
     requires { ⌜ c ≤ 65535 ⌝ }
     ensures { λ r. ⌜ r ≤ 65535 ⌝ }
 {
+    if c == 0 {
+        return 8192;
+    }
     (65536 - c) % 16384
 }
 
@@ -629,9 +638,40 @@ fn settle(cells: &mut [u16], x: usize, open: bool, c: usize)
     }
 }
 
+// The literal whose chain a watch on c goes into: the other literal d where the root makes that one false.
+fn chain_of(cells: &[u16], c: usize, d: usize) -> usize
+    requires { ⌜ (c ≤ 65535) × (d ≤ 65535) ⌝ }
+    ensures { λ r. ⌜ r ≤ 65535 ⌝ }
+{
+    if is_true(cells, opposite(d)) { d } else { c }
+}
+
+// The watches of the nogood at x are on c and on d.
+fn join(cells: &mut [u16], x: usize, c: usize, d: usize)
+    requires { ⌜ (x ≤ 65535) × (c ≤ 65535) × (d ≤ 65535) ⌝ }
+{
+    let first = chain_of(cells, c, d);
+    let second = chain_of(cells, d, c);
+    watch(cells, x, 0, first, c);
+    watch(cells, x, 1, second, d);
+}
+
+// A nogood that stayed where it was: its watches are on the same literals.
+fn rejoin(cells: &mut [u16], x: usize)
+    requires { ⌜ x ≤ 65535 ⌝ }
+{
+    let c = get(cells, WATCHED + x);
+    let d = get(cells, WATCHED + x + 1);
+    join(cells, x, c, d);
+}
+
 // A new nogood: two literals that are not true are watched, as far as there are any.
 pub fn enter(store: &[i32], x: usize, cells: &mut [u16]) {
     if REACH <= x {
+        return;
+    }
+    if x < get(cells, KEPT) {
+        rejoin(cells, x);
         return;
     }
     ready(cells);
@@ -647,8 +687,7 @@ pub fn enter(store: &[i32], x: usize, cells: &mut [u16]) {
     };
     let c = code_at(store, one, end);
     let d = code_at(store, two, end);
-    watch(cells, x, 0, c, c);
-    watch(cells, x, 1, d, d);
+    join(cells, x, c, d);
     if end <= b {
         settle(cells, x, a < end, c);
     }
@@ -719,11 +758,25 @@ fn unhint(cells: &mut [u16], x: usize)
     }
 }
 
+// The nogood at x is dead now: one more than the first such place is kept.
+fn note_dead(cells: &mut [u16], x: usize)
+    requires { ⌜ x ≤ 65535 ⌝ }
+{
+    let dead = get(cells, DEAD);
+    if 0 < dead {
+        if dead <= x + 1 {
+            return;
+        }
+    }
+    put(cells, DEAD, x + 1);
+}
+
 // Nothing of the root rests on the nogood at x, which is dead now. What it gave is the complement of a literal that it watches.
 pub fn forget(x: usize, cells: &mut [u16]) {
     if REACH <= x {
         return;
     }
+    note_dead(cells, x);
     unhint(cells, x);
     if count(cells) <= 1 {
         return;
@@ -745,10 +798,42 @@ fn clear(cells: &mut [u16]) {
     }
 }
 
-// A new start: no literal is true and none is watched. The other cells are written before they are read.
+// The place before which no nogood died; 0 where none did at all.
+fn front(cells: &[u16]) -> usize {
+    let dead = get(cells, DEAD);
+    if dead == 0 { 0 } else { dead - 1 }
+}
+
+// Of the root the first literals stay, up to the first that was given by a nogood at a place or after it.
+fn cut_root(cells: &mut [u16], place: usize) {
+    let n = count(cells);
+    let mut i = 0;
+    while i < n {
+        if place < get(cells, REASON + i) {
+            undo(cells, i);
+            put(cells, DONE, 0);
+            return;
+        }
+        i += 1;
+    }
+}
+
+// No nogood is known that the root violates.
+fn clear_hint(cells: &mut [u16]) {
+    if 0 < get(cells, HINT) {
+        put(cells, HINT, 0);
+        put(cells, DONE, 0);
+    }
+}
+
+// The store is closed up, and all nogoods are to be entered again: no literal is watched. What rests on nogoods before the first dead one stays, since
+// they do not move.
 pub fn reset(cells: &mut [u16]) {
-    undo(cells, 0);
-    put(cells, HINT, 0);
+    let kept = front(cells);
+    put(cells, KEPT, kept);
+    put(cells, DEAD, 0);
+    cut_root(cells, kept);
+    clear_hint(cells);
     if LINK <= cells.len() {
         clear(&mut cells[..LINK]);
     }
