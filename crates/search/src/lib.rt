@@ -646,23 +646,16 @@ fn chain_of(cells: &[u16], c: usize, d: usize) -> usize
     if is_true(cells, opposite(d)) { d } else { c }
 }
 
-// The watches of the nogood at x are on c and on d.
-fn join(cells: &mut [u16], x: usize, c: usize, d: usize)
-    requires { ⌜ (x ≤ 65535) × (c ≤ 65535) × (d ≤ 65535) ⌝ }
-{
-    let first = chain_of(cells, c, d);
-    let second = chain_of(cells, d, c);
-    watch(cells, x, 0, first, c);
-    watch(cells, x, 1, second, d);
-}
-
 // A nogood that stayed where it was: its watches are on the same literals.
-fn rejoin(cells: &mut [u16], x: usize)
+fn enter_again(cells: &mut [u16], x: usize)
     requires { ⌜ x ≤ 65535 ⌝ }
 {
     let c = get(cells, WATCHED + x);
     let d = get(cells, WATCHED + x + 1);
-    join(cells, x, c, d);
+    let first = chain_of(cells, c, d);
+    let second = chain_of(cells, d, c);
+    watch(cells, x, 0, first, c);
+    watch(cells, x, 1, second, d);
 }
 
 // A new nogood: two literals that are not true are watched, as far as there are any.
@@ -671,7 +664,7 @@ pub fn enter(store: &[i32], x: usize, cells: &mut [u16]) {
         return;
     }
     if x < get(cells, KEPT) {
-        rejoin(cells, x);
+        enter_again(cells, x);
         return;
     }
     ready(cells);
@@ -687,7 +680,8 @@ pub fn enter(store: &[i32], x: usize, cells: &mut [u16]) {
     };
     let c = code_at(store, one, end);
     let d = code_at(store, two, end);
-    join(cells, x, c, d);
+    watch(cells, x, 0, c, c);
+    watch(cells, x, 1, d, d);
     if end <= b {
         settle(cells, x, a < end, c);
     }
