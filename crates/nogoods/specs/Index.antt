@@ -34,7 +34,7 @@ abbrev pub provedCells : ℕ
 provedCells = coveredAt + 1
 
 abbrev pub indexSize : ℕ
-indexSize = 100485
+indexSize = 100487
 
 -- the key of a list of literals
 unfoldable pub mixed : ℕ → ℤ → ℕ

@@ -8,7 +8,7 @@ use Rattle.search.specs.declared.Visited.the-variants.{Clash, Queued}
 
 abbrev pub SmallTurn : Turn → Type 0
 SmallTurn Stays = Unit
-SmallTurn (Moves c) = c ≤ 65535
+SmallTurn (Moves c d) = c ≤ 65535
 SmallTurn Goes = Unit
 SmallTurn (Gives c) = c ≤ 65535
 SmallTurn Violated = Unit

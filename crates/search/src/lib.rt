@@ -2,8 +2,12 @@
 // nogoods that it went by, and `replay` decides. All that it keeps from step to step stands in the cells that it is lent, read and written by total
 // functions, so that no function here asks for anything but small numbers. Cells of zeros are a right start.
 //
-// A literal's code is its variable, and 8,192 more where it is negative; 0 stands for a literal that is true in every nogood. A node is
-// 1 + 2 · place + (0 or 1), for the first and the second watch of the nogood at a place; 0 ends a chain. A place that may be none is one more, or 0.
+// A literal's code is the number itself modulo 16,384, found without a branch on its sign; 0 stands for a literal that is true in every nogood, and no
+// literal has the code 8,192. A node is 1 + 2 · place + (0 or 1), for the first and the second watch of the nogood at a place; 0 ends a chain. A place
+// that may be none is one more, or 0.
+//
+// The root is what is true without any assumption. Where a nogood has a literal that the root makes false, it is not to be looked at as long as the
+// root stays: its watches wait in the chain of that literal, which is not gone through.
 ghost use Prim.Native.Nat.{_≤_};
 ghost use Rattle.search.specs.Search.{SmallTurn, SmallVisit};
 // As many words of the store are watched at most.
@@ -29,7 +33,8 @@ const REASON: usize = 73728;
 
 const BLOCKS: usize = 81920;
 
-// How many are true; how many of them were propagated; a nogood that the root violates, and whether the path leads to it; where the path begins.
+// How many are true; how many of them were propagated; a nogood that the root violates, and whether the path leads to it; where the path begins; the
+// first place of a nogood that died since the store was closed up; before which place the nogoods stayed where they were then.
 const COUNT: usize = 82048;
 
 const DONE: usize = 82049;
@@ -38,8 +43,12 @@ const HINT: usize = 82050;
 
 pub const FIRST: usize = 82051;
 
+const DEAD: usize = 82052;
+
+const KEPT: usize = 82053;
+
 // All cells.
-pub const CELLS: usize = 82052;
+pub const CELLS: usize = 82054;
 
 // What is added to the place that gave a literal where the path needs that.
 const NEEDED: usize = 32768;
@@ -62,11 +71,11 @@ enum Visited {
     Queued(usize),
 }
 
-// What becomes of a watch on a literal that is true: it stays, since the other literal is false; it moves to another literal; it goes, since the
-// nogood is dead; it stays, and a literal follows; the nogood is violated.
+// What becomes of a watch on a literal that is true: it stays, since the other literal is false; it moves to the chain of a literal, and is on that
+// or waits there on its own; it goes, since the nogood is dead; it stays, and a literal follows; the nogood is violated.
 enum Turn {
     Stays,
-    Moves(usize),
+    Moves(usize, usize),
     Goes,
     Gives(usize),
     Violated,
@@ -99,19 +108,18 @@ fn put(cells: &mut [u16], i: usize, v: usize) {
 fn code_of(word: i32) -> usize
     ensures { λ r. ⌜ r ≤ 16383 ⌝ }
 {
-    let v = words::variable_of(word);
-    if 8191 < v {
-        return 0;
-    }
-    if word < 0 { v + 8192 } else { v }
+    ((word as i64) + 4294967296) as usize % 16384
 }
 
-// The code of the complement.
+// The code of the complement; of 0, a code that is never true.
 fn opposite(c: usize) -> usize
     requires { ⌜ c ≤ 65535 ⌝ }
     ensures { λ r. ⌜ r ≤ 65535 ⌝ }
 {
-    (c + 8192) % 16384
+    if c == 0 {
+        return 8192;
+    }
+    (65536 - c) % 16384
 }
 
 // The literal is true.
@@ -144,12 +152,12 @@ fn push(cells: &mut [u16], n: usize, c: usize, reason: usize) -> usize
     n + 1
 }
 
-// The watch w of the nogood at x is on a literal.
-fn watch(cells: &mut [u16], x: usize, w: usize, c: usize)
+// The watch w of the nogood at x is in the chain of c, on the literal d.
+fn watch(cells: &mut [u16], x: usize, w: usize, c: usize, d: usize)
     requires { ⌜ (x ≤ 65535) × (w ≤ 1) × (c ≤ 65535) ⌝ }
 {
     let first = get(cells, HEAD + c);
-    put(cells, WATCHED + x + w, c);
+    put(cells, WATCHED + x + w, d);
     put(cells, LINK + x + w, first);
     put(cells, HEAD + c, 2 * x + w + 1);
 }
@@ -173,8 +181,10 @@ fn open_from(store: &[i32], cells: &[u16], j: usize, end: usize, other: usize) -
 }
 
 // The variable of a code.
-fn variable(c: usize) -> usize {
-    if c < 8192 { c } else { c - 8192 }
+fn variable(c: usize) -> usize
+    requires { ⌜ c ≤ 65535 ⌝ }
+{
+    if c < 8192 { c } else { opposite(c) }
 }
 
 // The place of a variable among literals from one place to another, which ascend by variable; else the place of the next one.
@@ -204,7 +214,7 @@ fn open_around(
     c: usize,
     other: usize,
 ) -> usize
-    requires { ⌜ end ≤ 200000 ⌝ }
+    requires { ⌜ (c ≤ 65535) × (end ≤ 200000) ⌝ }
     ensures { λ r. ⌜ r ≤ end ⌝ }
 {
     let middle = place_of(store, from, end, variable(c));
@@ -218,7 +228,7 @@ fn open_around(
 
 // The place of a literal of a nogood that is not true, other than one given; else the end. Of two literals both are watched.
 fn open_in(store: &[i32], cells: &[u16], from: usize, end: usize, c: usize, other: usize) -> usize
-    requires { ⌜ (from ≤ 65537) × (end ≤ 200000) ⌝ }
+    requires { ⌜ (c ≤ 65535) × (from ≤ 65537) × (end ≤ 200000) ⌝ }
     ensures { λ r. ⌜ r ≤ end ⌝ }
 {
     if end == from + 2 {
@@ -231,14 +241,18 @@ fn open_in(store: &[i32], cells: &[u16], from: usize, end: usize, c: usize, othe
     }
 }
 
-// What becomes of the watch w of the nogood at x, which is on the literal c.
-fn look(store: &[i32], cells: &[u16], x: usize, w: usize, c: usize) -> Turn
+// What becomes of the watch w of the nogood at x, which is on the literal c. The first `mark` of the literals that are true are the root.
+fn look(store: &[i32], cells: &[u16], x: usize, w: usize, c: usize, mark: usize) -> Turn
     requires { ⌜ (x ≤ 65535) × (w ≤ 1) × (c ≤ 65535) ⌝ }
     ensures { λ r. ⌜ SmallTurn r ⌝ }
 {
     let other = get(cells, WATCHED + x + 1 - w);
-    if is_true(cells, opposite(other)) {
+    let at = get(cells, ORDER + opposite(other));
+    if mark < at {
         return Turn::Stays;
+    }
+    if 0 < at {
+        return Turn::Moves(other, c);
     }
     if !words::is_positive(words::word_at(store, x)) {
         return Turn::Goes;
@@ -246,7 +260,8 @@ fn look(store: &[i32], cells: &[u16], x: usize, w: usize, c: usize) -> Turn
     let end = end_of(store, x);
     let j = open_in(store, cells, x + 2, end, c, other);
     if j < end {
-        return Turn::Moves(code_of(words::word_at(store, j)));
+        let d = code_of(words::word_at(store, j));
+        return Turn::Moves(d, d);
     }
     if is_true(cells, other) {
         return Turn::Violated;
@@ -266,7 +281,7 @@ fn skip(cells: &mut [u16], c: usize, last: usize, next: usize)
 }
 
 // The nogoods that watch a literal that is true now.
-fn visit(store: &[i32], cells: &mut [u16], c: usize, start: usize) -> Visited
+fn visit(store: &[i32], cells: &mut [u16], c: usize, start: usize, mark: usize) -> Visited
     requires { ⌜ (c ≤ 65535) × (start ≤ 8192) ⌝ }
     ensures { λ r. ⌜ SmallVisit r ⌝ }
 {
@@ -283,14 +298,14 @@ fn visit(store: &[i32], cells: &mut [u16], c: usize, start: usize) -> Visited
         let x = (here - 1) / 2;
         let w = (here - 1) % 2;
         node = get(cells, LINK + x + w);
-        let turn = look(store, cells, x, w, c);
+        let turn = look(store, cells, x, w, c, mark);
         match turn {
             Turn::Stays => {
                 last = here;
             }
-            Turn::Moves(d) => {
+            Turn::Moves(to, d) => {
                 skip(cells, c, last, node);
-                watch(cells, x, w, d);
+                watch(cells, x, w, to, d);
             }
             Turn::Goes => {
                 skip(cells, c, last, node);
@@ -315,8 +330,9 @@ fn count(cells: &[u16]) -> usize
     if n <= MOST { n } else { MOST }
 }
 
-// To the end, or to a nogood that is violated.
-fn propagate(store: &[i32], cells: &mut [u16]) -> usize
+// To the end, or to a nogood that is violated. Watches wait with the first `mark` literals: 0 for the root itself, whose chains are not gone through
+// again.
+fn propagate(store: &[i32], cells: &mut [u16], mark: usize) -> usize
     ensures { λ r. ⌜ r ≤ 65535 ⌝ }
 {
     let mut n = count(cells);
@@ -324,7 +340,7 @@ fn propagate(store: &[i32], cells: &mut [u16]) -> usize
     while done < n {
         let c = get(cells, TRAIL + done);
         done += 1;
-        let given = visit(store, cells, c, n);
+        let given = visit(store, cells, c, n, mark);
         match given {
             Visited::Clash(x, end) => {
                 put(cells, COUNT, end);
@@ -550,7 +566,7 @@ fn root(store: &[i32], cells: &mut [u16]) -> usize
     if 0 < hint {
         return hint;
     }
-    let last = propagate(store, cells);
+    let last = propagate(store, cells, 0);
     put(cells, HINT, last);
     last
 }
@@ -563,7 +579,7 @@ fn pursue(store: &[i32], literals: &[i32], cells: &mut [u16], mark: usize) -> us
     if 0 < against {
         return contradict(store, cells, mark, against);
     }
-    let last = propagate(store, cells);
+    let last = propagate(store, cells, mark);
     if 0 < last {
         return lead(store, cells, mark, last);
     }
@@ -622,9 +638,33 @@ fn settle(cells: &mut [u16], x: usize, open: bool, c: usize)
     }
 }
 
+// The literal whose chain a watch on c goes into: the other literal d where the root makes that one false.
+fn chain_of(cells: &[u16], c: usize, d: usize) -> usize
+    requires { ⌜ (c ≤ 65535) × (d ≤ 65535) ⌝ }
+    ensures { λ r. ⌜ r ≤ 65535 ⌝ }
+{
+    if is_true(cells, opposite(d)) { d } else { c }
+}
+
+// A nogood that stayed where it was: its watches are on the same literals.
+fn enter_again(cells: &mut [u16], x: usize)
+    requires { ⌜ x ≤ 65535 ⌝ }
+{
+    let c = get(cells, WATCHED + x);
+    let d = get(cells, WATCHED + x + 1);
+    let first = chain_of(cells, c, d);
+    let second = chain_of(cells, d, c);
+    watch(cells, x, 0, first, c);
+    watch(cells, x, 1, second, d);
+}
+
 // A new nogood: two literals that are not true are watched, as far as there are any.
 pub fn enter(store: &[i32], x: usize, cells: &mut [u16]) {
     if REACH <= x {
+        return;
+    }
+    if x < get(cells, KEPT) {
+        enter_again(cells, x);
         return;
     }
     ready(cells);
@@ -639,11 +679,50 @@ pub fn enter(store: &[i32], x: usize, cells: &mut [u16]) {
         if one == from { from + 1 } else { from }
     };
     let c = code_at(store, one, end);
-    watch(cells, x, 0, c);
-    watch(cells, x, 1, code_at(store, two, end));
+    let d = code_at(store, two, end);
+    watch(cells, x, 0, c, c);
+    watch(cells, x, 1, d, d);
     if end <= b {
         settle(cells, x, a < end, c);
     }
+}
+
+// The watches that wait in the chain of a literal go back to their own.
+fn release(cells: &mut [u16], c: usize)
+    requires { ⌜ c ≤ 65535 ⌝ }
+{
+    let mut last = 0;
+    let mut node = get(cells, HEAD + c);
+    let mut fuel: usize = 65535;
+    while 0 < fuel {
+        if node == 0 {
+            return;
+        }
+        fuel -= 1;
+        let here = node;
+        let x = (here - 1) / 2;
+        let w = (here - 1) % 2;
+        node = get(cells, LINK + x + w);
+        let own = get(cells, WATCHED + x + w);
+        if own == c {
+            last = here;
+        } else {
+            skip(cells, c, last, node);
+            watch(cells, x, w, own, own);
+        }
+    }
+}
+
+// Of the root only the first literals stay.
+fn retract(cells: &mut [u16], to: usize) {
+    let n = count(cells);
+    let mut i = to;
+    while i < n {
+        let c = get(cells, TRAIL + i);
+        release(cells, opposite(c));
+        i += 1;
+    }
+    undo(cells, to);
 }
 
 // A literal of a nogood at x that is dead now: if its complement was true by it, that and what came later is not any more. Whether that is so.
@@ -657,7 +736,7 @@ fn withdraw(cells: &mut [u16], x: usize, c: usize) -> bool
     if get(cells, REASON + at - 1) != x + 1 {
         return false;
     }
-    undo(cells, at - 1);
+    retract(cells, at - 1);
     put(cells, DONE, 0);
     put(cells, HINT, 0);
     true
@@ -673,11 +752,25 @@ fn unhint(cells: &mut [u16], x: usize)
     }
 }
 
+// The nogood at x is dead now: one more than the first such place is kept.
+fn note_dead(cells: &mut [u16], x: usize)
+    requires { ⌜ x ≤ 65535 ⌝ }
+{
+    let dead = get(cells, DEAD);
+    if 0 < dead {
+        if dead <= x + 1 {
+            return;
+        }
+    }
+    put(cells, DEAD, x + 1);
+}
+
 // Nothing of the root rests on the nogood at x, which is dead now. What it gave is the complement of a literal that it watches.
 pub fn forget(x: usize, cells: &mut [u16]) {
     if REACH <= x {
         return;
     }
+    note_dead(cells, x);
     unhint(cells, x);
     if count(cells) <= 1 {
         return;
@@ -699,10 +792,42 @@ fn clear(cells: &mut [u16]) {
     }
 }
 
-// A new start: no literal is true and none is watched. The other cells are written before they are read.
+// The place before which no nogood died; 0 where none did at all.
+fn front(cells: &[u16]) -> usize {
+    let dead = get(cells, DEAD);
+    if dead == 0 { 0 } else { dead - 1 }
+}
+
+// Of the root the first literals stay, up to the first that was given by a nogood at a place or after it.
+fn cut_root(cells: &mut [u16], place: usize) {
+    let n = count(cells);
+    let mut i = 0;
+    while i < n {
+        if place < get(cells, REASON + i) {
+            undo(cells, i);
+            put(cells, DONE, 0);
+            return;
+        }
+        i += 1;
+    }
+}
+
+// No nogood is known that the root violates.
+fn clear_hint(cells: &mut [u16]) {
+    if 0 < get(cells, HINT) {
+        put(cells, HINT, 0);
+        put(cells, DONE, 0);
+    }
+}
+
+// The store is closed up, and all nogoods are to be entered again: no literal is watched. What rests on nogoods before the first dead one stays, since
+// they do not move.
 pub fn reset(cells: &mut [u16]) {
-    undo(cells, 0);
-    put(cells, HINT, 0);
+    let kept = front(cells);
+    put(cells, KEPT, kept);
+    put(cells, DEAD, 0);
+    cut_root(cells, kept);
+    clear_hint(cells);
     if LINK <= cells.len() {
         clear(&mut cells[..LINK]);
     }

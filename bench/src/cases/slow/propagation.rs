@@ -35,6 +35,7 @@ pub fn inputs() -> Vec<Input> {
         watches(),
         root_large(),
         root_again(),
+        root_waits(),
         missing(),
         equal(),
         closing(),
@@ -216,6 +217,31 @@ fn root_again() -> Input {
         writing.deletes(&[1, BODY]);
     });
     refuted("root-again", 1, &writing.pairs(&[-1]))
+}
+
+/// Definitions of the same 61 atoms, which are all true since the first is, and an atom that makes all names true: the nogoods of the definitions
+/// need not be looked at again while the atoms are. In turn once more that the first is true and the deletion of the older, which takes all of
+/// them away, and a pair of the other atom.
+fn root_waits() -> Input {
+    let (other, atoms) = (BODY, FIRST + MOST - 1);
+    let mut writing = Writing::completed(atoms);
+    let first = atoms + 2;
+    let spare = SPARE + nogood_words(2) * (3 * MOST as usize);
+    let last = writing.defines((first..).map(|name| Line::with(b'e', name, &(FIRST..=atoms).collect::<Vec<_>>())), spare);
+    let mut writing = writing.freely(|writing| {
+        for atom in FIRST + 1..=atoms {
+            writing.refutes(&[FIRST, -atom]);
+        }
+        for name in first..=last {
+            writing.refutes(&[other, -name]);
+        }
+        writing.refutes(&[first, 1]);
+        writing.refutes(&[first, -1]);
+        writing.refutes(&[-FIRST]);
+    });
+    let nogoods = [-FIRST, other];
+    while nogoods.iter().all(|literal| writing.refutes(&[*literal]) && writing.deletes(&[*literal])) {}
+    refuted("root-waits", atoms, &writing)
 }
 
 /// Nogoods of two literals, and deletions of what is not there.

@@ -8,10 +8,10 @@ use Rattle.search.proofs.propagate.Statement.{statement}
 use Rattle.search.proofs.propagate.Tie as tie
 
 abbrev Inv-loop : tie.InvT-loop
-Inv-loop store cells₀ n₀ done₀ cells n done = (n ≤ 8192) × (length cells ≡ length cells₀)
+Inv-loop store cells₀ mark n₀ done₀ cells n done = (n ≤ 8192) × (length cells ≡ length cells₀)
 
 abbrev μ-loop : tie.MeasureT-loop
-μ-loop store cells₀ n₀ done₀ cells n done = 8192 - done
+μ-loop store cells₀ mark n₀ done₀ cells n done = 8192 - done
 
 same-length : tie.Need-same-length Inv-loop μ-loop
 same-length c = search needs

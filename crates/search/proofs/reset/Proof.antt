@@ -5,12 +5,15 @@ use Rattle.search.proofs.reset.Statement.{statement}
 use Rattle.search.proofs.reset.Tie as tie
 
 slice-aggregate-clear : tie.Need-slice-aggregate-clear
-slice-aggregate-clear c = sym (length-take-le 16384 (c .before .before .before .before .put .last .0) (search needs))
+slice-aggregate-clear c = sym (length-take-le 16384 (c .before .before .before .before .clear-hint .last .0) (search needs))
 
 pub reset-spec : {M : Type 1} → statement M
 reset-spec =
     tie.close
     (tie.spec
+    (λ c κs. search needs)
+    (λ c κs. search needs)
+    (λ c κs. search needs)
     (λ c κs. search needs)
     (λ c κs. search needs)
     (λ c. search needs)

@@ -8,10 +8,10 @@ use Rattle.search.proofs.visit.Statement.{statement}
 use Rattle.search.proofs.visit.Tie as tie
 
 abbrev Inv-loop : tie.InvT-loop
-Inv-loop store cells₀ c start n₀ last₀ node₀ fuel₀ cells n last node fuel = (n ≤ 8192) × (last ≤ 65535) × (node ≤ 65535) × (length cells ≡ length cells₀)
+Inv-loop store cells₀ c start mark n₀ last₀ node₀ fuel₀ cells n last node fuel = (n ≤ 8192) × (last ≤ 65535) × (node ≤ 65535) × (length cells ≡ length cells₀)
 
 abbrev μ-loop : tie.MeasureT-loop
-μ-loop store cells₀ c start n₀ last₀ node₀ fuel₀ cells n last node fuel = fuel
+μ-loop store cells₀ c start mark n₀ last₀ node₀ fuel₀ cells n last node fuel = fuel
 
 same-length : tie.Need-same-length Inv-loop μ-loop
 same-length c = search needs

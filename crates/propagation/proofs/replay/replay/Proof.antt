@@ -7,7 +7,7 @@ use borrow.Author.Needs.{needs}
 use lib.IntN.{ℤ}
 use lib.ListN.{length, getD}
 use Rattle.words.specs.Limits.{entries}
-use Rattle.nogoods.specs.Index.{provedCells, indexSize}
+use Rattle.nogoods.specs.Index.{provedCells}
 use Rattle.nogoods.specs.Records.{Readable, Stands}
 use Rattle.propagation.specs.Propagate.{BlankFrom, Grows, DerivesAt}
 use Rattle.propagation.specs.declared.units.Derived.{Derived}
@@ -22,6 +22,10 @@ use Rattle.propagation.proofs.replay.replay.Tie as tie
 abbrev trailAt : ℕ
 trailAt = provedCells + 65536
 
+-- the cell that says where the path begins
+abbrev firstAt : ℕ
+firstAt = provedCells + 82051
+
 abbrev Inv-loop : tie.InvT-loop
 Inv-loop nogoods index start assignment₀ end₀ k₀ assignment end k = Grows nogoods assignment₀ assignment × ((end ≤ entries) × BlankFrom end assignment)
 
@@ -32,7 +36,7 @@ shared-slice-read-k : tie.Need-shared-slice-read-k Inv-loop μ-loop
 shared-slice-read-k c = omega (arith, c .before .before .pre .1 .0)
 
 cast-k : tie.Need-cast-k Inv-loop μ-loop
-cast-k c = omega (arith, c .shared-slice-known2 .given (indexSize - 1))
+cast-k c = omega (arith, c .shared-slice-known2 .given firstAt)
 
 shared-slice-read-x : tie.Need-shared-slice-read-x Inv-loop μ-loop
 shared-slice-read-x c = omega (arith, c .before .loop-test .taken, c .before .before .before .before .before .pre .1 .0)
