@@ -1,6 +1,6 @@
 //! A set certified as cheapest: how long it takes, and how long the whole check of its proof takes for the restricted program as a text.
 
-use crate::cases::Priced;
+use crate::cases::Certificate;
 use crate::measure::{timed, times_of, Times};
 use aspdrupe::{Cheapest, Verdict};
 use inputs::lines::proof_text;
@@ -21,16 +21,16 @@ pub struct Certified {
 }
 
 /// Certifies the set and checks its proof so many times. None where it is refused, or costs something else.
-pub fn measure(priced: &Priced, repetitions: usize) -> Option<Certified> {
-    let proof = proof_text(&priced.proof);
+pub fn measure(certificate: &Certificate, repetitions: usize) -> Option<Certified> {
+    let proof = proof_text(&certificate.proof);
     let (mut table, mut store) = (vec![0; ROOM], vec![0; ROOM]);
-    let runs: Option<Vec<Run>> = (0..repetitions).map(|_| run(priced, proof.as_bytes(), &mut table, &mut store)).collect();
+    let runs: Option<Vec<Run>> = (0..repetitions).map(|_| run(certificate, proof.as_bytes(), &mut table, &mut store)).collect();
     let runs = runs?;
     Some(Certified {
-        name: priced.name.clone(),
-        cost: priced.cost,
-        literals: priced.costs.len() / 2,
-        program: priced.program.len(),
+        name: certificate.name.clone(),
+        cost: certificate.cost,
+        literals: certificate.costs.len() / 2,
+        program: certificate.program.len(),
         proof: proof.len(),
         steps: runs.first()?.steps,
         certifying: times_of(runs.iter().map(|run| run.certifying).collect()),
@@ -46,11 +46,11 @@ struct Run {
 }
 
 /// What is lent is zeroed by the calls themselves.
-fn run(priced: &Priced, proof: &[u8], table: &mut [i32], store: &mut [i32]) -> Option<Run> {
-    let Priced { program, set, costs, restricted, .. } = priced;
+fn run(certificate: &Certificate, proof: &[u8], table: &mut [i32], store: &mut [i32]) -> Option<Run> {
+    let Certificate { program, set, costs, restricted, .. } = certificate;
     let (certified, certifying) =
         timed(|| aspdrupe::check_cheapest(black_box(program), black_box(set), black_box(costs), black_box(proof), table, store));
-    if certified != Ok(Cheapest::Certified(priced.cost)) {
+    if certified != Ok(Cheapest::Certified(certificate.cost)) {
         return None;
     }
     let (verdict, checking) = timed(|| aspdrupe::check_texts(black_box(restricted), black_box(proof), table, store));

@@ -81,7 +81,7 @@ fn run_all(repetitions: usize) -> usize {
     let packed = packets::measure(&inputs, repetitions);
     let merged = merging::measure(&cases::split(), repetitions);
     let trimmed = trimming::measure(&inputs, repetitions);
-    let certified = costs::measure(&cases::priced(), repetitions);
+    let certified = costs::measure(&cases::certificate(), repetitions);
     let read = reading::measure(&inputs, repetitions);
     report::heading(repetitions);
     let mut others = vec![packed.is_none(), merged.is_none(), certified.is_none(), read.is_none()];

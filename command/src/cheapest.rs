@@ -92,7 +92,7 @@ impl Question<'_> {
         Ok(aspdrupe::check_cheapest(&self.ground.text, self.set, &costs, proof, &mut table, &mut store)?)
     }
 
-    /// What the set costs; the library's own sum where it certifies.
+    /// What the set costs, by the command's own sum.
     fn cost(&self) -> i32 {
         let held = self.costs.iter().filter(|(literal, _)| holds(i32::from(*literal), self.set));
         held.map(|(_, cost)| i32::from(*cost)).fold(0, i32::saturating_add)

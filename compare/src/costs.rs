@@ -7,7 +7,7 @@ use std::collections::BTreeSet;
 use inputs::ROOM;
 
 use crate::cases::changes;
-use crate::cases::costs::{cases, damaged, lent, priced};
+use crate::cases::costs::{cases, damaged, lent, with_costs};
 use crate::cases::refutations::{refute, Author, Found};
 use crate::comparison::{difference, Comparison};
 use crate::reference::cheapest::{answer_sets, certify, restricted, Answer, Costs, Offer};
@@ -20,11 +20,24 @@ use crate::shrink::cut;
 impl Comparison {
     /// The check of a cheapest answer set; answers what the reference says.
     pub fn check_cheapest(&mut self, offer: &Offer, table_room: usize, store_room: usize) -> Answer {
+        self.ask_cheapest(offer, table_room, store_room).0
+    }
+
+    /// The total that the library returns, where it certifies.
+    pub fn returned_total(&mut self, offer: &Offer, table_room: usize, store_room: usize) -> Option<i32> {
+        match self.ask_cheapest(offer, table_room, store_room).1 {
+            Some(Answer::Certified(total)) => Some(total),
+            _ => None,
+        }
+    }
+
+    /// What the reference answers, and what the library does: the same, to the last word of table and store.
+    fn ask_cheapest(&mut self, offer: &Offer, table_room: usize, store_room: usize) -> (Answer, Option<Answer>) {
         let expected = certify(offer, table_room, store_room);
         let (mut table, mut store) = (self.pattern(table_room), self.pattern(store_room));
         let answered = aspdrupe::check_cheapest(&offer.program, &offer.set, &offer.costs, &offer.proof, &mut table, &mut store);
-        let good = answered.as_ref().map(in_reference_form) == Ok(expected.answer);
-        let good = good && table == expected.table && store == expected.store;
+        let returned = answered.as_ref().ok().map(in_reference_form);
+        let good = returned == Some(expected.answer) && table == expected.table && store == expected.store;
         self.tally.count(format!("check_cheapest: {}", kind(&expected.answer)));
         self.settle(good, || {
             let differences = (difference(&table, &expected.table), difference(&store, &expected.store));
@@ -36,7 +49,7 @@ impl Comparison {
                 told(offer)
             )
         });
-        expected.answer
+        (expected.answer, returned)
     }
 }
 
@@ -93,7 +106,7 @@ pub fn refutation(comparison: &mut Comparison, program: &Program, costs: &[(i32,
 
 /// A random program with random costs: a set of least cost, with its proof at all lengths that matter, and every other answer set.
 pub fn run_random(comparison: &mut Comparison, _: u64) {
-    let (text, program, costs) = priced(&mut comparison.random);
+    let (text, program, costs) = with_costs(&mut comparison.random);
     let sets = answer_sets(&program, &costs);
     let offer = Offer { program: text, set: Vec::new(), costs: lent(&costs), proof: Vec::new() };
     compare_any_set(comparison, &offer, &program);

@@ -9,8 +9,8 @@ use crate::cases::{self, bytes, changes, deep, deletions, fixed, guided, limits,
 use crate::comparison::Comparison;
 use crate::costs;
 use crate::merges;
+use crate::one_rate;
 use crate::packets;
-use crate::rates;
 use crate::reference::check::{check, store_lengths, verdict_line};
 use crate::reference::models::{self, every_set};
 use crate::reference::program::{read, table_words, Program};
@@ -58,8 +58,8 @@ pub fn families() -> Vec<Family> {
         family("trimmed", 10, trims::run_random),
         listed("costs", cases::costs::cases().len(), costs::run_worked),
         family("cheapest", 50, costs::run_random),
-        listed("rates", cases::costs::rates().len(), rates::run_worked),
-        family("one-rate", 50, rates::run_random),
+        listed("one-rate-cases", cases::costs::one_rate().len(), one_rate::run_worked),
+        family("one-rate", 50, one_rate::run_random),
     ]
 }
 

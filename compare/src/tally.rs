@@ -3,8 +3,8 @@
 use std::collections::BTreeMap;
 
 use crate::costs;
+use crate::one_rate;
 use crate::packets;
-use crate::rates;
 use crate::reference::check::{verdict_line, Verdict};
 use crate::reference::merge::Turn;
 use crate::trims;
@@ -92,7 +92,7 @@ fn wanted(with_binary: bool) -> Vec<String> {
     wanted.extend(PROGRAM_QUESTIONS.map(|number| format!("merge_halves: refused program {number:02}")));
     wanted.extend(trims::WANTED.map(|what| format!("trim_proof: {what}")));
     wanted.extend(PROGRAM_QUESTIONS.map(|number| format!("trim_proof: refused program {number:02}")));
-    wanted.extend(rates::WANTED.map(|what| format!("one rate: {what}")));
+    wanted.extend(one_rate::WANTED.map(|what| format!("one rate: {what}")));
     wanted.extend(costs::WANTED.map(|what| format!("check_cheapest: {what}")));
     wanted.extend(PROGRAM_QUESTIONS.map(|number| format!("check_cheapest: refused program {number:02}")));
     wanted.extend(Turn::ALL.map(|turn| format!("merge_halves: {}", turn.told())));

@@ -34,7 +34,7 @@ pub struct Split {
 
 /// A program with a set that is to be certified as cheapest: the costs as they are lent, what the set costs, a refutation of the program
 /// restricted to less, and that program.
-pub struct Priced {
+pub struct Certificate {
     pub name: String,
     pub program: Vec<u8>,
     pub set: Vec<u16>,
@@ -87,8 +87,8 @@ pub fn split() -> Split {
 }
 
 /// The set that is certified as cheapest.
-pub fn priced() -> Priced {
-    weights::priced()
+pub fn certificate() -> Certificate {
+    weights::certificate()
 }
 
 /// Refutations of growing size.

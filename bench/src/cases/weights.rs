@@ -7,7 +7,7 @@
 //! reach a bound, and as many rules as there may be forbid others.
 
 use super::completion::{bodies_of, definition_words, definitions, externals, nogood_words, supports};
-use super::{refutations, Input, Priced};
+use super::{refutations, Certificate, Input};
 use inputs::lines::{line_of, proof_text, Line};
 use inputs::random::Random;
 use inputs::rules::{choice, constraint, largest_atom, normal, program_text, weighted, Rule};
@@ -52,7 +52,7 @@ fn sums() -> Input {
 const RULES: usize = 1_024;
 
 /// A choice of twelve that has to reach a bound, the set of them that costs least, and constraints against others.
-pub fn priced() -> Priced {
+pub fn certificate() -> Certificate {
     let weights = weights();
     let all: i32 = weights.iter().sum();
     let bound = all * 3 / 10;
@@ -62,7 +62,7 @@ pub fn priced() -> Priced {
     let proof = refutations::refute(&[&rules[..], std::slice::from_ref(&restriction)].concat(), 4_000, SEED);
     let mut random = Random::from_seed(SEED);
     rules.extend((rules.len()..RULES - 1).map(|_| against_others(&set, &mut random)));
-    Priced {
+    Certificate {
         name: String::from("costs-12"),
         program: program_text(&rules),
         costs: signed(&weights, 1).into_iter().flat_map(|(atom, weight)| [atom as i16, weight as i16]).collect(),

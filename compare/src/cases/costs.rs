@@ -87,7 +87,7 @@ fn worked() -> Vec<Case> {
 }
 
 /// The worked cases of Change 13: two cases of program B under lists that differ in one cost, and by how much that cost differs.
-pub fn rates() -> Vec<([Case; 2], i32)> {
+pub fn one_rate() -> Vec<([Case; 2], i32)> {
     let q = closed(&Q);
     let first = |costs: &[i16]| case(&[1], costs, &q, Certified(3));
     vec![
@@ -170,7 +170,7 @@ fn limits() -> Vec<Case> {
 }
 
 /// A small program that has atoms, most often also answer sets, with costs on some of its literals.
-pub fn priced(random: &mut Random) -> (Vec<u8>, Program, Costs) {
+pub fn with_costs(random: &mut Random) -> (Vec<u8>, Program, Costs) {
     let any = random.percent(15);
     loop {
         let text = program_text(&any_rules(random));

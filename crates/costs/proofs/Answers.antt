@@ -28,8 +28,8 @@ use Rattle.words.specs.Limits.{mostRules, entries}
 use Rattle.checker.specs.Check.{Course, stopped, through, saying, countsOf, isInconsistent, Checked, judged}
 use Rattle.checker.specs.declared.Verdict.{Verdict}
 use Rattle.costs.specs.Costs.{Cost, costsOf, goodCosts, total, restricted}
-use Rattle.costs.specs.Service.{isYes, leavesNothing, passing, judgedProof, withCost, withCosts, cheapestReading, cheapest}
-use Rattle.costs.specs.Private.{saidYes, restrictedCourse, ProofChecked}
+use Rattle.costs.specs.Service.{isYes, restrictedCourse, leavesNothing, passing, judgedProof, withCost, withCosts, cheapestReading, cheapest}
+use Rattle.costs.specs.Private.{saidYes, ProofChecked}
 use Rattle.costs.specs.declared.CheapestAnswer.the-variants.{Cheapest, RefusedProgram, Refused}
 
 -- what is left of nothing, by the lengths that the caller knows

@@ -7,4 +7,4 @@ pub mod Answers
 pub mod Verdicts
 pub mod Examples
 pub mod OneRate
-pub mod RateExamples
+pub mod OneRateExamples

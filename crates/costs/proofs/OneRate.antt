@@ -14,7 +14,7 @@ use Rattle.aspif.specs.AnswerSets.{AnswerSet}
 use Rattle.answer_set.specs.Claims.{Listed}
 use Rattle.costs.specs.Costs.{Cost, Costs}
 use Rattle.costs.specs.Service.{CheapestLeft}
-use Rattle.costs.specs.OneRate.{Least, Differ, here, later, OneRate, OneRateReordered, LeastUnique, LeastExists, CheapestLeast, OneRateVerdicts, Returned, OneRateService}
+use Rattle.costs.specs.OneRate.{Least, Differ, here, later, OneRate, OneRateReordered, LeastUnique, LeastExists, CheapestLeast, OneRateVerdicts, Returned, OneRateService, OneRateVerdictsReordered, OneRateServiceReordered}
 use Rattle.costs.proofs.Sums.{cost-decided, cost-reordered}
 use Rattle.costs.proofs.Verdicts.{none-cheaper}
 
@@ -85,10 +85,19 @@ pub one-rate-verdicts : OneRateVerdicts
 one-rate-verdicts ws ks js D d t s text set costs proof C q p e t′ s′ text′ set′ costs′ proof′ E q′ p′ e′ =
     one-rate (expand ws) ks js D C E d (cheapest-least t s text set costs proof C e ws q ks p) (cheapest-least t′ s′ text′ set′ costs′ proof′ E e′ ws q′ js p′)
 
+-- what a call returned is the least total
+returned-least : {ws : List InputRule} {ks : List Cost} {C : ℕ} → Returned ws ks C → Least (expand ws) ks C
+returned-least {ws} {ks} {C} r =
+    cheapest-least (length (r .table)) (length (r .store)) (r .text) (r .set) (r .costs) (r .proof) C
+    (sym (ap (λ (x : CheapestLeft). x .answer) (r .checked))) ws (r .read) ks (r .lent)
+
 pub one-rate-service : OneRateService
-one-rate-service ws ks js D C E d a b = one-rate (expand ws) ks js D C E d (least a) (least b)
-  where
-    least : {is : List Cost} {F : ℕ} → Returned ws is F → Least (expand ws) is F
-    least {is} {F} r =
-        cheapest-least (length (r .table)) (length (r .store)) (r .text) (r .set) (r .costs) (r .proof) F
-        (sym (ap (λ (x : CheapestLeft). x .answer) (r .checked))) ws (r .read) is (r .lent)
+one-rate-service ws ks js D C E d a b = one-rate (expand ws) ks js D C E d (returned-least a) (returned-least b)
+
+pub one-rate-verdicts-reordered : OneRateVerdictsReordered
+one-rate-verdicts-reordered ws ks is js D d r t s text set costs proof C q p e t′ s′ text′ set′ costs′ proof′ E q′ p′ e′ =
+    one-rate-reordered (expand ws) ks is js D C E d r (cheapest-least t s text set costs proof C e ws q ks p)
+    (cheapest-least t′ s′ text′ set′ costs′ proof′ E e′ ws q′ js p′)
+
+pub one-rate-service-reordered : OneRateServiceReordered
+one-rate-service-reordered ws ks is js D C E d r a b = one-rate-reordered (expand ws) ks is js D C E d r (returned-least a) (returned-least b)

@@ -1,10 +1,9 @@
 -- The cost literals put in order: the same pairs, and the same list whatever the order they came in. Assumes nothing.
-use mathlib.Core.Path.{_≡_, refl, sym, _∙_, ap, ap₂, subst}
+use mathlib.Core.Path.{_≡_, refl, sym, _∙_, ap, subst}
 use mathlib.Core.Bool.{Bool, true, false, cond}
-use mathlib.Core.List.{List, [], _∷_, _++_, map, append-nil, List·Memᴰ·head, List·Memᴰ·tail}
+use mathlib.Core.List.{List, [], _∷_, _++_, map, map-congr-left, append-nil, List·Memᴰ·head}
 use lib.Dec.{ltb}
 use lib.IntN.{ℤ}
-use Rattle.words.specs.Lists.{_∈_}
 use Rattle.words.specs.Literals.{variable, same, distinct, rising, insert, insertAll, ascending}
 use Rattle.words.proofs.Lists.{if-true}
 use Rattle.words.proofs.Literals.{same-decides}
@@ -47,10 +46,6 @@ in-order l = subst (Reorder (ascending l)) (append-nil l) (reorder-all [] l)
 
 -- Weights
 
-map-same : {A B : Type 0} (f g : A → B) (l : List A) → ((x : A) → x ∈ l → f x ≡ g x) → map f l ≡ map g l
-map-same f g [] e = refl
-map-same f g (x ∷ l) e = ap₂ (λ y m. y ∷ m) (e x (List·Memᴰ·head refl)) (map-same f g l (λ y i. e y (List·Memᴰ·tail i)))
-
 -- the pairs in order are the same pairs
 pub arranged-reorder : (ks : List Cost) → distinct (literals ks) ≡ true → Reorder (arranged ks) ks
 unfolding arranged
@@ -82,7 +77,7 @@ weights-reordered d (one-more {l = ks} {m = is} r q) x =
 pub arranged-reordered : (ks js : List Cost) → distinct (literals ks) ≡ true → Reorder ks js → arranged ks ≡ arranged js
 unfolding arranged
 arranged-reordered ks js d r =
-    map-same (withWeight ks) (withWeight js) (ascending (literals ks)) (λ x i. ap (λ n. record { literal = x; weight = n }) (weights-reordered d r x))
+    map-congr-left {l = ascending (literals ks)} (λ x i. ap (λ n. record { literal = x; weight = n }) (weights-reordered d r x))
     ∙ ap (map (withWeight js)) (sym (reorder-ascending (arranged-rising ks d) (one-more (in-order (literals ks)) (reorder-map (λ k. k .literal) r))))
 
 pub restriction-reordered : RestrictionReordered

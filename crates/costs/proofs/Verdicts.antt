@@ -37,7 +37,7 @@ use Rattle.checker.specs.Check.{Course, stopped, through, course, endsEmpty}
 use Rattle.checker.proofs.Whole.{accepted-none}
 use Rattle.checker.proofs.Verdicts.{lines-read}
 use Rattle.costs.specs.Costs.{Cost, costsOf, goodCosts, total, Costs, restriction, restricted}
-use Rattle.costs.specs.Service.{isYes, CheapestLeft, leavesNothing, passing, judgedProof, withProof, withCost, withCosts, cheapestReading, cheapest}
+use Rattle.costs.specs.Service.{isYes, restrictedCourse, CheapestLeft, leavesNothing, passing, judgedProof, withProof, withCost, withCosts, cheapestReading, cheapest}
 use Rattle.costs.specs.Claims.{NoCheaper, NoneCheaper, ServiceNoneCheaper, CheapestReordered}
 use Rattle.costs.specs.declared.CheapestAnswer.{CheapestAnswer}
 use Rattle.costs.specs.declared.CheapestAnswer.the-variants.{Cheapest, Refused}
@@ -84,7 +84,7 @@ module _ (t s : ℕ) (set : List ℕ) (costs : List ℤ) (proof : List ℕ) (C :
   refusal k e = zero-one (cc)
 
   judged-passes : (ws : List InputRule) (ks : List Cost) (D : ℕ) (o : Course)
-      → course (atoms (restricted ws ks D)) (expand (restricted ws ks D)) s proof ≡ o → judgedProof t s ws D o .answer ≡ Cheapest C
+      → restrictedCourse s ws ks D proof ≡ o → judgedProof t s ws D o .answer ≡ Cheapest C
       → (D ≡ C) × NoneAsWritten (restricted ws ks D)
   judged-passes ws ks D (stopped k n) q e = absurd (refusal 63 e)
   judged-passes ws ks D (through n z b) q e = by (emptyLive z) refl e
@@ -99,7 +99,7 @@ module _ (t s : ℕ) (set : List ℕ) (costs : List ℤ) (proof : List ℕ) (C :
   proof-passes ws ks D e = by (eqb D 0) refl e
     where
       o : Course
-      o = course (atoms (restricted ws ks D)) (expand (restricted ws ks D)) s proof
+      o = restrictedCourse s ws ks D proof
 
       by : (z : Bool) → eqb D 0 ≡ z → cond z (passing t s ws 0 (replicate s (pos 0))) (judgedProof t s ws D o) .answer ≡ Cheapest C
           → (C ≡ D) × (¬ (C ≡ 0) → NoneAsWritten (restricted ws ks C))

@@ -31,22 +31,22 @@ abbrev pub answerB : (set : List ℕ) → (costs : List ℤ) → (proof : List �
 answerB set costs proof = cheapest 20 60 textB set costs proof .answer
 
 -- the costs 3 of 1 and 5 of 2
-abbrev pub rates : List ℤ
-rates = pos 1 ∷ pos 3 ∷ pos 2 ∷ pos 5 ∷ []
+abbrev pub costList : List ℤ
+costList = pos 1 ∷ pos 3 ∷ pos 2 ∷ pos 5 ∷ []
 
 pub record Worked : Type 0 where
-  pub good : answerB (1 ∷ []) rates proofQ ≡ Cheapest 3
+  pub good : answerB (1 ∷ []) costList proofQ ≡ Cheapest 3
   pub other-order : answerB (1 ∷ []) (pos 2 ∷ pos 5 ∷ pos 1 ∷ pos 3 ∷ []) proofQ ≡ Cheapest 3
   -- "the table holds the program alone, and the store is as the check of the proof .. taken leaves it"
-  pub table : cheapest 14 60 textB (1 ∷ []) rates proofQ .table
+  pub table : cheapest 14 60 textB (1 ∷ []) costList proofQ .table
       ≡ pos 1 ∷ pos 2 ∷ pos 0 ∷ pos 0 ∷ pos 1 ∷ pos 2 ∷ pos 0 ∷ pos 0 ∷ pos 0 ∷ pos 2 ∷ negsuc 0 ∷ negsuc 1 ∷ pos 0 ∷ pos 0 ∷ []
-  pub store : cheapest 20 60 textB (1 ∷ []) rates proofQ .store ≡ check restrictedB proofQ 40 60 .store
-  pub short-store : cheapest 12 40 textB (1 ∷ []) rates proofQ .answer ≡ Cheapest 3
-  pub no-store : cheapest 12 39 textB (1 ∷ []) rates proofQ .answer ≡ Refused 63
-  pub short-table : cheapest 11 60 textB (1 ∷ []) rates proofQ .answer ≡ RefusedProgram (record { number = 10; line = 3 })
+  pub store : cheapest 20 60 textB (1 ∷ []) costList proofQ .store ≡ check restrictedB proofQ 40 60 .store
+  pub short-store : cheapest 12 40 textB (1 ∷ []) costList proofQ .answer ≡ Cheapest 3
+  pub no-store : cheapest 12 39 textB (1 ∷ []) costList proofQ .answer ≡ Refused 63
+  pub short-table : cheapest 11 60 textB (1 ∷ []) costList proofQ .answer ≡ RefusedProgram (record { number = 10; line = 3 })
   -- 2 costs 5, and 1 is cheaper
-  pub dearer : answerB (2 ∷ []) rates proofQ ≡ Refused 63
-  pub no-answer-set : answerB [] rates proofQ ≡ Refused 63
+  pub dearer : answerB (2 ∷ []) costList proofQ ≡ Refused 63
+  pub no-answer-set : answerB [] costList proofQ ≡ Refused 63
   -- "Where C is 0 no proof is read and the store ends zero."
   pub nothing : cheapest 12 3 textB (1 ∷ []) (pos 2 ∷ pos 5 ∷ []) junk .answer ≡ Cheapest 0
   pub nothing-store : cheapest 12 3 textB (1 ∷ []) (pos 2 ∷ pos 5 ∷ []) junk .store ≡ pos 0 ∷ pos 0 ∷ pos 0 ∷ []
@@ -64,7 +64,7 @@ pub record Worked : Type 0 where
   pub twice : answerB [] (pos 1 ∷ pos 1 ∷ negsuc 0 ∷ pos 1 ∷ []) proofQ ≡ Refused 62
   -- 42 before 62
   pub foreign-atom : answerB (3 ∷ []) (pos 1 ∷ []) proofQ ≡ Refused 42
-  pub descending : answerB (2 ∷ 1 ∷ []) rates proofQ ≡ Refused 42
+  pub descending : answerB (2 ∷ 1 ∷ []) costList proofQ ≡ Refused 42
   -- a C above 4,095 before 63
   pub too-dear : answerB (1 ∷ 2 ∷ []) (pos 1 ∷ pos 4000 ∷ pos 2 ∷ pos 96 ∷ []) [] ≡ Refused 62
   pub just-dear : answerB (1 ∷ 2 ∷ []) (pos 1 ∷ pos 4000 ∷ pos 2 ∷ pos 95 ∷ []) [] ≡ Refused 63

@@ -6,4 +6,4 @@ pub mod Private
 pub mod Claims
 pub mod Examples
 pub mod OneRate
-pub mod RateExamples
+pub mod OneRateExamples

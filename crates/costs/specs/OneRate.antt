@@ -79,3 +79,19 @@ abbrev pub OneRateService : Type 0
 OneRateService =
     (ws : List InputRule) (ks js : List Cost) (D C E : ℕ) → Differ ks js D → Returned ws ks C → Returned ws js E
     → (C ≤ E + D) × (E ≤ C + D)
+
+-- Verdicts under lists of which the one has its pairs in another order
+
+abbrev pub OneRateVerdictsReordered : Type 0
+OneRateVerdictsReordered =
+    (ws : List InputRule) (ks is js : List Cost) (D : ℕ) → Differ ks is D → Reorder is js
+    → (t s : ℕ) (text set : List ℕ) (costs : List ℤ) (proof : List ℕ) (C : ℕ) → readText t text ≡ program ws → costsOf costs ≡ some ks
+    → cheapest t s text set costs proof .answer ≡ Cheapest C
+    → (t′ s′ : ℕ) (text′ set′ : List ℕ) (costs′ : List ℤ) (proof′ : List ℕ) (E : ℕ) → readText t′ text′ ≡ program ws → costsOf costs′ ≡ some js
+    → cheapest t′ s′ text′ set′ costs′ proof′ .answer ≡ Cheapest E
+    → (C ≤ E + D) × (E ≤ C + D)
+
+abbrev pub OneRateServiceReordered : Type 0
+OneRateServiceReordered =
+    (ws : List InputRule) (ks is js : List Cost) (D C E : ℕ) → Differ ks is D → Reorder is js → Returned ws ks C → Returned ws js E
+    → (C ≤ E + D) × (E ≤ C + D)

@@ -7,11 +7,12 @@ use Prim.Native.Nat.{ℕ, _≤_}
 use lib.IntN.{ℤ}
 use Rattle.words.specs.Lists.{_∈_}
 use Rattle.weights.specs.Weights.{mostWeight}
-use Rattle.aspif.specs.Rules.{InputRule, expand, atoms, ruleWords}
+use Rattle.aspif.specs.Rules.{InputRule, ruleWords}
 use Rattle.answer_set.specs.declared.SetAnswer.{SetAnswer}
 use Rattle.answer_set.specs.declared.SetAnswer.the-variants.{Yes, Differs, Broken, Refused}
-use Rattle.checker.specs.Check.{Course, Checked, course, isInconsistent, judged}
+use Rattle.checker.specs.Check.{Checked, isInconsistent, judged}
 use Rattle.costs.specs.Costs.{Cost, goodCosts, restriction, restricted}
+use Rattle.costs.specs.Service.{restrictedCourse}
 
 -- the set test said yes
 abbrev pub saidYes : SetAnswer → Bool
@@ -27,10 +28,7 @@ pub record Restricts (N : ℕ) (ks : List Cost) (C : ℕ) (words : List ℤ) : T
   pub light : (k : Cost) → k ∈ ks → k .weight ≤ mostWeight
   pub small : C ≤ mostWeight
 
--- what the check of the proof for the restricted program comes to, in a store of so many words
-abbrev pub restrictedCourse : (size : ℕ) → List InputRule → List Cost → (C : ℕ) → (proof : List ℕ) → Course
-restrictedCourse size ws ks C proof = course (atoms (restricted ws ks C)) (expand (restricted ws ks C)) size proof
-
+-- the same check with its verdict
 abbrev pub restrictedCheck : (size : ℕ) → List InputRule → List Cost → (C : ℕ) → (proof : List ℕ) → Checked
 restrictedCheck size ws ks C proof = judged 0 size (restricted ws ks C) (restrictedCourse size ws ks C proof)
 

@@ -27,6 +27,10 @@ isYes yes = true
 isYes (differs v) = false
 isYes (breaks k) = false
 
+-- what the check of the proof for the restricted program comes to, in a store of so many words
+abbrev pub restrictedCourse : (size : ℕ) → List InputRule → List Cost → (C : ℕ) → (proof : List ℕ) → Course
+restrictedCourse size ws ks C proof = course (atoms (restricted ws ks C)) (expand (restricted ws ks C)) size proof
+
 -- the answer with every word of the table and the store
 pub record CheapestLeft : Type 0 where
   pub answer : CheapestAnswer
@@ -50,9 +54,7 @@ module _ (t s : ℕ) where
 
   -- "Where C is 0 no proof is read and the store ends zero."
   abbrev pub withProof : List InputRule → List Cost → (C : ℕ) → (proof : List ℕ) → CheapestLeft
-  withProof ws ks C proof =
-      cond (eqb C 0) (passing ws 0 (replicate s (pos 0)))
-      (judgedProof ws C (course (atoms (restricted ws ks C)) (expand (restricted ws ks C)) s proof))
+  withProof ws ks C proof = cond (eqb C 0) (passing ws 0 (replicate s (pos 0))) (judgedProof ws C (restrictedCourse s ws ks C proof))
 
   -- "or a C above 4,095, is refused with 62, and a set that is no answer set, or with C above 0 a proof that isn't accepted, is 63,
   -- in this order"

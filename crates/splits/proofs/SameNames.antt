@@ -1,9 +1,11 @@
 -- New names that agree on the variables of a text leave the same lines of it: what an array of names up to the largest variable is for.
 -- Assumes nothing.
 use mathlib.Core.Path.{_≡_, refl, ap, ap₂}
+use mathlib.Core.Logic.{∥∥₁-elim}
 use mathlib.Core.Bool.{cond}
-use mathlib.Core.List.{List, [], _∷_, _++_, map, List·Memᴰ·head, List·Memᴰ·tail}
+use mathlib.Core.List.{List, [], _∷_, _++_, map, map-congr-left, List·Memᴰ·head, List·Memᴰ·tail}
 use Prim.Native.Nat.{ℕ, suc, _≤_}
+use native.Mathlib.Bridge.{le-prop}
 use lib.IntN.{ℤ, pos, negsuc, negℤ}
 use Rattle.words.specs.Lists.{_∈_}
 use Rattle.words.specs.Limits.{largest}
@@ -25,8 +27,7 @@ module _ (f g : ℕ → ℕ) (same : (v : ℕ) → v ≤ largest → f v ≡ g v
   renamed-same (negsuc n) h = ap (λ (v : ℕ). negℤ (pos v)) (same (suc n) h)
 
   map-same : (zs : List ℤ) → ((y : ℤ) → y ∈ zs → variable y ≤ largest) → map (renamed f) zs ≡ map (renamed g) zs
-  map-same [] h = refl
-  map-same (y ∷ zs) h = ap₂ (λ (k : ℤ) (l : List ℤ). k ∷ l) (renamed-same y (h y (List·Memᴰ·head refl))) (map-same zs (λ k i. h k (List·Memᴰ·tail i)))
+  map-same zs h = map-congr-left {l = zs} (λ y i. renamed-same y (∥∥₁-elim i le-prop (h y)))
 
   module _ (P : List Rule) (x : ℤ) (bodies : List (List ℤ)) where
     kept-same : (named : List Named) (c : Letter) (zs : List ℤ) → map (renamed f) zs ≡ map (renamed g) zs → kept P x f bodies named c zs ≡ kept P x g bodies named c zs

@@ -20,7 +20,7 @@ module _ (c : tie.After-write-restriction) where
   abbrev start : tie.Start
   start = c .before .before .before
 
-  long : length (c .write-restriction .last .0) ≡ 29
+  long : length (c .write-restriction .last .0) ≡ 5 + 2 * mostWeighted
   long = search needs
 
   words : Restricts (start .args .atoms) (paired (start .args .pairs .now)) (start .args .cost)
@@ -34,7 +34,7 @@ write-restriction-requires : tie.Need-write-restriction-requires
 write-restriction-requires c κs =
     let s = c .before .before in
     let p = s .pre .1 .1 in
-    ((p .0 .0, p .1 .1 .0), ((p .1 .0, few s), omega (arith, few s, length-replicate 29 (pos 0))))
+    ((p .0 .0, p .1 .1 .0), ((p .1 .0, few s), omega (arith, few s, length-replicate (5 + 2 * mostWeighted) (pos 0))))
 
 array-share-prefix-row : tie.Need-array-share-prefix-row
 array-share-prefix-row c = omega (arith, few (c .before .before .before .before))

@@ -34,9 +34,9 @@ module _ (c : tie.After-cost-of) where
   cost-is : c .cost-of .result ≡ total (listed (s .args .set .now)) (paired (s .args .pairs .now))
   cost-is = c .cost-of .ensures (s .args .atoms) (s .pre .0 .0 .1 .high) (s .pre .1 .1 .1 .1 .0)
 
-  priced : {x : CheapestLeft} (ws : List InputRule) → x ≡ withCost T S ws (s .args .set .now) (paired (s .args .pairs .now)) (c .cost-of .result) (s .args .proof .now)
+  with-total : {x : CheapestLeft} (ws : List InputRule) → x ≡ withCost T S ws (s .args .set .now) (paired (s .args .pairs .now)) (c .cost-of .result) (s .args .proof .now)
       → x ≡ withCost T S ws (s .args .set .now) (paired (s .args .pairs .now)) (total (listed (s .args .set .now)) (paired (s .args .pairs .now))) (s .args .proof .now)
-  priced ws e = e ∙ ap (λ (C : ℕ). withCost T S ws (s .args .set .now) (paired (s .args .pairs .now)) C (s .args .proof .now)) cost-is
+  with-total ws e = e ∙ ap (λ (C : ℕ). withCost T S ws (s .args .set .now) (paired (s .args .pairs .now)) C (s .args .proof .now)) cost-is
 
 module _ (c : tie.After-is-answer-set) where
   abbrev before-it : tie.After-cost-of
@@ -62,14 +62,14 @@ returns : tie.Need-returns
 returns c = λ ws p w.
     let d = c .before .before .before .before .before .before in
     let a = s d .args in
-    priced d ws (c .before .before .refuse .ensures ∙ too-dear (T d) (S d) ws (a .set .now) (paired (a .pairs .now)) (d .cost-of .result) (a .proof .now) (c .before .before .before .before .before .if1 .taken))
+    with-total d ws (c .before .before .refuse .ensures ∙ too-dear (T d) (S d) ws (a .set .now) (paired (a .pairs .now)) (d .cost-of .result) (a .proof .now) (c .before .before .before .before .before .if1 .taken))
 
 returns-2 : tie.Need-returns-2
 returns-2 c = λ ws p w.
     let i = c .before .before .before .before .before .before in
     let d = before-it i in
     let a = s d .args in
-    priced d ws (c .before .before .refuse2 .ensures
+    with-total d ws (c .before .before .refuse2 .ensures
     ∙ no-answer-set (T d) (S d) ws (a .set .now) (paired (a .pairs .now)) (d .cost-of .result) (a .proof .now) (i .before .before .if1 .left) (sym (told i ws p) ∙ not-true _ (c .before .before .before .before .before .if2 .taken)))
 
 returns-3 : tie.Need-returns-3
@@ -77,7 +77,7 @@ returns-3 c = λ ws p w.
     let i = c .before .before in
     let d = before-it i in
     let a = s d .args in
-    priced d ws (costs-nothing (T d) (S d) ws (a .set .now) (paired (a .pairs .now)) (d .cost-of .result) (a .proof .now) (i .before .before .if1 .left) (sym (told i ws p) ∙ not-false _ (c .before .if2 .left)) (c .if3 .taken) w (s d .pre .1 .1 .1 .1 .1))
+    with-total d ws (costs-nothing (T d) (S d) ws (a .set .now) (paired (a .pairs .now)) (d .cost-of .result) (a .proof .now) (i .before .before .if1 .left) (sym (told i ws p) ∙ not-false _ (c .before .if2 .left)) (c .if3 .taken) w (s d .pre .1 .1 .1 .1 .1))
 
 judge-proof-requires : tie.Need-judge-proof-requires
 judge-proof-requires c κs =
@@ -90,7 +90,7 @@ returns-4 c = λ ws p w.
     let i = c .before .before .before .before .before .before .before in
     let d = before-it i in
     let a = s d .args in
-    priced d ws (c .before .before .judge-proof .ensures ws p w
+    with-total d ws (c .before .before .judge-proof .ensures ws p w
     ∙ with-proof (T d) (S d) ws (a .set .now) (paired (a .pairs .now)) (d .cost-of .result) (a .proof .now) (i .before .before .if1 .left) (sym (told i ws p) ∙ not-false _ (c .before .before .before .before .before .before .if2 .left)) (c .before .before .before .before .before .if3 .left))
 
 pub judge-set-spec : {M : Type 1} → statement M

@@ -12,11 +12,11 @@ use Rattle.nogoods.specs.Store.{live, closed, killed}
 use Rattle.checker.specs.Check.{course}
 use Rattle.costs.specs.Service.{cheapest}
 use Rattle.costs.specs.OneRate.{here, later}
-use Rattle.costs.specs.RateExamples.{WorkedRates}
+use Rattle.costs.specs.OneRateExamples.{WorkedOneRate}
 
-pub worked-rates : WorkedRates
+pub worked-one-rate : WorkedOneRate
 unfolding cheapest course live closed killed stepsOf stepsAt readText readLines linesFrom shapeOf allWeights arranged lineOf insert insertAll expand expandRule bodiesOf bodies minimalSets sublists verdictOf least giveRule giveHead
-worked-rates = record {
+worked-one-rate = record {
   stays = record { differ = later _ (here _ 5 4 1 _ (omega arith) (omega arith)); one = refl; other = refl };
   another-set = record { differ = here _ 3 7 4 _ (omega arith) (omega arith); one = refl; other = refl };
   reached = record { differ = here _ 3 0 3 _ (omega arith) (omega arith); one = refl; other = refl };

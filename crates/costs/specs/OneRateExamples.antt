@@ -1,4 +1,4 @@
--- Worked cases of one rate that moves, with program B and proof Q of specs/Examples.antt; proofs/RateExamples.antt computes them.
+-- Worked cases of specs/OneRate.antt, with program B and proof Q of specs/Examples.antt; proofs/OneRateExamples.antt computes them.
 -- Assumes nothing.
 use mathlib.Core.Path.{_≡_}
 use mathlib.Core.List.{List, [], _∷_}
@@ -11,8 +11,8 @@ use Rattle.costs.specs.Costs.{Cost}
 use Rattle.costs.specs.OneRate.{Differ}
 
 -- what the service answers of a set that holds the one atom, where 1 costs w and 2 costs u
-abbrev pub ofRates : (atom w u : ℕ) → CheapestAnswer
-ofRates v w u = answerB (v ∷ []) (pos 1 ∷ pos w ∷ pos 2 ∷ pos u ∷ []) proofQ
+abbrev pub ofCosts : (atom w u : ℕ) → CheapestAnswer
+ofCosts v w u = answerB (v ∷ []) (pos 1 ∷ pos w ∷ pos 2 ∷ pos u ∷ []) proofQ
 
 abbrev pub listOf : (w u : ℕ) → List Cost
 listOf w u = record { literal = pos 1; weight = w } ∷ record { literal = pos 2; weight = u } ∷ []
@@ -20,10 +20,10 @@ listOf w u = record { literal = pos 1; weight = w } ∷ record { literal = pos 2
 -- two calls that pass under lists that differ by D, with their totals
 pub record Moves (v w u v′ w′ u′ D C E : ℕ) : Type 0 where
   pub differ : Differ (listOf w u) (listOf w′ u′) D
-  pub one : ofRates v w u ≡ Cheapest C
-  pub other : ofRates v′ w′ u′ ≡ Cheapest E
+  pub one : ofCosts v w u ≡ Cheapest C
+  pub other : ofCosts v′ w′ u′ ≡ Cheapest E
 
-pub record WorkedRates : Type 0 where
+pub record WorkedOneRate : Type 0 where
   pub stays : Moves 1 3 5 1 3 4 1 3 3
   pub another-set : Moves 1 3 5 2 7 5 4 3 5
   -- the bound is reached
