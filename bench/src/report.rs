@@ -8,6 +8,7 @@ use crate::measure::{Answer, Measured, Times};
 use crate::merging::Merged;
 use crate::packets::Packed;
 use crate::reading::{Amount, Reading};
+use crate::trees;
 use crate::trimming::Trimmed;
 use aspdrupe::{Counts, Verdict};
 use std::time::Duration;
@@ -107,6 +108,28 @@ pub fn merging(merged: Option<&Merged>) {
         merged.size,
         milliseconds(merged.merging.median),
         milliseconds(merged.merging.least),
+        milliseconds(merged.checking.median),
+        milliseconds(merged.checking.least),
+    );
+}
+
+/// The line on the tree.
+pub fn tree(merged: Option<&trees::Merged>) {
+    let Some(merged) = merged else {
+        println!("FAILED: a tree is not merged, or an end or the merged proof is not accepted");
+        return;
+    };
+    println!(
+        "merge of {}: {} ends of {} bytes, merged into {} steps of {} bytes in {:.3} ms (least {:.3}); the ends are checked in {:.3} ms (least {:.3}), the merged proof in {:.3} ms (least {:.3})",
+        merged.name,
+        merged.ends,
+        merged.texts,
+        merged.steps,
+        merged.size,
+        milliseconds(merged.merging.median),
+        milliseconds(merged.merging.least),
+        milliseconds(merged.ends_checking.median),
+        milliseconds(merged.ends_checking.least),
         milliseconds(merged.checking.median),
         milliseconds(merged.checking.least),
     );

@@ -1,6 +1,6 @@
-/* The eleven services of the proof checker for C: the program reader, the set test, the proof-line reader, the whole check over two texts,
+/* The twelve services of the proof checker for C: the program reader, the set test, the proof-line reader, the whole check over two texts,
  * the writer and the reader of packets, their moves from one version to the other, the merge of two halves' proofs, the trimming of a
- * proof, and the certificate of a cheapest answer set. The functions are in target/staticlib/libexports.a, which `rt staticlib exports` writes, for x86-64 Linux.
+ * proof, the certificate of a cheapest answer set, and the merge of the proofs at the ends of a tree of splits. The functions are in target/staticlib/libexports.a, which `rt staticlib exports` writes, for x86-64 Linux.
  *
  * Each function is proved to meet its contract (crates/exports/src/lib.rt and crates/exports/specs/) on every input: no text, no
  * number and no length is asked to be good. What the caller must see to is what C cannot say:
@@ -8,7 +8,7 @@
  *     where the length is 0 it is not followed, and any pointer that is not null and is aligned for its type will do;
  *   - a buffer that is written overlaps no other argument;
  *   - the thread has ASPDRUPE_STACK bytes of stack for the call, ASPDRUPE_MERGE_STACK for aspdrupe_merge_halves, ASPDRUPE_TRIM_STACK
- *     for aspdrupe_trim_proof, and ASPDRUPE_CHEAPEST_STACK for aspdrupe_check_cheapest.
+ *     for aspdrupe_trim_proof, ASPDRUPE_CHEAPEST_STACK for aspdrupe_check_cheapest, and ASPDRUPE_TREE_STACK for aspdrupe_merge_tree.
  * Nothing else: no function allocates, keeps a pointer, has a state of its own, or fails to return. Calls with buffers of their
  * own may run at the same time.
  *
@@ -30,7 +30,7 @@ extern "C" {
  * musl 128 KB. */
 #define ASPDRUPE_STACK 524288
 
-/* The same for aspdrupe_merge_halves, which checks the halves over a table of its own beside the one lent: 893,440 bytes were measured. */
+/* The same for aspdrupe_merge_halves, which checks the halves over a table of its own beside the one lent: 893,744 bytes were measured. */
 #define ASPDRUPE_MERGE_STACK 1048576
 
 /* The same for aspdrupe_trim_proof, which tries each step on a copy of the text: 831,120 bytes were measured. */
@@ -38,6 +38,10 @@ extern "C" {
 
 /* The same for aspdrupe_check_cheapest, which checks the proof over a table of its own beside the one lent: 786,448 bytes were measured. */
 #define ASPDRUPE_CHEAPEST_STACK 1048576
+
+/* The same for aspdrupe_merge_tree, which keeps the texts of both sides of a split while it merges them, at up to six splits on a path:
+ * 2,012,048 bytes were measured. Rust gives a thread as much by default, of which its own code takes a part: give a thread that calls it more. */
+#define ASPDRUPE_TREE_STACK 2097152
 
 /* The most numbers that an answer has. */
 #define ASPDRUPE_ANSWER 4
@@ -188,6 +192,27 @@ uint32_t aspdrupe_trim_proof(const uint8_t *program, size_t program_len, uint8_t
 uint32_t aspdrupe_check_cheapest(const uint8_t *program, size_t program_len, const uint16_t *set, size_t set_len, const int16_t *costs,
                                  size_t costs_len, const uint8_t *proof, size_t proof_len, int32_t *table, size_t table_len,
                                  int32_t *store, size_t store_len, uint64_t *answer, size_t answer_len);
+
+/* Merges the proofs at the ends of a tree of splits into one proof for the program itself. `tree` holds the tree's numbers: 0 for an end; for a
+ * split its atom, one of 1 to N, then the side that demands the atom, then the side that forbids it. No atom stands twice on a path, and a path
+ * has at most six splits. `texts` holds the proofs of the ends in that order, one right after the other, and `lengths` the bytes of each. An
+ * end's proof is for the program with one constraint more for each split on its path, in the order from the root, as for aspdrupe_merge_halves;
+ * it is accepted where its check comes to ASPDRUPE_INCONSISTENT. A tree of one end, the single number 0, is a plain proof, which is written as it
+ * stands. 65,535 bytes hold every merged text.
+ * Returns 0 where it is written: answer[0] is how many bytes the text has; the output holds it and 0 after it, and table and store are as
+ * aspdrupe_check_texts leaves them for the program and that text, which comes to ASPDRUPE_INCONSISTENT.
+ * Returns the number of the question that the program fails, 1 to 11, 54 or 55: answer[0] is the line and answer[1] is 0, as
+ * aspdrupe_read_program has them.
+ * Otherwise returns 64 (the numbers are no such tree, have others after it, or name an atom that is none of the program's; or there are not as
+ * many lengths as ends, or they do not add up to texts_len), asked before any end is read; or what is met first, a side that demands an atom
+ * whole before the one that forbids it, and both before their merge: 57 (an end is refused or open when it is checked with the store lent), 58
+ * (a merge has a line of more than ASPDRUPE_NUMBERS numbers, a name above 8,191, or a text that is longer than 65,535 bytes or than the output; a
+ * tree of one end is longer than the output) or 59 (the live nogoods of a merged text do not fit the store). `answer` stays as it was. Each merge
+ * is held to the whole output and store, those inside the tree too; ends under a split are not held to the output.
+ * After a refusal, the program's too, table, store and output are 0 throughout. */
+uint32_t aspdrupe_merge_tree(const uint8_t *program, size_t program_len, const uint16_t *tree, size_t tree_len, const uint8_t *texts,
+                             size_t texts_len, const uint64_t *lengths, size_t lengths_len, int32_t *table, size_t table_len,
+                             int32_t *store, size_t store_len, uint8_t *output, size_t output_len, uint64_t *answer, size_t answer_len);
 
 #ifdef __cplusplus
 }

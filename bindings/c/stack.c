@@ -1,7 +1,8 @@
 /* How much stack the services need. Every service is called, on inputs that reach its deepest paths, each call in a thread of its own:
  *
- *   stack           in threads with a stack of ASPDRUPE_STACK bytes, ASPDRUPE_MERGE_STACK for merges, ASPDRUPE_TRIM_STACK for trimming, or
- *                   ASPDRUPE_CHEAPEST_STACK for cheapest answer sets: the test, which bindings/c/run builds and runs
+ *   stack           in threads with a stack of ASPDRUPE_STACK bytes, ASPDRUPE_MERGE_STACK for merges, ASPDRUPE_TRIM_STACK for trimming,
+ *                   ASPDRUPE_CHEAPEST_STACK for cheapest answer sets, or ASPDRUPE_TREE_STACK for trees: the test, which bindings/c/run builds
+ *                   and runs
  *   stack SIZE      in threads with a stack of SIZE bytes
  *   stack measure   in threads with more than enough; prints how many bytes of it each has used, with what the thread itself takes
  *
@@ -26,7 +27,7 @@
 
 /* Below a thread's stack, so that a frame cannot reach past it; and the stack that is measured on. */
 #define GUARD ((size_t)1 << 20)
-#define PLENTY ((size_t)1 << 21)
+#define PLENTY ((size_t)1 << 22)
 #define PATTERN 0xA5
 
 /* The limits of documents 01 and 02. */
@@ -289,6 +290,55 @@ static void make_certificates(void) {
     while (full_certificate.size < TEXT - 80) put(&full_certificate, "s 2 9 10 0\nd 2 -9 -10 0\nl 8 0\nd 8 -9 0\n");
 }
 
+/* A program, six splits that each have an end where the atom is forbidden, the numbers that are this tree, and the texts of the ends. */
+#define SPLITS 6
+#define ENDS (SPLITS + 1)
+#define NUMBERS (SPLITS + ENDS)
+
+struct tree {
+    const struct text *program;
+    uint16_t numbers[NUMBERS];
+    uint8_t texts[2 * TEXT];
+    size_t size;
+    uint64_t lengths[ENDS];
+};
+
+static struct tree weight_tree, full_tree, bad_tree;
+static struct text full_end;
+
+/* The tree on six atoms from this one on, with a proof for the end where all are demanded and one for each of the others. */
+static void make_tree(struct tree *tree, const struct text *program, uint16_t atom, const struct text *first, const struct text *others) {
+    tree->program = program;
+    tree->size = 0;
+    for (size_t i = 0; i < SPLITS; i++) tree->numbers[i] = (uint16_t)(atom + i);
+    for (size_t i = 0; i < ENDS; i++) {
+        const struct text *end = i == 0 ? first : others;
+        memcpy(tree->texts + tree->size, end->bytes, end->size);
+        tree->size += end->size;
+        tree->lengths[i] = end->size;
+    }
+}
+
+/* Trees of the programs of the splits: with weights at each end; with an end that nearly fills the merged text with lines of 59 numbers, widened
+ * to 65; and one whose last end is open. */
+static void make_trees(void) {
+    static struct text small;
+    put(&small, "b 9 -1 0\nc 9 1 0\ns 1 9 0\na 1 0\na 0\n");
+    full_end = small;
+    for (int name = 8001; name <= 8000 + PART - 5; name++) put(&full_end, "e %d 0\n", name);
+    while (full_end.size < TEXT - 4000) {
+        put(&full_end, "a");
+        put_range(&full_end, 8001, 8000 + PART - 5);
+        put(&full_end, " 0\n");
+    }
+    make_tree(&weight_tree, &weight_split.program, 1, &weight_proof, &weight_proof);
+    make_tree(&full_tree, &full_split.program, 2, &full_end, &small);
+    bad_tree = full_tree;
+    memcpy(bad_tree.texts + bad_tree.size, "d 0\n", 4);
+    bad_tree.size += 4;
+    bad_tree.lengths[ENDS - 1] += 4;
+}
+
 static void make_inputs(void) {
     make_chain();
     make_wide();
@@ -300,6 +350,7 @@ static void make_inputs(void) {
     make_full_split();
     make_proofs();
     make_certificates();
+    make_trees();
     for (int i = 0; i < TEXT; i++) put(&newlines, "\n");
     put(&long_line, "a");
     while (long_line.size < TEXT - 10) put(&long_line, " -8191");
@@ -358,6 +409,11 @@ static uint32_t certify(const struct text *program, const uint16_t *set, size_t 
                         const struct text *proof, size_t store_size) {
     return aspdrupe_check_cheapest(program->bytes, program->size, set, count, costs, costs_size, proof->bytes, proof->size, table, WORDS,
                                    store, store_size, answer, ASPDRUPE_ANSWER);
+}
+
+static uint32_t merge_tree(const struct tree *tree, size_t numbers_size, size_t store_size, size_t size) {
+    return aspdrupe_merge_tree(tree->program->bytes, tree->program->size, tree->numbers, numbers_size, tree->texts, tree->size,
+                               tree->lengths, ENDS, table, WORDS, store, store_size, bytes, size, answer, ASPDRUPE_ANSWER);
 }
 
 static uint32_t read_full(void) { return read_program(&full_rules); }
@@ -443,6 +499,33 @@ static uint32_t certify_nothing(void) { return certify(&weight_rules, weight_set
 static uint32_t certify_odd(void) { return certify(&full_rules, weight_set, 0, full_costs, FULL_COSTS - 1, &full_certificate, WORDS); }
 static uint32_t certify_foreign(void) { return certify(&full_rules, weight_set, 1, full_costs, FULL_COSTS, &full_certificate, WORDS); }
 static uint32_t certify_many(void) { return certify(&many_weights, weight_set, 1, weight_costs, WEIGHT_COSTS, &chain, WORDS); }
+
+/* The bytes of the texts that trees come to, and the words that the one with weights needs of the store. */
+#define WEIGHT_TREE 1789
+#define WEIGHT_TREE_STORE 1338
+#define FULL_TREE 64340
+#define FULL_PROOF 65433
+
+static uint32_t tree_weights(void) { return merge_tree(&weight_tree, NUMBERS, WEIGHT_TREE_STORE, WEIGHT_TREE); }
+static uint32_t tree_full(void) { return merge_tree(&full_tree, NUMBERS, WORDS, TEXT); }
+static uint32_t tree_open(void) { return merge_tree(&bad_tree, NUMBERS, WORDS, TEXT); }
+static uint32_t tree_short(void) { return merge_tree(&weight_tree, NUMBERS, WORDS, WEIGHT_TREE - 1); }
+static uint32_t tree_small(void) { return merge_tree(&weight_tree, NUMBERS, WEIGHT_TREE_STORE - 1, TEXT); }
+static uint32_t tree_cut(void) { return merge_tree(&full_tree, NUMBERS - 1, WORDS, TEXT); }
+
+/* A tree of one end. */
+static uint32_t tree_root(void) {
+    static const uint16_t numbers[] = {0};
+    const uint64_t lengths[] = {full_proof.size};
+    return aspdrupe_merge_tree(full_split.program.bytes, full_split.program.size, numbers, 1, full_proof.bytes, full_proof.size, lengths, 1,
+                               table, WORDS, store, WORDS, bytes, TEXT, answer, ASPDRUPE_ANSWER);
+}
+
+/* A program that is refused. */
+static uint32_t tree_many(void) {
+    return aspdrupe_merge_tree(many_weights.bytes, many_weights.size, full_tree.numbers, NUMBERS, full_tree.texts, full_tree.size,
+                               full_tree.lengths, ENDS, table, WORDS, store, WORDS, bytes, TEXT, answer, ASPDRUPE_ANSWER);
+}
 
 /* A chain of rules against their order: the least model takes as many rounds as there are rules. It is the set that is tested. */
 static uint32_t test_chain(void) {
@@ -546,6 +629,17 @@ static const struct call certificates[] = {
     {"check_cheapest: 64 heads, 64 weights", certify_many, 55, {2, 0, 0, 0}},
 };
 
+static const struct call trees[] = {
+    {"merge_tree: rules with 12 weights", tree_weights, 0, {WEIGHT_TREE, 0, 0, 0}},
+    {"merge_tree: full text, 1,024 rules", tree_full, 0, {FULL_TREE, 0, 0, 0}},
+    {"merge_tree: one end, 1,024 rules", tree_root, 0, {FULL_PROOF, 0, 0, 0}},
+    {"merge_tree: a last end that is open", tree_open, 57, {0, 0, 0, 0}},
+    {"merge_tree: an output too short", tree_short, 58, {0, 0, 0, 0}},
+    {"merge_tree: a store too short", tree_small, 59, {0, 0, 0, 0}},
+    {"merge_tree: a number too few", tree_cut, 64, {0, 0, 0, 0}},
+    {"merge_tree: 64 heads, 64 weights", tree_many, 55, {2, 0, 0, 0}},
+};
+
 #define COUNT(list) (sizeof list / sizeof *list)
 
 /* Calls, and the stack that the header names for them. */
@@ -557,6 +651,7 @@ static const struct {
     {merges, COUNT(merges), ASPDRUPE_MERGE_STACK},
     {trims, COUNT(trims), ASPDRUPE_TRIM_STACK},
     {certificates, COUNT(certificates), ASPDRUPE_CHEAPEST_STACK},
+    {trees, COUNT(trees), ASPDRUPE_TREE_STACK},
 };
 
 /* ---- The threads ---- */

@@ -57,6 +57,11 @@ impl Words {
         self.operands.get(place).map(OsString::as_os_str).ok_or_else(|| Failure::misuse("an operand is missing"))
     }
 
+    /// The operands from a place on, as paths.
+    pub fn paths_from(&self, place: usize) -> Vec<&Path> {
+        self.operands.iter().skip(place).map(Path::new).collect()
+    }
+
     /// The operands from a place on, as text.
     pub fn texts_from(&self, place: usize) -> Vec<String> {
         self.operands.iter().skip(place).map(|word| word.to_string_lossy().into_owned()).collect()

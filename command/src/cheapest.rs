@@ -66,7 +66,7 @@ fn run(words: &Words) -> Result<Outcome, Failure> {
     };
     if let Some(path) = words.output("-o") {
         told.words.push(if restricted {
-            ground::write(&path, &constrained::text(&ground.text, &question.restriction().line()), &ground.names)?;
+            ground::write(&path, &constrained::text(&ground.text, &[question.restriction().line()]), &ground.names)?;
             format!("the program restricted to less than {} is {}", question.cost(), path.display())
         } else {
             format!("{} is not written: the set is no answer set, or does not cost 1 to {MOST_COST}", path.display())
@@ -145,7 +145,7 @@ impl Question<'_> {
             let why = "no PROOF is given: -o OUT.aspif writes that program, and `aspdrupe prove OUT.aspif -o PROOF` finds a proof or a cheaper set";
             return Ok(told.for_reason(String::from(why)));
         };
-        Ok(match constrained::check(&self.ground.text, &restriction.line(), proof, self.store)? {
+        Ok(match constrained::check(&self.ground.text, &[restriction.line()], proof, self.store)? {
             Ok(check) => told.explained_by("check", "the check of the proof for them", check),
             Err(question) => {
                 let why = "what is wrong with the proof cannot be told: with the constraint the program has too many bytes or rules for a check of its own";

@@ -27,6 +27,7 @@ mod signals;
 mod source;
 mod statements;
 mod tools;
+mod tree;
 mod trim;
 
 use std::ffi::OsString;
@@ -39,7 +40,7 @@ use json::Json;
 use outcome::{Failure, Outcome, Status};
 
 /// In the order in which `--help` lists them.
-const SUBCOMMANDS: [&Subcommand; 8] = [
+const SUBCOMMANDS: [&Subcommand; 9] = [
     &prove::SUBCOMMAND,
     &check::SUBCOMMAND,
     &set_test::SUBCOMMAND,
@@ -47,11 +48,12 @@ const SUBCOMMANDS: [&Subcommand; 8] = [
     &ground::SUBCOMMAND,
     &trim::SUBCOMMAND,
     &merge::SUBCOMMAND,
+    &tree::SUBCOMMAND,
     &packet::SUBCOMMAND,
 ];
 
 /// The bytes of stack for everything: four times those of the library's largest call.
-const STACK: usize = 4 * aspdrupe::MERGE_STACK;
+const STACK: usize = 4 * aspdrupe::TREE_STACK;
 
 fn main() -> ExitCode {
     signals::catch();

@@ -35,24 +35,27 @@ fn run(words: &Words) -> Result<Outcome, Failure> {
     let mut output = vec![0; TEXT_LIMIT];
     let merging =
         aspdrupe::merge_halves(&program, atom, &first, &second, &mut library::lent(table)?, &mut library::lent(store)?, &mut output)?;
+    let outcome = shown(words, merging, &program, output)?;
+    if merging == Merging::Refused(MergeQuestion::Halves) {
+        return Split { program, atom, store }.explained(outcome, [&first, &second]);
+    }
+    Ok(outcome)
+}
+
+/// What a merge comes to, and its text written where `-o` asks for it.
+pub fn shown(words: &Words, merging: Merging, program: &[u8], mut output: Vec<u8>) -> Result<Outcome, Failure> {
+    let (table, store) = (words.room("--table")?, words.room("--store")?);
     let bytes = match merging {
-        Merging::RefusedProgram(refusal) => return Ok(explain::program(refusal, &program)),
-        Merging::Refused(question) => {
-            let refusal = explain::question("merge", question.number(), question.to_string(), question.mend());
-            return if question == MergeQuestion::Halves {
-                Split { program, atom, store }.explained(refusal, [&first, &second])
-            } else {
-                Ok(refusal)
-            };
-        }
+        Merging::RefusedProgram(refusal) => return Ok(explain::program(refusal, program)),
+        Merging::Refused(question) => return Ok(explain::question("merge", question.number(), question.to_string(), question.mend())),
         Merging::Merged(bytes) => bytes,
     };
     output.truncate(bytes);
-    let verdict = library::check_texts(&program, &output, table, store)?;
+    let verdict = library::check_texts(program, &output, table, store)?;
     if let Some(path) = words.output("-o") {
         files::write(&path, &output)?;
     }
-    let mut outcome = explain::verdict(verdict, (&program, &output), table);
+    let mut outcome = explain::verdict(verdict, (program, &output), table);
     outcome.words.push(format!("the merged proof has {bytes} bytes"));
     outcome.fields.push(("bytes", Json::count(bytes)));
     Ok(outcome)
@@ -97,7 +100,7 @@ impl Split {
     }
 
     fn check(&self, half: usize, proof: &[u8]) -> Result<Result<Outcome, ProgramQuestion>, Failure> {
-        constrained::check(&self.program, &self.constraint(half), proof, self.store)
+        constrained::check(&self.program, &[self.constraint(half)], proof, self.store)
     }
 
     /// The constraint of half 0, which demands the atom, or of half 1, which forbids it.

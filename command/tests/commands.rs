@@ -406,6 +406,41 @@ fn from_costs_to_a_certificate() {
 }
 
 #[test]
+fn trees() {
+    let room = Room::of("trees");
+    room.file("p", "asp 1 0 0\n1 1 7 1 2 3 4 5 6 7 0 0\n1 0 0 0 1 7\n1 0 0 0 1 -7\n0\n");
+    room.file("e", proof("b 8 7  c 8  b 9 -7  c 9  a"));
+    room.file("bad", proof("b 8 7  c 8  b 9 -7  c 9"));
+    let (status, out, said) = room.run(&["tree", "p", "1,0,2,0,0", "e", "e", "e", "-o", "out"]);
+    assert_eq!((status, out.as_str()), (0, "inconsistent 7 3 13 15\n"));
+    assert!(said.ends_with("the merged proof has 89 bytes\n"), "{said}");
+    assert_eq!(fs::read(room.0.join("out")).unwrap().len(), 89);
+    assert_eq!(room.run(&["check", "p", "out"]).1, out);
+    // a tree of one end is written as it stands
+    assert_eq!(room.run(&["tree", "p", "0", "e", "-o", "out"]).0, 0);
+    assert_eq!(fs::read(room.0.join("out")).unwrap(), fs::read(room.0.join("e")).unwrap());
+    for (words, line) in [
+        (&["tree", "p", "1,0,2,0,0", "e", "e"][..], "refused merge 64\n"),
+        (&["tree", "p", "", "e"], "refused merge 64\n"),
+        (&["tree", "p", "0"], "refused merge 64\n"),
+        (&["tree", "p", "9,0,0", "e", "e"], "refused merge 64\n"),
+        (&["tree", "p", "1,0,2,0,0", "e", "e", "e", "--store", "49"], "refused merge 59\n"),
+        (&["tree", "e", "", "bad"], "refused program 2 1\n"),
+    ] {
+        let (status, out, said) = room.run(&[words, &["-o", "other"]].concat());
+        assert!(status == 20 && out == line && said.contains("to mend: "), "{words:?}: {status} {out} {said}");
+    }
+    let (status, out, said) = room.run(&["tree", "p", "1,0,2,0,0", "e", "bad", "e", "-o", "other"]);
+    assert_eq!((status, out.as_str()), (20, "refused merge 57\n"));
+    assert!(said.contains("the check of end 2 for the program with -1, 2 demanded says: open 7 5 4 6\n"), "{said}");
+    let (_, out, _) = room.run(&["tree", "p", "1,0,2,0,0", "e", "bad", "e", "--json"]);
+    assert!(out.contains(r#""number": 57"#) && out.contains(r#""end": 2, "path": [-1, 2], "check": {"verdict": "open""#), "{out}");
+    let (_, out, _) = room.run(&["tree", "p", "1,0,0", "e", "e", "--json"]);
+    assert!(out.contains(r#""command": "tree", "status": 0, "verdict": "inconsistent""#) && out.contains(r#""bytes": "#), "{out}");
+    assert_eq!(room.files(), ["bad", "e", "out", "p"]);
+}
+
+#[test]
 fn misuse() {
     let room = Room::of("misuse");
     room.file("p", NONE);
@@ -422,6 +457,8 @@ fn misuse() {
         (&["ground", "missing.lp"], "missing.lp cannot be read"),
         (&["ground", "p", "-o", "out.names"], "out.names is a place for names"),
         (&["merge", "p", "x", "p", "p"], "`x` is no atom's number"),
+        (&["tree", "p", "1,x,0", "p", "p"], "`x` is no number of a tree"),
+        (&["tree", "p"], "too few operands"),
         (&["packet", "send", "p", "p"], "aspdrupe packet write"),
         (&["packet", "write", "p", "p"], "-o names the packet"),
         (&["packet", "up", "p"], "-o names the packet"),
@@ -488,6 +525,7 @@ fn noise_and_limits() {
         (&["packet", "up", "noise", "-o", "out"], 20, "refused packet 51\n"),
         (&["packet", "down", "noise", "-o", "out"], 20, "refused packet 51\n"),
         (&["merge", "p", "1", "noise", "p", "-o", "out"], 20, "refused merge 57\n"),
+        (&["tree", "p", "1,0,0", "noise", "p", "-o", "out"], 20, "refused merge 57\n"),
         (&["trim", "p", "noise", "-o", "out"], 20, "refused trim 60\n"),
         (&["trim", "noise", "p", "-o", "out"], 20, "refused program 1 0\n"),
     ] {
@@ -815,6 +853,8 @@ fn inputs_are_not_written_over() {
         &["cheapest", "p.aspif", "d", "-o", "d"],
         &["cheapest", "p.aspif", "-o", "link"],
         &["merge", "p.aspif", "1", "d", "d", "-o", "d"],
+        &["tree", "p.aspif", "1,0,0", "d", "d", "-o", "d"],
+        &["tree", "p.aspif", "0", "d", "-o", "link"],
         &["packet", "write", "p.aspif", "d", "-o", "d"],
         &["packet", "up", "packet", "-o", "packet"],
         &["packet", "read", "packet", "--program", "packet", "--proof", "new"],

@@ -16,6 +16,7 @@ use crate::reference::models::{self, every_set};
 use crate::reference::program::{read, table_words, Program};
 use crate::reference::{filled, MARKS};
 use crate::tables;
+use crate::trees;
 use crate::trims;
 
 /// A family: its name, how many inputs it has for a count of 100, and what is done with one.
@@ -60,6 +61,9 @@ pub fn families() -> Vec<Family> {
         family("cheapest", 50, costs::run_random),
         listed("one-rate-cases", cases::costs::one_rate().len(), one_rate::run_worked),
         family("one-rate", 50, one_rate::run_random),
+        listed("trees", cases::trees::cases().len(), trees::run_worked),
+        listed("tree-faults", 1, trees::run_faulty),
+        family("split-trees", 30, trees::run_random),
     ]
 }
 

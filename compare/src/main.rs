@@ -24,6 +24,7 @@ mod reference;
 mod shrink;
 mod tables;
 mod tally;
+mod trees;
 mod trims;
 
 use std::process::ExitCode;

@@ -56,7 +56,7 @@ fn told(split: &Split) -> String {
 }
 
 /// The library's answer as the reference would say it.
-fn in_reference_form(merging: &aspdrupe::Merging) -> Answer {
+pub fn in_reference_form(merging: &aspdrupe::Merging) -> Answer {
     match *merging {
         aspdrupe::Merging::Merged(bytes) => Answer::Merged(bytes),
         aspdrupe::Merging::RefusedProgram(refusal) => Answer::RefusedProgram { number: refusal.question.number(), line: refusal.line },
@@ -65,7 +65,7 @@ fn in_reference_form(merging: &aspdrupe::Merging) -> Answer {
 }
 
 /// The answer without its length or line.
-fn kind(answer: &Answer) -> String {
+pub fn kind(answer: &Answer) -> String {
     match answer {
         Answer::Merged(_) => String::from("merged"),
         Answer::RefusedProgram { number, .. } => format!("refused program {number:02}"),

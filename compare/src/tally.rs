@@ -7,6 +7,7 @@ use crate::one_rate;
 use crate::packets;
 use crate::reference::check::{verdict_line, Verdict};
 use crate::reference::merge::Turn;
+use crate::trees;
 use crate::trims;
 
 #[derive(Default)]
@@ -95,6 +96,8 @@ fn wanted(with_binary: bool) -> Vec<String> {
     wanted.extend(one_rate::WANTED.map(|what| format!("one rate: {what}")));
     wanted.extend(costs::WANTED.map(|what| format!("check_cheapest: {what}")));
     wanted.extend(PROGRAM_QUESTIONS.map(|number| format!("check_cheapest: refused program {number:02}")));
+    wanted.extend(trees::WANTED.map(|what| format!("merge_tree: {what}")));
+    wanted.extend(PROGRAM_QUESTIONS.map(|number| format!("merge_tree: refused program {number:02}")));
     wanted.extend(Turn::ALL.map(|turn| format!("merge_halves: {}", turn.told())));
     wanted.extend("abcdels".chars().map(|letter| format!("inconsistent by a proof with {letter}")));
     wanted.extend(["refuted", "answer set"].map(|word| format!("search: {word}")));

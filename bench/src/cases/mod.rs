@@ -32,6 +32,14 @@ pub struct Split {
     pub halves: [Vec<Line>; 2],
 }
 
+/// A program, the numbers of a tree of splits, and for each of its ends the program with the constraints on its path and a refutation of that.
+pub struct Tree {
+    pub name: String,
+    pub program: Vec<u8>,
+    pub numbers: Vec<u16>,
+    pub ends: Vec<Pair>,
+}
+
 /// A program with a set that is to be certified as cheapest: the costs as they are lent, what the set costs, a refutation of the program
 /// restricted to less, and that program.
 pub struct Certificate {
@@ -84,6 +92,11 @@ pub fn slow() -> Vec<Input> {
 /// The split whose halves are merged.
 pub fn split() -> Split {
     searched::split()
+}
+
+/// The tree whose ends are merged.
+pub fn tree() -> Tree {
+    searched::tree()
 }
 
 /// The set that is certified as cheapest.

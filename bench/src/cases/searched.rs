@@ -1,9 +1,10 @@
 //! Refutations of random programs, of growing length up to the limit of a proof's text.
 
-use super::{refutations, Goal, Input, Split};
-use inputs::lines::Line;
+use super::{refutations, Goal, Input, Split, Tree};
+use inputs::lines::{proof_text, Line};
 use inputs::random::Random;
 use inputs::rules::{choice, constraint, normal, program_text, Rule};
+use inputs::Pair;
 
 /// About so many steps, and the seed that gives a program with such a refutation.
 const CASES: [(usize, u64); 6] = [(100, 179), (200, 109), (400, 136), (800, 160), (1_600, 77), (2_300, 6_638)];
@@ -39,6 +40,31 @@ pub fn split() -> Split {
     };
     let halves = [half(atom), half(-atom)];
     Split { name: format!("split-{length}"), program: program_text(&rules), atom: atom as usize, halves }
+}
+
+/// The seed of a program that is split on its first six atoms, on every path: the merged proof nearly fills the store.
+const TREE: (u64, u16) = (150, 6);
+
+pub fn tree() -> Tree {
+    let (seed, splits) = TREE;
+    let rules = rules(&mut Random::from_seed(seed + 1));
+    let mut tree = Tree { name: format!("tree-{}", 1 << splits), program: program_text(&rules), numbers: Vec::new(), ends: Vec::new() };
+    grow(&mut tree, &rules, 1, splits, seed);
+    tree
+}
+
+/// A side for the rules with the constraints on its path: split on this atom, or behind the last one an end.
+fn grow(tree: &mut Tree, rules: &[Rule], atom: u16, last: u16, seed: u64) {
+    if atom > last {
+        let lines = refutations::refute(rules, usize::MAX, seed).expect("the seed gives a refutation of each end");
+        tree.numbers.push(0);
+        tree.ends.push(Pair::of(program_text(rules), proof_text(&lines)));
+        return;
+    }
+    tree.numbers.push(atom);
+    for literal in [i32::from(atom), -i32::from(atom)] {
+        grow(tree, &[rules, &[constraint(&[-literal])]].concat(), atom + 1, last, seed);
+    }
 }
 
 /// Atoms of which half may be chosen, and the others have two rules each; constraints of three literals.

@@ -138,7 +138,7 @@ pub enum PacketReading {
     Refused(PacketQuestion),
 }
 
-/// What the merge says of a program and the proofs of its two halves.
+/// What the merge says of a program and the proofs of its two halves, or of the ends of a tree.
 #[derive(Debug, Clone, Copy, PartialEq, Eq, Hash)]
 pub enum Merging {
     /// The proof for the program is written, and has so many bytes: the program has no answer set.

@@ -71,6 +71,10 @@ enum MergeCode {
     Refused(MergeQuestion),
 }
 
+/// What the merge of a tree returns.
+#[derive(Debug, Clone, Copy, PartialEq, Eq)]
+struct TreeCode(MergeCode);
+
 /// What trimming returns.
 #[derive(Debug, Clone, Copy, PartialEq, Eq)]
 enum TrimCode {
@@ -206,6 +210,17 @@ impl TryFrom<u32> for MergeCode {
     }
 }
 
+impl TryFrom<u32> for TreeCode {
+    type Error = UnknownAnswer;
+
+    fn try_from(code: u32) -> Result<Self, UnknownAnswer> {
+        match code {
+            64 => Ok(TreeCode(MergeCode::Refused(MergeQuestion::Tree))),
+            _ => MergeCode::try_from(code).map(TreeCode).map_err(|_| unknown("code of the merge of a tree", code)),
+        }
+    }
+}
+
 impl TryFrom<u32> for TrimCode {
     type Error = UnknownAnswer;
 
@@ -312,12 +327,21 @@ pub fn packet_reading(code: u32, answer: [u64; 2]) -> Result<PacketReading, Unkn
 
 /// The merge's answer.
 pub fn merging(code: u32, answer: u64) -> Result<Merging, UnknownAnswer> {
+    Ok(merged(MergeCode::try_from(code)?, answer))
+}
+
+/// The answer of the merge of a tree.
+pub fn tree_merging(code: u32, answer: u64) -> Result<Merging, UnknownAnswer> {
+    Ok(merged(TreeCode::try_from(code)?.0, answer))
+}
+
+fn merged(code: MergeCode, answer: u64) -> Merging {
     let number = answer as usize;
-    Ok(match MergeCode::try_from(code)? {
+    match code {
         MergeCode::Merged => Merging::Merged(number),
         MergeCode::RefusedProgram(question) => Merging::RefusedProgram(ProgramRefusal { question, line: number }),
         MergeCode::Refused(question) => Merging::Refused(question),
-    })
+    }
 }
 
 /// The answer of trimming.
@@ -363,6 +387,7 @@ mod tests {
         assert_eq!(known::<UpCode>(), [0, 51, 52, 53]);
         assert_eq!(known::<DownCode>(), [0, 51, 52, 53, 61]);
         assert_eq!(known::<MergeCode>(), (0..=11).chain([54, 55, 57, 58, 59]).collect::<Vec<_>>());
+        assert_eq!(known::<TreeCode>(), (0..=11).chain([54, 55, 57, 58, 59, 64]).collect::<Vec<_>>());
         assert_eq!(known::<TrimCode>(), (0..=11).chain([54, 55, 60]).collect::<Vec<_>>());
         assert_eq!(known::<CheapestCode>(), (0..=11).chain([42, 54, 55, 62, 63]).collect::<Vec<_>>());
     }
@@ -378,6 +403,8 @@ mod tests {
         assert_eq!(packet_down(60, 0), Err(UnknownAnswer { wanted: "code of a move down", number: 60 }));
         assert_eq!(packet_reading(54, [0; 2]), Err(UnknownAnswer { wanted: "code of the reader of packets", number: 54 }));
         assert_eq!(merging(34, 0), Err(UnknownAnswer { wanted: "code of the merge", number: 34 }));
+        assert_eq!(merging(64, 0), Err(UnknownAnswer { wanted: "code of the merge", number: 64 }));
+        assert_eq!(tree_merging(63, 0), Err(UnknownAnswer { wanted: "code of the merge of a tree", number: 63 }));
         assert_eq!(trimming(57, 0), Err(UnknownAnswer { wanted: "code of trimming", number: 57 }));
     }
 
@@ -407,6 +434,9 @@ mod tests {
         assert_eq!(merging(0, 66), Ok(Merging::Merged(66)));
         assert_eq!(merging(5, 7), Ok(Merging::RefusedProgram(refusal)));
         assert_eq!(merging(59, 9), Ok(Merging::Refused(MergeQuestion::Store)));
+        assert_eq!(tree_merging(0, 89), Ok(Merging::Merged(89)));
+        assert_eq!(tree_merging(5, 7), Ok(Merging::RefusedProgram(refusal)));
+        assert_eq!(tree_merging(64, 9), Ok(Merging::Refused(MergeQuestion::Tree)));
         assert_eq!(trimming(0, 35), Ok(Trimming::Trimmed(35)));
         assert_eq!(trimming(5, 7), Ok(Trimming::RefusedProgram(refusal)));
         assert_eq!(trimming(60, 9), Ok(Trimming::Refused(TrimQuestion::Accepted)));

@@ -1,7 +1,8 @@
-//! The eleven services of the proof checker for Rust: the program reader, the set test, the proof-line reader, the whole check over two
+//! The twelve services of the proof checker for Rust: the program reader, the set test, the proof-line reader, the whole check over two
 //! texts, the writer and the reader of packets, their moves from one version to the other, the merge of two halves' proofs, the trimming
-//! of a proof, and the certificate of a cheapest answer set. The work is done by functions that are proved to meet their contracts on every input (`crates/exports`); here they are declared
-//! and wrapped, and their codes become enums. No input panics.
+//! of a proof, the certificate of a cheapest answer set, and the merge of the proofs at the ends of a tree of splits. The work is done by
+//! functions that are proved to meet their contracts on every input (`crates/exports`); here they are declared and wrapped, and their codes
+//! become enums. No input panics.
 //!
 //! Each function answers an [`UnknownAnswer`] where the library returns what its contract does not allow, which a library of the
 //! same version never does.
@@ -40,8 +41,8 @@ pub const MOST_NUMBERS: usize = 65;
 /// The marks that the set test asks for.
 pub const MARKS: usize = 8192;
 
-/// The bytes of stack with which a thread has enough for any call but [`merge_halves`], [`trim_proof`] and [`check_cheapest`], as
-/// `std::thread::Builder::stack_size` takes them. What your own code takes comes on top.
+/// The bytes of stack with which a thread has enough for any call but [`merge_halves`], [`trim_proof`], [`check_cheapest`] and
+/// [`merge_tree`], as `std::thread::Builder::stack_size` takes them. What your own code takes comes on top.
 pub const STACK: usize = 524_288;
 
 /// The same for [`merge_halves`].
@@ -52,6 +53,9 @@ pub const TRIM_STACK: usize = 1_048_576;
 
 /// The same for [`check_cheapest`].
 pub const CHEAPEST_STACK: usize = 1_048_576;
+
+/// The same for [`merge_tree`]. Where nothing is said a thread has no more than that for everything.
+pub const TREE_STACK: usize = 2_097_152;
 
 // Each call below hands over what its slices point to, with their lengths. A slice is valid for its length, an empty one has a
 // pointer that is aligned and not null, and Rust lets no other argument overlap one that is written: nothing more is asked.
@@ -395,4 +399,67 @@ pub fn check_cheapest(
         )
     };
     codes::cheapest(code, answer[0])
+}
+
+/// Merges the proofs at the ends of a tree of splits into one proof for the program itself. The tree is numbers: 0 for an end; for a split its
+/// atom, then the side that demands the atom, then the side that forbids it. No atom stands twice on a path, and a path has at most six splits.
+/// The texts are the proofs of the ends in that order, one right after the other, and the lengths are the bytes of each. An end's proof is for
+/// the program with a constraint added for each split on its path, as for [`merge_halves`], and must be inconsistent when it is checked with the
+/// store. A tree of one end is a plain proof, which is written as it stands.
+///
+/// The output then begins with the merged text and has 0 after it, and table and store are as [`check_texts`] leaves them for the program and
+/// that text; all three are 0 throughout where anything is refused. A list that is no such tree, or that the lengths do not fit, is refused with
+/// [`MergeQuestion::Tree`] before any end is read. After that the first refusal that is met decides, the side that demands an atom whole before
+/// the one that forbids it. Every merge is held to the whole output and store, those inside the tree too. A thread needs [`TREE_STACK`] bytes of
+/// stack for the call, which is all that it has where nothing is said:
+///
+/// ```
+/// use aspdrupe::{merge_tree, Merging, TREE_STACK};
+///
+/// // a choice over 1, 2 and 3, and 3 both ruled out and demanded
+/// let program = b"asp 1 0 0\n1 1 3 1 2 3 0 0\n1 0 0 0 1 3\n1 0 0 0 1 -3\n0\n";
+/// let end = b"b 4 3 0\nc 4 0\nb 5 -3 0\nc 5 0\na 0\n";
+/// let merge = || {
+///     let (mut table, mut store, mut output) = ([0; 17], [0; 64], [0; 89]);
+///     // split on 1, and where 1 is forbidden on 2
+///     let tree = [1, 0, 2, 0, 0];
+///     let merging = merge_tree(program, &tree, &end.repeat(3), &[33; 3], &mut table, &mut store, &mut output);
+///     assert_eq!(merging, Ok(Merging::Merged(89)));
+///     assert!(output.ends_with(b"a 1 0\nc 4 0\nc 5 0\na 2 -1 0\nc 4 0\nc 5 0\na -2 -1 0\na -1 0\na 0\n"));
+/// };
+/// std::thread::Builder::new().stack_size(TREE_STACK).spawn(merge)?.join().unwrap();
+/// # Ok::<(), std::io::Error>(())
+/// ```
+pub fn merge_tree(
+    program: &[u8],
+    tree: &[u16],
+    texts: &[u8],
+    lengths: &[u64],
+    table: &mut [i32],
+    store: &mut [i32],
+    output: &mut [u8],
+) -> Result<Merging, UnknownAnswer> {
+    let mut answer = [0; 2];
+    // SAFETY: as said above.
+    let code = unsafe {
+        raw::aspdrupe_merge_tree(
+            program.as_ptr(),
+            program.len(),
+            tree.as_ptr(),
+            tree.len(),
+            texts.as_ptr(),
+            texts.len(),
+            lengths.as_ptr(),
+            lengths.len(),
+            table.as_mut_ptr(),
+            table.len(),
+            store.as_mut_ptr(),
+            store.len(),
+            output.as_mut_ptr(),
+            output.len(),
+            answer.as_mut_ptr(),
+            answer.len(),
+        )
+    };
+    codes::tree_merging(code, answer[0])
 }

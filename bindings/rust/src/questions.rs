@@ -174,9 +174,13 @@ questions! {
 }
 
 questions! {
-    /// A question put by the merge of two halves, after those put to the program. A refusal names the first that is answered no.
-    MergeQuestion, "question put to two halves" {
-        Halves = 57, "Is the atom one of the program's, and each half inconsistent when it is checked with the store?",
+    /// A question put by the merge of two halves, after those put to the program. A refusal names the first that is answered no. 64 is asked by
+    /// the merge of a tree, before any end is read; the others are then put to its ends and merges, a side that demands an atom before the
+    /// other.
+    MergeQuestion, "question put to two halves or a tree" {
+        Tree = 64, "Tree: are the numbers a tree over the program's atoms, at most six splits deep and with no atom twice on a path, and the lengths those of its ends?",
+            "the tree's numbers; the lengths; for a deeper tree, some of its sides merged first";
+        Halves = 57, "Is the atom one of the program's, and each half, or end of a tree, inconsistent when it is checked with the store?",
             "the atom; the half's proof, by a check of its own; a longer store";
         Limits = 58, "Is every line and name within its limit, and the text within 65,535 bytes and the output?",
             "a longer output; shorter proofs; fewer names";
@@ -235,7 +239,7 @@ mod tests {
         assert_eq!(known(ProofQuestion::number), (21..=34).chain([56]).collect::<Vec<_>>());
         assert_eq!(known(SetQuestion::number), (41..=43).collect::<Vec<_>>());
         assert_eq!(known(PacketQuestion::number), [51, 52, 53, 61]);
-        assert_eq!(known(MergeQuestion::number), (57..=59).collect::<Vec<_>>());
+        assert_eq!(known(MergeQuestion::number), [57, 58, 59, 64]);
         assert_eq!(known(TrimQuestion::number), [60]);
         assert_eq!(known(CheapestQuestion::number), [42, 62, 63]);
         assert_eq!(known(Letter::number), b"abcdels".map(u64::from));

@@ -125,6 +125,24 @@ extern "C" {
         answer: *mut u64,
         answer_len: usize,
     ) -> u32;
+    pub fn aspdrupe_merge_tree(
+        program: *const u8,
+        program_len: usize,
+        tree: *const u16,
+        tree_len: usize,
+        texts: *const u8,
+        texts_len: usize,
+        lengths: *const u64,
+        lengths_len: usize,
+        table: *mut i32,
+        table_len: usize,
+        store: *mut i32,
+        store_len: usize,
+        output: *mut u8,
+        output_len: usize,
+        answer: *mut u64,
+        answer_len: usize,
+    ) -> u32;
 }
 
 // What does not fit is not written, and what stands after an answer stays.
@@ -445,5 +463,65 @@ mod tests {
             assert_eq!(cheapest(&[1, 3, 2], 12, 40, size), (62, [9; 3]));
             assert_eq!(cheapest(&[1, 3, 2, 5], 12, 39, size), (63, [9; 3]));
         }
+    }
+
+    /// The proof as both ends of a tree that is split on an atom: the code, and what is left in an answer of so many numbers.
+    fn merged_tree(atom: u16, table: usize, store: usize, output: usize, size: usize) -> (u32, [u64; 3]) {
+        let (mut table, mut store, mut output) = (vec![7; table], vec![7; store], vec![7; output]);
+        let (tree, texts, lengths) = ([atom, 0, 0], PROOF.repeat(2), [PROOF.len() as u64; 2]);
+        let mut answer = [9u64; 3];
+        // SAFETY: as above.
+        let code = unsafe {
+            aspdrupe_merge_tree(
+                PROGRAM.as_ptr(),
+                PROGRAM.len(),
+                tree.as_ptr(),
+                tree.len(),
+                texts.as_ptr(),
+                texts.len(),
+                lengths.as_ptr(),
+                lengths.len(),
+                table.as_mut_ptr(),
+                table.len(),
+                store.as_mut_ptr(),
+                store.len(),
+                output.as_mut_ptr(),
+                output.len(),
+                answer.as_mut_ptr(),
+                size,
+            )
+        };
+        if code != 0 {
+            assert!(table.iter().chain(&store).all(|word| *word == 0) && output.iter().all(|byte| *byte == 0));
+        }
+        (code, answer)
+    }
+
+    /// In a thread with the stack that the merge of a tree needs.
+    fn on_tree_stack(test: fn()) {
+        std::thread::Builder::new().stack_size(crate::TREE_STACK).spawn(test).unwrap().join().unwrap();
+    }
+
+    #[test]
+    fn tree_counts_that_do_not_fit() {
+        on_tree_stack(|| {
+            for size in 0..=3 {
+                let mut left = [64, 9, 9];
+                left[size.min(1)..].fill(9);
+                assert_eq!(merged_tree(1, 6, 35, 64, size), (0, left));
+                let mut left = [2, 0, 9];
+                left[size.min(2)..].fill(9);
+                assert_eq!(merged_tree(1, 5, 35, 64, size), (10, left));
+            }
+        });
+    }
+
+    #[test]
+    fn tree_refusals_tell_no_numbers() {
+        on_tree_stack(|| {
+            for (atom, store, output, code) in [(2, 35, 64, 64), (2, 20, 63, 64), (1, 20, 63, 57), (1, 34, 63, 58), (1, 34, 64, 59)] {
+                assert_eq!(merged_tree(atom, 6, store, output, 3), (code, [9; 3]));
+            }
+        });
     }
 }

@@ -17,6 +17,7 @@ fn same_constants() {
     assert_eq!(MERGE_STACK, defined("MERGE_STACK"));
     assert_eq!(TRIM_STACK, defined("TRIM_STACK"));
     assert_eq!(CHEAPEST_STACK, defined("CHEAPEST_STACK"));
+    assert_eq!(TREE_STACK, defined("TREE_STACK"));
     assert_eq!(MARKS, defined("MARKS"));
     assert_eq!(MOST_NUMBERS, defined("NUMBERS"));
 }
@@ -87,4 +88,16 @@ fn stack_of_a_thread_that_certifies() {
     };
     let thread = std::thread::Builder::new().stack_size(CHEAPEST_STACK).spawn(certify).unwrap();
     assert_eq!(thread.join().unwrap(), Ok(Cheapest::Certified(3)));
+}
+
+#[test]
+fn stack_of_a_thread_that_merges_a_tree() {
+    let merge = || {
+        let program = b"asp 1 0 0\n1 1 7 1 2 3 4 5 6 7 0 0\n1 0 0 0 1 7\n1 0 0 0 1 -7\n0\n";
+        let ends = b"b 8 7 0\nc 8 0\nb 9 -7 0\nc 9 0\na 0\n".repeat(7);
+        let tree = [1, 0, 2, 0, 3, 0, 4, 0, 5, 0, 6, 0, 0];
+        merge_tree(program, &tree, &ends, &[33; 7], &mut [0; 21], &mut [0; 126], &mut [0; 273])
+    };
+    let thread = std::thread::Builder::new().stack_size(TREE_STACK).spawn(merge).unwrap();
+    assert_eq!(thread.join().unwrap(), Ok(Merging::Merged(273)));
 }

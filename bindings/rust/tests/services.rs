@@ -1,4 +1,4 @@
-//! The eleven services on document 01's starred examples, on rules with weights, and on buffers that are too small or empty.
+//! The twelve services on document 01's starred examples, on rules with weights, and on buffers that are too small or empty.
 
 use aspdrupe::*;
 
@@ -550,4 +550,113 @@ fn not_certified() {
     assert_eq!(certified(&[1], &[1, 3, 2, 5], DEAR, 12, 39), short);
     let refusal = ProgramRefusal { question: ProgramQuestion::Table, line: 3 };
     assert_eq!(certified(&[9], &[1], DEAR, 11, 60), (Cheapest::RefusedProgram(refusal), vec![0; 11], vec![0; 60]));
+}
+
+/// In a thread with the stack that the merge of a tree needs.
+fn on_tree_stack(test: fn()) {
+    std::thread::Builder::new().stack_size(TREE_STACK).spawn(test).unwrap().join().unwrap();
+}
+
+/// What the merge of a tree says, with every word and byte of buffers of so many; the ends are given apart.
+fn merged_tree(program: &[u8], tree: &[u16], ends: &[&[u8]], rooms: [usize; 3]) -> (Merging, Vec<i32>, Vec<i32>, Vec<u8>) {
+    let lengths: Vec<u64> = ends.iter().map(|end| end.len() as u64).collect();
+    let (mut table, mut store, mut output) = (vec![7; rooms[0]], vec![7; rooms[1]], vec![7; rooms[2]]);
+    let merging = merge_tree(program, tree, &ends.concat(), &lengths, &mut table, &mut store, &mut output).unwrap();
+    (merging, table, store, output)
+}
+
+// Seven atoms to choose from, of which the last is both ruled out and demanded, and a proof under whatever constraints.
+const SEVEN: &[u8] = b"asp 1 0 0\n1 1 7 1 2 3 4 5 6 7 0 0\n1 0 0 0 1 7\n1 0 0 0 1 -7\n0\n";
+const END: &[u8] = b"b 8 7 0\nc 8 0\nb 9 -7 0\nc 9 0\na 0\n";
+
+#[test]
+fn trees_that_are_merged() {
+    on_tree_stack(|| {
+        for more in [0, 1, 100] {
+            let rooms = [6 + more, 40 + more, 66 + more];
+            let found = merged_tree(PROGRAM, &[1, 0, 0], &[DEMANDED, FORBIDDEN], rooms);
+            assert_eq!(found, merged(PROGRAM, 1, [DEMANDED, FORBIDDEN], rooms));
+            assert_eq!(found.0, Merging::Merged(66));
+        }
+        for (tree, text) in [
+            ([1, 0, 2, 0, 0], "b 8 7;c 8;b 9 -7;c 9;a 1;c 8;c 9;a 2 -1;c 8;c 9;a -2 -1;a -1;a"),
+            ([1, 2, 0, 0, 0], "b 8 7;c 8;b 9 -7;c 9;a 2 1;c 8;c 9;a -2 1;a 1;c 8;c 9;a -1;a"),
+        ] {
+            let text: Vec<u8> = text.split(';').flat_map(|line| format!("{line} 0\n").into_bytes()).collect();
+            let (_, table, store) = checked(SEVEN, &text, 30, 99);
+            let expected = (Merging::Merged(text.len()), table, store, and_zeros(&text, 3));
+            assert_eq!(merged_tree(SEVEN, &tree, &[END; 3], [30, 99, text.len() + 3]), expected);
+        }
+    });
+}
+
+#[test]
+fn trees_six_splits_deep() {
+    on_tree_stack(|| {
+        let chain = |depth: u16| [(1..=depth).flat_map(|atom| [atom, 0]).collect(), vec![0]].concat();
+        let answer = |depth: u16, store, output| merged_tree(SEVEN, &chain(depth), &vec![END; depth as usize + 1], [21, store, output]).0;
+        assert_eq!(answer(6, 126, 273), Merging::Merged(273));
+        assert_eq!(answer(6, 126, 272), Merging::Refused(MergeQuestion::Limits));
+        assert_eq!(answer(6, 125, 273), Merging::Refused(MergeQuestion::Store));
+        assert_eq!(answer(7, 999, 999), Merging::Refused(MergeQuestion::Tree));
+    });
+}
+
+#[test]
+fn trees_that_are_not_merged() {
+    on_tree_stack(|| {
+        let rooms = [21, 99, 400];
+        let refused = |question| (Merging::Refused(question), vec![0; 21], vec![0; 99], vec![0; 400]);
+        for tree in [&[][..], &[1], &[1, 0], &[1, 0, 0, 0], &[0, 0], &[0], &[8, 0, 0], &[65_535, 0, 0], &[1, 0, 1, 0, 0]] {
+            assert_eq!(merged_tree(SEVEN, tree, &[END; 2], rooms), refused(MergeQuestion::Tree), "{tree:?}");
+        }
+        for ends in [&[][..], &[END], &[END; 3], &[END, END, b""]] {
+            assert_eq!(merged_tree(SEVEN, &[1, 0, 0], ends, rooms), refused(MergeQuestion::Tree));
+        }
+        for lengths in [[33, 32], [33, 34], [66, 1], [u64::MAX, 67], [1 << 63 | 33, 1 << 63 | 33]] {
+            let (mut table, mut store, mut output) = ([7; 21], [7; 99], [7; 400]);
+            let merging = merge_tree(SEVEN, &[1, 0, 0], &END.repeat(2), &lengths, &mut table, &mut store, &mut output);
+            assert_eq!((merging, table, store, output), (Ok(Merging::Refused(MergeQuestion::Tree)), [0; 21], [0; 99], [0; 400]));
+        }
+        assert_eq!(merged_tree(SEVEN, &[1, 0, 0], &[&END[..32], &[&END[32..], END].concat()], rooms), refused(MergeQuestion::Halves));
+        let refusal = ProgramRefusal { question: ProgramQuestion::Table, line: 4 };
+        let short = (Merging::RefusedProgram(refusal), vec![0; 20], vec![0; 99], vec![0; 400]);
+        assert_eq!(merged_tree(SEVEN, &[], &[], [20, 99, 400]), short);
+    });
+}
+
+/// The side that demands an atom decides before the other.
+#[test]
+fn first_refusals_of_trees() {
+    on_tree_stack(|| {
+        let bad = &END[..29];
+        let (right, left) = ([1, 0, 2, 0, 0], [1, 2, 0, 0, 0]);
+        for (tree, ends, store, output, question) in [
+            (right, [bad, END, END], 99, 40, MergeQuestion::Halves),
+            (right, [END, END, END], 99, 40, MergeQuestion::Limits),
+            (left, [END, END, bad], 99, 40, MergeQuestion::Limits),
+            (left, [END, END, bad], 99, 400, MergeQuestion::Halves),
+            (left, [END, END, bad], 24, 400, MergeQuestion::Store),
+            (left, [END, END, bad], 23, 400, MergeQuestion::Halves),
+        ] {
+            let zeros = (Merging::Refused(question), vec![0; 21], vec![0; store], vec![0; output]);
+            assert_eq!(merged_tree(SEVEN, &tree, &ends, [21, store, output]), zeros, "{tree:?} {store} {output}");
+        }
+    });
+}
+
+/// A tree of one end is a plain proof: its deletions stay, and the store shows the dead nogood.
+#[test]
+fn root_ends() {
+    on_tree_stack(|| {
+        let proof = b"b 2 -1 0\nc 2 1 0\ns 1 2 0\na 1 0\nd 1 2 0\na 0\n";
+        let (_, table, store) = checked(PROGRAM, proof, 6, 25);
+        assert_eq!((store[4], proof.len()), (-1, 43));
+        assert_eq!(merged_tree(PROGRAM, &[0], &[proof], [6, 25, 44]), (Merging::Merged(43), table, store, and_zeros(proof, 1)));
+        let answer = |end: &[u8], store, output| merged_tree(PROGRAM, &[0], &[end], [6, store, output]).0;
+        assert_eq!(answer(proof, 25, 42), Merging::Refused(MergeQuestion::Limits));
+        assert_eq!(answer(proof, 19, 43), Merging::Merged(43));
+        assert_eq!(answer(proof, 18, 42), Merging::Refused(MergeQuestion::Halves));
+        assert_eq!(answer(&[&proof[..], b"d 0\n"].concat(), 25, 0), Merging::Refused(MergeQuestion::Halves));
+    });
 }

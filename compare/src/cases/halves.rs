@@ -70,16 +70,20 @@ fn with_added_body(atom: i32, random: &mut Random) -> Rule {
 
 /// A proof for the program with the constraint that demands the literal.
 fn half(program: &Program, literal: i32, random: &mut Random) -> Option<Vec<u8>> {
-    let wider = demanding(program, literal);
+    refutation(&demanding(program, literal), random)
+}
+
+/// A proof for a program, with lines put in and other names; nothing where the search finds none.
+pub fn refutation(program: &Program, random: &mut Random) -> Option<Vec<u8>> {
     let largest = *random.pick(&[LARGEST, program.atoms + 60, program.atoms + 60]);
-    let mut author = Author { largest, ..Author::of(&wider) };
-    let at_first = if wider.plain.len() > 100 { 0 } else { *random.pick(&[100, 100, 60, 0]) };
+    let mut author = Author { largest, ..Author::of(program) };
+    let at_first = if program.plain.len() > 100 { 0 } else { *random.pick(&[100, 100, 60, 0]) };
     if refute(&mut author, random, at_first) != Found::Refutation {
         return None;
     }
     let mut text = author.text();
     if random.percent(70) {
-        text = with_more(&wider, &text, random);
+        text = with_more(program, &text, random);
     }
     Some(if random.percent(80) { with_other_names(&text, program.atoms, random) } else { text })
 }

@@ -74,7 +74,8 @@ fn written(name: impl Into<String>, split: Split, lines: &[&str]) -> Case {
     Case { text: Some(text.clone()), ..case(name, split, Merged(text.len())) }
 }
 
-fn worked() -> Split {
+/// Change 9's worked case.
+pub fn worked() -> Split {
     split(&RULES, 1, &FIRST, &SECOND)
 }
 

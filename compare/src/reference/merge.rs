@@ -2,9 +2,9 @@
 
 use std::collections::{BTreeMap, BTreeSet};
 
-use super::check::{check, run, Verdict};
+use super::check::run;
 use super::lines::{lines_of, Line};
-use super::program::{read, Body, InputRule, Program, Rule};
+use super::program::{read, table_words, Body, InputRule, Program, Rule};
 use super::steps::State;
 use super::{filled, LARGEST, LINE_LIMIT, TEXT_LIMIT};
 
@@ -101,35 +101,55 @@ pub fn merge(split: &Split, rooms: Rooms) -> Merging {
 fn merged_within(split: &Split, rooms: Rooms) -> Result<Merging, Answer> {
     let program = read(&split.program, rooms.table).map_err(|(number, line)| Answer::RefusedProgram { number, line })?;
     let (first, second) = halves(&program, split, rooms.store).ok_or(Answer::Refused(57))?;
-    let (lines, turns) = merged_lines(&program, &first, &second);
-    let text = text_within(&lines, rooms.output).ok_or(Answer::Refused(58))?;
-    let ending = check(&split.program, &text, rooms.table, rooms.store);
-    if matches!(ending.verdict, Verdict::RefusedProof { number: 34, .. }) {
-        return Err(Answer::Refused(59));
-    }
-    let answer = Answer::Merged(text.len());
-    Ok(Merging { answer, table: ending.table, store: ending.store, output: filled(text, rooms.output), turns })
+    let (merged, turns) = joined(&program, split.atom as i32, &first, &second, rooms).map_err(Answer::Refused)?;
+    Ok(Merging {
+        answer: Answer::Merged(merged.text.len()),
+        table: filled(table_words(&program.rules), rooms.table),
+        store: filled(merged.state.store_words(), rooms.store),
+        output: filled(merged.text, rooms.output),
+        turns,
+    })
 }
 
-/// A half that is accepted: its literal, its lines, and the state that they lead to.
-struct Half {
-    literal: i32,
+/// A proof that is accepted for some program: its text and lines, and the state that they lead to.
+pub struct Accepted {
+    pub text: Vec<u8>,
     lines: Vec<Line>,
-    state: State,
+    pub state: State,
+}
+
+/// None where the check with the lent store refuses the text or finds it open.
+pub fn accepted(program: &Program, text: &[u8], store_room: usize) -> Option<Accepted> {
+    let state = run(program, text, store_room).ok()?.state;
+    let lines = lines_of(text)?;
+    state.has_empty().then_some(Accepted { text: text.to_vec(), lines, state })
 }
 
 /// Both halves; none where one of them is refused or open "with the lent store", or the atom is foreign.
-fn halves(program: &Program, split: &Split, store_room: usize) -> Option<(Half, Half)> {
+fn halves(program: &Program, split: &Split, store_room: usize) -> Option<(Accepted, Accepted)> {
     let atom = i32::try_from(split.atom).ok().filter(|atom| (1..=program.atoms).contains(atom))?;
-    let first = accepted(program, atom, &split.first, store_room)?;
-    let second = accepted(program, -atom, &split.second, store_room)?;
+    let first = accepted(&demanding(program, atom), &split.first, store_room)?;
+    let second = accepted(&demanding(program, -atom), &split.second, store_room)?;
     Some((first, second))
 }
 
-fn accepted(program: &Program, literal: i32, text: &[u8], store_room: usize) -> Option<Half> {
-    let state = run(&demanding(program, literal), text, store_room).ok()?.state;
-    let lines = lines_of(text)?;
-    state.has_empty().then_some(Half { literal, lines, state })
+/// The merge of two halves that are accepted, with what became of their lines; or 58 or 59, "live words past the store". "The merged proof is
+/// accepted whenever it fits".
+pub fn joined(program: &Program, atom: i32, first: &Accepted, second: &Accepted, rooms: Rooms) -> Result<(Accepted, BTreeSet<Turn>), u8> {
+    let (first, second) = (Half { literal: atom, proof: first }, Half { literal: -atom, proof: second });
+    let (lines, turns) = merged_lines(program, &first, &second);
+    let text = text_within(&lines, rooms.output).ok_or(58)?;
+    match run(program, &text, rooms.store) {
+        Ok(ran) => Ok((Accepted { text, lines, state: ran.state }, turns)),
+        Err((34, _)) => Err(59),
+        Err(refusal) => panic!("a merged text is refused: {refusal:?}"),
+    }
+}
+
+/// A half that is accepted, with its literal.
+struct Half<'a> {
+    literal: i32,
+    proof: &'a Accepted,
 }
 
 /// The program with the constraint that demands the literal: its body is the complement. "Questions 1, 9 and 10 are not put to added
@@ -140,16 +160,16 @@ pub fn demanding(program: &Program, literal: i32) -> Program {
     Program::of(rules)
 }
 
-impl Half {
+impl Half<'_> {
     /// The names that it introduces, in that order.
     fn introduced(&self) -> Vec<i32> {
         let introduces = |line: &&Line| line.letter == b'b' || line.letter == b'e';
-        self.lines.iter().filter(introduces).map(|line| line.numbers[0]).collect()
+        self.proof.lines.iter().filter(introduces).map(|line| line.numbers[0]).collect()
     }
 
     /// The name in the other half of the body that has this name here.
     fn shared(&self, name: i32, other: &Half) -> Option<i32> {
-        self.state.body_named(name).and_then(|body| other.state.name_of(body))
+        self.proof.state.body_named(name).and_then(|body| other.proof.state.name_of(body))
     }
 }
 
@@ -180,7 +200,7 @@ fn merged_lines(program: &Program, first: &Half, second: &Half) -> (Vec<Line>, B
     let mut turns = BTreeSet::new();
     let names = new_names(program, first, second);
     for (half, before, names) in [(first, None, &Names::new()), (second, Some(first), &names)] {
-        for line in &half.lines {
+        for line in &half.proof.lines {
             let (turn, numbers) = turned(program, half, before, line);
             turns.insert(turn);
             let Some(numbers) = numbers else { continue };
@@ -220,14 +240,14 @@ fn turned(program: &Program, half: &Half, before: Option<&Half>, line: &Line) ->
 
 /// Whether a rule of the program itself allows the `c` line: left out is "each `c` line that only the added constraint allowed".
 fn allows(program: &Program, half: &Half, numbers: &[i32]) -> bool {
-    let body = half.state.body_named(numbers[0]);
+    let body = half.proof.state.body_named(numbers[0]);
     let fits = |rule: &Rule| !rule.choice && Some(rule.body.as_slice()) == body && rule.heads == numbers[1..];
     program.plain.iter().any(fits)
 }
 
 /// "A half's constraint body that the program lacks"
 fn lacks(program: &Program, half: &Half, name: i32) -> bool {
-    let body = half.state.body_named(name);
+    let body = half.proof.state.body_named(name);
     !program.plain.iter().any(|rule| Some(rule.body.as_slice()) == body)
 }
 

@@ -1,4 +1,4 @@
-//! The slow and plain reference: every service of document 01, and the packets of both versions, the merge, the trimming and the cheapest
+//! The slow and plain reference: every service of document 01, and the packets of both versions, the merges, the trimming and the cheapest
 //! answer set of document 02, once more, written from their words.
 //!
 //! Where its words left room for doubt, this is how they are read here:
@@ -40,6 +40,9 @@
 //!   is with the lent store, and the lent text is the proof to its last byte, zero bytes too.
 //! - C of Change 12 is reckoned for the set as given, be it an answer set or not, since 62 is asked before 63. With C 0 the proof's length is not
 //!   asked either. The restriction is counted by none of the questions 1, 9 and 10; literals of cost 0 stay in it.
+//! - Change 14's depth is counted in splits on a path. The list does not match the lengths where their number is not that of the ends, or their
+//!   sum not that of the bytes lent. Lengths that cut the texts at other places match: the ends are then what they are. An end under a split is
+//!   not held to the output; every merge is, also inside the tree.
 
 pub mod cheapest;
 pub mod check;
@@ -52,6 +55,7 @@ pub mod numbers;
 pub mod packets;
 pub mod program;
 pub mod steps;
+pub mod tree;
 pub mod trim;
 pub mod weights;
 

@@ -1,5 +1,5 @@
-// What the programs of worked cases share: words and numbers on standard output, and reading cases: finding a byte, numbers, parts of
-// a text that are repeated.
+// What the programs of worked cases share: words and numbers on standard output, and reading cases: finding a byte, numbers and lists of
+// them, parts of a text that are repeated.
 use libc::STDOUT_FILENO;
 ghost use Prim.Native.Nat.{_≤_};
 ghost use lib.ListN.{length};
@@ -113,6 +113,36 @@ pub fn number_of(text: &[u8]) -> usize {
         i += 1;
     }
     v
+}
+
+// The number that a word writes, 0 for one that is too large.
+fn small_of(word: &[u8]) -> u16 {
+    let v = number_of(word);
+    if v <= 65535 {
+        return v as u16;
+    }
+    0
+}
+
+// One number more, where there is room.
+fn push_number(row: &mut [u16], n: usize, number: u16) -> usize {
+    if n < row.len() {
+        row[n] = number;
+        return n + 1;
+    }
+    n
+}
+
+// The numbers with a space before each; how many there are.
+pub fn read_numbers(text: &[u8], row: &mut [u16]) -> usize {
+    let mut n = 0;
+    let mut at = before(text, b' ') + 1;
+    while at < text.len() {
+        let end = at + before(&text[at..], b' ');
+        n = push_number(row, n, small_of(&text[at..end]));
+        at = end + 1;
+    }
+    n
 }
 
 // One byte more, where there is room.

@@ -7,6 +7,7 @@ use cases::before;
 use cases::expand;
 use cases::nonzero;
 use cases::number_of;
+use cases::read_numbers;
 use cases::say;
 use cases::say_number;
 use cases::say_words;
@@ -127,39 +128,11 @@ fn read_costs(text: &[u8], row: &mut [i16]) -> usize {
     n
 }
 
-// One atom more, where there is room.
-fn push_atom(set: &mut [u16], n: usize, atom: u16) -> usize {
-    if n < set.len() {
-        set[n] = atom;
-        return n + 1;
-    }
-    n
-}
-
-fn atom_of(word: &[u8]) -> u16 {
-    let v = number_of(word);
-    if v <= 65535 {
-        return v as u16;
-    }
-    0
-}
-
-fn read_set(text: &[u8], set: &mut [u16]) -> usize {
-    let mut n = 0;
-    let mut at = before(text, b' ') + 1;
-    while at < text.len() {
-        let end = at + before(&text[at..], b' ');
-        n = push_atom(set, n, atom_of(&text[at..end]));
-        at = end + 1;
-    }
-    n
-}
-
 // The lists and the texts of a case.
 fn run_lists(set: &[u8], costs: &[u8], texts: &[u8], words: usize, room: usize) {
     let mut atoms = [0u16; 40];
     let mut numbers = [0i16; 40];
-    let m = read_set(set, &mut atoms);
+    let m = read_numbers(set, &mut atoms);
     let n = read_costs(costs, &mut numbers);
     if m <= 40 {
         if n <= 40 {

@@ -107,7 +107,8 @@ verdictNumbers (Open c) = countNumbers c
 verdictNumbers (RefusedProgram r) = r .number ∷ r .line ∷ []
 verdictNumbers (RefusedProof r) = r .number ∷ r .step ∷ []
 
--- The merge of two halves: 0 with the bytes of the text written; the program's number and line, as its reader tells them; 57 to 59
+-- The merge of two halves, and of a tree: 0 with the bytes of the text written; the program's number and line, as its reader tells them; 57 to 59, and
+-- 64 of a tree
 
 abbrev pub mergeCode : MergeAnswer → ℕ
 mergeCode (Merge.Merged n) = 0

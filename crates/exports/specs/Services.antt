@@ -1,5 +1,5 @@
--- What the eleven functions for C return and leave: an answer told by its code and numbers. Of the program reader, of the whole check,
--- of the merge, of trimming and of the cheapest answer set it is the one for which the service's own contract holds, which is an
+-- What the twelve functions for C return and leave: an answer told by its code and numbers. Of the program reader, of the whole check,
+-- of the merges, of trimming and of the cheapest answer set it is the one for which the service's own contract holds, which is an
 -- equation; of the others it is said outright. A primed name is what a lent slice holds afterwards; `answer` is the buffer for the
 -- numbers.
 -- Assumes nothing.
@@ -18,6 +18,7 @@ use Rattle.checker.specs.Check.{CheckedTexts}
 use Rattle.checker.specs.declared.Verdict.{Verdict}
 use Rattle.splits.specs.Service.{MergedHalves}
 use Rattle.splits.specs.declared.MergeAnswer.{MergeAnswer}
+use Rattle.trees.specs.Service.{MergedTree}
 use Rattle.trimming.specs.Service.{TrimmedProof}
 use Rattle.trimming.specs.declared.TrimAnswer.{TrimAnswer}
 use Rattle.costs.specs.Service.{CheckedCheapest}
@@ -83,3 +84,10 @@ pub record CheapestService (program set : List ℕ) (costs : List ℤ) (proof : 
   pub answered : CheapestAnswer
   pub checked : CheckedCheapest program set costs proof table store table′ store′ answered
   pub told : Told (cheapestCode answered) (cheapestNumbers answered) answer answer′ result
+
+-- the answer of the merge of a tree, every word of the table and of the store, and every byte of the output
+pub record TreeService (program tree texts lengths : List ℕ) (table store table′ store′ : List ℤ) (output output′ answer answer′ : List ℕ)
+    (result : ℕ) : Type 0 where
+  pub answered : MergeAnswer
+  pub merged : MergedTree program tree texts lengths table store table′ store′ output output′ answered
+  pub told : Told (mergeCode answered) (mergeNumbers answered) answer answer′ result

@@ -167,7 +167,7 @@ pub fn tell_verdict(verdict: Verdict, answer: &mut [u64]) -> u32
     }
 }
 
-// The answer of the merge of two halves.
+// The answer of the merge of two halves, and of a tree.
 pub fn tell_merge(merged: MergeAnswer, answer: &mut [u64]) -> u32
     ensures { λ r. ⌜ Told (mergeCode merged) (mergeNumbers merged) (now (answer .entry)) (now (answer .exit)) r ⌝ }
 {

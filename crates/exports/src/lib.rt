@@ -1,10 +1,10 @@
-// The eleven services for programs in C and Rust, on numbers and slices. An answer's case is the code that is returned, and its
+// The twelve services for programs in C and Rust, on numbers and slices. An answer's case is the code that is returned, and its
 // numbers are put at the front of the lent `answer`, as many as fit; what the codes and numbers are is specs/Codes.antt, and what
 // each function returns and leaves is specs/Services.antt. bindings/c/aspdrupe.h declares the functions for C.
 mod answers;
 
 ghost use Rattle.packets.specs.Packets.{up, down};
-ghost use Rattle.exports.specs.Services.{ProgramService, SetService, LineService, WriteService, ReadService, MoveService, CheckService, MergeService, TrimService, CheapestService};
+ghost use Rattle.exports.specs.Services.{ProgramService, SetService, LineService, WriteService, ReadService, MoveService, CheckService, MergeService, TrimService, CheapestService, TreeService};
 
 // Reads a program text into the table.
 #[no_mangle]
@@ -171,4 +171,23 @@ pub extern "C" fn aspdrupe_check_cheapest(
 {
     let checked = costs::check_cheapest(program, set, costs, proof, table, store);
     answers::tell_cheapest(checked, answer)
+}
+
+// Writes one proof text for a program from the proofs at the ends of a tree of splits.
+#[no_mangle]
+pub extern "C" fn aspdrupe_merge_tree(
+    program: &[u8],
+    tree: &[u16],
+    texts: &[u8],
+    lengths: &[u64],
+    table: &mut [i32],
+    store: &mut [i32],
+    output: &mut [u8],
+    answer: &mut [u64],
+) -> u32
+    ensures { λ r. ⌜ TreeService (now (program .entry)) (now (tree .entry)) (now (texts .entry)) (now (lengths .entry)) (now (table .entry))
+        (now (store .entry)) (now (table .exit)) (now (store .exit)) (now (output .entry)) (now (output .exit)) (now (answer .entry)) (now (answer .exit)) r ⌝ }
+{
+    let merged = trees::merge_tree(program, tree, texts, lengths, table, store, output);
+    answers::tell_merge(merged, answer)
 }

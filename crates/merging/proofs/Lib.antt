@@ -1,4 +1,4 @@
--- The merged proof is accepted.
+-- The merged proof is accepted, of two halves and of a tree.
 pub mod Propagates
 pub mod Lines
 pub mod Relation
@@ -8,4 +8,5 @@ pub mod Renaming
 pub mod Merged
 pub mod Sized
 pub mod AsWritten
+pub mod Trees
 pub mod Examples

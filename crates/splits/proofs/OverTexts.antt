@@ -7,7 +7,7 @@ use mathlib.Core.List.{List, [], _∷_, _++_}
 use Prim.Native.Nat.{ℕ, _+_, _-_, _≤_}
 use native.Mathlib.Omega.{arith}
 use lib.Dec.{leb}
-use lib.IntN.{pos, negℤ}
+use lib.IntN.{ℤ, pos, negℤ}
 use lib.ListN.{length, take, replicate}
 use lib.Seq.{take-at}
 use Rattle.words.specs.Limits.{longest}
@@ -94,34 +94,37 @@ module _ (size : ℕ) (ws : List InputRule) (v : ℕ) (first second : List ℕ) 
       course-written (atoms ws) (expand ws) size (mergedSteps ws v first second)
       (steps-pass (atoms ws) (expand ws) start (z .0) (mergedSteps ws v first second) (z .1)) h
 
+  -- the merged text is accepted, or its check is stopped by 34
+  pub merged-ends : length (textOf (mergedSteps ws v first second)) ≤ longest
+      → (isAccepted size ws (textOf (mergedSteps ws v first second)) ≡ true)
+      ⊎ ((n : ℕ) × (course (atoms ws) (expand ws) size (textOf (mergedSteps ws v first second)) ≡ stopped 34 n))
+  merged-ends h =
+      ends (Claims.stepsIn (fitting size) (atoms ws) (expand ws) start (mergedSteps ws v first second))
+      (course (atoms ws) (expand ws) size (textOf (mergedSteps ws v first second)))
+      (subst (RunsAs (Claims.stepsIn (fitting size) (atoms ws) (expand ws) start (mergedSteps ws v first second)))
+      (sym (merged-course h)) (runs-as (atoms ws) (expand ws) size 0 start [] (mergedSteps ws v first second)))
+      (merged-as-written (fitting size) ws v atom (stepsIn first) (stepsIn second) first-half second-half fit .0)
+    where
+      ends : (o : Outcome) (c : Course) → RunsAs o c → ((z : State) × (o ≡ next z) × (emptyLive z ≡ true)) ⊎ (o ≡ refused 34)
+          → (endsEmpty c ≡ true) ⊎ ((n : ℕ) × (c ≡ stopped 34 n))
+      ends (refused k) c r (inl a) = absurd (zero-one (cc))
+      ends (refused k) c r (inr e) = let i : k ≡ 34 = cc in inr (r .0, r .1 ∙ ap (λ (j : ℕ). stopped j (r .0)) i)
+      ends (next w) c r (inl a) = let i : w ≡ a .0 = cc in inl (ap endsEmpty (r .2) ∙ (ap emptyLive i ∙ a .2))
+      ends (next w) c r (inr e) = absurd (zero-one (cc))
+
 pub merged-text : MergedText
 unfolding check
 merged-text text t s ws q v first second halves fit h =
     let m = merged-as-written (fitting s) ws v (atom s ws v first second halves fit) (stepsIn first) (stepsIn second)
     (first-half s ws v first second halves fit) (second-half s ws v first second halves fit) fit in
-    (rw q (by (m .0)), m .1)
+    (rw q (by (course (atoms ws) (expand ws) s (textOf (mergedSteps ws v first second))) (merged-ends s ws v first second halves fit h)), m .1)
   where
-    runs : RunsAs (Claims.stepsIn (fitting s) (atoms ws) (expand ws) start (mergedSteps ws v first second))
-        (course (atoms ws) (expand ws) s (textOf (mergedSteps ws v first second)))
-    runs =
-        subst (RunsAs (Claims.stepsIn (fitting s) (atoms ws) (expand ws) start (mergedSteps ws v first second)))
-        (sym (merged-course s ws v first second halves fit h)) (runs-as (atoms ws) (expand ws) s 0 start [] (mergedSteps ws v first second))
-
-    ends : (o : Outcome) → RunsAs o (course (atoms ws) (expand ws) s (textOf (mergedSteps ws v first second)))
-        → ((z : State) × (o ≡ next z) × (emptyLive z ≡ true)) ⊎ (o ≡ refused 34)
-        → ((c : Counts) × (judged t s ws (course (atoms ws) (expand ws) s (textOf (mergedSteps ws v first second))) .verdict ≡ Inconsistent c))
-        ⊎ ((n : ℕ) × (judged t s ws (course (atoms ws) (expand ws) s (textOf (mergedSteps ws v first second))) .verdict ≡ RefusedProof (record { number = 34; step = n })))
-    ends (refused k) r (inl a) = absurd (zero-one (cc))
-    ends (refused k) r (inr e) = let i : k ≡ 34 = cc in inr (r .0, rw (r .1, i) refl)
-    ends (next w) r (inl a) =
-        let i : w ≡ a .0 = cc in
-        inl (countsOf (atoms ws) (length ws) (r .0) w, rw (r .2, ap emptyLive i ∙ a .2) refl)
-    ends (next w) r (inr e) = absurd (zero-one (cc))
-
-    by : Claims.InOr34 (fitting s) (atoms ws) (expand ws) (mergedSteps ws v first second)
-        → ((c : Counts) × (judged t s ws (course (atoms ws) (expand ws) s (textOf (mergedSteps ws v first second))) .verdict ≡ Inconsistent c))
-        ⊎ ((n : ℕ) × (judged t s ws (course (atoms ws) (expand ws) s (textOf (mergedSteps ws v first second))) .verdict ≡ RefusedProof (record { number = 34; step = n })))
-    by a = ends (Claims.stepsIn (fitting s) (atoms ws) (expand ws) start (mergedSteps ws v first second)) runs a
+    by : (c : Course) → (endsEmpty c ≡ true) ⊎ ((n : ℕ) × (c ≡ stopped 34 n))
+        → ((k : Counts) × (judged t s ws c .verdict ≡ Inconsistent k))
+        ⊎ ((n : ℕ) × (judged t s ws c .verdict ≡ RefusedProof (record { number = 34; step = n })))
+    by (stopped k m) (inl e) = absurd (true≢false (sym e))
+    by (through n z stored) (inl e) = inl (countsOf (atoms ws) (length ws) n z, rw e refl)
+    by c (inr (n, e)) = inr (n, rw e refl)
 
 -- What the service answers
 
@@ -166,43 +169,38 @@ demand3-merged text v first second table store table′ store′ output output�
     passes r (inl q) p = subst Passes (sym (q .1) ∙ p) tt
     passes r (inr q) p = subst Passes (sym q ∙ p) refl
 
+-- a text that was judged and written is found inconsistent by the check, which leaves the same table and store
+module _ (text : List ℕ) (t s o n : ℕ) (table′ store′ : List ℤ) (output′ : List ℕ) where
+  abbrev left : MergeLeft
+  left = record { answer = Merged n; table = table′; store = store′; output = output′ }
+
+  abbrev Goal : Type 0
+  Goal = (c : Counts) × (check text (take n output′) t s ≡ record { verdict = Inconsistent c; table = table′; store = store′ })
+
+  full : left ≡ leavesNothing t s o (Refused 59) → ⊥
+  full q = let i : _≡_ {A = MergeAnswer} (Merged n) (Refused 59) = ap (λ (x : MergeLeft). x .answer) q in zero-one (cc)
+
+  pub judged-checked : (ws : List InputRule) → readText t text ≡ program ws → (p : List ℕ) (c : Course) → course (atoms ws) (expand ws) s p ≡ c
+      → left ≡ judgedText t s o ws p c → Goal
+  unfolding check
+  judged-checked ws q p (stopped k m) r f = absurd (full f)
+  judged-checked ws q p (through m z b) r f = ends (emptyLive z) refl f
+    where
+      done : MergeLeft
+      done = record { answer = Merged (length p); table = tableWords t ws; store = storeWords s b; output = p ++ replicate (o - length p) 0 }
+
+      ends : (l : Bool) → emptyLive z ≡ l → left ≡ cond l done (leavesNothing t s o (Refused 59)) → Goal
+      ends false g f = absurd (full f)
+      ends true g f =
+          let j : _≡_ {A = MergeAnswer} (Merged n) (Merged (length p)) = ap (λ (x : MergeLeft). x .answer) f in
+          let i : n ≡ length p = cc in
+          let a : table′ ≡ tableWords t ws = ap (λ (x : MergeLeft). x .table) f in
+          let d : store′ ≡ storeWords s b = ap (λ (x : MergeLeft). x .store) f in
+          let k : take n output′ ≡ p = ap₂ take i (ap (λ (x : MergeLeft). x .output) f) ∙ take-at p (replicate (o - length p) 0) (length p) refl in
+          (countsOf (atoms ws) (length ws) m z, rw (k, q, r, g, a, d) refl)
+
 pub as-checked : AsChecked
-unfolding merge check
+unfolding merge
 as-checked text v first second table store table′ store′ output output′ n e =
-    let J = judged-answer t s o v first second (readText t text) (subst Passes (ap (λ (x : MergeLeft). x .answer) e) tt) in
-    by (J .rules) (J .read) (textOf (mergedSteps (J .rules) v first second)) (course (atoms (J .rules)) (expand (J .rules)) s (textOf (mergedSteps (J .rules) v first second))) refl (e ∙ J .left)
-  where
-    t : ℕ
-    t = length table
-
-    s : ℕ
-    s = length store
-
-    o : ℕ
-    o = length output
-
-    left : MergeLeft
-    left = record { answer = Merged n; table = table′; store = store′; output = output′ }
-
-    Goal : Type 0
-    Goal = (c : Counts) × (check text (take n output′) t s ≡ record { verdict = Inconsistent c; table = table′; store = store′ })
-
-    full : left ≡ leavesNothing t s o (Refused 59) → ⊥
-    full q = let i : _≡_ {A = MergeAnswer} (Merged n) (Refused 59) = ap (λ (x : MergeLeft). x .answer) q in zero-one (cc)
-
-    by : (ws : List InputRule) → readText t text ≡ program ws → (p : List ℕ) (c : Course) → course (atoms ws) (expand ws) s p ≡ c → left ≡ judgedText t s o ws p c → Goal
-    by ws q p (stopped k m) r f = absurd (full f)
-    by ws q p (through m z b) r f = ends (emptyLive z) refl f
-      where
-        done : MergeLeft
-        done = record { answer = Merged (length p); table = tableWords t ws; store = storeWords s b; output = p ++ replicate (o - length p) 0 }
-
-        ends : (l : Bool) → emptyLive z ≡ l → left ≡ cond l done (leavesNothing t s o (Refused 59)) → Goal
-        ends false g f = absurd (full f)
-        ends true g f =
-            let j : _≡_ {A = MergeAnswer} (Merged n) (Merged (length p)) = ap (λ (x : MergeLeft). x .answer) f in
-            let i : n ≡ length p = cc in
-            let a : table′ ≡ tableWords t ws = ap (λ (x : MergeLeft). x .table) f in
-            let d : store′ ≡ storeWords s b = ap (λ (x : MergeLeft). x .store) f in
-            let k : take n output′ ≡ p = ap₂ take i (ap (λ (x : MergeLeft). x .output) f) ∙ take-at p (replicate (o - length p) 0) (length p) refl in
-            (countsOf (atoms ws) (length ws) m z, rw (k, q, r, g, a, d) refl)
+    let J = judged-answer (length table) (length store) (length output) v first second (readText (length table) text) (subst Passes (ap (λ (x : MergeLeft). x .answer) e) tt) in
+    judged-checked text (length table) (length store) (length output) n table′ store′ output′ (J .rules) (J .read) (textOf (mergedSteps (J .rules) v first second)) _ refl (e ∙ J .left)

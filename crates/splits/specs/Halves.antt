@@ -3,9 +3,9 @@
 use mathlib.Core.Path.{_≡_}
 use mathlib.Core.Bool.{Bool, true}
 use mathlib.Core.List.{List, [], _∷_}
-use Prim.Native.Nat.{ℕ, _≤_}
+use Prim.Native.Nat.{ℕ, _+_, _≤_}
 use lib.IntN.{ℤ, pos, negℤ}
-use Rattle.words.specs.Limits.{largest}
+use Rattle.words.specs.Limits.{largest, longest}
 use Rattle.aspif.specs.Rules.{InputRule, expand}
 use Rattle.marks.specs.Marks.{marked}
 use Rattle.derivation.specs.States.{State, isKnown}
@@ -15,6 +15,10 @@ use Rattle.steps.specs.Held.{Tracks}
 use Rattle.checker.specs.Held.{Ended}
 use Rattle.merging.specs.Claims.{demandingAsWritten}
 use Rattle.splits.specs.Service.{areHalves}
+
+-- room for a program's words and six constraints behind them: a program has no more words than its text has bytes
+abbrev pub mostWords : ℕ
+mostWords = longest + 30
 
 -- the words of a constraint with just the literal in its body: normal, no head, a plain body of one literal
 abbrev pub demandWords : ℤ → List ℤ

@@ -2,10 +2,10 @@
 ghost use mathlib.Core.Path.{_≡_};
 ghost use mathlib.Core.Bool.{true};
 ghost use mathlib.Core.List.{List};
-ghost use Prim.Native.Nat.{_≤_};
+ghost use Prim.Native.Nat.{_+_, _≤_, _<_};
 ghost use lib.IntN.{pos};
 ghost use lib.ListN.{length, replicate};
-ghost use Rattle.words.specs.Limits.{largest, entries, longest, mostRules, mostHeld};
+ghost use Rattle.words.specs.Limits.{largest, entries, mostHeld};
 ghost use Rattle.words.specs.Literals.{variable, complement};
 ghost use Rattle.aspif.specs.Rules.{InputRule, programWords};
 ghost use Rattle.aspif.specs.Tables.{rulesAt};
@@ -14,14 +14,14 @@ ghost use Rattle.derivation.specs.States.{isAtom};
 ghost use Rattle.heads.specs.Heads.{nameWords};
 ghost use Rattle.steps.specs.Held.{Program, NoBodies};
 ghost use Rattle.merging.specs.Claims.{demandingAsWritten};
-ghost use Rattle.splits.specs.Halves.{HalfChecked, HalvesChecked};
+ghost use Rattle.splits.specs.Halves.{mostWords, HalfChecked, HalvesChecked};
 use crate::tables;
 use checker::judging;
 use checker::runs;
 use words::LONGEST;
 
-// The words of a program, and of a constraint behind it.
-const WIDE: usize = LONGEST + 5;
+// The words of a program, and of the constraints behind it.
+pub const WIDE: usize = LONGEST + 30;
 
 // "the atoms alone are known".
 fn know_atoms(known: &mut [u8], atoms: usize)
@@ -100,8 +100,8 @@ fn accepts_with(
     bodies: &mut [i16],
     store: &mut [i32],
 ) -> bool
-    requires program { ⌜ ((ws : List InputRule) × Program (now table) rules atoms ws) × (rules ≤ mostRules) ⌝ }
-    requires short { ⌜ length (programWords (rulesAt rules (now table))) ≤ longest ⌝ }
+    requires program { ⌜ ((ws : List InputRule) × Program (now table) rules atoms ws) × (rules < mostHeld) ⌝ }
+    requires short { ⌜ length (programWords (rulesAt rules (now table))) + 5 ≤ mostWords ⌝ }
     requires atom { ⌜ isAtom atoms (variable literal) ≡ true ⌝ }
     requires start { ⌜ (length (now known) ≡ entries) × (now names ≡ replicate nameWords 0) ⌝ }
     requires bodies { ⌜ NoBodies (rulesAt rules (now table)) (now bodies) ⌝ }
@@ -131,8 +131,8 @@ pub fn accept_halves(
     bodies: &mut [i16],
     store: &mut [i32],
 ) -> bool
-    requires program { ⌜ ((ws : List InputRule) × Program (now table) rules atoms ws) × (rules ≤ mostRules) ⌝ }
-    requires short { ⌜ length (programWords (rulesAt rules (now table))) ≤ longest ⌝ }
+    requires program { ⌜ ((ws : List InputRule) × Program (now table) rules atoms ws) × (rules < mostHeld) ⌝ }
+    requires short { ⌜ length (programWords (rulesAt rules (now table))) + 5 ≤ mostWords ⌝ }
     requires marks { ⌜ (length (now known1) ≡ entries) × (length (now known2) ≡ entries) ⌝ }
     requires names { ⌜ now names ≡ replicate nameWords 0 ⌝ }
     requires bodies { ⌜ NoBodies (rulesAt rules (now table)) (now bodies) ⌝ }

@@ -1,22 +1,23 @@
 // Two halves of a split, as texts, into one proof text: document 02, Change 9. The public service is `merge_halves`; what it leaves is
 // specs/Service.antt.
-mod halves;
+pub mod halves;
 mod lines;
 mod renames;
 mod tables;
-mod texts;
+pub mod texts;
 
 ghost use mathlib.Core.Path.{_≡_};
 ghost use mathlib.Core.List.{List, _++_};
-ghost use Prim.Native.Nat.{ℕ, _-_, _≤_};
+ghost use Prim.Native.Nat.{ℕ, _+_, _-_, _≤_, _<_};
 ghost use lib.IntN.{pos};
 ghost use lib.ListN.{length, replicate};
-ghost use Rattle.words.specs.Limits.{longest, mostRules};
+ghost use Rattle.words.specs.Limits.{longest, mostRules, mostHeld};
 ghost use Rattle.aspif.specs.Rules.{InputRule, programWords, tableWords};
 ghost use Rattle.aspif.specs.Reading.{program};
 ghost use Rattle.aspif.specs.Tables.{rulesAt};
 ghost use Rattle.steps.specs.Held.{Program};
 ghost use Rattle.splits.specs.Service.{leavesNothing, mergedReading, MergedHalves};
+ghost use Rattle.splits.specs.Halves.{mostWords};
 ghost use Rattle.splits.specs.Joined.{WrittenBy};
 ghost use Rattle.splits.specs.Judging.{judgedAs};
 ghost use Rattle.splits.specs.declared.MergeAnswer.the-variants.{Refused};
@@ -33,7 +34,7 @@ pub enum MergeAnswer {
 }
 
 // Nothing stays of what is refused.
-fn refuse(table: &mut [i32], store: &mut [i32], output: &mut [u8], number: u8) -> MergeAnswer
+pub fn refuse(table: &mut [i32], store: &mut [i32], output: &mut [u8], number: u8) -> MergeAnswer
     ensures { λ r. ⌜ record { answer = r; table = now (table .exit); store = now (store .exit); output = now (output .exit) }
         ≡ leavesNothing (length (now (table .entry))) (length (now (store .entry))) (length (now (output .entry))) (Refused number) ⌝ }
 {
@@ -69,7 +70,7 @@ fn judge(
 }
 
 // 57 and 58, for a program without weight bodies or with some.
-fn write(
+pub fn write(
     first: &[u8],
     second: &[u8],
     table: &[i32],
@@ -79,8 +80,8 @@ fn write(
     store: &mut [i32],
     output: &mut [u8],
 ) -> Written
-    requires program { ⌜ ((ws : List InputRule) × Program (now table) rules atoms ws) × (rules ≤ mostRules) ⌝ }
-    requires short { ⌜ length (programWords (rulesAt rules (now table))) ≤ longest ⌝ }
+    requires program { ⌜ ((ws : List InputRule) × Program (now table) rules atoms ws) × (rules < mostHeld) ⌝ }
+    requires short { ⌜ length (programWords (rulesAt rules (now table))) + 5 ≤ mostWords ⌝ }
     requires empty { ⌜ (now store ≡ replicate (length (now store)) (pos 0)) × (now output ≡ replicate (length (now output)) 0) ⌝ }
     ensures empty { λ _. ⌜ now (store .exit) ≡ replicate (length (now (store .entry))) (pos 0) ⌝ }
     ensures written { λ r. ⌜ ((ws : List InputRule) → Program (now (table .entry)) rules atoms ws

@@ -2,10 +2,10 @@
 ghost use mathlib.Core.Path.{_≡_};
 ghost use mathlib.Core.Bool.{true};
 ghost use mathlib.Core.List.{List, [], _∷_, _++_};
-ghost use Prim.Native.Nat.{ℕ, _≤_};
+ghost use Prim.Native.Nat.{ℕ, _+_, _≤_, _<_};
 ghost use lib.IntN.{ℤ, pos};
 ghost use lib.ListN.{length, replicate, getD};
-ghost use Rattle.words.specs.Limits.{largest, longest, mostRules};
+ghost use Rattle.words.specs.Limits.{largest, longest, mostHeld};
 ghost use Rattle.words.specs.Literals.{variable, complement};
 ghost use Rattle.aspif.specs.Rules.{InputRule, allPlain, programWords, expand};
 ghost use Rattle.aspif.specs.Tables.{rulesAt};
@@ -14,6 +14,7 @@ ghost use Rattle.heads.specs.Heads.{Indexed};
 ghost use Rattle.steps.specs.Held.{Program, NoBodies};
 ghost use Rattle.splits.specs.Service.{mergedSteps};
 ghost use Rattle.splits.specs.Writing.{Writes};
+ghost use Rattle.splits.specs.Halves.{mostWords};
 ghost use Rattle.splits.specs.Joined.{AddedTo, WrittenBy, writtenIn, HalfText, linesOf, closing, HalvesHeld};
 use crate::halves;
 use crate::lines;
@@ -213,8 +214,8 @@ fn write_halves(
     store: &mut [i32],
     output: &mut [u8],
 ) -> Written
-    requires program { ⌜ ((ws : List InputRule) × Program (now table) rules atoms ws) × (rules ≤ mostRules) ⌝ }
-    requires short { ⌜ length (programWords (rulesAt rules (now table))) ≤ longest ⌝ }
+    requires program { ⌜ ((ws : List InputRule) × Program (now table) rules atoms ws) × (rules < mostHeld) ⌝ }
+    requires short { ⌜ length (programWords (rulesAt rules (now table))) + 5 ≤ mostWords ⌝ }
     requires index { ⌜ Indexed (now lookup) (now table) rules ⌝ }
     requires bodies { ⌜ NoBodies (rulesAt rules (now table)) (now bodies) ⌝ }
     requires empty { ⌜ (now store ≡ replicate (length (now store)) (pos 0)) × (now output ≡ replicate (length (now output)) 0) ⌝ }
@@ -268,8 +269,8 @@ pub fn write_plain(
     store: &mut [i32],
     output: &mut [u8],
 ) -> Written
-    requires program { ⌜ ((ws : List InputRule) × Program (now table) rules atoms ws) × (rules ≤ mostRules) ⌝ }
-    requires short { ⌜ length (programWords (rulesAt rules (now table))) ≤ longest ⌝ }
+    requires program { ⌜ ((ws : List InputRule) × Program (now table) rules atoms ws) × (rules < mostHeld) ⌝ }
+    requires short { ⌜ length (programWords (rulesAt rules (now table))) + 5 ≤ mostWords ⌝ }
     requires plain { ⌜ allPlain (rulesAt rules (now table)) ≡ true ⌝ }
     requires empty { ⌜ (now store ≡ replicate (length (now store)) (pos 0)) × (now output ≡ replicate (length (now output)) 0) ⌝ }
     ensures empty { λ _. ⌜ now (store .exit) ≡ replicate (length (now (store .entry))) (pos 0) ⌝ }
@@ -304,8 +305,8 @@ pub fn write_weighted(
     store: &mut [i32],
     output: &mut [u8],
 ) -> Written
-    requires program { ⌜ ((ws : List InputRule) × Program (now table) rules atoms ws) × (rules ≤ mostRules) ⌝ }
-    requires short { ⌜ length (programWords (rulesAt rules (now table))) ≤ longest ⌝ }
+    requires program { ⌜ ((ws : List InputRule) × Program (now table) rules atoms ws) × (rules < mostHeld) ⌝ }
+    requires short { ⌜ length (programWords (rulesAt rules (now table))) + 5 ≤ mostWords ⌝ }
     requires empty { ⌜ (now store ≡ replicate (length (now store)) (pos 0)) × (now output ≡ replicate (length (now output)) 0) ⌝ }
     ensures empty { λ _. ⌜ now (store .exit) ≡ replicate (length (now (store .entry))) (pos 0) ⌝ }
     ensures written { λ r. ⌜ ((ws : List InputRule) → Program (now (table .entry)) rules atoms ws

@@ -13,6 +13,7 @@ use Rattle.splits.specs.declared.MergeAnswer.the-variants.{Refused}
 use Rattle.splits.specs.declared.texts.Written.the-variants as Written
 use Rattle.splits.proofs.Answers.{same-nothing, judged-same, not-written, Text, is-written}
 use borrow.Author.Needs.{needs}
+use native.Mathlib.Omega.{arith}
 use Rattle.splits.proofs.merge_read.Statement.{statement}
 use Rattle.splits.proofs.merge_read.Tie as tie
 
@@ -55,6 +56,12 @@ module _ (c : tie.After-write) where
     written : (n : ℕ) → c .write .result ≡ Written.Text n → Text t s o ws (start .args .v) (start .args .first .now) (start .args .second .now) output′ same-output n
     written n e = is-written t s o ws (start .args .v) (start .args .first .now) (start .args .second .now) output′ same-output n e (c .write .ensures .1 ws p)
 
+-- a program that was read is far below the limits of one with constraints behind it
+write-requires : tie.Need-write-requires
+write-requires c κs =
+    let p = c .before .before .before .before .before .before .pre in
+    ((p .0 .0, omega (arith, p .0 .1)), (omega (arith, p .1 .0), p .1 .1))
+
 judge-requires : tie.Need-judge-requires
 judge-requires c κs =
     let d = c .before .before .before .before .before .before .before .before .before in
@@ -76,7 +83,7 @@ pub merge-read-spec : {M : Type 1} → statement M
 merge-read-spec =
     tie.close
     (tie.spec
-    (λ c κs. search needs)
+    write-requires
     (λ c. search needs)
     (λ c κs. search needs)
     (λ c. search needs)

@@ -19,7 +19,7 @@ blank : (n : ℕ) → (n ≤ length (replicate n (pos 0))) × (replicate n (pos 
 blank n = (omega (arith, length-replicate n (pos 0)), ap (λ (k : ℕ). replicate k (pos 0)) (sym (length-replicate n (pos 0))))
 
 append-demand-requires : tie.Need-append-demand-requires
-append-demand-requires c κs = let p = c .before .before .before .before .pre in (p .0 .0 .1 .holds .sound, (p .1 .0, blank 65540))
+append-demand-requires c κs = let p = c .before .before .before .before .pre in (p .0 .0 .1 .holds .sound, (p .1 .0, blank 65565))
 
 -- the program with the constraint
 module _ (c : tie.After-append-demand) where

@@ -1,0 +1,2 @@
+-- What a walk over the numbers finds.
+pub mod Steps

@@ -1,0 +1,3 @@
+-- A tree of splits as it is lent.
+pub mod Tree
+pub mod Walks

@@ -1,0 +1,48 @@
+-- What the service answers on worked cases, by its definition; proofs/Examples.antt computes them.
+-- Assumes nothing.
+use mathlib.Core.Path.{_≡_}
+use mathlib.Core.List.{List, [], _∷_, map}
+use Prim.Native.Nat.{ℕ}
+use lib.ListN.{length}
+use Rattle.words.specs.Lists.{concat}
+use Rattle.text.specs.Strings.{lines}
+use Rattle.splits.specs.declared.MergeAnswer.{MergeAnswer}
+use Rattle.splits.specs.declared.MergeAnswer.the-variants.{Merged, Refused}
+use Rattle.trees.specs.Service.{mergeTree}
+
+-- program C of the change: a choice over 1 to 7, and constraints that demand 7 and forbid it
+abbrev pub textC : List ℕ
+textC = lines ("asp 1 0 0" ∷ "1 1 7 1 2 3 4 5 6 7 0 0" ∷ "1 0 0 0 1 7" ∷ "1 0 0 0 1 -7" ∷ "0" ∷ [])
+
+-- an end, and one without its last line
+abbrev pub endC : List ℕ
+endC = lines ("b 8 7 0" ∷ "c 8 0" ∷ "b 9 -7 0" ∷ "c 9 0" ∷ "a 0" ∷ [])
+
+abbrev pub badC : List ℕ
+badC = lines ("b 8 7 0" ∷ "c 8 0" ∷ "b 9 -7 0" ∷ "c 9 0" ∷ [])
+
+-- the answer with a store and an output of these lengths
+abbrev pub answerC : (store output : ℕ) → (tree : List ℕ) → (ends : List (List ℕ)) → MergeAnswer
+answerC s o tree ends = mergeTree 21 s o textC tree (concat ends) (map length ends) .answer
+
+pub record Worked : Type 0 where
+  -- "the empty list"; "numbers after the tree, or too few"
+  pub none : answerC 24 33 [] [] ≡ Refused 64
+  pub too-few : answerC 24 33 (1 ∷ 0 ∷ []) (endC ∷ []) ≡ Refused 64
+  pub twice : answerC 24 33 (1 ∷ 1 ∷ 0 ∷ 0 ∷ 0 ∷ []) (endC ∷ endC ∷ endC ∷ []) ≡ Refused 64
+  -- a root end: 57 before 58
+  pub root : answerC 24 33 (0 ∷ []) (endC ∷ []) ≡ Merged 33
+  pub root-output : answerC 24 32 (0 ∷ []) (endC ∷ []) ≡ Refused 58
+  pub root-store : answerC 23 32 (0 ∷ []) (endC ∷ []) ≡ Refused 57
+  -- a merge: both ends' 57 before its 58, and 58 before 59
+  pub split-57 : answerC 24 40 (1 ∷ 0 ∷ 0 ∷ []) (endC ∷ badC ∷ []) ≡ Refused 57
+  pub split-58 : answerC 24 40 (1 ∷ 0 ∷ 0 ∷ []) (endC ∷ endC ∷ []) ≡ Refused 58
+  pub split-59 : answerC 24 400 (1 ∷ 0 ∷ 0 ∷ []) (endC ∷ endC ∷ []) ≡ Refused 59
+  -- a merge of a merge
+  pub split : answerC 200 87 (1 ∷ 2 ∷ 0 ∷ 0 ∷ 0 ∷ []) (endC ∷ endC ∷ endC ∷ []) ≡ Merged 87
+  -- "demanding side whole before the other": its 58 or 59 before a bad end on the other side
+  pub first-58 : answerC 200 40 (1 ∷ 2 ∷ 0 ∷ 0 ∷ 0 ∷ []) (endC ∷ endC ∷ badC ∷ []) ≡ Refused 58
+  pub first-59 : answerC 24 400 (1 ∷ 2 ∷ 0 ∷ 0 ∷ 0 ∷ []) (endC ∷ endC ∷ badC ∷ []) ≡ Refused 59
+  pub second-57 : answerC 200 400 (1 ∷ 2 ∷ 0 ∷ 0 ∷ 0 ∷ []) (endC ∷ endC ∷ badC ∷ []) ≡ Refused 57
+  -- and its bad end before a 58 inside the other side
+  pub first-57 : answerC 200 40 (1 ∷ 0 ∷ 2 ∷ 0 ∷ 0 ∷ []) (badC ∷ endC ∷ endC ∷ []) ≡ Refused 57
