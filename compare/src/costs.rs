@@ -1,6 +1,6 @@
 //! The families of cheapest answer sets: the cases of document 02; and random programs with random costs, of which all sets are tried. The set of
-//! least cost is certified with a refutation that a search finds, and no other with any proof. At every bound the restricted program has the
-//! answer sets that cost less.
+//! least cost is certified with a refutation that a search finds, dearer ones are not. At every bound where an answer set falls out the
+//! restricted program has just those that cost less.
 
 use std::collections::BTreeSet;
 
@@ -104,7 +104,7 @@ pub fn refutation(comparison: &mut Comparison, program: &Program, costs: &[(i32,
     (found == Found::Refutation).then(|| author.text())
 }
 
-/// A random program with random costs: a set of least cost, with its proof at all lengths that matter, and every other answer set.
+/// A random program with random costs: a set of least cost, with its proof at all lengths that matter, and up to eight dearer answer sets.
 pub fn run_random(comparison: &mut Comparison, _: u64) {
     let (text, program, costs) = with_costs(&mut comparison.random);
     let sets = answer_sets(&program, &costs);
