@@ -1,7 +1,7 @@
 //! Programs with weight bodies of twelve literals.
 //!
-//! `hours-12` has constraints on sums that no choice meets: what is chosen may not reach a bound, and what is left out may not reach what the
-//! bound leaves of the whole. Nearly all of their bodies are named and completed, and a search refutes them. `hours-wide` has as many rules of
+//! `sums-12` has constraints on sums that no choice meets: what is chosen may not reach a bound, and what is left out may not reach what the
+//! bound leaves of the whole. Nearly all of their bodies are named and completed, and a search refutes them. `sums-wide` has as many rules of
 //! one head as the table holds beside two plain ones, by which the head is a loop, alone and with positive literals of the others; all bodies
 //! are named, and then there are `s` and `l` lines in turn until the store is full. `costs-12` has a cheapest choice of twelve: what is chosen has to
 //! reach a bound, and as many rules as there may be forbid others.
@@ -45,7 +45,7 @@ fn sums() -> Input {
     rules.push(weighted(&[], all - bound + 1, &signed(-1)));
     let lines = refutations::refute(&rules, 4_000, SEED).expect("no sum is both below the bound and not below it");
     rules.push(weighted(&[], all - 20, &signed(1)));
-    Input::of("hours-12", &rules, &lines)
+    Input::of("sums-12", &rules, &lines)
 }
 
 /// The most rules of a program, the restriction among them so that the restricted program can be checked as a text.
@@ -98,7 +98,7 @@ fn wide() -> Input {
     // in turn every single literal, and all literals but one
     let bounds = [1, MOST - 1].into_iter().cycle();
     rules.extend(bounds.take((ROOM - plain) / each).map(|bound| weighted(&[head], bound, &pairs)));
-    Input::of("hours-wide", &rules, &wide_proof(&rules, &mut Random::from_seed(6)))
+    Input::of("sums-wide", &rules, &wide_proof(&rules, &mut Random::from_seed(6)))
 }
 
 /// The definitions of the bodies, and then `s` and `l` lines in turn while they fit.
