@@ -17,7 +17,8 @@ forbids it. 1,0,2,0,0 is split on 1, and where 1 is forbidden on 2. The ENDs are
 constraints on its path added in order from the root: `1 0 0 0 1 -ATOM` where the atom is demanded, `1 0 0 0 1 ATOM` where it is forbidden. The
 tree 0 is one end, a proof of the program itself, written as it stands. Prints the verdict on the merged proof, `inconsistent N R S K`, or
     refused program NUMBER LINE
-    refused merge NUMBER      for 57 the end that is not accepted, and what the check says of it, are on the standard error
+    refused merge NUMBER      for 64 why it is no such tree, for 57 the end that is not accepted and what the check says of it, are on
+                              the standard error
 --table N and --store N are the words for rules and nogoods, 16384 each where nothing is said, as in `verdict`.",
     options: &["-o", "--table", "--store"],
     lists: &[],
@@ -26,8 +27,11 @@ tree 0 is one end, a proof of the program itself, written as it stands. Prints t
     run,
 };
 
+/// The most splits on a path.
+const MOST_SPLITS: usize = 6;
+
 /// The most ends of a tree.
-const MOST_ENDS: usize = 64;
+const MOST_ENDS: usize = 1 << MOST_SPLITS;
 
 /// The program, and the ends behind the tree.
 const INPUTS: [usize; 1 + MOST_ENDS] = {
@@ -51,11 +55,17 @@ fn run(words: &Words) -> Result<Outcome, Failure> {
     let (mut rules, mut nogoods) = (library::lent(table)?, library::lent(store)?);
     let merging = aspdrupe::merge_tree(&program, &numbers, &ends.concat(), &lengths, &mut rules, &mut nogoods, &mut output)?;
     let outcome = merge::shown(words, merging, &program, output)?;
-    if merging == Merging::Refused(MergeQuestion::Halves) {
-        let sides = sides_of(&mut numbers.iter().copied(), &[]);
-        return explained(outcome, &program, &sides, &ends, store);
+    match merging {
+        Merging::Refused(MergeQuestion::Tree) => {
+            let atoms = library::read_program(&program, library::EVERY_TABLE)?.map_or(0, |program| program.atoms);
+            Ok(outcome.for_reason(fault_of(&numbers, atoms, ends.len())))
+        }
+        Merging::Refused(MergeQuestion::Halves) => {
+            let sides = sides_of(&mut numbers.iter().copied(), &[]);
+            explained(outcome, &program, &sides, &ends, store)
+        }
+        _ => Ok(outcome),
     }
-    Ok(outcome)
 }
 
 /// The numbers between commas; none of an empty word.
@@ -65,6 +75,41 @@ fn numbers_of(text: &str) -> Result<Vec<u16>, Failure> {
         return Ok(Vec::new());
     }
     text.split(',').map(number).collect()
+}
+
+/// Why the numbers are no tree over these atoms with so many ends: question 64 with what it does not say.
+fn fault_of(numbers: &[u16], atoms: usize, proofs: usize) -> String {
+    match ends_of(numbers, atoms, &mut Vec::new()) {
+        Err(why) => why,
+        Ok((_, rest)) if !rest.is_empty() => {
+            format!("the tree ends after {} of its {} numbers", numbers.len() - rest.len(), numbers.len())
+        }
+        Ok((ends, _)) => format!("the tree has {ends} ends, and {proofs} proofs are given"),
+    }
+}
+
+/// How many ends the tree at the front of the numbers has, and the numbers after it; or why there is none.
+fn ends_of<'a>(numbers: &'a [u16], atoms: usize, path: &mut Vec<u16>) -> Result<(usize, &'a [u16]), String> {
+    let Some((&atom, rest)) = numbers.split_first() else {
+        return Err(String::from("the numbers end before the tree does: each split has two sides, and 0 is an end"));
+    };
+    if atom == 0 {
+        return Ok((1, rest));
+    }
+    if usize::from(atom) > atoms {
+        return Err(format!("{atom} is no atom of the program; its largest is {atoms}"));
+    }
+    if path.contains(&atom) {
+        return Err(format!("atom {atom} is split twice on a path"));
+    }
+    if path.len() == MOST_SPLITS {
+        return Err(format!("the split on {atom} is more than {MOST_SPLITS} deep"));
+    }
+    path.push(atom);
+    let (demanding, rest) = ends_of(rest, atoms, path)?;
+    let (other, rest) = ends_of(rest, atoms, path)?;
+    path.pop();
+    Ok((demanding + other, rest))
 }
 
 /// What is demanded on the path of each end of the tree at the front of the numbers, in the order of the ends.
@@ -125,6 +170,21 @@ mod tests {
         let sides = |numbers: &[u16]| sides_of(&mut numbers.iter().copied(), &[]);
         assert_eq!(sides(&[0]), [vec![]]);
         assert_eq!(sides(&[1, 3, 0, 0, 2, 0, 0]), [[1, 3], [1, -3], [-1, 2], [-1, -2]]);
+    }
+
+    #[test]
+    fn faults_of_a_tree() {
+        for (numbers, why) in [
+            (&[][..], "the numbers end before the tree does: each split has two sides, and 0 is an end"),
+            (&[1, 0], "the numbers end before the tree does: each split has two sides, and 0 is an end"),
+            (&[1, 0, 0, 0], "the tree ends after 3 of its 4 numbers"),
+            (&[8, 0, 0], "8 is no atom of the program; its largest is 7"),
+            (&[1, 0, 2, 1, 0, 0, 0], "atom 1 is split twice on a path"),
+            (&[1, 2, 3, 4, 5, 6, 7, 0], "the split on 7 is more than 6 deep"),
+            (&[1, 2, 0, 0, 2, 0, 0], "the tree has 4 ends, and 2 proofs are given"),
+        ] {
+            assert_eq!(fault_of(numbers, 7, 2), why, "{numbers:?}");
+        }
     }
 
     #[test]

@@ -430,6 +430,8 @@ fn trees() {
         let (status, out, said) = room.run(&[words, &["-o", "other"]].concat());
         assert!(status == 20 && out == line && said.contains("to mend: "), "{words:?}: {status} {out} {said}");
     }
+    let (_, _, said) = room.run(&["tree", "p", "1,0,2,0,0", "e", "e"]);
+    assert!(said.ends_with("the tree has 3 ends, and 2 proofs are given\n"), "{said}");
     let (status, out, said) = room.run(&["tree", "p", "1,0,2,0,0", "e", "bad", "e", "-o", "other"]);
     assert_eq!((status, out.as_str()), (20, "refused merge 57\n"));
     assert!(said.contains("the check of end 2 for the program with -1, 2 demanded says: open 7 5 4 6\n"), "{said}");

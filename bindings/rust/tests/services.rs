@@ -607,9 +607,12 @@ fn trees_that_are_not_merged() {
     on_tree_stack(|| {
         let rooms = [21, 99, 400];
         let refused = |question| (Merging::Refused(question), vec![0; 21], vec![0; 99], vec![0; 400]);
-        for tree in [&[][..], &[1], &[1, 0], &[1, 0, 0, 0], &[0, 0], &[0], &[8, 0, 0], &[65_535, 0, 0], &[1, 0, 1, 0, 0]] {
+        for tree in [&[][..], &[1], &[1, 0], &[1, 0, 0, 0], &[0, 0], &[0], &[8, 0, 0], &[65_535, 0, 0]] {
             assert_eq!(merged_tree(SEVEN, tree, &[END; 2], rooms), refused(MergeQuestion::Tree), "{tree:?}");
         }
+        // a number after the tree, and an atom twice on a path: with as many ends as the tree has
+        assert_eq!(merged_tree(SEVEN, &[0, 0], &[END], rooms), refused(MergeQuestion::Tree));
+        assert_eq!(merged_tree(SEVEN, &[1, 0, 1, 0, 0], &[END; 3], rooms), refused(MergeQuestion::Tree));
         for ends in [&[][..], &[END], &[END; 3], &[END, END, b""]] {
             assert_eq!(merged_tree(SEVEN, &[1, 0, 0], ends, rooms), refused(MergeQuestion::Tree));
         }

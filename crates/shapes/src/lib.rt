@@ -1,7 +1,6 @@
 // The shape of a tree of splits as it is lent: whether the numbers are one, and whether the lengths are those of its ends. Document 02,
 // Change 14; 64 is decided here. What is a tree is specs/Tree.antt.
 ghost use mathlib.Core.Path.{_≡_};
-ghost use mathlib.Core.Bool.{_&&_};
 ghost use mathlib.Core.List.{[]};
 ghost use Prim.Native.Nat.{_-_, _≤_};
 ghost use lib.Dec.{eqb};
@@ -9,6 +8,9 @@ ghost use lib.ListN.{length, take};
 ghost use Rattle.words.specs.Lists.{any};
 ghost use Rattle.shapes.specs.Tree.{treeOf, sum, mostSplits};
 ghost use Rattle.shapes.specs.Walks.{Walks, AreJoined, joinedTo, isTree};
+
+// The most splits on a path.
+pub const MOST_SPLITS: usize = 6;
 
 // How many numbers a tree takes and how many ends it has; or there is none.
 pub enum Walked {
@@ -55,7 +57,7 @@ fn joined(numbers: usize, ends: usize, other: Walked) -> Walked
 }
 
 // The tree at the front of the numbers, with so many splits left below it. The path has an atom for each split above.
-fn shape(depth: usize, path: [u16; 6], atoms: usize, tree: &[u16]) -> Walked
+fn shape(depth: usize, path: [u16; MOST_SPLITS], atoms: usize, tree: &[u16]) -> Walked
     requires depth { ⌜ depth ≤ mostSplits ⌝ }
     requires path { ⌜ length path ≡ mostSplits ⌝ }
     ensures { λ r. ⌜ Walks (treeOf depth (take (mostSplits - depth) path) atoms (now (tree .entry))) (now (tree .entry)) r ⌝ }
@@ -74,10 +76,10 @@ fn shape(depth: usize, path: [u16; 6], atoms: usize, tree: &[u16]) -> Walked
         return Walked::NoTree;
     }
     let mut below = path;
-    if (atoms < wide(atom)) | is_on(&below[..6 - depth], atom) {
+    if (atoms < wide(atom)) | is_on(&below[..MOST_SPLITS - depth], atom) {
         return Walked::NoTree;
     }
-    below[6 - depth] = atom;
+    below[MOST_SPLITS - depth] = atom;
     let first = shape(depth - 1, below, atoms, &tree[1..]);
     match first {
         Walked::NoTree => Walked::NoTree,
@@ -109,7 +111,7 @@ fn adds_up(lengths: &[u64], size: usize) -> bool
 pub fn is_tree(atoms: usize, tree: &[u16], size: usize, lengths: &[u64]) -> bool
     ensures { λ r. ⌜ r ≡ isTree (treeOf mostSplits [] atoms (now (tree .entry))) size (now (lengths .entry)) ⌝ }
 {
-    match shape(6, [0; 6], atoms, tree) {
+    match shape(MOST_SPLITS, [0; MOST_SPLITS], atoms, tree) {
         Walked::NoTree => false,
         Walked::Tree { numbers, ends } => {
             (numbers == tree.len()) & (ends == lengths.len()) & adds_up(lengths, size)

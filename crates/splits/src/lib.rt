@@ -26,7 +26,7 @@ use aspif::ProgramReading;
 use aspif::ProgramRefusal;
 use checker::judging;
 
-// The length of the text written; the question that the program fails, with its line; or 57, 58 or 59.
+// The length of the text written; the question that the program fails, with its line; or 57, 58 or 59, and 64 of a tree.
 pub enum MergeAnswer {
     Merged(usize),
     RefusedProgram(ProgramRefusal),

@@ -64,7 +64,7 @@ Demand3Tree =
     × ((c : Counts) × (check text (take n output′) (length table) (length store)
     ≡ record { verdict = Inconsistent c; table = table′; store = store′ }))
 
--- A root end is what its check says: with the tree `0` "there is no merge: the text is copied byte for byte", and table and store are as the
+-- A root end is what its check says: with the tree `0` there is no merge, the text is "written as it stands", and table and store are as the
 -- check leaves them; 57 where it is not accepted, and then 58 where it is longer than the output
 abbrev pub RootEnd : Type 0
 RootEnd =

@@ -26,7 +26,7 @@ abbrev pub answerC : (store output : ℕ) → (tree : List ℕ) → (ends : List
 answerC s o tree ends = mergeTree 21 s o textC tree (concat ends) (map length ends) .answer
 
 pub record Worked : Type 0 where
-  -- "the empty list"; "numbers after the tree, or too few"
+  -- the empty list; too few numbers; an atom twice on a path
   pub none : answerC 24 33 [] [] ≡ Refused 64
   pub too-few : answerC 24 33 (1 ∷ 0 ∷ []) (endC ∷ []) ≡ Refused 64
   pub twice : answerC 24 33 (1 ∷ 1 ∷ 0 ∷ 0 ∷ 0 ∷ []) (endC ∷ endC ∷ endC ∷ []) ≡ Refused 64
@@ -40,7 +40,7 @@ pub record Worked : Type 0 where
   pub split-59 : answerC 24 400 (1 ∷ 0 ∷ 0 ∷ []) (endC ∷ endC ∷ []) ≡ Refused 59
   -- a merge of a merge
   pub split : answerC 200 87 (1 ∷ 2 ∷ 0 ∷ 0 ∷ 0 ∷ []) (endC ∷ endC ∷ endC ∷ []) ≡ Merged 87
-  -- "demanding side whole before the other": its 58 or 59 before a bad end on the other side
+  -- "the demanding side before the other": its 58 or 59 before a bad end on the other side
   pub first-58 : answerC 200 40 (1 ∷ 2 ∷ 0 ∷ 0 ∷ 0 ∷ []) (endC ∷ endC ∷ badC ∷ []) ≡ Refused 58
   pub first-59 : answerC 24 400 (1 ∷ 2 ∷ 0 ∷ 0 ∷ 0 ∷ []) (endC ∷ endC ∷ badC ∷ []) ≡ Refused 59
   pub second-57 : answerC 200 400 (1 ∷ 2 ∷ 0 ∷ 0 ∷ 0 ∷ []) (endC ∷ endC ∷ badC ∷ []) ≡ Refused 57

@@ -81,7 +81,7 @@ fn merge_whole(
     words::copy(&mut wide, &table[..used]);
     let mut whole = [0u8; LONGEST];
     let place = Place {
-        depth: 6,
+        depth: shapes::MOST_SPLITS,
         used,
         rules,
         atoms,
