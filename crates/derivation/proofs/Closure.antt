@@ -1,22 +1,21 @@
 -- The computation of an `a` step agrees with the least set of document 01, both ways: `closure-computed`.
--- A round adds only what the closure has; and once enough rounds are over, either two literals clash or nothing is left to
--- derive, so that the closure has been reached. Assumes nothing.
+-- A round adds only what the closure has; and once enough rounds are over (proofs/Rounds.antt), either two literals clash or
+-- nothing is left to derive, so that the closure has been reached. Assumes nothing.
 use mathlib.Core.Path.{_≡_, refl, sym}
 use mathlib.Core.Logic.{_⊎_, inl, inr}
-use mathlib.Core.Bool.{Bool, true, false, not}
-use mathlib.Core.List.{List, [], _∷_, _++_, map, nil≢cons, List·Memᴰ·head, Memᴰ·cast, List·Memᴰ·append-cases, Memᴰ·append-right, Memᴰ·of-map, Memᴰ·map}
-use Prim.Native.Nat.{ℕ, zero, suc, _≤_, _<_}
+use mathlib.Core.Bool.{not}
+use mathlib.Core.List.{List, [], _∷_, map, nil≢cons, Memᴰ·cast, Memᴰ·of-map, Memᴰ·map}
 use native.Mathlib.Omega.{arith}
-use lib.Dec.{T}
 use lib.IntN.{ℤ}
-use lib.ListN.{length}
+use lib.ListN.{length, length-map}
 use Rattle.words.specs.Lists.{_∈_, any, filter, concat}
 use Rattle.words.specs.Literals.{complement, same, has}
-use Rattle.words.proofs.Lists.{Decides, passed, answered, reworded, or-decides, not-decides, any-decides, all-decides, keep→, keep←, length-keep, keep-lt, joinAll→, joinAll←, none-in}
+use Rattle.words.proofs.Lists.{Decides, passed, answered, reworded, or-decides, not-decides, any-decides, all-decides, keep→, keep←, joinAll→, joinAll←}
 use Rattle.words.proofs.Literals.{same-decides, has-decides, complement-twice}
 use Rattle.aspif.specs.Rules.{isEmpty}
 use Rattle.derivation.specs.Propagation.{Closure, given, unit, Conflict, othersIn, derivable, fresh, clash, saturate, refuted}
 use Rattle.derivation.specs.Claims.{ClosureComputed}
+use Rattle.derivation.proofs.Rounds.{Rounds, Ended, rounds-end}
 
 isEmpty-decides : (g : List ℤ) → Decides (isEmpty g) ([] ≡ g)
 isEmpty-decides [] = record { to = λ t. refl; from = λ p. tt }
@@ -64,122 +63,46 @@ module _ (live : List (List ℤ)) (A : List ℤ) where
       Memᴰ·cast (sym (complement-twice x))
       (Memᴰ·map complement (joinAll← (Memᴰ·map kept (d .1)) (keep← (othersIn A g) (d .2) (others-decides A g x .from (d .3)))))
 
-  lacks-decides : (x : ℤ) → Decides (not (has x A)) (¬ (x ∈ A))
-  lacks-decides x = not-decides (has-decides x A)
-
-  fresh→ : {x : ℤ} → x ∈ fresh live A → Derived x × (¬ (x ∈ A))
-  fresh→ {x} m = let r = keep→ (λ x. not (has x A)) (derivable live A) m in (derivable→ (r .0), lacks-decides x .to (r .1))
-
-  fresh← : {x : ℤ} → Derived x → ¬ (x ∈ A) → x ∈ fresh live A
-  fresh← {x} d f = keep← (λ x. not (has x A)) (derivable← d) (lacks-decides x .from f)
-
--- A round, by cases on whether two literals clash and on what is fresh
-module _ (live : List (List ℤ)) where
-  abbrev round : ℕ → List ℤ → Bool → List ℤ → List ℤ
-  round n A b xs = elim b [ true ↦ A | false ↦ elim xs [ [] ↦ A | x ∷ xs ↦ saturate n live (x ∷ xs ++ A) ] ]
-
--- The computation stays within the closure
-
 module _ (live : List (List ℤ)) (L : List ℤ) where
-  abbrev AllDerived : List ℤ → Type 0
-  AllDerived A = (x : ℤ) → x ∈ A → Closure live L x
+  -- the candidates are the complements of the nogoods' literals
+  saturating : Rounds (Closure live L) (Derived live) (map complement (concat live)) (fresh live) clash (λ n A. saturate n live A)
+  saturating = record {
+    none = λ A. refl;
+    turn = λ n A. refl;
+    fresh→ = λ A x m.
+        let k = keep→ (λ x. not (has x A)) (derivable live A) m in
+        (derivable→ live A (k .0), not-decides (has-decides x A) .to (k .1));
+    fresh← = λ A x d f. keep← (λ x. not (has x A)) (derivable← live A d) (not-decides (has-decides x A) .from f);
+    among = λ A x d. Memᴰ·cast (sym (complement-twice x)) (Memᴰ·map complement (joinAll← (d .1) (d .2)));
+    keeps = λ A w x d. unit (d .0) (d .1) (d .2) (λ k n f. elim (d .3 k n) [ inl p ↦ absurd (f p) | inr u ↦ w k u ]);
+  }
 
-  fresh-within : (A : List ℤ) → AllDerived A → AllDerived (fresh live A)
-  fresh-within A w x m =
-      let d = fresh→ live A m .0 in
-      unit (d .0) (d .1) (d .2) (λ k n f. elim (d .3 k n) [ inl p ↦ absurd (f p) | inr u ↦ w k u ])
+  abbrev reached : List ℤ
+  reached = saturate (length (concat live)) live L
 
-  saturate-within : (n : ℕ) (A : List ℤ) → AllDerived A → AllDerived (saturate n live A)
-  saturate-within zero A w = w
-  saturate-within (suc n) A w = go (λ B v. saturate-within n B v) (clash A) (fresh live A) (fresh-within A w)
-    where
-      go : ((B : List ℤ) → AllDerived B → AllDerived (saturate n live B)) → (b : Bool) (xs : List ℤ) → AllDerived xs → AllDerived (round live n A b xs)
-      go below true xs v = w
-      go below false [] v = w
-      go below false (x ∷ xs) v = below (x ∷ xs ++ A) (λ y m. elim (List·Memᴰ·append-cases (x ∷ xs) m) [ inl u ↦ v y u | inr u ↦ w y u ])
+  saturated : Ended (Closure live L) (Derived live) clash L reached
+  saturated = rounds-end saturating (length (concat live)) L (omega (arith, length-map (concat live) complement)) (λ x m. given m)
 
--- The computation reaches the closure
-
-module _ (live : List (List ℤ)) where
-  -- the complement of a nogood's literal is not in A
-  abbrev lacks : List ℤ → ℤ → Bool
-  lacks A x = not (has (complement x) A)
-
-  -- how many complements are still to come
-  abbrev missing : List ℤ → ℕ
-  missing A = length (filter (lacks A) (concat live))
-
-  -- a fresh literal is one of them
-  awaited : (A : List ℤ) {x : ℤ} → x ∈ fresh live A → (complement x ∈ concat live) × T (lacks A (complement x))
-  awaited A {x} m = let r = fresh→ live A m in (joinAll← (r .0 .1) (r .0 .2), rw complement-twice (lacks-decides live A x .from (r .1)))
-
-  fewer : (A : List ℤ) (x : ℤ) (xs : List ℤ) → x ∈ fresh live A → missing (x ∷ xs ++ A) < missing A
-  fewer A x xs m = let r = awaited A m in keep-lt (lacks B) (lacks A) sub (r .0) here (r .1)
-    where
-      B : List ℤ
-      B = x ∷ xs ++ A
-
-      sub : (y : ℤ) → T (lacks B y) → T (lacks A y)
-      sub y t = lacks-decides live A (complement y) .from (λ n. lacks-decides live B (complement y) .to t (Memᴰ·append-right (x ∷ xs) n))
-
-      here : T (not (lacks B (complement x)))
-      here = not-decides (lacks-decides live B (complement (complement x))) .from (λ f. f (Memᴰ·cast (complement-twice x) (List·Memᴰ·head refl)))
-
-  -- two literals clash, or nothing is left to derive
-  abbrev Done : List ℤ → Type 0
-  Done A = T (clash A) ⊎ ((x : ℤ) → ¬ (x ∈ fresh live A))
-
-  done : (n : ℕ) (A : List ℤ) → missing A ≤ n → Done (saturate n live A)
-  done zero A h = inr (λ x m. let r = awaited A m in none-in h (keep← (lacks A) (r .0) (r .1)))
-  done (suc n) A h = go (λ B k. done n B k) (clash A) refl (fresh live A) refl
-    where
-      go : ((B : List ℤ) → missing B ≤ n → Done (saturate n live B)) → (b : Bool) → clash A ≡ b → (xs : List ℤ) → fresh live A ≡ xs → Done (round live n A b xs)
-      go below true c xs p = inl (passed (clash A) .from c)
-      go below false c [] p = inr (λ x m. elim (rw p at m) [ ])
-      go below false c (x ∷ xs) p = below (x ∷ xs ++ A) (omega (arith, fewer A x xs (rw p (List·Memᴰ·head refl))))
-
-  grows : (n : ℕ) (A : List ℤ) {x : ℤ} → x ∈ A → x ∈ saturate n live A
-  grows zero A m = m
-  grows (suc n) A {x} m = go (λ B u. grows n B u) (clash A) (fresh live A)
-    where
-      go : ((B : List ℤ) → x ∈ B → x ∈ saturate n live B) → (b : Bool) (xs : List ℤ) → x ∈ round live n A b xs
-      go below true xs = m
-      go below false [] = m
-      go below false (y ∷ ys) = below (y ∷ ys ++ A) (Memᴰ·append-right (y ∷ ys) m)
-
-  -- a list that has L, and from which nothing new is derivable, has the closure
-  module _ (L A : List ℤ) (base : (x : ℤ) → x ∈ L → x ∈ A) (closed : (x : ℤ) → ¬ (x ∈ fresh live A)) where
-    closure-in : {x : ℤ} → Closure live L x → x ∈ A
-    closure-in (given m) = base _ m
-    closure-in (unit {x = x} g m u f) = go (λ k n d. closure-in (f k n d)) (answered (has x A))
+  -- where nothing new is derivable
+  module _ (closed : (x : ℤ) → Derived live reached x → x ∈ reached) where
+    closure-in : {x : ℤ} → Closure live L x → x ∈ reached
+    closure-in (given m) = saturated .start _ m
+    closure-in (unit {x = x} g m u f) = closed x (g, m, u, others (λ k n d. closure-in (f k n d)))
       where
-        others : ((k : ℤ) → k ∈ g → ¬ (k ≡ complement x) → k ∈ A) → Others A g x
+        others : ((k : ℤ) → k ∈ g → ¬ (k ≡ complement x) → k ∈ reached) → Others reached g x
         others below k n = elim (answered (same k (complement x))) [
           | inl t ↦ inl (same-decides k (complement x) .to t)
           | inr t ↦ inr (below k n (not-decides (same-decides k (complement x)) .to t))
         ]
 
-        go : ((k : ℤ) → k ∈ g → ¬ (k ≡ complement x) → k ∈ A) → T (has x A) ⊎ T (not (has x A)) → x ∈ A
-        go below (inl t) = has-decides x A .to t
-        go below (inr t) = absurd (closed x (fresh← live A (g, m, u, others below) (lacks-decides live A x .to t)))
-
-module _ (live : List (List ℤ)) (L : List ℤ) where
-  abbrev reached : List ℤ
-  reached = saturate (length (concat live)) live L
-
   clash→ : (x : ℤ) × (x ∈ reached) × (complement x ∈ reached) → (x : ℤ) × Closure live L x × Closure live L (complement x)
-  clash→ r =
-      let w = saturate-within live L (length (concat live)) L (λ x m. given m) in
-      (r .0, w (r .0) (r .1), w (complement (r .0)) (r .2))
+  clash→ r = let w = saturated .within in (r .0, w (r .0) (r .1), w (complement (r .0)) (r .2))
 
   clash← : (x : ℤ) × Closure live L x × Closure live L (complement x) → (x : ℤ) × (x ∈ reached) × (complement x ∈ reached)
-  clash← r = elim (done live (length (concat live)) L (length-keep (lacks live L) (concat live))) [
+  clash← r = elim (saturated .closed) [
     | inl t ↦ clash-decides reached .to t
-    | inr c ↦ (r .0, here c (r .1), here c (r .2))
+    | inr c ↦ (r .0, closure-in c (r .1), closure-in c (r .2))
   ]
-    where
-      here : ((x : ℤ) → ¬ (x ∈ fresh live reached)) → {x : ℤ} → Closure live L x → x ∈ reached
-      here c = closure-in live L reached (λ x m. grows live (length (concat live)) L m) c
 
   pub refuted-decides : Decides (refuted live L) (Conflict live L)
   refuted-decides = or-decides (reworded clash→ clash← (clash-decides reached)) (empty-decides live)

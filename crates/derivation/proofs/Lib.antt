@@ -1,4 +1,5 @@
 -- What holds of the steps: propagation as computed, and that an accepted proof leaves no answer set.
+pub mod Rounds
 pub mod Closure
 pub mod Loops
 pub mod Valuations

@@ -1,22 +1,22 @@
 -- The computation of question 56 agrees with its relation, both ways: `loop-computed`.
--- A search finds only what it can reach; and once enough rounds are over nothing is left to find. Assumes nothing.
-use mathlib.Core.Path.{_≡_, refl}
-use mathlib.Core.Logic.{_⊎_, inl, inr}
-use mathlib.Core.Bool.{Bool, not, _&&_}
-use mathlib.Core.List.{List, [], _∷_, _++_, List·Memᴰ·head, List·Memᴰ·append-cases, Memᴰ·append-right}
-use Prim.Native.Nat.{ℕ, zero, suc, _≤_, _<_}
+-- A search finds only what it can reach; and once enough rounds are over (proofs/Rounds.antt) nothing is left to find.
+-- Assumes nothing.
+use mathlib.Core.Path.{refl}
+use mathlib.Core.Logic.{inl, inr}
+use mathlib.Core.Bool.{Bool, false, not, _&&_}
+use mathlib.Core.List.{List, [], _∷_, List·Memᴰ·head}
 use native.Mathlib.Omega.{arith}
 use lib.Dec.{T}
 use lib.IntN.{ℤ}
 use lib.ListN.{length}
 use Rattle.words.specs.Lists.{_∈_, any, filter}
 use Rattle.words.specs.Literals.{has}
-use Rattle.words.proofs.Lists.{Decides, passed, itself, answered, reworded, and-decides, not-decides, any-decides, all-decides}
-use Rattle.words.proofs.Lists.{keep→, keep←, length-keep, keep-lt, none-in}
+use Rattle.words.proofs.Lists.{Decides, passed, itself, reworded, and-decides, not-decides, any-decides, all-decides, keep→, keep←}
 use Rattle.words.proofs.Literals.{has-decides}
 use Rattle.aspif.specs.Rules.{Rule}
-use Rattle.derivation.specs.Loops.{isEdge, Reaches, one, more, Loop, fresh, rounds, reached, reachesAll, isLoop}
+use Rattle.derivation.specs.Loops.{isEdge, Reaches, one, more, Loop, neighbours, rounds, reached, reachesAll, isLoop}
 use Rattle.derivation.specs.Claims.{LoopComputed}
+use Rattle.derivation.proofs.Rounds.{Rounds, Ended, rounds-end}
 
 -- a way from h by edges as f says, to members of U
 pub data Way (f : ℤ → ℤ → Bool) (U : List ℤ) (h : ℤ) : ℤ → Type 0 where
@@ -24,101 +24,46 @@ pub data Way (f : ℤ → ℤ → Bool) (U : List ℤ) (h : ℤ) : ℤ → Type 
   on : {a b : ℤ} → Way f U h a → b ∈ U → T (f a b) → Way f U h b
 
 module _ (f : ℤ → ℤ → Bool) (U : List ℤ) where
-  -- not found, and an edge away from one that is
-  abbrev isFresh : List ℤ → ℤ → Bool
-  isFresh A b = not (has b A) && any (λ a. f a b) A
+  -- a member of U, an edge away from one of A
+  abbrev Next : List ℤ → ℤ → Type 0
+  Next A b = (b ∈ U) × ((a : ℤ) × (a ∈ A) × T (f a b))
 
-  fresh-decides : (A : List ℤ) (b : ℤ) → Decides (isFresh A b) ((¬ (b ∈ A)) × ((a : ℤ) × (a ∈ A) × T (f a b)))
-  fresh-decides A b = and-decides (not-decides (has-decides b A)) (any-decides (λ a. itself (f a b)) A)
+  abbrev isNeighbour : List ℤ → ℤ → Bool
+  isNeighbour A b = not (has b A) && any (λ a. f a b) A
 
-  -- a round, by cases on what is fresh
-  abbrev round : ℕ → List ℤ → List ℤ → List ℤ
-  round n A xs = elim xs [ [] ↦ A | x ∷ xs ↦ rounds f U n (x ∷ xs ++ A) ]
+  neighbour-decides : (A : List ℤ) (b : ℤ) → Decides (isNeighbour A b) ((¬ (b ∈ A)) × ((a : ℤ) × (a ∈ A) × T (f a b)))
+  neighbour-decides A b = and-decides (not-decides (has-decides b A)) (any-decides (λ a. itself (f a b)) A)
 
-  -- The search stays within the ways
+  search : (h : ℤ) → Rounds (Way f U h) Next U (neighbours f U) (λ A. false) (rounds f U)
+  search h = record {
+    none = λ A. refl;
+    turn = λ n A. refl;
+    fresh→ = λ A b m. let k = keep→ (isNeighbour A) U m in let d = neighbour-decides A b .to (k .1) in ((k .0, d .1), d .0);
+    fresh← = λ A b n d. keep← (isNeighbour A) (n .0) (neighbour-decides A b .from (d, n .1));
+    among = λ A b n. n .0;
+    keeps = λ A w b n. on (w (n .1 .0) (n .1 .1)) (n .0) (n .1 .2);
+  }
 
-  module _ (h : ℤ) where
-    abbrev Within : List ℤ → Type 0
-    Within A = (x : ℤ) → x ∈ A → Way f U h x
-
-    fresh-within : (A : List ℤ) → Within A → Within (fresh f U A)
-    fresh-within A w x m =
-        let k = keep→ (isFresh A) U m in
-        let d = fresh-decides A x .to (k .1) .1 in
-        on (w (d .0) (d .1)) (k .0) (d .2)
-
-    rounds-within : (n : ℕ) (A : List ℤ) → Within A → Within (rounds f U n A)
-    rounds-within zero A w = w
-    rounds-within (suc n) A w = go (λ B v. rounds-within n B v) (fresh f U A) (fresh-within A w)
-      where
-        go : ((B : List ℤ) → Within B → Within (rounds f U n B)) → (xs : List ℤ) → Within xs → Within (round n A xs)
-        go below [] v = w
-        go below (x ∷ xs) v =
-            below (x ∷ xs ++ A) (λ y m. elim (List·Memᴰ·append-cases (x ∷ xs) m) [ inl u ↦ v y u | inr u ↦ w y u ])
-
-  -- The search finds all
-
-  abbrev lacks : List ℤ → ℤ → Bool
-  lacks A x = not (has x A)
-
-  lacks-decides : (A : List ℤ) (x : ℤ) → Decides (lacks A x) (¬ (x ∈ A))
-  lacks-decides A x = not-decides (has-decides x A)
-
-  -- how many are still to be found
-  abbrev missing : List ℤ → ℕ
-  missing A = length (filter (lacks A) U)
-
-  awaited : (A : List ℤ) {x : ℤ} → x ∈ fresh f U A → (x ∈ U) × T (lacks A x)
-  awaited A {x} m = let k = keep→ (isFresh A) U m in (k .0, lacks-decides A x .from (fresh-decides A x .to (k .1) .0))
-
-  fewer : (A : List ℤ) (x : ℤ) (xs : List ℤ) → x ∈ fresh f U A → missing (x ∷ xs ++ A) < missing A
-  fewer A x xs m = let r = awaited A m in keep-lt (lacks B) (lacks A) sub (r .0) here (r .1)
+  -- a search from A, of which each has a way from h, and which has those an edge away from h
+  found-decides : (h : ℤ) {A : List ℤ} (b : ℤ) → Decides (has b (rounds f U (length U) A)) (b ∈ rounds f U (length U) A)
+      → ((x : ℤ) → x ∈ A → Way f U h x) → ((x : ℤ) → x ∈ U → T (f h x) → x ∈ A)
+      → Decides (has b (rounds f U (length U) A)) (Way f U h b)
+  found-decides h {A} b i ways firsts =
+      reworded (searched .within b) (λ w. elim (searched .closed) [ inl t ↦ absurd t | inr c ↦ way-in c w ]) i
     where
-      B : List ℤ
-      B = x ∷ xs ++ A
+      found : List ℤ
+      found = rounds f U (length U) A
 
-      sub : (y : ℤ) → T (lacks B y) → T (lacks A y)
-      sub y t = lacks-decides A y .from (λ n. lacks-decides B y .to t (Memᴰ·append-right (x ∷ xs) n))
+      searched : Ended (Way f U h) Next (λ A. false) A found
+      searched = rounds-end (search h) (length U) A (omega arith) ways
 
-      here : T (not (lacks B x))
-      here = not-decides (lacks-decides B x) .from (λ k. k (List·Memᴰ·head refl))
-
-  done : (n : ℕ) (A : List ℤ) → missing A ≤ n → (x : ℤ) → ¬ (x ∈ fresh f U (rounds f U n A))
-  done zero A k = λ x m. let r = awaited A m in none-in k (keep← (lacks A) (r .0) (r .1))
-  done (suc n) A k = go (λ B j. done n B j) (fresh f U A) refl
-    where
-      go : ((B : List ℤ) → missing B ≤ n → (x : ℤ) → ¬ (x ∈ fresh f U (rounds f U n B))) → (xs : List ℤ) → fresh f U A ≡ xs
-          → (x : ℤ) → ¬ (x ∈ fresh f U (round n A xs))
-      go below [] p = λ x m. elim (rw p at m) [ ]
-      go below (y ∷ ys) p = below (y ∷ ys ++ A) (omega (arith, fewer A y ys (rw p (List·Memᴰ·head refl))))
-
-  grows : (n : ℕ) (A : List ℤ) {x : ℤ} → x ∈ A → x ∈ rounds f U n A
-  grows zero A m = m
-  grows (suc n) A {x} m = go (λ B u. grows n B u) (fresh f U A)
-    where
-      go : ((B : List ℤ) → x ∈ B → x ∈ rounds f U n B) → (xs : List ℤ) → x ∈ round n A xs
-      go below [] = m
-      go below (y ∷ ys) = below (y ∷ ys ++ A) (Memᴰ·append-right (y ∷ ys) m)
-
-  module _ (h : ℤ) (A : List ℤ) (base : (x : ℤ) → x ∈ U → T (f h x) → x ∈ A) (closed : (x : ℤ) → ¬ (x ∈ fresh f U A)) where
-    way-in : {x : ℤ} → Way f U h x → x ∈ A
-    way-in (first m t) = base _ m t
-    way-in (on {a = a} {b = b} w m t) = go (way-in w) (answered (has b A))
-      where
-        go : a ∈ A → T (has b A) ⊎ T (not (has b A)) → b ∈ A
-        go i (inl u) = has-decides b A .to u
-        go i (inr u) = absurd (closed b (keep← (isFresh A) m (fresh-decides A b .from (lacks-decides A b .to u, (a, i, t)))))
+      way-in : ((b : ℤ) → Next found b → b ∈ found) → {b : ℤ} → Way f U h b → b ∈ found
+      way-in closed (first m t) = searched .start _ (firsts _ m t)
+      way-in closed (on w m t) = closed _ (m, (_, way-in closed w, t))
 
   pub reached-decides : (h b : ℤ) → Decides (has b (reached f U h)) (Way f U h b)
-  reached-decides h b = reworded to from (has-decides b (reached f U h))
-    where
-      to : b ∈ reached f U h → Way f U h b
-      to m = rounds-within h (length U) _ (λ x i. let k = keep→ (f h) U i in first (k .0) (k .1)) b m
-
-      from : Way f U h b → b ∈ reached f U h
-      from w =
-          way-in h (reached f U h) (λ x m t. grows (length U) (filter (f h) U) (keep← (f h) m t))
-          (done (length U) (filter (f h) U) (length-keep (lacks (filter (f h) U)) U)) w
+  reached-decides h b =
+      found-decides h b (has-decides b (reached f U h)) (λ x m. let k = keep→ (f h) U m in first (k .0) (k .1)) (λ x m t. keep← (f h) m t)
 
   pub reaches-all : (h : ℤ) → Decides (reachesAll f U h) ((b : ℤ) → b ∈ U → Way f U h b)
   reaches-all h = all-decides (reached-decides h) U

@@ -30,13 +30,13 @@ Loop P U = (a b : ℤ) → a ∈ U → b ∈ U → Reaches P U a b
 -- edges as f says, inside U
 module _ (f : ℤ → ℤ → Bool) (U : List ℤ) where
   -- the members of U that are not found and have an edge from one that is
-  abbrev pub fresh : List ℤ → List ℤ
-  fresh A = filter (λ b. not (has b A) && any (λ a. f a b) A) U
+  abbrev pub neighbours : List ℤ → List ℤ
+  neighbours A = filter (λ b. not (has b A) && any (λ a. f a b) A) U
 
   -- at most n rounds
   abbrev pub rounds : ℕ → List ℤ → List ℤ
   rounds zero A = A
-  rounds (suc n) A = elim (fresh A) [ [] ↦ A | x ∷ xs ↦ rounds n (x ∷ xs ++ A) ]
+  rounds (suc n) A = elim (neighbours A) [ [] ↦ A | x ∷ xs ↦ rounds n (x ∷ xs ++ A) ]
 
   -- from those with an edge from h; h itself is found only where an edge leads back. Every round but the last finds a
   -- member of U

@@ -21,6 +21,9 @@ pub data Outcome : Type 0 where
   refused : ℕ → Outcome
   next : State → Outcome
 
+-- "`b` adds to all three, `e` to the nogoods and the known variables; `c`, `s`, `l` and `a` add one nogood; `d` takes at most one
+-- nogood away.": `define`, `add` and `deletion`
+
 -- the state with more live nogoods, after those there are
 abbrev pub add : State → List (List ℤ) → State
 add z gs = record { live = z .live ++ gs; introduced = z .introduced; named = z .named }
@@ -93,7 +96,8 @@ module _ (P : List Rule) (z : State) where
   abbrev pub addition : List ℤ → Outcome
   addition L = cond (refuted (z .live) L) (next (add z (ascending L ∷ []))) (refused 33)
 
-  -- `d`: "removes the oldest live nogood equal to L as a set; none equal, nothing changes."
+  -- `d`: "removes the oldest live nogood equal to L as a set; none equal, nothing changes." "A known variable stays known after
+  -- deletions."
   abbrev pub deletion : List ℤ → Outcome
   deletion L =
       next (record { live = dropFirst (λ g. sameList g (ascending L)) (z .live); introduced = z .introduced; named = z .named })
