@@ -1,10 +1,6 @@
--- What holds of costs and of the verdict on them.
+-- What holds of costs, of the restriction and of the least total.
 pub mod Sums
 pub mod Order
 pub mod Restriction
-pub mod Words
-pub mod Answers
-pub mod Verdicts
-pub mod Examples
+pub mod NoneBelow
 pub mod OneRate
-pub mod OneRateExamples

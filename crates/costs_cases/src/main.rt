@@ -12,7 +12,7 @@ use cases::say;
 use cases::say_number;
 use cases::say_words;
 use cases::through;
-use costs::CheapestAnswer;
+use cheapest::CheapestAnswer;
 use libc::STDIN_FILENO;
 
 fn say_answer(answer: CheapestAnswer) {
@@ -42,7 +42,7 @@ fn answer(
     table: &mut [i32],
     store: &mut [i32],
 ) {
-    let checked = costs::check_cheapest(program, set, costs, proof, table, store);
+    let checked = cheapest::check_cheapest(program, set, costs, proof, table, store);
     say_answer(checked);
     say(b", nonzero");
     say_number(nonzero(table));

@@ -22,8 +22,8 @@ use Rattle.splits.specs.declared.MergeAnswer.{MergeAnswer}
 use Rattle.splits.specs.declared.MergeAnswer.the-variants as Merge
 use Rattle.trimming.specs.declared.TrimAnswer.{TrimAnswer}
 use Rattle.trimming.specs.declared.TrimAnswer.the-variants as Trim
-use Rattle.costs.specs.declared.CheapestAnswer.{CheapestAnswer}
-use Rattle.costs.specs.declared.CheapestAnswer.the-variants as Cheapest
+use Rattle.cheapest.specs.declared.CheapestAnswer.{CheapestAnswer}
+use Rattle.cheapest.specs.declared.CheapestAnswer.the-variants as Cheapest
 
 -- the code is returned, and the numbers stand at the front of the lent buffer, as many as fit; no other number of it has changed
 pub record Told (code : ℕ) (numbers before after : List ℕ) (result : ℕ) : Type 0 where

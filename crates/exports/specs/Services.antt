@@ -21,8 +21,8 @@ use Rattle.splits.specs.declared.MergeAnswer.{MergeAnswer}
 use Rattle.trees.specs.Service.{MergedTree}
 use Rattle.trimming.specs.Service.{TrimmedProof}
 use Rattle.trimming.specs.declared.TrimAnswer.{TrimAnswer}
-use Rattle.costs.specs.Service.{CheckedCheapest}
-use Rattle.costs.specs.declared.CheapestAnswer.{CheapestAnswer}
+use Rattle.cheapest.specs.Service.{CheckedCheapest}
+use Rattle.cheapest.specs.declared.CheapestAnswer.{CheapestAnswer}
 use Rattle.exports.specs.Codes.{Told, programCode, programNumbers, setCode, setNumbers, lineCode, lineNumbers, writingCode, writingNumbers, readingCode, readingNumbers, verdictCode, verdictNumbers, mergeCode, mergeNumbers, trimCode, trimNumbers, cheapestCode, cheapestNumbers}
 
 -- the program reader's answer and every word of the table

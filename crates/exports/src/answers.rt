@@ -2,9 +2,9 @@
 // code.
 use answer_set::SetAnswer;
 use aspif::ProgramReading;
+use cheapest::CheapestAnswer;
 use checker::Counts;
 use checker::Verdict;
-use costs::CheapestAnswer;
 use drupe::LineAnswer;
 use packets::PacketReading;
 use packets::PacketWriting;

@@ -169,7 +169,7 @@ pub extern "C" fn aspdrupe_check_cheapest(
     ensures { λ r. ⌜ CheapestService (now (program .entry)) (now (set .entry)) (now (costs .entry)) (now (proof .entry)) (now (table .entry))
         (now (store .entry)) (now (table .exit)) (now (store .exit)) (now (answer .entry)) (now (answer .exit)) r ⌝ }
 {
-    let checked = costs::check_cheapest(program, set, costs, proof, table, store);
+    let checked = cheapest::check_cheapest(program, set, costs, proof, table, store);
     answers::tell_cheapest(checked, answer)
 }
 
