@@ -41,7 +41,7 @@ use Rattle.cheapest.proofs.Words.{good-distinct}
 
 -- What a passing outcome tells
 
-pub record Passes (t : ℕ) (set : List ℕ) (costs : List ℤ) (C : ℕ) (r : Reading) : Type 1 where
+pub record Passes (set : List ℕ) (costs : List ℤ) (C : ℕ) (r : Reading) : Type 1 where
   pub ws : List InputRule
   pub ks : List Cost
   pub read : r ≡ program ws
@@ -86,17 +86,14 @@ module _ (t s : ℕ) (set : List ℕ) (costs : List ℤ) (proof : List ℕ) (C :
   is-yes (differs v) e = absurd (true≢false (sym e))
   is-yes (breaks k) e = absurd (true≢false (sym e))
 
-  passes : (r : Reading) → cheapestReading t s set costs proof r .answer ≡ Cheapest C → Passes t set costs C r
+  passes : (r : Reading) → cheapestReading t s set costs proof r .answer ≡ Cheapest C → Passes set costs C r
   passes (Reading.refused k n) e = absurd (zero-one (cc))
   passes (program ws) e = in-order (ascends 0 (atoms ws) set) refl e
     where
-      D : List Cost → ℕ
-      D ks = total (listed set) ks
-
       with-cost : (ks : List Cost) → costsOf costs ≡ some ks → ascends 0 (atoms ws) set ≡ true → goodCosts (atoms ws) ks ≡ true
           → (a : Bool) → (b : Bool) → isYes (verdictOf (listed set) ws) ≡ b
           → cond a (cond b (withProof t s ws ks (total (listed set) ks) proof) (leavesNothing t s (Refused 63))) (leavesNothing t s (Refused 62)) .answer ≡ Cheapest C
-          → Passes t set costs C (program ws)
+          → Passes set costs C (program ws)
       with-cost ks l u g true true y e =
           let p = proof-passes ws ks (total (listed set) ks) e in
           record {
@@ -114,21 +111,21 @@ module _ (t s : ℕ) (set : List ℕ) (costs : List ℤ) (proof : List ℕ) (C :
       with-cost ks l u g false b y e = absurd (refusal 62 e)
 
       with-costs : ascends 0 (atoms ws) set ≡ true → (o : Option (List Cost)) → costsOf costs ≡ o → withCosts t s ws set o proof .answer ≡ Cheapest C
-          → Passes t set costs C (program ws)
+          → Passes set costs C (program ws)
       with-costs u none l e = absurd (refusal 62 e)
       with-costs u (some ks) l e = by (goodCosts (atoms ws) ks) refl e
         where
           by : (g : Bool) → goodCosts (atoms ws) ks ≡ g → cond g (withCost t s ws set ks (total (listed set) ks) proof) (leavesNothing t s (Refused 62)) .answer ≡ Cheapest C
-              → Passes t set costs C (program ws)
+              → Passes set costs C (program ws)
           by true g e = with-cost ks l u g (leb (total (listed set) ks) mostWeight) (isYes (verdictOf (listed set) ws)) refl e
           by false g e = absurd (refusal 62 e)
 
       in-order : (a : Bool) → ascends 0 (atoms ws) set ≡ a → cond a (withCosts t s ws set (costsOf costs) proof) (leavesNothing t s (Refused 42)) .answer ≡ Cheapest C
-          → Passes t set costs C (program ws)
+          → Passes set costs C (program ws)
       in-order true u e = with-costs u (costsOf costs) refl e
       in-order false u e = absurd (refusal 42 e)
 
-no-cheaper : (t : ℕ) (text set : List ℕ) (costs : List ℤ) (C : ℕ) (p : Passes t set costs C (readText t text)) → NoCheaper (p .ws) (p .ks) set C
+no-cheaper : (t : ℕ) (text set : List ℕ) (costs : List ℤ) (C : ℕ) (p : Passes set costs C (readText t text)) → NoCheaper (p .ws) (p .ks) set C
 no-cheaper t text set costs C p =
     let d = good-distinct (atoms (p .ws)) (p .ks) (p .good) in
     let fits = read-fits t text (p .ws) (lines-read t text (p .ws) (p .read)) in

@@ -112,7 +112,7 @@ module _ {N : ℕ} {ks : List Cost} {C : ℕ} {rule : List ℤ} (R : Restricts N
   literals-few =
       omega (arith, ap length (literals-arranged ks), length-ascending (literals ks), length-map ks (λ k. k .literal), good-few N ks (R .good))
 
-  -- no longer than `RULE` of the code: five counts and 12 pairs
+  -- no longer than `RULE` of the code: five words and 12 pairs
   pub restricts-size : length rule ≤ 5 + 2 * mostWeighted
   restricts-size =
       omega (arith, ap length (R .is), length-pairs (arranged ks), literals-few, length-map (arranged ks) (λ k. k .literal))

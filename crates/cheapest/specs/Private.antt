@@ -28,7 +28,7 @@ pub record Restricts (N : ℕ) (ks : List Cost) (C : ℕ) (words : List ℤ) : T
   pub light : (k : Cost) → k ∈ ks → k .weight ≤ mostWeight
   pub small : C ≤ mostWeight
 
--- the same check with its verdict
+-- the check of the proof for the restricted program, with its verdict
 abbrev pub restrictedCheck : (size : ℕ) → List InputRule → List Cost → (C : ℕ) → (proof : List ℕ) → Checked
 restrictedCheck size ws ks C proof = judged 0 size (restricted ws ks C) (restrictedCourse size ws ks C proof)
 

@@ -37,7 +37,7 @@ module _ (M : ℕ → Type 0) (ks : List Cost) (C c : ℕ) (p : Costs M (arrange
       let s = body→ C (arranged ks) i in
       omega (arith, parts C (s .0) .to (s .2) .0, paid M c (s .1) (λ k j. h (k .literal) (subst (λ t. k .literal ∈ t) (s .3) (Memᴰ·map (λ x. x .literal) j))) p)
 
-  -- and where the set costs that much, one of its literals that hold reaches it
+  -- and where the set costs that much, one of them is met
   breaks← : C ≤ c → (ls : List ℤ) × (ls ∈ bodies C (arranged ks)) × ((z : ℤ) → z ∈ ls → Holds M z)
   breaks← h =
       let a = held M (arranged ks) c p in
