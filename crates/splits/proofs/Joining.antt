@@ -36,19 +36,19 @@ use Rattle.merging.specs.Merge.{demanding, namedIn, isBody, half, secondNames, 
 use Rattle.merging.specs.Claims.{demandingAsWritten}
 use Rattle.merging.proofs.AsWritten.{demanding-expanded}
 use Rattle.merging.proofs.Merged.{well-named}
+use Rattle.renaming.specs.Standing.{isConstraint}
+use Rattle.renaming.specs.Writing.{Writes}
+use Rattle.renaming.specs.Renames.{Halves, bodiesIn, NewNames}
+use Rattle.renaming.specs.declared.lines.Wrote.{Wrote}
+use Rattle.renaming.specs.declared.lines.Wrote.the-variants.{At, Over}
+use Rattle.renaming.proofs.SameNames.{same-half}
+use Rattle.renaming.proofs.Written.{above, and-false}
 use Rattle.splits.specs.Service.{areHalves, stepsIn, mergedSteps, isWritable}
-use Rattle.splits.specs.Standing.{isConstraint}
-use Rattle.splits.specs.Writing.{Writes}
 use Rattle.splits.specs.Halves.{LeftBy, HalvesChecked}
-use Rattle.splits.specs.Renames.{Halves, bodiesIn, NewNames}
 use Rattle.splits.specs.Joined.{AddedTo, WrittenBy, writtenIn, HalfText, linesOf, closing, HalvesHeld}
-use Rattle.splits.specs.declared.lines.Wrote.{Wrote}
-use Rattle.splits.specs.declared.lines.Wrote.the-variants.{At, Over}
 use Rattle.splits.specs.declared.texts.Added.{Added}
 use Rattle.splits.specs.declared.texts.Written.the-variants.{Text, Refused}
 use Rattle.splits.proofs.Demands.{demanding-plain}
-use Rattle.splits.proofs.SameNames.{same-half}
-use Rattle.splits.proofs.Written.{above, and-false}
 
 -- What the program has of a constraint
 

@@ -14,11 +14,11 @@ use Rattle.drupe.specs.Texts.{Step, textOf}
 use Rattle.derivation.specs.States.{isAtom}
 use Rattle.steps.specs.Held.{Program}
 use Rattle.merging.specs.Merge.{isBody, half, one}
+use Rattle.renaming.specs.Standing.{isConstraint, HalfOf}
+use Rattle.renaming.specs.declared.lines.Wrote.{Wrote}
+use Rattle.renaming.specs.declared.lines.Wrote.the-variants.{At, Over}
 use Rattle.splits.specs.Service.{areHalves, mergedSteps, isWritable}
-use Rattle.splits.specs.Standing.{isConstraint, HalfOf}
 use Rattle.splits.specs.Halves.{HalvesLeft}
-use Rattle.splits.specs.declared.lines.Wrote.{Wrote}
-use Rattle.splits.specs.declared.lines.Wrote.the-variants.{At, Over}
 use Rattle.splits.specs.declared.texts.Added.{Added}
 use Rattle.splits.specs.declared.texts.Written.{Written}
 use Rattle.splits.specs.declared.texts.Written.the-variants.{Text, Refused}

@@ -1,8 +1,5 @@
 -- What the service that merges two halves leaves, and what is claimed of it.
 pub mod Service
-pub mod Writing
-pub mod Standing
-pub mod Renames
 pub mod Halves
 pub mod Joined
 pub mod Judging

@@ -15,9 +15,9 @@ use Rattle.marks.proofs.Sets.{none-marked}
 use Rattle.aspif.specs.Rules.{expand}
 use Rattle.steps.specs.Held.{nameOf}
 use Rattle.merging.specs.Merge.{namedIn}
+use Rattle.renaming.specs.Writing.{Writes}
+use Rattle.renaming.specs.Renames.{NewNames, RenamedAll}
 use Rattle.splits.specs.Service.{stepsIn}
-use Rattle.splits.specs.Writing.{Writes}
-use Rattle.splits.specs.Renames.{NewNames, RenamedAll}
 use Rattle.splits.specs.Joined.{AddedTo, HalfText, linesOf, closing, HalvesHeld}
 use Rattle.splits.proofs.Joining.{atom-within, kept-first, called-high, rules-named, halves-held, demanded-half, forbidden-half, merged-lines, merged-over}
 use borrow.Author.Needs.{needs, sfits-of}

@@ -5,11 +5,11 @@ use lib.IntN.{ℤ}
 use lib.ListN.{getD}
 use mir.Facts.{toZ-ofZ}
 use Rattle.merging.specs.Merge.{half}
-use Rattle.splits.specs.Standing.{HalfOf}
-use Rattle.splits.specs.Writing.{Writes}
+use Rattle.renaming.specs.Standing.{HalfOf}
+use Rattle.renaming.specs.Writing.{Writes}
+use Rattle.renaming.specs.declared.lines.Wrote.{Wrote}
+use Rattle.renaming.proofs.Written.{then-written, over-more}
 use Rattle.splits.specs.Joined.{HalfText, linesOf, closing}
-use Rattle.splits.specs.declared.lines.Wrote.{Wrote}
-use Rattle.splits.proofs.Written.{then-written, over-more}
 use borrow.Author.Needs.{needs}
 use Rattle.splits.proofs.texts.write_second.Statement.{statement}
 use Rattle.splits.proofs.texts.write_second.Tie as tie

@@ -12,12 +12,12 @@ use Rattle.words.specs.Literals.{complement}
 use Rattle.words.proofs.Literals.{variable-complement}
 use Rattle.drupe.specs.Texts.{Step}
 use Rattle.merging.specs.Merge.{half}
-use Rattle.splits.specs.Standing.{HalfOf}
-use Rattle.splits.specs.Writing.{Writes}
+use Rattle.renaming.specs.Standing.{HalfOf}
+use Rattle.renaming.specs.Writing.{Writes}
+use Rattle.renaming.specs.declared.lines.Wrote.{Wrote}
+use Rattle.renaming.proofs.SameNames.{same-half}
+use Rattle.renaming.proofs.Written.{then-written, over-more}
 use Rattle.splits.specs.Joined.{HalfText, linesOf, closing}
-use Rattle.splits.specs.declared.lines.Wrote.{Wrote}
-use Rattle.splits.proofs.SameNames.{same-half}
-use Rattle.splits.proofs.Written.{then-written, over-more}
 use Rattle.splits.proofs.Joining.{kept-within}
 use borrow.Author.Needs.{needs, sfits-of}
 use Rattle.splits.proofs.texts.write_text.Statement.{statement}
