@@ -33,7 +33,7 @@ use Rattle.derivation.specs.Claims.{WrittenConstraint, NoneAsWritten}
 use Rattle.derivation.proofs.Sound.{answer-set-without, answer-set-with}
 use Rattle.derivation.proofs.AsWritten.{constraints}
 use Rattle.nogoods.specs.Store.{storeWords}
-use Rattle.checker.specs.Check.{Course, stopped, through, course, endsEmpty}
+use Rattle.runs.specs.Course.{Course, stopped, through, course, endsEmpty}
 use Rattle.checker.proofs.Whole.{accepted-none}
 use Rattle.checker.proofs.Verdicts.{lines-read}
 use Rattle.costs.specs.Costs.{Cost, costsOf, goodCosts, total, Costs, restriction, restricted}
