@@ -12,7 +12,7 @@ use std::process::Command;
 const COPY: &str = "target/plain";
 
 /// The crates of the whole check, each after those that it depends on.
-const CRATES: [&str; 14] = [
+const CRATES: [&str; 15] = [
     "words",
     "marks",
     "text",
@@ -26,6 +26,7 @@ const CRATES: [&str; 14] = [
     "heads",
     "loops",
     "steps",
+    "runs",
     "checker",
 ];
 

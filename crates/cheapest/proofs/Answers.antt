@@ -25,7 +25,8 @@ use Rattle.derivation.specs.Steps.{emptyLive}
 use Rattle.names.specs.Queries.{HoldsRules}
 use Rattle.nogoods.specs.Store.{storeWords}
 use Rattle.words.specs.Limits.{mostRules, entries}
-use Rattle.checker.specs.Check.{Course, stopped, through, saying, countsOf, isInconsistent, Checked, judged}
+use Rattle.runs.specs.Course.{Course, stopped, through}
+use Rattle.checker.specs.Check.{saying, countsOf, isInconsistent, Checked, judged}
 use Rattle.checker.specs.declared.Verdict.{Verdict}
 use Rattle.costs.specs.Costs.{Cost, costsOf, goodCosts, total, restricted}
 use Rattle.cheapest.specs.Service.{isYes, restrictedCourse, leavesNothing, passing, judgedProof, withCost, withCosts, cheapestReading, cheapest}

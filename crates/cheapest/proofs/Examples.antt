@@ -8,7 +8,8 @@ use Rattle.aspif.specs.Reading.{allWeights, ranged, shapeOf, arranged, readLine
 use Rattle.answer_set.specs.SetTest.{giveHead, giveRule, least, verdictOf}
 use Rattle.drupe.specs.Texts.{stepsAt, stepsOf}
 use Rattle.nogoods.specs.Store.{live, closed, killed}
-use Rattle.checker.specs.Check.{course, check}
+use Rattle.runs.specs.Course.{course}
+use Rattle.checker.specs.Check.{check}
 use Rattle.cheapest.specs.Service.{cheapest}
 use Rattle.cheapest.specs.Examples.{Worked}
 

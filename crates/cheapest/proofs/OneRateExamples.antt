@@ -9,7 +9,7 @@ use Rattle.aspif.specs.Reading.{allWeights, shapeOf, arranged, readLines, readT
 use Rattle.answer_set.specs.SetTest.{giveHead, giveRule, least, verdictOf}
 use Rattle.drupe.specs.Texts.{stepsAt, stepsOf}
 use Rattle.nogoods.specs.Store.{live, closed, killed}
-use Rattle.checker.specs.Check.{course}
+use Rattle.runs.specs.Course.{course}
 use Rattle.costs.specs.OneRate.{here, later}
 use Rattle.cheapest.specs.Service.{cheapest}
 use Rattle.cheapest.specs.OneRateExamples.{WorkedOneRate}

@@ -26,7 +26,7 @@ use Rattle.derivation.specs.States.{isAtom}
 use Rattle.derivation.specs.Steps.{emptyLive}
 use Rattle.derivation.specs.Claims.{NoneAsWritten}
 use Rattle.nogoods.specs.Store.{storeWords}
-use Rattle.checker.specs.Check.{Course, stopped, through, course, endsEmpty}
+use Rattle.runs.specs.Course.{Course, stopped, through, course, endsEmpty}
 use Rattle.checker.proofs.Whole.{accepted-none}
 use Rattle.checker.proofs.Verdicts.{lines-read}
 use Rattle.costs.specs.Costs.{Cost, costsOf, goodCosts, total, restricted}

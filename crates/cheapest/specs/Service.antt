@@ -16,7 +16,7 @@ use Rattle.marks.specs.Marks.{listed}
 use Rattle.answer_set.specs.SetTest.{SetVerdict, yes, differs, breaks, verdictOf}
 use Rattle.derivation.specs.Steps.{emptyLive}
 use Rattle.nogoods.specs.Store.{storeWords}
-use Rattle.checker.specs.Check.{Course, stopped, through, course}
+use Rattle.runs.specs.Course.{Course, stopped, through, course}
 use Rattle.costs.specs.Costs.{Cost, costsOf, goodCosts, total, restricted}
 use Rattle.cheapest.specs.declared.CheapestAnswer.{CheapestAnswer}
 use Rattle.cheapest.specs.declared.CheapestAnswer.the-variants.{Cheapest, RefusedProgram, Refused}

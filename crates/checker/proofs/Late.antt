@@ -25,10 +25,11 @@ use Rattle.nogoods.specs.Store.{originWord, storedWords, wordsOf, storeWords}
 use Rattle.nogoods.proofs.Live.{by-answer, closed-nil, closed-append, closed-added, closed-kept, closed-killed, live-closed}
 use Rattle.nogoods.proofs.Live.{target-alive, killed-nil, killed-here, killed-on}
 use Rattle.steps.specs.After.{newIn, storedAfter, withAdded}
-use Rattle.checker.specs.Check.{Course, stopped, through, thenStopped, fitting}
-use Rattle.checker.specs.Check.{runSteps, runRead, course, judged}
+use Rattle.runs.specs.Course.{Course, stopped, through, thenStopped, fitting}
+use Rattle.runs.specs.Course.{runSteps, runRead, course}
+use Rattle.checker.specs.Check.{judged}
 use Rattle.checker.specs.Claims.{promptAfter, promptSteps, promptRead, SameLive, SameCourse, OneWord, ClosedLate}
-use Rattle.checker.proofs.Whole.{storedNext}
+use Rattle.runs.proofs.Lines.{storedNext}
 
 -- What is live
 

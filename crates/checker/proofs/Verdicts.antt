@@ -25,14 +25,15 @@ use Rattle.drupe.specs.Texts.{stepsOf}
 use Rattle.derivation.specs.States.{State}
 use Rattle.nogoods.specs.Store.{Stored, live, storeWords}
 use Rattle.nogoods.specs.Keeps.{Holds}
-use Rattle.checker.specs.Check.{Course, stopped, through, course, saying, judged, judgedReading, check}
+use Rattle.runs.specs.Course.{Course, stopped, through, course}
+use Rattle.checker.specs.Check.{saying, judged, judgedReading, check}
 use Rattle.steps.specs.Held.{Program}
-use Rattle.checker.specs.Held.{Ran}
-use Rattle.checker.specs.declared.ProofRefusal.{ProofRefusal}
+use Rattle.runs.specs.Held.{Ran}
+use Rattle.runs.specs.declared.ProofRefusal.{ProofRefusal}
 use Rattle.checker.specs.declared.Verdict.{Verdict}
 use Rattle.checker.specs.declared.Verdict.the-variants.{RefusedProgram, RefusedProof}
-use Rattle.checker.specs.declared.runs.Run.{Run}
-use Rattle.checker.specs.declared.runs.Run.the-variants.{Stopped, Through}
+use Rattle.runs.specs.declared.Run.{Run}
+use Rattle.runs.specs.declared.Run.the-variants.{Stopped, Through}
 
 -- The proof's lines
 

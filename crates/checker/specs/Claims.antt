@@ -1,12 +1,12 @@
--- What the whole check says, as statements; proofs/Whole.antt, proofs/Origins.antt and proofs/Late.antt prove them: the steps line
--- by line, demand 2 of the notice, demand 3, part two, what is said of origins, also of the function `check_texts` by its contract,
--- and that marking first and closing up later changes no live nogood.
+-- What the whole check says, as statements; proofs/Whole.antt, proofs/Origins.antt and proofs/Late.antt prove them: demand 2 of the
+-- notice, demand 3, part two, what is said of origins, also of the function `check_texts` by its contract, and that marking first and
+-- closing up later changes no live nogood. That the steps are what the proof's lines come to one by one is `StepByStep` of `runs`.
 -- Assumes nothing.
 use mathlib.Core.Path.{_≡_}
 use mathlib.Core.Logic.{_↔_, _⊎_}
 use mathlib.Core.Bool.{Bool, true, false, cond}
 use mathlib.Core.List.{List, [], _∷_, _++_}
-use Prim.Native.Nat.{ℕ, _+_, _<_, _≤_}
+use Prim.Native.Nat.{ℕ, _+_, _≤_}
 use lib.IntN.{ℤ, pos, negℤ}
 use lib.ListN.{length, take, getD, set}
 use Rattle.words.specs.Lists.{_∈_, dropFirst}
@@ -16,45 +16,19 @@ use Rattle.text.specs.declared.Letter.{Letter}
 use Rattle.text.specs.declared.Letter.the-variants.{Addition, Body, Completion, Deletion, Extension, Loop, Support}
 use Rattle.aspif.specs.Rules.{Rule, InputRule, expand, atoms}
 use Rattle.aspif.specs.Reading.{program, readText}
-use Rattle.drupe.specs.Lines.{end, line, lineAt}
-use Rattle.drupe.specs.Lines as Lines
 use Rattle.drupe.specs.Texts.{Step, StepsRead, textOf, steps, stepsOf}
 use Rattle.drupe.specs.Texts as Texts
 use Rattle.derivation.specs.States.{State, start}
 use Rattle.derivation.specs.Steps.{next, step, emptyLive}
 use Rattle.derivation.specs.Steps as Steps
 use Rattle.derivation.specs.Claims.{NoneAsWritten}
-use Rattle.nogoods.specs.Store.{Stored, closed, live, wordsOf, storeWords, wordsFor}
+use Rattle.nogoods.specs.Store.{Stored, closed, live, wordsOf, storeWords}
 use Rattle.steps.specs.After.{newIn, storedAfter}
-use Rattle.checker.specs.Check.{Course, stopped, through, thenStopped, fitting, runSteps, course}
+use Rattle.runs.specs.Course.{Course, stopped, through, thenStopped, fitting, runSteps, course}
 use Rattle.checker.specs.Check.{countsOf, judged, check, CheckedTexts}
 use Rattle.checker.specs.declared.Counts.{Counts}
 use Rattle.checker.specs.declared.Verdict.{Verdict}
 use Rattle.checker.specs.declared.Verdict.the-variants.{Inconsistent, Open}
-
--- What the proof's lines come to from a position on, after n steps that left the state z and what is stored, with no bound on the
--- turns.
--- "The first "no" decides": `unread` is a line that fails one of questions 22 to 25, `unaccepted` a step that fails one of 26 to
--- 33, `full` a step after which the live words do not fit the store, which is 34, and `good` a step that passes them all.
--- N is the program's largest atom, here and below.
-module _ (N : ℕ) (P : List Rule) (size : ℕ) (text : List ℕ) where
-  pub data Runs : (at done : ℕ) → State → List Stored → Course → Type 0 where
-    ends : {at n : ℕ} {z : State} {b : List Stored} → lineAt text at ≡ end → Runs at n z b (through n z b)
-    unread : {at n k : ℕ} {z : State} {b : List Stored} → lineAt text at ≡ Lines.refused k → Runs at n z b (stopped k (n + 1))
-    unaccepted : {at n k after : ℕ} {z : State} {b : List Stored} {x : Letter} {zs : List ℤ} → lineAt text at ≡ line x zs after
-        → step N P z (record { letter = x; numbers = zs }) ≡ Steps.refused k → Runs at n z b (stopped k (n + 1))
-    full : {at n after : ℕ} {z z′ : State} {b : List Stored} {x : Letter} {zs : List ℤ} → lineAt text at ≡ line x zs after
-        → step N P z (record { letter = x; numbers = zs }) ≡ next z′ → size < wordsFor (z′ .live)
-        → Runs at n z b (stopped 34 (n + 1))
-    good : {at n after : ℕ} {z z′ : State} {b : List Stored} {x : Letter} {zs : List ℤ} {c : Course}
-        → lineAt text at ≡ line x zs after → step N P z (record { letter = x; numbers = zs }) ≡ next z′ → wordsFor (z′ .live) ≤ size
-        → Runs after (n + 1) z′ (storedAfter (n + 1) size x zs b z′) c → Runs at n z b c
-
--- The course of a proof text that passes 21 is what its lines come to from the start, and nothing else.
-abbrev pub StepByStep : Type 0
-StepByStep =
-    (N : ℕ) (P : List Rule) (size : ℕ) (text : List ℕ) (c : Course) → length text ≤ longest
-    → (course N P size text ≡ c) ↔ Runs N P size text 0 0 start [] c
 
 -- The proof text's steps are ts, they run through, and after the last the empty nogood is live, or is not; the counts are those of
 -- the program, the steps and the live nogoods.
@@ -111,7 +85,7 @@ ServiceSound =
     → CheckedTexts text proof table store table′ store′ (Inconsistent c)
     → (ws : List InputRule) × (readText (length table) text ≡ program ws) × NoneAsWritten ws
 
--- Origins
+-- Origins. N is the program's largest atom, here and below.
 
 -- what holds after every list of steps that run through: of how many there were, the state that they left and what is stored then
 abbrev pub AfterSteps : (ℕ → State → List Stored → Type 0) → Type 0

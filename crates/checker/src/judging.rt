@@ -11,15 +11,15 @@ ghost use Rattle.aspif.specs.Reading.{program};
 ghost use Rattle.derivation.specs.States.{isAtom};
 ghost use Rattle.nogoods.specs.Store.{Stored, live};
 ghost use Rattle.nogoods.specs.Keeps.{Holds};
-ghost use Rattle.checker.specs.Check.{Course, course, endsEmpty, isAccepted, isInconsistent, saying, judgedReading};
+ghost use Rattle.runs.specs.Course.{Course, course, endsEmpty, isAccepted};
+ghost use Rattle.checker.specs.Check.{isInconsistent, saying, judgedReading};
 ghost use Rattle.steps.specs.Held.{Program};
-ghost use Rattle.checker.specs.Held.{Ran};
+ghost use Rattle.runs.specs.Held.{Ran};
 ghost use Rattle.checker.specs.declared.Verdict.the-variants.{RefusedProof};
 use crate::Counts;
-use crate::ProofRefusal;
 use crate::Verdict;
-use crate::runs;
-use crate::runs::Run;
+use runs::ProofRefusal;
+use runs::Run;
 
 // Nothing of a proof that is refused stays, nor of its program.
 fn refuse(table: &mut [i32], store: &mut [i32], refusal: ProofRefusal) -> Verdict

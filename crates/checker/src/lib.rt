@@ -2,17 +2,11 @@
 // means is specs/Check.antt. The line that says a verdict is written by `report`.
 pub mod judging;
 pub mod report;
-pub mod runs;
 
 ghost use Rattle.checker.specs.Check.{CheckedTexts};
 use aspif::ProgramReading;
 use aspif::ProgramRefusal;
-
-// The question that a proof fails, and the step, counted from 1; 0 where the whole text is at fault.
-pub struct ProofRefusal {
-    pub number: u8,
-    pub step: usize,
-}
+use runs::ProofRefusal;
 
 // N, R, S and K: the largest atom, the rules, the steps and the live nogoods after the last.
 pub struct Counts {

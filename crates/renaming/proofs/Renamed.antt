@@ -31,8 +31,7 @@ use Rattle.derivation.specs.Steps as Steps
 use Rattle.derivation.proofs.Questions.{known-decides}
 use Rattle.steps.specs.Held.{nameOf}
 use Rattle.steps.proofs.Names.{name-found}
-use Rattle.checker.proofs.Turns.{good-line}
-use Rattle.checker.proofs.Whole.{steps-pass}
+use Rattle.steps.proofs.Turns.{good-line, steps-pass}
 use Rattle.merging.specs.Merge.{demanding, isBody, namedBy, namedIn, introducedBy, introducedIn, Renamed, newName, free, otherName, bodyName, renamedBy, renaming, secondNames, isAmong, renamed, one, kept, half, allFit}
 use Rattle.merging.proofs.Lines.{Then, fit-append}
 use Rattle.merging.proofs.Runs.{Named-well, start-well, Names, none, extends, names-body, Does, step-does, names-well, steps-keep}

@@ -18,7 +18,7 @@ use Rattle.drupe.specs.Texts as Texts
 use Rattle.drupe.proofs.Texts.{AllPass, steps-exact}
 use Rattle.derivation.specs.States.{Named}
 use Rattle.derivation.specs.Steps.{isCompletion}
-use Rattle.checker.proofs.Turns.{good-line}
+use Rattle.steps.proofs.Turns.{good-line}
 use Rattle.merging.specs.Merge.{renamed, namedBy, isBody, isAmong, addition, one, kept, half}
 
 module _ (f g : ℕ → ℕ) (same : (v : ℕ) → v ≤ largest → f v ≡ g v) where

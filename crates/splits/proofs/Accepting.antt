@@ -10,9 +10,9 @@ use Rattle.words.proofs.Literals.{complement-twice, variable-complement}
 use Rattle.aspif.specs.Rules.{InputRule, expand, atoms}
 use Rattle.derivation.specs.States.{State, isAtom}
 use Rattle.nogoods.specs.Store.{Stored}
-use Rattle.checker.specs.Check.{Course, stopped, through, course, endsEmpty, isAccepted}
+use Rattle.runs.specs.Course.{Course, stopped, through, course, endsEmpty, isAccepted}
 use Rattle.steps.specs.Held.{Tracks}
-use Rattle.checker.specs.Held.{Ended}
+use Rattle.runs.specs.Held.{Ended}
 use Rattle.merging.specs.Claims.{demandingAsWritten}
 use Rattle.merging.proofs.AsWritten.{demanding-same-atoms}
 use Rattle.splits.specs.Service.{areHalves}

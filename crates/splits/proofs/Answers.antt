@@ -21,7 +21,8 @@ use Rattle.drupe.specs.Texts.{textOf}
 use Rattle.derivation.specs.Steps.{emptyLive}
 use Rattle.nogoods.specs.Store.{storeWords}
 use Rattle.merging.specs.Merge.{allFit}
-use Rattle.checker.specs.Check.{Course, stopped, through, course, saying, countsOf, Checked, judged, isInconsistent}
+use Rattle.runs.specs.Course.{Course, stopped, through, course}
+use Rattle.checker.specs.Check.{saying, countsOf, Checked, judged, isInconsistent}
 use Rattle.checker.specs.declared.Verdict.{Verdict}
 use Rattle.checker.specs.declared.Verdict.the-variants.{Inconsistent, Open, RefusedProof}
 use Rattle.splits.specs.Service.{areHalves, mergedSteps, isWritable, MergeLeft, leavesNothing, judgedText, mergedReading, merge}

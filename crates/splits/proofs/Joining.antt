@@ -27,7 +27,7 @@ use Rattle.derivation.specs.Steps.{next}
 use Rattle.derivation.specs.Steps as Steps
 use Rattle.nogoods.specs.Store.{Stored}
 use Rattle.names.specs.Queries.{entry, Kept, constraining}
-use Rattle.checker.specs.Check.{Course, stopped, through, thenStopped, runSteps, runRead, course}
+use Rattle.runs.specs.Course.{Course, stopped, through, thenStopped, runSteps, runRead, course}
 use Rattle.steps.specs.Held.{Program, nameOf}
 use Rattle.steps.proofs.Names.{name-high}
 use Rattle.steps.proofs.Tracking.{rules-held}

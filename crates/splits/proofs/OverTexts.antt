@@ -20,10 +20,12 @@ use Rattle.derivation.specs.States.{State, start, isAtom}
 use Rattle.derivation.specs.Steps.{Outcome, refused, next, step, emptyLive}
 use Rattle.nogoods.specs.Store.{Stored, storeWords}
 use Rattle.steps.specs.After.{storedAfter}
-use Rattle.checker.specs.Check.{Course, stopped, through, fitting, runSteps, course, endsEmpty, isAccepted, countsOf, judged, check}
+use Rattle.runs.specs.Course.{Course, stopped, through, fitting, runSteps, course, endsEmpty, isAccepted}
+use Rattle.checker.specs.Check.{countsOf, judged, check}
 use Rattle.checker.specs.declared.Counts.{Counts}
 use Rattle.checker.specs.declared.Verdict.the-variants.{Inconsistent, RefusedProof}
-use Rattle.checker.proofs.Whole.{accepted-steps, course-written, steps-pass}
+use Rattle.steps.proofs.Turns.{steps-pass}
+use Rattle.checker.proofs.Whole.{accepted-steps, course-written}
 use Rattle.merging.specs.Merge.{allFit}
 use Rattle.merging.specs.Claims.{AcceptedAsWritten, demandingAsWritten}
 use Rattle.merging.specs.Claims as Claims

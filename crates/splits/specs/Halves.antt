@@ -10,9 +10,9 @@ use Rattle.aspif.specs.Rules.{InputRule, expand}
 use Rattle.marks.specs.Marks.{marked}
 use Rattle.derivation.specs.States.{State, isKnown}
 use Rattle.nogoods.specs.Store.{Stored}
-use Rattle.checker.specs.Check.{through, course, endsEmpty}
+use Rattle.runs.specs.Course.{through, course, endsEmpty}
 use Rattle.steps.specs.Held.{Tracks}
-use Rattle.checker.specs.Held.{Ended}
+use Rattle.runs.specs.Held.{Ended}
 use Rattle.merging.specs.Claims.{demandingAsWritten}
 use Rattle.splits.specs.Service.{areHalves}
 

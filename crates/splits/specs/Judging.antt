@@ -3,7 +3,7 @@
 use mathlib.Core.List.{List}
 use Prim.Native.Nat.{ℕ}
 use Rattle.aspif.specs.Rules.{InputRule, expand, atoms}
-use Rattle.checker.specs.Check.{course}
+use Rattle.runs.specs.Course.{course}
 use Rattle.splits.specs.Service.{MergeLeft, judgedText}
 
 -- 59, of a merged text that keeps to its limits

@@ -15,7 +15,7 @@ use Rattle.drupe.specs.Texts as Texts
 use Rattle.derivation.specs.States.{isAtom}
 use Rattle.derivation.specs.Steps.{emptyLive}
 use Rattle.nogoods.specs.Store.{storeWords}
-use Rattle.checker.specs.Check.{Course, stopped, through, course, isAccepted}
+use Rattle.runs.specs.Course.{Course, stopped, through, course, isAccepted}
 use Rattle.merging.specs.Merge.{allFit}
 use Rattle.merging.specs.Claims.{demandingAsWritten, mergedAsWritten}
 use Rattle.splits.specs.declared.MergeAnswer.{MergeAnswer}

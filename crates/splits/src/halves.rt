@@ -17,7 +17,6 @@ ghost use Rattle.merging.specs.Claims.{demandingAsWritten};
 ghost use Rattle.splits.specs.Halves.{mostWords, HalfChecked, HalvesChecked};
 use crate::tables;
 use checker::judging;
-use checker::runs;
 use words::LONGEST;
 
 // The words of a program, and of the constraints behind it.

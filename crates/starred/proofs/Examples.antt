@@ -24,7 +24,8 @@ use Rattle.drupe.specs.Texts.{stepsAt, stepsOf}
 use Rattle.derivation.specs.Loops.{isLoop}
 use Rattle.nogoods.specs.Store.{live, closed, killed}
 use Rattle.checker.specs.Report.{lent, printed}
-use Rattle.checker.specs.Check.{course, check}
+use Rattle.runs.specs.Course.{course}
+use Rattle.checker.specs.Check.{check}
 use Rattle.starred.specs.Examples.{SetPasses, SetFails, Starred, Source000, WeightBodies, LoopsOnly, OriginWords, DeadWords, LongLines}
 
 -- Which sets pass: the programs as they are read

@@ -7,3 +7,4 @@ pub mod Letters
 pub mod Gathering
 pub mod LoopSteps
 pub mod Arms
+pub mod Turns

@@ -19,7 +19,8 @@ use Rattle.aspif.specs.declared.ProgramReading.the-variants as Answer
 use Rattle.aspif.specs.declared.ProgramRefusal.{ProgramRefusal}
 use Rattle.words.proofs.Laws.{drop-replicate}
 use Rattle.derivation.specs.Steps.{emptyLive}
-use Rattle.checker.specs.Check.{Course, stopped, through, course, endsEmpty, isAccepted, saying, countsOf, Checked, judged, isInconsistent}
+use Rattle.runs.specs.Course.{Course, stopped, through, course, endsEmpty, isAccepted}
+use Rattle.checker.specs.Check.{saying, countsOf, Checked, judged, isInconsistent}
 use Rattle.checker.specs.declared.Verdict.{Verdict}
 use Rattle.splits.specs.Service.{leavesNothing}
 use Rattle.splits.specs.declared.MergeAnswer.the-variants.{Merged, RefusedProgram, Refused}

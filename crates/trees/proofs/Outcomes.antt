@@ -15,7 +15,7 @@ use Rattle.words.proofs.Lists.{if-true, leb-decides, and-left, and-right}
 use Rattle.aspif.specs.Rules.{InputRule, expand, atoms}
 use Rattle.drupe.specs.Texts.{textOf}
 use Rattle.derivation.specs.States.{isAtom}
-use Rattle.checker.specs.Check.{endsEmpty, isAccepted}
+use Rattle.runs.specs.Course.{endsEmpty, isAccepted}
 use Rattle.checker.proofs.Verdicts.{too-long}
 use Rattle.merging.specs.Merge.{allFit}
 use Rattle.merging.specs.Claims.{demandingAsWritten}

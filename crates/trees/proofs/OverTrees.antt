@@ -13,7 +13,8 @@ use Rattle.aspif.specs.Rules.{InputRule, expand, atoms}
 use Rattle.aspif.specs.Reading.{Reading, program, readText}
 use Rattle.aspif.specs.Reading as Reading
 use Rattle.drupe.specs.Texts.{textOf}
-use Rattle.checker.specs.Check.{Course, stopped, through, course, endsEmpty, isAccepted, Checked}
+use Rattle.runs.specs.Course.{Course, stopped, through, course, endsEmpty, isAccepted}
+use Rattle.checker.specs.Check.{Checked}
 use Rattle.checker.proofs.Whole.{soundness-whole}
 use Rattle.merging.specs.Merge.{allFit}
 use Rattle.merging.specs.Claims.{demandingAsWritten}

@@ -9,7 +9,8 @@ use lib.ListN.{length}
 use lib.Seq.{take-length}
 use Rattle.aspif.specs.Rules.{InputRule, expand, atoms}
 use Rattle.aspif.specs.Reading.{program, readText}
-use Rattle.checker.specs.Check.{course, judged, check}
+use Rattle.runs.specs.Course.{course}
+use Rattle.checker.specs.Check.{judged, check}
 use Rattle.shapes.specs.Tree.{end, found, treeOf, mostSplits, ends, matches}
 use Rattle.shapes.proofs.Steps.{at-end}
 use Rattle.trees.specs.Service.{treeOutcome, writtenTree, mergeTree}

@@ -11,7 +11,8 @@ use Rattle.aspif.specs.Reading.{program, readText}
 use Rattle.drupe.specs.Texts.{textOf}
 use Rattle.derivation.specs.States.{isAtom}
 use Rattle.derivation.specs.Claims.{NoneAsWritten}
-use Rattle.checker.specs.Check.{stopped, course, isAccepted, check, isInconsistent}
+use Rattle.runs.specs.Course.{stopped, course, isAccepted}
+use Rattle.checker.specs.Check.{check, isInconsistent}
 use Rattle.checker.specs.declared.Counts.{Counts}
 use Rattle.checker.specs.declared.Verdict.the-variants.{Inconsistent}
 use Rattle.merging.specs.Claims.{demandingAsWritten}

@@ -10,7 +10,7 @@ use lib.ListN.{length, drop}
 use Rattle.aspif.specs.Rules.{InputRule, expand, atoms}
 use Rattle.aspif.specs.Reading.{Reading, refused, program, readText}
 use Rattle.drupe.specs.Texts.{textOf}
-use Rattle.checker.specs.Check.{course, isAccepted}
+use Rattle.runs.specs.Course.{course, isAccepted}
 use Rattle.merging.specs.Claims.{demandingAsWritten}
 use Rattle.splits.specs.Service.{mergedSteps, isWritable, MergeLeft, leavesNothing, judgedText}
 use Rattle.splits.specs.declared.MergeAnswer.{MergeAnswer}

@@ -9,7 +9,7 @@ use lib.ListN.{length, replicate, take, drop, getD}
 use Rattle.words.specs.Limits.{longest, mostHeld}
 use Rattle.aspif.specs.Rules.{InputRule, programWords}
 use Rattle.steps.specs.Held.{Program}
-use Rattle.checker.specs.Check.{isAccepted}
+use Rattle.runs.specs.Course.{isAccepted}
 use Rattle.splits.specs.Halves.{mostWords}
 use Rattle.shapes.specs.Tree.{Shape, found, treeOf, leaves, sum, ends}
 use Rattle.shapes.specs.Walks.{largestSize}

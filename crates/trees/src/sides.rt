@@ -10,7 +10,7 @@ ghost use Rattle.words.specs.Limits.{largest, longest, mostHeld};
 ghost use Rattle.words.specs.Literals.{complement};
 ghost use Rattle.aspif.specs.Rules.{InputRule};
 ghost use Rattle.derivation.specs.States.{isAtom};
-ghost use Rattle.checker.specs.Check.{isAccepted};
+ghost use Rattle.runs.specs.Course.{isAccepted};
 ghost use Rattle.merging.specs.Claims.{demandingAsWritten};
 ghost use Rattle.splits.specs.Halves.{mostWords, demandWords};
 ghost use Rattle.shapes.specs.Tree.{Shape, sum};

@@ -18,7 +18,8 @@ use Rattle.aspif.specs.declared.ProgramRefusal.{ProgramRefusal}
 use Rattle.drupe.specs.Texts.{Step, StepsRead, steps, textOf, stepsOf}
 use Rattle.drupe.specs.Texts as Texts
 use Rattle.drupe.proofs.Texts.{steps-exact, spelled}
-use Rattle.checker.specs.Check.{Course, stopped, through, course, endsEmpty, isAccepted, Checked, judged, judgedReading}
+use Rattle.runs.specs.Course.{Course, stopped, through, course, endsEmpty, isAccepted}
+use Rattle.checker.specs.Check.{Checked, judged, judgedReading}
 use Rattle.checker.specs.declared.Verdict.{Verdict}
 use Rattle.checker.proofs.Whole.{text-accepted, accepted-steps}
 use Rattle.trimming.specs.Service.{courseOf, accepted, trimmedSteps, untouched, storeAfter, trimmedRead, trimmedReading, trim}

@@ -16,7 +16,8 @@ use Rattle.aspif.specs.Reading as Reading
 use Rattle.drupe.specs.Texts.{Step, StepsRead, steps, textOf, stepsOf}
 use Rattle.drupe.specs.Texts as Texts
 use Rattle.drupe.proofs.Texts.{AllPass, steps-exact}
-use Rattle.checker.specs.Check.{Course, stopped, through, endsEmpty, isAccepted, countsOf, check}
+use Rattle.runs.specs.Course.{Course, stopped, through, endsEmpty, isAccepted}
+use Rattle.checker.specs.Check.{countsOf, check}
 use Rattle.checker.specs.declared.Counts.{Counts}
 use Rattle.checker.specs.declared.Verdict.the-variants.{Inconsistent}
 use Rattle.trimming.specs.Trims.{Sublist}

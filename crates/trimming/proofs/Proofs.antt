@@ -8,7 +8,7 @@ use Rattle.drupe.specs.Texts.{Step}
 use Rattle.derivation.specs.States.{start}
 use Rattle.derivation.specs.Claims.{NoneAsWritten}
 use Rattle.derivation.proofs.AsWritten.{soundness-as-written}
-use Rattle.checker.specs.Check.{Course, stopped, through, endsEmpty}
+use Rattle.runs.specs.Course.{Course, stopped, through, endsEmpty}
 use Rattle.checker.proofs.Whole.{run-through}
 use Rattle.trimming.specs.Service.{courseOf, accepted}
 use Rattle.trimming.specs.Claims.{TrimmedAccepted}

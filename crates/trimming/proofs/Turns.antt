@@ -18,7 +18,7 @@ use Rattle.aspif.specs.Rules.{InputRule, expand, atoms}
 use Rattle.text.specs.Writing.{Put}
 use Rattle.drupe.specs.Texts.{Step, steps, stepText, textOf, stepsOf}
 use Rattle.drupe.proofs.Texts.{AllPass, some-byte, text-append, read-back, steps-exact, spelled}
-use Rattle.checker.specs.Check.{course, endsEmpty, isAccepted}
+use Rattle.runs.specs.Course.{course, endsEmpty, isAccepted}
 use Rattle.steps.specs.Held.{Program}
 use Rattle.checker.proofs.Whole.{course-written}
 use Rattle.trimming.specs.Trims.{pass, passes, trimmed, Sublist}

@@ -10,7 +10,8 @@ use Rattle.aspif.specs.Rules.{InputRule}
 use Rattle.aspif.specs.Reading.{program, readText}
 use Rattle.drupe.specs.Texts.{Step, steps, textOf, stepsOf}
 use Rattle.derivation.specs.Claims.{NoneAsWritten}
-use Rattle.checker.specs.Check.{isAccepted, check}
+use Rattle.runs.specs.Course.{isAccepted}
+use Rattle.checker.specs.Check.{check}
 use Rattle.checker.specs.declared.Counts.{Counts}
 use Rattle.checker.specs.declared.Verdict.the-variants.{Inconsistent}
 use Rattle.trimming.specs.Trims.{trimmed, Sublist}

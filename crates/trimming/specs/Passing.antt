@@ -7,7 +7,7 @@ use Prim.Native.Nat.{ℕ, _-_}
 use lib.ListN.{length, take, drop}
 use Rattle.aspif.specs.Rules.{InputRule}
 use Rattle.drupe.specs.Texts.{Step, steps, textOf, stepsOf}
-use Rattle.checker.specs.Check.{isAccepted}
+use Rattle.runs.specs.Course.{isAccepted}
 
 -- the steps ts stand in the text's first n bytes
 abbrev pub Reads : (text : List ℕ) → (n : ℕ) → List Step → Type 0

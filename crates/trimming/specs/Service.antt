@@ -12,7 +12,7 @@ use Rattle.aspif.specs.Reading as Reading
 use Rattle.drupe.specs.Texts.{Step, StepsRead, steps, refused, textOf, stepsOf}
 use Rattle.derivation.specs.States.{start}
 use Rattle.nogoods.specs.Store.{storeWords}
-use Rattle.checker.specs.Check.{Course, stopped, through, runSteps, endsEmpty}
+use Rattle.runs.specs.Course.{Course, stopped, through, runSteps, endsEmpty}
 use Rattle.trimming.specs.Trims.{trimmed}
 use Rattle.trimming.specs.declared.TrimAnswer.{TrimAnswer}
 use Rattle.trimming.specs.declared.TrimAnswer.the-variants.{Trimmed, RefusedProgram, Refused}

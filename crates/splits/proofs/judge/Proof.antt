@@ -5,7 +5,7 @@ use native.Mathlib.Omega.{arith}
 use lib.ListN.{length}
 use lib.Seq.{length-take-le}
 use Rattle.aspif.specs.Rules.{InputRule, expand, atoms}
-use Rattle.checker.specs.Check.{Course, course}
+use Rattle.runs.specs.Course.{Course, course}
 use Rattle.splits.proofs.Answers.{same-nothing, text-in, found-inconsistent, found-otherwise}
 use borrow.Author.Needs.{needs}
 use Rattle.splits.proofs.judge.Statement.{statement}

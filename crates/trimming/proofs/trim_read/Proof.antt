@@ -12,7 +12,8 @@ use borrow.Author.Tests.{not-true, not-false}
 use Rattle.aspif.specs.Rules.{InputRule}
 use Rattle.aspif.specs.Reading.{program}
 use Rattle.drupe.proofs.Texts.{steps-exact}
-use Rattle.checker.specs.Check.{isAccepted, judgedReading}
+use Rattle.runs.specs.Course.{isAccepted}
+use Rattle.checker.specs.Check.{judgedReading}
 use Rattle.steps.specs.Held.{Program}
 use Rattle.checker.proofs.Verdicts.{zeros}
 use Rattle.checker.proofs.Whole.{accepted-steps}

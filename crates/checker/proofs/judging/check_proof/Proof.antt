@@ -4,9 +4,9 @@ use Prim.Native.Nat.{ℕ}
 use lib.IntN.{ℤ, pos}
 use lib.ListN.{length, replicate}
 use Rattle.aspif.specs.Rules.{InputRule, expand, atoms}
-use Rattle.checker.specs.Check.{Course, course}
+use Rattle.runs.specs.Course.{Course, course}
 use Rattle.steps.specs.Held.{Program}
-use Rattle.checker.specs.Held.{Ran}
+use Rattle.runs.specs.Held.{Ran}
 use Rattle.steps.proofs.Tracking.{rules-held}
 use Rattle.checker.proofs.Origins.{course-live}
 use Rattle.checker.proofs.Verdicts.{too-long, ran-stopped, ran-through, judged-stopped, judged-through}

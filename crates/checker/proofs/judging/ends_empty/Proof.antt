@@ -1,7 +1,7 @@
 use mathlib.Core.Path.{sym, _∙_, ap}
 use Rattle.words.specs.Lists.{any}
 use Rattle.aspif.specs.Rules.{isEmpty}
-use Rattle.checker.specs.Check.{course, endsEmpty}
+use Rattle.runs.specs.Course.{course, endsEmpty}
 use Rattle.checker.proofs.Origins.{course-live}
 use Rattle.checker.proofs.Verdicts.{ran-stopped, ran-through}
 use borrow.Author.Needs.{needs}

@@ -11,7 +11,7 @@ use Rattle.words.specs.Literals.{has}
 use Rattle.drupe.specs.Lines.{lineRefusal, line, lineAt}
 use Rattle.drupe.proofs.Lines.{passed-line}
 use Rattle.drupe.proofs.Rows.{into-told, into-room}
-use Rattle.checker.proofs.Turns.{good-line}
+use Rattle.steps.proofs.Turns.{good-line}
 use Rattle.renaming.proofs.Renamed.{turn-bounds}
 use borrow.Author.Needs.{needs}
 use Rattle.renaming.proofs.renames.rename_at.Statement.{statement}

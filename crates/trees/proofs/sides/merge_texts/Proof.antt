@@ -10,7 +10,7 @@ use Rattle.words.specs.Limits.{longest}
 use Rattle.aspif.specs.Rules.{InputRule, programWords, atoms}
 use Rattle.derivation.specs.States.{isAtom}
 use Rattle.steps.specs.Held.{Program}
-use Rattle.checker.specs.Check.{isAccepted}
+use Rattle.runs.specs.Course.{isAccepted}
 use Rattle.checker.proofs.Verdicts.{zeros}
 use Rattle.merging.specs.Claims.{demandingAsWritten}
 use Rattle.splits.proofs.Answers.{zero-bytes}

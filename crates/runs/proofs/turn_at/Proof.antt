@@ -13,10 +13,10 @@ use Rattle.aspif.specs.Rules.{expand}
 use Rattle.drupe.specs.Lines.{lineRefusal, line, lineAt}
 use Rattle.drupe.proofs.Lines.{passed-line}
 use Rattle.drupe.proofs.Rows.{into-told, into-sorted, into-room}
-use Rattle.checker.proofs.Turns.{good-line, step-is}
+use Rattle.steps.proofs.Turns.{good-line, step-is}
 use borrow.Author.Needs.{needs}
-use Rattle.checker.proofs.runs.turn_at.Statement.{statement}
-use Rattle.checker.proofs.runs.turn_at.Tie as tie
+use Rattle.runs.proofs.turn_at.Statement.{statement}
+use Rattle.runs.proofs.turn_at.Tie as tie
 
 -- the line that was read
 module _ (c : tie.After-answer2) where

@@ -2,8 +2,8 @@ use mathlib.Core.Path.{sym, _∙_}
 use mathlib.Core.Bool.{true≢false}
 use Rattle.loops.proofs.Expanded.{relevant-plain}
 use borrow.Author.Needs.{needs}
-use Rattle.checker.proofs.runs.run_plain.Statement.{statement}
-use Rattle.checker.proofs.runs.run_plain.Tie as tie
+use Rattle.runs.proofs.run_plain.Statement.{statement}
+use Rattle.runs.proofs.run_plain.Tie as tie
 
 run-lines-requires : tie.Need-run-lines-requires
 run-lines-requires c κs =

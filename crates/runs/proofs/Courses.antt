@@ -20,18 +20,18 @@ use Rattle.nogoods.specs.Index.{Blank, indexSize}
 use Rattle.nogoods.proofs.Live.{live-nil, live-few}
 use Rattle.nogoods.proofs.Indexing.{keeps-blank}
 use Rattle.steps.specs.After.{storedAfter}
-use Rattle.checker.specs.Check.{Course, stopped, course}
-use Rattle.checker.specs.Claims.{Runs, ends, unread, unaccepted, full, good}
+use Rattle.runs.specs.Course.{Course, stopped, course}
+use Rattle.runs.specs.Claims.{Runs, ends, unread, unaccepted, full, good}
 use Rattle.steps.specs.Held.{Tracks, HoldsState, Leaves}
-use Rattle.checker.specs.Held.{proofTurn, LineLeaves, Ran, Ended}
+use Rattle.runs.specs.Held.{proofTurn, LineLeaves, Ran, Ended}
 use Rattle.steps.specs.declared.outcomes.Stepped.{Stepped}
 use Rattle.steps.specs.declared.outcomes.Stepped.the-variants.{Uses, Fails}
-use Rattle.checker.specs.declared.runs.ProofTurn.{ProofTurn}
-use Rattle.checker.specs.declared.runs.ProofTurn.the-variants as Turn
-use Rattle.checker.specs.declared.runs.Run.{Run}
-use Rattle.checker.specs.declared.runs.Run.the-variants as Run
-use Rattle.checker.proofs.Whole.{step-by-step}
-use Rattle.checker.proofs.Origins.{step-live}
+use Rattle.runs.specs.declared.ProofTurn.{ProofTurn}
+use Rattle.runs.specs.declared.ProofTurn.the-variants as Turn
+use Rattle.runs.specs.declared.Run.{Run}
+use Rattle.runs.specs.declared.Run.the-variants as Run
+use Rattle.runs.proofs.Lines.{step-by-step}
+use Rattle.runs.proofs.Live.{step-live}
 
 -- an empty store
 pub holds-none : (store : List ℤ) → store ≡ replicate (length store) (pos 0) → Holds store 0 []

@@ -1,6 +1,6 @@
 use borrow.Author.Needs.{needs}
-use Rattle.checker.proofs.runs.turn_of.Statement.{statement}
-use Rattle.checker.proofs.runs.turn_of.Tie as tie
+use Rattle.runs.proofs.turn_of.Statement.{statement}
+use Rattle.runs.proofs.turn_of.Tie as tie
 
 returns : tie.Need-returns
 returns c = rw (c .before .stepped .given .1)

@@ -1,7 +1,7 @@
 use mathlib.Core.Path.{refl, sym, _∙_}
 use borrow.Author.Needs.{needs}
-use Rattle.checker.proofs.runs.run_proof.Statement.{statement}
-use Rattle.checker.proofs.runs.run_proof.Tie as tie
+use Rattle.runs.proofs.run_proof.Statement.{statement}
+use Rattle.runs.proofs.run_proof.Tie as tie
 
 run-plain-requires : tie.Need-run-plain-requires
 run-plain-requires c κs =

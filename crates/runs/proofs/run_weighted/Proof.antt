@@ -1,8 +1,8 @@
 use mathlib.Core.Path.{sym}
 use mathlib.Core.Bool.{true≢false}
 use borrow.Author.Needs.{needs}
-use Rattle.checker.proofs.runs.run_weighted.Statement.{statement}
-use Rattle.checker.proofs.runs.run_weighted.Tie as tie
+use Rattle.runs.proofs.run_weighted.Statement.{statement}
+use Rattle.runs.proofs.run_weighted.Tie as tie
 
 run-lines-requires : tie.Need-run-lines-requires
 run-lines-requires c κs =

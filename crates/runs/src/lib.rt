@@ -1,4 +1,5 @@
-// The proof's lines, one after another: questions 22 to 34 and 56.
+// The proof's lines, one after another: questions 22 to 34 and 56. What a whole proof text comes to is specs/Course.antt, and what its
+// lines leave specs/Held.antt. No service: `checker` and `splits` run proof texts by `run_proof` and `run_half`.
 ghost use mathlib.Core.Path.{_≡_};
 ghost use mathlib.Core.Bool.{true};
 ghost use mathlib.Core.List.{List};
@@ -16,11 +17,10 @@ ghost use Rattle.nogoods.specs.Index.{Keeps};
 ghost use Rattle.marks.specs.Marks.{Marks, upTo};
 ghost use Rattle.heads.specs.Heads.{nameWords, Indexed};
 ghost use Rattle.loops.specs.Relevance.{Relevant};
-ghost use Rattle.checker.specs.Check.{course};
+ghost use Rattle.runs.specs.Course.{course};
 ghost use Rattle.steps.specs.Held.{Program, Tracks, Tracked, NoBodies, HoldsState};
-ghost use Rattle.checker.specs.Held.{proofTurn, LineLeaves, Ran, Ended};
-ghost use Rattle.checker.specs.declared.runs.Run.the-variants.{Through};
-use crate::ProofRefusal;
+ghost use Rattle.runs.specs.Held.{proofTurn, LineLeaves, Ran, Ended};
+ghost use Rattle.runs.specs.declared.Run.the-variants.{Through};
 use aspif::tables;
 use drupe::LineAnswer;
 use heads::INDEX_WORDS;
@@ -36,6 +36,12 @@ use words::MOST_HELD;
 
 // An entry for each pair of the weight bodies of all rules.
 const RELEVANT: usize = MOST_WEIGHTED * MOST_HELD;
+
+// The question that a proof fails, and the step, counted from 1; 0 where the whole text is at fault.
+pub struct ProofRefusal {
+    pub number: u8,
+    pub step: usize,
+}
 
 // What stands at a position comes to: the end, the question that is answered no, or the next position and the words used then.
 pub enum ProofTurn {

@@ -12,13 +12,13 @@ use Rattle.derivation.specs.Steps.{Outcome, step}
 use Rattle.nogoods.specs.Keeps.{Holds}
 use Rattle.nogoods.specs.Store.{Stored}
 use Rattle.steps.specs.After.{storedAfter}
-use Rattle.checker.specs.Check.{Course, stopped, through}
+use Rattle.runs.specs.Course.{Course, stopped, through}
 use Rattle.steps.specs.declared.outcomes.Stepped.{Stepped}
 use Rattle.steps.specs.declared.outcomes.Stepped.the-variants.{Uses, Fails}
-use Rattle.checker.specs.declared.runs.ProofTurn.{ProofTurn}
-use Rattle.checker.specs.declared.runs.ProofTurn.the-variants as Turn
-use Rattle.checker.specs.declared.runs.Run.{Run}
-use Rattle.checker.specs.declared.runs.Run.the-variants as Run
+use Rattle.runs.specs.declared.ProofTurn.{ProofTurn}
+use Rattle.runs.specs.declared.ProofTurn.the-variants as Turn
+use Rattle.runs.specs.declared.Run.{Run}
+use Rattle.runs.specs.declared.Run.the-variants as Run
 use Rattle.steps.specs.Held.{Tracks, Leaves}
 
 -- what a step comes to, with the position after its line

@@ -1,7 +1,7 @@
 use mathlib.Core.Path.{refl}
 use borrow.Author.Needs.{needs}
-use Rattle.checker.proofs.runs.run_recorded.Statement.{statement}
-use Rattle.checker.proofs.runs.run_recorded.Tie as tie
+use Rattle.runs.proofs.run_recorded.Statement.{statement}
+use Rattle.runs.proofs.run_recorded.Tie as tie
 
 run-weighted-requires : tie.Need-run-weighted-requires
 run-weighted-requires c κs = let p = c .before .before .before .before .before .before .before .pre in (p .0, (p .1 .0, (λ w. refl, p .1 .1)))

@@ -9,14 +9,14 @@ use Rattle.words.specs.Limits.{entries, mostNumbers}
 use Rattle.text.specs.Classes.{byteClasses}
 use Rattle.drupe.specs.Lines.{lineAt}
 use Rattle.steps.specs.Held.{Program}
-use Rattle.checker.specs.Held.{LineLeaves}
+use Rattle.runs.specs.Held.{LineLeaves}
 use Rattle.steps.proofs.Tracking.{same-rules, rules-held, start-tracks}
-use Rattle.checker.proofs.Courses.{Going, going-start, going-ends, going-fails, going-on}
+use Rattle.runs.proofs.Courses.{Going, going-start, going-ends, going-fails, going-on}
 use Rattle.nogoods.specs.Index.{indexSize}
 use Rattle.nogoods.proofs.Indexing.{blank-zeros}
 use borrow.Author.Needs.{needs}
-use Rattle.checker.proofs.runs.run_lines.Statement.{statement}
-use Rattle.checker.proofs.runs.run_lines.Tie as tie
+use Rattle.runs.proofs.run_lines.Statement.{statement}
+use Rattle.runs.proofs.run_lines.Tie as tie
 
 abbrev Inv-loop : tie.InvT-loop
 Inv-loop proof table rules lookup relevant atoms known₀ names₀ bodies₀ store₀ classes numbers₀ sorted₀ index₀ assignment₀ state₀ known names bodies store numbers sorted index assignment state =

@@ -1,9 +1,9 @@
--- One turn of the check: a line that passed questions 22 to 25, and its step.
+-- One turn of the check: a line that passed questions 22 to 25, and its step; and that steps which are accepted passed these.
 -- Assumes nothing.
 use mathlib.Core.Path.{_≡_, refl, _∙_, subst}
 use mathlib.Core.Bool.{Bool, true, false, cond, _||_, or-comm}
 use mathlib.Core.Option.{Option, none, some}
-use mathlib.Core.List.{List}
+use mathlib.Core.List.{List, [], _∷_, List·Memᴰ·head, List·Memᴰ·tail}
 use Prim.Native.Nat.{ℕ}
 use lib.Dec.{T, ltb}
 use lib.IntN.{ℤ, pos}
@@ -18,10 +18,12 @@ use Rattle.aspif.specs.Rules.{Rule}
 use Rattle.aspif.proofs.Readable.{inside}
 use Rattle.words.specs.Limits.{mostNumbers}
 use Rattle.drupe.specs.Lines.{signsOf, signed, lineRefusal}
+use Rattle.drupe.specs.Texts.{Step, LinePasses}
 use Rattle.drupe.proofs.Lines.{few}
 use Rattle.derivation.specs.States.{State}
-use Rattle.derivation.specs.Steps.{step, byLetter}
+use Rattle.derivation.specs.Steps.{Outcome, next, step, byLetter}
+use Rattle.derivation.specs.Steps as Steps
 use Rattle.steps.specs.Held.{PassedLine}
 
 -- A line that passed questions 22 to 25
 
@@ -49,3 +51,23 @@ module _ (x : Letter) (zs : List ℤ) (asked : lineRefusal x zs ≡ none) (zero-
 
   pub step-is : (N : ℕ) (P : List Rule) (z : State) → step N P z (record { letter = x; numbers = zs }) ≡ byLetter N P z x zs
   step-is N P z = rw (zero-free, asked)
+
+-- a step that is accepted passes questions 22 to 25
+accepted-passes : (N : ℕ) (P : List Rule) (z w : State) (t : Step) → step N P z t ≡ next w → LinePasses t
+accepted-passes N P z w t e = by (has (pos 0) (t .numbers)) refl (lineRefusal (t .letter) (t .numbers)) refl e
+  where
+    by : (b : Bool) → has (pos 0) (t .numbers) ≡ b → (o : Option ℕ) → lineRefusal (t .letter) (t .numbers) ≡ o
+        → cond b (Steps.refused 22) (elim o as (λ x. Outcome) [ some k ↦ Steps.refused k | none ↦ byLetter N P z (t .letter) (t .numbers) ]) ≡ next w → LinePasses t
+    by true p o q e = absurd (zero-one (cc))
+    by false p (some k) q e = absurd (zero-one (cc))
+    by false p none q e = (q, p)
+
+pub steps-pass : (N : ℕ) (P : List Rule) (z w : State) (ts : List Step) → Steps.steps N P z ts ≡ next w → (t : Step) → t ∈ ts → LinePasses t
+steps-pass N P z w [] e t m = elim m [ ]
+steps-pass N P z w (u ∷ us) e t m = by (λ z′ f i. steps-pass N P z′ w us f t i) (step N P z u) refl e m
+  where
+    by : ((z′ : State) → Steps.steps N P z′ us ≡ next w → t ∈ us → LinePasses t) → (o : Outcome) → step N P z u ≡ o
+        → elim o as (λ x. Outcome) [ Steps.refused k ↦ Steps.refused k | next z′ ↦ Steps.steps N P z′ us ] ≡ next w → t ∈ u ∷ us → LinePasses t
+    by later (Steps.refused k) q e m = absurd (zero-one (cc))
+    by later (next z′) q e (List·Memᴰ·head p) = rw p (accepted-passes N P z z′ u q)
+    by later (next z′) q e (List·Memᴰ·tail i) = later z′ e i
