@@ -2,8 +2,8 @@
 -- Assumes nothing.
 use mathlib.Core.Path.{_≡_, refl, sym, _∙_, subst}
 use mathlib.Core.Bool.{Bool, true, false, true≢false}
-use mathlib.Core.List.{List, List·Memᴰ·head, List·Memᴰ·tail}
-use Prim.Native.Nat.{ℕ, zero, suc, _-_, _+_, _<_, _≤_}
+use mathlib.Core.List.{List, [], List·Memᴰ·head, List·Memᴰ·tail}
+use Prim.Native.Nat.{ℕ, _-_, _+_, _<_}
 use native.Mathlib.Omega.{arith}
 use borrow.Author.Tests.{ltb-true, ltb-false, eqb-true, eqb-false}
 use lib.Dec.{T, eqb, ltb}
@@ -12,6 +12,7 @@ use lib.ListN.{length, drop, getD, set, replicate, length-replicate}
 use lib.Seq.{getD-set-same, getD-set-other, set-out}
 use Rattle.words.specs.Limits.{entries}
 use Rattle.words.specs.Lists.{_∈_}
+use Rattle.words.proofs.Laws.{padded}
 use Rattle.words.proofs.Lists.{itself, passed}
 use Rattle.aspif.specs.Rules.{InputRule, atoms}
 use Rattle.aspif.specs.Tables.{sizeAt, rulesAt, soundRules}
@@ -38,12 +39,7 @@ module _ {t : List ℤ} {rules : ℕ} where
   pub no-starts : (n : ℕ) → 0 < rules → soundRules rules t ≡ true → StartsSoFar t rules rules 0 (replicate n 0)
   no-starts n h e =
       let c : Cursor t rules 0 = record { within = omega arith; sound = e } in
-      record { cursor = c; noted = λ k. rw (zeros n k) (start-here h c (λ r i. i)); rest = λ r i. i }
-    where
-      zeros : (n k : ℕ) → _≡_ {A = ℕ} (getD (replicate n 0) k 0) 0
-      zeros zero k = refl
-      zeros (suc n) zero = refl
-      zeros (suc n) (suc k) = zeros n k
+      record { cursor = c; noted = λ k. rw (padded {A = ℕ} 0 [] n k) (start-here h c (λ r i. i)); rest = λ r i. i }
 
   pub starts-on : {left i : ℕ} {starts : List ℕ} → 0 < left → (k : ℕ) → StartsSoFar t rules left i starts
       → StartsSoFar t rules (left - 1) (i + sizeAt (drop i t)) (set starts k i)

@@ -37,14 +37,7 @@ const MOST_LOOKS: usize = 131072;
 fn get(cells: &[u16; CELLS], i: usize) -> usize
     ensures { λ r. ⌜ r ≤ 65535 ⌝ }
 {
-    if i < CELLS { wide(cells[i]) } else { 0 }
-}
-
-// A cell's number.
-fn wide(x: u16) -> usize
-    ensures { λ r. ⌜ r ≤ 65535 ⌝ }
-{
-    x as usize
+    if i < CELLS { words::wide(cells[i]) } else { 0 }
 }
 
 // The cell at i becomes v, where both fit.

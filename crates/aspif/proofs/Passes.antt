@@ -77,7 +77,8 @@ module _ (rules free left : ℕ) where
 
 -- One rule more
 
-words-more : (rs : List InputRule) (r : InputRule) → programWords (rs ++ (r ∷ [])) ≡ programWords rs ++ ruleWords r
+-- the words of the rules, and of one more behind them
+pub words-more : (rs : List InputRule) (r : InputRule) → programWords (rs ++ (r ∷ [])) ≡ programWords rs ++ ruleWords r
 words-more rs r = concat-append ruleWords rs (r ∷ []) ∙ ap (λ (l : List ℤ). programWords rs ++ l) (append-nil (ruleWords r))
 
 atoms-more : (rs : List InputRule) (r : InputRule) → atoms (rs ++ (r ∷ [])) ≡ max (ruleTop r) (atoms rs)

@@ -97,7 +97,7 @@ module _ (ws : List ℤ) where
       isCount (getD ws 1 (pos 0))
       && (isKind (getD ws 2 (pos 0)) && (isCount (getD ws 3 (pos 0)) && (isHeaded && leb sizeAt (length ws))))
 
-  -- "body kind 0 or 1, at most 12 pairs, bound and weights 0 to 4,095"
+  -- body kind 0 or 1, at most 12 pairs, bound and weights 0 to 4,095
   unfoldable pub weightsSound : Bool
   weightsSound =
       leb bodyCount mostWeighted

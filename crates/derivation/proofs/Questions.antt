@@ -8,12 +8,13 @@ use lib.Dec.{T}
 use lib.IntN.{ℤ, pos}
 use Rattle.words.specs.Lists.{_∈_}
 use Rattle.words.specs.Literals.{variable, top}
-use Rattle.words.proofs.Lists.{Decides, itself, reworded, and-decides, or-decides, any-decides, eqb-decides, leb-decides}
+use Rattle.words.proofs.Lists.{Decides, itself, reworded, and-decides, or-decides, any-decides, all-decides, eqb-decides, leb-decides}
 use Rattle.words.proofs.Literals.{sameList-decides, variable-positive, positive}
 use Rattle.words.proofs.Tops.{top-le}
 use Rattle.aspif.specs.Rules.{Rule, plainAtoms}
 use Rattle.drupe.specs.Lines.{isPositive}
 use Rattle.derivation.specs.States.{Named, State, isAtom, isKnown, isName, hasName}
+use Rattle.derivation.specs.Steps.{allKnown}
 use Rattle.aspif.proofs.RuleTests.{in-greatest}
 
 -- Lines
@@ -47,6 +48,9 @@ module _ (N : ℕ) (z : State) (v : ℕ) where
 
   pub atom-known : T (isAtom N v) → T (isKnown N z v)
   atom-known t = known-decides .from (inl t)
+
+pub allKnown-decides : (N : ℕ) (z : State) (L : List ℤ) → Decides (allKnown N z L) ((y : ℤ) → y ∈ L → T (isKnown N z (variable y)))
+allKnown-decides N z L = all-decides (λ y. itself (isKnown N z (variable y))) L
 
 pub name-decides : (z : State) (n : ℕ) (body : List ℤ) → Decides (isName z n body) ((x : Named) × (x ∈ z .named) × ((x .name ≡ n) × (x .body ≡ body)))
 name-decides z n body = any-decides (λ x. and-decides (eqb-decides (x .name) n) (sameList-decides (x .body) body)) (z .named)

@@ -23,11 +23,11 @@ use Rattle.words.specs.Limits.{mostNumbers}
 use Rattle.derivation.specs.Loops.{isLoop}
 use Rattle.derivation.specs.States.{Named, State, start, isAtom, isKnown, isName, hasName}
 use Rattle.drupe.specs.Texts.{Step}
-use Rattle.derivation.specs.Steps.{Outcome, refused, next, allKnown, body, extension, completion, support, isExternal, externalNames, loop, addition, deletion, naming, citing, byLetter, step, steps, emptyLive}
+use Rattle.derivation.specs.Steps.{Outcome, refused, next, body, extension, completion, support, isExternal, externalNames, loop, addition, deletion, naming, citing, byLetter, step, steps, emptyLive}
 use Rattle.derivation.specs.Claims.{Sound}
 use Rattle.derivation.proofs.Closure.{empty-decides, refuted-decides}
 use Rattle.derivation.proofs.Valuations.{conflict-false}
-use Rattle.derivation.proofs.Questions.{body-atom}
+use Rattle.derivation.proofs.Questions.{body-atom, allKnown-decides}
 use Rattle.aspif.proofs.RuleTests.{normal-decides}
 use Rattle.derivation.proofs.Invariant.{AllKnown, AllAtoms, Kept, start-kept, add-kept, define-kept}
 use Rattle.derivation.proofs.Nogoods.{Positives, completion-fails, support-fails, loop-fails}
@@ -91,9 +91,6 @@ module _ (N : ℕ) (P : List Rule) (fits : plainAtoms P ≤ N) (M : ℕ → Type
       go false false c f = tt
 
   module _ (z : State) (k : Kept N M z) where
-    known-decides : (L : List ℤ) → Decides (allKnown N z L) (AllKnown N z L)
-    known-decides L = all-decides (λ x. itself (isKnown N z (variable x))) L
-
     with-complements-known : (x : ℤ) (L : List ℤ) → AllKnown N z (x ∷ L) → AllKnown N z (x ∷ map complement L)
     with-complements-known x L a = each-cons (a x (List·Memᴰ·head refl)) (λ y m. complemented y (Memᴰ·of-map complement L m))
       where
@@ -108,10 +105,10 @@ module _ (N : ℕ) (P : List Rule) (fits : plainAtoms P ≤ N) (M : ℕ → Type
         rw (← r .2, variable-complement (pos (r .0)), ← s .2) (k .named x (keep→ _ (z .named) (s .1) .0) .known)
 
     naming-fine : (n : ℤ) (L : List ℤ) (o : Outcome) → (¬ T (isKnown N z (variable n)) → AllKnown N z L → Fine o) → Fine (naming N z n L o)
-    naming-fine n L o f = if-yes (known-decides L) _ 26 (λ a. if-no (itself (isKnown N z (variable n))) o 27 (λ u. f u a))
+    naming-fine n L o f = if-yes (allKnown-decides N z L) _ 26 (λ a. if-no (itself (isKnown N z (variable n))) o 27 (λ u. f u a))
 
     citing-fine : (L : List ℤ) (o : Outcome) → (AllKnown N z L → Fine o) → Fine (citing N z L o)
-    citing-fine L o f = if-yes (known-decides L) o 26 f
+    citing-fine L o f = if-yes (allKnown-decides N z L) o 26 f
 
     -- each letter, where the questions before it are passed
 

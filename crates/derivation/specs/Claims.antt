@@ -1,4 +1,4 @@
--- Demand 3 of the notice, part one, as statements; proofs/Sound.antt, proofs/Closure.antt and proofs/Loops.antt prove them.
+-- Demand 3 of the notice, part one, as statements; Sound.antt, AsWritten.antt, Closure.antt and Loops.antt of proofs/ prove them.
 -- Assumes nothing.
 use mathlib.Core.Path.{_≡_}
 use mathlib.Core.Logic.{_↔_}

@@ -1,4 +1,5 @@
 -- A line that is read into two lent rows: its numbers as written, and ascending by variable. What is read is `lineAt` of Lines.antt.
+-- No reader of a public contract needs it.
 -- Assumes nothing.
 use mathlib.Core.Path.{_≡_}
 use mathlib.Core.List.{List, [], _∷_, _++_}

@@ -9,11 +9,12 @@ use lib.IntN.{ℤ}
 use lib.ListN.{length, getD, set, replicate, length-set, length-append, List·getD-append}
 use lib.Seq.{getD-set-same, getD-set-other, getD-append-seam}
 use Rattle.words.specs.Limits.{largest, entries, mostHeld}
+use Rattle.words.proofs.Laws.{padded}
 use Rattle.words.proofs.Places.{equal?}
 use Rattle.words.proofs.Descending.{unchanged, same-entries}
 use Rattle.aspif.specs.Tables.{headsAt, bodyWordsAt}
 use Rattle.heads.specs.Heads.{startOf, wordsFrom, mostHeads, hashes, startsAt, firstAt, nextAt, ownerAt, bucketAt, beforeAt, indexWords, Headed, headedBy, headedTo, headedAt, Place, HeadChains, hashFrom, BodyPlace, Entered}
-use Rattle.heads.proofs.Walks.{linked, link-entered, zero-at}
+use Rattle.heads.proofs.Walks.{linked, link-entered}
 
 -- One more head at the end of a list
 
@@ -158,7 +159,7 @@ none-entered t = record {
       within = λ x k p. absurd (omega (arith, p .0));
       top = λ x k p. absurd (omega (arith, p .0));
       down = λ x y k p. absurd (omega (arith, p .0));
-      first = λ k p h e. absurd (omega (arith, e, zero-at indexWords (firstAt + k)));
+      first = λ k p h e. absurd (omega (arith, e, padded {A = ℕ} 0 [] indexWords (firstAt + k)));
       next = λ y k p q. absurd (omega (arith, q .0));
     };
   };
@@ -167,7 +168,7 @@ none-entered t = record {
     within = λ x k p. absurd (omega (arith, p .0));
     top = λ x k p. absurd (omega (arith, p .0));
     down = λ x y k p. absurd (omega (arith, p .0));
-    first = λ k p h e. absurd (omega (arith, e, zero-at indexWords (bucketAt + k)));
+    first = λ k p h e. absurd (omega (arith, e, padded {A = ℕ} 0 [] indexWords (bucketAt + k)));
     next = λ y k p q. absurd (omega (arith, q .0));
   };
 }

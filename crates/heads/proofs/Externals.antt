@@ -2,7 +2,7 @@
 -- Assumes nothing.
 use mathlib.Core.Path.{_≡_, refl, sym, ap, subst, _∙_}
 use mathlib.Core.Logic.{_⊎_, inl, inr}
-use mathlib.Core.Bool.{true, false, not, true≢false}
+use mathlib.Core.Bool.{true, false, true≢false}
 use mathlib.Core.List.{List, [], _∷_, _++_, map, List·Memᴰ·head, List·Memᴰ·tail, List·Memᴰ·append-cases, List·Memᴰ·cases-cons, Memᴰ·append-left, Memᴰ·append-right, Memᴰ·map, Memᴰ·of-map, Memᴰ·cast}
 use Prim.Native.Nat.{ℕ, suc, _+_, _≤_, _<_}
 use native.Mathlib.Numerals.{add-one}
@@ -17,7 +17,7 @@ use Rattle.words.specs.Lists.{_∈_, any, filter}
 use Rattle.words.specs.Literals.{variable, has, distinct, ascending}
 use Rattle.words.proofs.Lists.{Decides, reworded, passed, if-true, is-true, failed, same-test, not-decides, and-left, and-right, any-decides, eqb-decides, keep→, keep←}
 use Rattle.words.proofs.Literals.{has-decides, ascending→, ascending←}
-use Rattle.words.proofs.Places.{once-decides, in-at, place-of}
+use Rattle.words.proofs.Places.{once-decides, distinct-last, in-at, place-of}
 use Rattle.words.proofs.Sorting.{rising-ascending}
 use Rattle.aspif.specs.Rules.{Rule, allPlain, expand}
 use Rattle.aspif.specs.Tables.{headsAt, bodyWordsAt, rulesAt, soundRules}
@@ -57,19 +57,6 @@ collected-few {rules = rules} {names} {row = row} {n} h C =
     (in-at 0 (take rules names) (k .0) (omega (arith, length-take-le rules names h, k .1 .0)))) in
     omega (arith, f, length-take-le n row (omega (arith, C .is .long, C .is .within)), length-take-le rules names h)
 
-distinct-last : (l : List ℤ) (x : ℤ) → distinct l ≡ true → ((y : ℤ) → y ∈ l → ¬ (variable y ≡ variable x)) → distinct (l ++ (x ∷ [])) ≡ true
-distinct-last [] x o f = refl
-distinct-last (z ∷ l) x o f =
-    let d = if-true (once-decides z l) o in
-    is-true (once-decides z (l ++ (x ∷ []))) (go (d .0), distinct-last l x (d .1) (λ y i. f y (List·Memᴰ·tail i)))
-  where
-    go : ¬ ((y : ℤ) × (y ∈ l) × (variable z ≡ variable y)) → ¬ ((y : ℤ) × (y ∈ l ++ (x ∷ [])) × (variable z ≡ variable y))
-    go n q = by (List·Memᴰ·append-cases l (q .1))
-      where
-        by : (q .0 ∈ l) ⊎ (q .0 ∈ x ∷ []) → ⊥
-        by (inl i) = n (q .0, i, q .2)
-        by (inr i) = elim (List·Memᴰ·cases-cons i) [ inl e ↦ f z (List·Memᴰ·head refl) (q .2 ∙ ap variable e) | inr m ↦ elim m [ ] ]
-
 -- `note`: a name that is not in the row yet
 
 module _ (row : List ℤ) (n name : ℕ) (w : ℤ) (R : Row row n) (room : n ≤ mostHeld) (low : 1 ≤ name) (high : name ≤ largest) (is : w ≡ pos name)
@@ -77,14 +64,14 @@ module _ (row : List ℤ) (n name : ℕ) (w : ℤ) (R : Row row n) (room : n ≤
   noted : take (n + 1) (set row n w) ≡ take n row ++ (pos name ∷ [])
   noted = rw (add-one, is) (take-suc-set row n (pos name) (omega (arith, R .long, room)))
 
-  cases : (x : ℤ) → x ∈ take (n + 1) (set row n w) → (x ∈ take n row) ⊎ (x ≡ pos name)
-  cases x i = elim (List·Memᴰ·append-cases (take n row) (subst (λ l. x ∈ l) noted i)) [
+  pub note-cases : (x : ℤ) → x ∈ take (n + 1) (set row n w) → (x ∈ take n row) ⊎ (x ≡ pos name)
+  note-cases x i = elim (List·Memᴰ·append-cases (take n row) (subst (λ l. x ∈ l) noted i)) [
     | inl m ↦ inl m
     | inr m ↦ elim (List·Memᴰ·cases-cons m) [ inl e ↦ inr e | inr k ↦ elim k [ ] ]
   ]
 
   noted-good : (x : ℤ) → x ∈ take (n + 1) (set row n w) → (x ≡ pos (variable x)) × (1 ≤ variable x) × (variable x ≤ largest)
-  noted-good x i = elim (cases x i) [ inl m ↦ R .good x m | inr e ↦ rw e (refl, low, high) ]
+  noted-good x i = elim (note-cases x i) [ inl m ↦ R .good x m | inr e ↦ rw e (refl, low, high) ]
 
   noted-once : distinct (take (n + 1) (set row n w)) ≡ true
   noted-once = rw noted (distinct-last (take n row) (pos name) (R .once) (λ y i e.
@@ -103,9 +90,6 @@ module _ (row : List ℤ) (n name : ℕ) (w : ℤ) (R : Row row n) (room : n ≤
 
   pub note-keeps : (x : ℤ) → x ∈ take n row → x ∈ take (n + 1) (set row n w)
   note-keeps x i = rw noted (Memᴰ·append-left (pos name ∷ []) i)
-
-  pub note-cases : (x : ℤ) → x ∈ take (n + 1) (set row n w) → (x ∈ take n row) ⊎ (x ≡ pos name)
-  note-cases = cases
 
 -- `gather_rule`
 

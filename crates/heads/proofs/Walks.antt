@@ -6,7 +6,7 @@ use mathlib.Core.List.{List}
 use Prim.Native.Nat.{ℕ, zero, suc, _+_, _≤_, _<_}
 use native.Mathlib.Numerals.{add-one}
 use native.Mathlib.Omega.{arith}
-use lib.ListN.{length, getD, set, replicate, length-set}
+use lib.ListN.{length, getD, set, length-set}
 use Rattle.words.specs.Descending.{Descends, Changed}
 use Rattle.words.proofs.Places.{equal?}
 use Rattle.words.proofs.Descending.{changed, unchanged, entered}
@@ -77,9 +77,3 @@ module _ (l : List ℕ) (first next keys places : ℕ) (apart : first + keys ≤
             | inl s ↦ inl (s .0, u ∙ s .1)
             | inr s ↦ inr (s .0, u ∙ s .1)
           ]
-
--- zeros are empty chains
-pub zero-at : (n i : ℕ) → _≡_ {A = ℕ} (getD (replicate n 0) i 0) 0
-zero-at zero i = refl
-zero-at (suc n) zero = refl
-zero-at (suc n) (suc i) = zero-at n i

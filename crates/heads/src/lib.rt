@@ -61,19 +61,12 @@ pub enum Found {
     Unnamed,
 }
 
-// A word as a size.
-fn wide(word: u16) -> usize
-    ensures { λ r. ⌜ r ≡ word ⌝ }
-{
-    word as usize
-}
-
 // The word at a place; 0 past the end.
 fn word_of(index: &[u16], at: usize) -> usize
     ensures { λ r. ⌜ r ≡ getD (now (index .entry)) at 0 ⌝ }
 {
     if at < index.len() {
-        return wide(index[at]);
+        return words::wide(index[at]);
     }
     0
 }
@@ -261,7 +254,7 @@ fn all_listed(
     while 0 < p {
         let x = p - 1;
         let k = word_of(index, OWNER + x);
-        let j = place_of(listed, wide(names[k]));
+        let j = place_of(listed, words::wide(names[k]));
         if j == listed.len() {
             return false;
         }
@@ -332,7 +325,7 @@ pub fn body_name(
     }
     let found = rule_with(table, rules, index, body);
     if 0 < found {
-        return wide(names[found - 1]);
+        return words::wide(names[found - 1]);
     }
     ENTRIES
 }
@@ -457,7 +450,7 @@ fn is_found(
         let k = p - 1;
         let at = word_of(index, STARTS + k);
         let rest = &table[at..];
-        if completes(rest, heads, name, wide(names[k])) {
+        if completes(rest, heads, name, words::wide(names[k])) {
             return true;
         }
         p = word_of(index, BEFORE + k);
@@ -497,7 +490,7 @@ fn note(row: &mut [i32], n: usize, name: u16) -> usize
     ensures same { λ r. ⌜ ((x : ℤ) → x ∈ take n (now (row .entry)) → x ∈ take r (now (row .exit)))
         × ((x : ℤ) → x ∈ take r (now (row .exit)) → (x ∈ take n (now (row .entry))) ⊎ (x ≡ pos name)) ⌝ }
 {
-    if LARGEST < wide(name) {
+    if LARGEST < words::wide(name) {
         return n;
     }
     let word = name as i32;

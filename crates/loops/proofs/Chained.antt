@@ -1,6 +1,6 @@
 -- The edges to one place, marked along the chain of its atom: those of each rule with that head.
 -- Assumes nothing.
-use mathlib.Core.Path.{_≡_, refl, sym, ap, subst, _∙_}
+use mathlib.Core.Path.{_≡_, sym, ap, subst, _∙_}
 use mathlib.Core.Logic.{_⊎_, inl, inr}
 use mathlib.Core.Bool.{Bool, true, _&&_, _||_, or-false}
 use mathlib.Core.List.{List, [], _∷_, List·Memᴰ·cases-cons}
@@ -10,7 +10,7 @@ use lib.ListN.{length, getD, drop, replicate}
 use Rattle.words.specs.Limits.{mostNumbers}
 use Rattle.words.specs.Lists.{_∈_, any}
 use Rattle.words.specs.Literals.{has}
-use Rattle.words.proofs.Lists.{Decides, passed, if-true, is-true, same-test, and-left, and-right, or-decides, any-decides, eqb-decides}
+use Rattle.words.proofs.Lists.{Decides, passed, if-true, is-true, same-test, and-left, and-right, and-both, or-decides, any-decides, eqb-decides}
 use Rattle.words.proofs.Literals.{has-decides}
 use Rattle.words.proofs.Places.{in-at}
 use Rattle.aspif.specs.Rules.{allPlain, bodiesOf}
@@ -24,9 +24,6 @@ use Rattle.loops.proofs.Expanded.{plain-edge}
 -- an element that has the place
 at-decides : (m : List ℕ) (i : ℕ) (l : List ℤ) → Decides (any (isAt m i) l) ((x : ℤ) × (x ∈ l) × (placeBy m x ≡ suc i))
 at-decides m i l = any-decides (λ x. eqb-decides (placeBy m x) (suc i)) l
-
-both : {a b : Bool} → a ≡ true → b ≡ true → (a && b) ≡ true
-both p q = rw (p, q) refl
 
 module _ (t : List ℤ) (rules : ℕ) (m : List ℕ) where
   -- the edges of all rules
@@ -67,7 +64,7 @@ module _ (t : List ℤ) (rules : ℕ) (m : List ℕ) where
         is-true (any-written (ruleEdge m i j) rules t) (
           k,
           H .0,
-          both (plain-edge (isAt m i) (wordsFrom k t) (plain-rule rules t plain k (H .0)) ∙ ap (any (isAt m i)) (sym is) ∙ p)
+          and-both (plain-edge (isAt m i) (wordsFrom k t) (plain-rule rules t plain k (H .0)) ∙ ap (any (isAt m i)) (sym is) ∙ p)
               (is-true (at-decides m j (headsAt (wordsFrom k t))) (w .0, in-heads (w .0) (w .1), w .2)),
         )
 
@@ -80,7 +77,7 @@ module _ (t : List ℤ) (rules : ℕ) (m : List ℕ) where
         | inr n ↦
             let p = and-left (any (isAt m i) body) _ n in
             let r = and-right (any (isAt m i) body) _ n in
-            inr (both r (an-edge i j p r))
+            inr (and-both r (an-edge i j p r))
       ];
     }
 
@@ -88,7 +85,7 @@ module _ (t : List ℤ) (rules : ℕ) (m : List ℕ) where
     drawn-keeps n f i j a b p q = is-true (cases i j a b) (inl (f i j a b p q))
 
     pub drawn-here : Drawn head after k
-    drawn-here i j a b p q = is-true (cases i j a b) (inr (both (ap (any (isAt m i)) is ∙ p) q))
+    drawn-here i j a b p q = is-true (cases i j a b) (inr (and-both (ap (any (isAt m i)) is ∙ p) q))
 
   -- all rules with the head
   pub drawing-end : allPlain (rulesAt rules t) ≡ true → {v : ℕ} {head U : List ℤ} {before e : List ℕ} → head ≡ pos v ∷ [] → Placed m U → Drawing head before e
@@ -121,7 +118,7 @@ module _ (t : List ℤ) (rules : ℕ) (m : List ℕ) where
   to-number {U} P i j =
       same-test (passed (any (isAt m j) U && edgesAll i j)) (passed (edgesAll i j))
       (λ q. and-right (any (isAt m j) U) _ q)
-      (λ q. both (there q) q)
+      (λ q. and-both (there q) q)
     where
       there : edgesAll i j ≡ true → any (isAt m j) U ≡ true
       there q =

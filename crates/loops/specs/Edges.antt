@@ -1,5 +1,5 @@
 -- The numbers of an `l` line by their places in it, and the edges between the places: what `is_loop` asks, and what the
--- functions of src/edges.rt promise.
+-- functions of src/edges.rt promise. No reader of a public contract needs it.
 -- Assumes nothing.
 use mathlib.Core.Path.{_≡_}
 use mathlib.Core.Bool.{Bool, true, false, cond, _&&_, _||_}

@@ -1,4 +1,5 @@
 -- What the functions of src/searches.rt promise: the places that the first place leads to, one edge after another.
+-- No reader of a public contract needs it.
 -- Assumes nothing.
 use mathlib.Core.Path.{_≡_}
 use mathlib.Core.Bool.{Bool, true, cond, not, _&&_, _||_}

@@ -31,7 +31,7 @@ fn byte_at(bytes: &[u8], v: usize) -> usize
     ensures { λ r. ⌜ r ≡ getD (now (bytes .entry)) v 0 ⌝ }
 {
     if v < bytes.len() {
-        words::wide(bytes[v])
+        words::wide_byte(bytes[v])
     } else {
         0
     }
@@ -81,7 +81,7 @@ fn mark_heads(a: usize, heads: &[u8], edges: &mut [u8])
 {
     let mut k = 0;
     while k < heads.len() {
-        mark_edge(edges, a, words::wide(heads[k]));
+        mark_edge(edges, a, words::wide_byte(heads[k]));
         k += 1;
     }
 }

@@ -34,13 +34,6 @@ pub fn mark(marks: &mut [u8], v: usize) -> bool
     false
 }
 
-// A number of the set.
-fn wide(v: u16) -> usize
-    ensures { λ r. ⌜ r ≡ v ⌝ }
-{
-    v as usize
-}
-
 // Question 42: the numbers ascend strictly, from 1 to `high`.
 pub fn ascends_within(set: &[u16], high: usize) -> bool
     ensures { λ r. ⌜ r ≡ ascends 0 high (now (set .entry)) ⌝ }
@@ -48,7 +41,7 @@ pub fn ascends_within(set: &[u16], high: usize) -> bool
     let mut low = 0;
     let mut i = 0;
     while i < set.len() {
-        let v = wide(set[i]);
+        let v = words::wide(set[i]);
         i += 1;
         if v <= low {
             return false;
@@ -67,7 +60,7 @@ pub fn mark_all(set: &[u16], marks: &mut [u8])
 {
     let mut i = 0;
     while i < set.len() {
-        mark(marks, wide(set[i]));
+        mark(marks, words::wide(set[i]));
         i += 1;
     }
 }

@@ -1,9 +1,8 @@
 -- Questions 22 to 25 of a line under new names, and how a question that is passed is used. Assumes nothing.
 use mathlib.Core.Path.{_≡_, refl, sym, ap, _∙_}
-use mathlib.Core.Logic.{_⊎_, inl, inr}
 use mathlib.Core.Bool.{Bool, true, false, cond, not, _||_}
 use mathlib.Core.Option.{Option, none, some}
-use mathlib.Core.List.{List, [], _∷_, _++_, map, List·Memᴰ·head, List·Memᴰ·tail, List·Memᴰ·append-cases, List·Memᴰ·eq-of-singleton, Memᴰ·append-left, Memᴰ·append-right, Memᴰ·of-map}
+use mathlib.Core.List.{List, [], _∷_, _++_, map, List·Memᴰ·head, List·Memᴰ·tail, Memᴰ·append-left, Memᴰ·append-right, Memᴰ·of-map}
 use Prim.Native.Nat.{ℕ, zero, suc, _≤_}
 use native.Mathlib.Omega.{arith}
 use lib.Dec.{T, ltb}
@@ -11,7 +10,7 @@ use lib.IntN.{ℤ, pos, negsuc}
 use lib.ListN.{length}
 use Rattle.words.specs.Limits.{mostNumbers}
 use Rattle.words.specs.Lists.{_∈_}
-use Rattle.words.specs.Literals.{variable, complement, has, distinct}
+use Rattle.words.specs.Literals.{variable, has, distinct}
 use Rattle.words.proofs.Lists.{zero-one, Decides, passed, itself, and-decides, not-decides, if-decides, all-decides, leb-decides}
 use Rattle.words.proofs.Places.{once-decides}
 use Rattle.words.proofs.Literals.{has-decides}
@@ -123,26 +122,6 @@ distinct-renamed f (y ∷ L) a t =
           a y (r .0) (List·Memᴰ·head refl) (List·Memᴰ·tail (r .1))
               (sym (renamed-variable f y) ∙ (q .2 ∙ (sym (ap variable (r .2)) ∙ renamed-variable f (r .0)))),
         )
-
-pub distinct-end : (L : List ℤ) (x : ℤ) → T (distinct L) → ¬ ((k : ℤ) × (k ∈ L) × (variable x ≡ variable k)) → T (distinct (L ++ (x ∷ [])))
-distinct-end [] x t d = tt
-distinct-end (y ∷ L) x t d =
-    let r = once-decides y L .to t in
-    once-decides y (L ++ (x ∷ [])) .from (apart (r .0), passed _ .to (distinct-end L x (passed _ .from (r .1)) (λ q. d (q .0, List·Memᴰ·tail (q .1), q .2))))
-  where
-    apart : (¬ ((k : ℤ) × (k ∈ L) × (variable y ≡ variable k))) → ¬ ((k : ℤ) × (k ∈ L ++ (x ∷ [])) × (variable y ≡ variable k))
-    apart e q = elim (List·Memᴰ·append-cases L (q .1)) [
-      | inl m ↦ e (q .0, m, q .2)
-      | inr m ↦ d (y, List·Memᴰ·head refl, sym (q .2 ∙ ap variable (List·Memᴰ·eq-of-singleton m)))
-    ]
-
-pub same-variable : (a b : ℤ) → variable a ≡ variable b → (a ≡ b) ⊎ (a ≡ complement b)
-same-variable (pos m) (pos n) p = inl (ap pos p)
-same-variable (pos zero) (negsuc n) p = absurd (omega arith)
-same-variable (pos (suc m)) (negsuc n) p = inr (ap pos p)
-same-variable (negsuc m) (pos zero) p = absurd (omega arith)
-same-variable (negsuc m) (pos (suc n)) p = let q : m ≡ n = omega arith in inr (ap negsuc q)
-same-variable (negsuc m) (negsuc n) p = let q : m ≡ n = omega arith in inl (ap negsuc q)
 
 -- Lists of steps
 

@@ -104,13 +104,11 @@ module _ (n : ℤ) (L : List ℤ) where
   body-there (t ∷ ts) named (List·Memᴰ·head p) = subst (λ (s : Step). record { name = variable n; body = ascending L } ∈ namedIn (namedBy s named) ts) p (named-all ts _ _ (List·Memᴰ·head refl))
   body-there (t ∷ ts) named (List·Memᴰ·tail m) = body-there ts (namedBy t named) m
 
-  body-introduced : (ts : List Step) (names : List ℕ) → record { letter = Body; numbers = n ∷ L } ∈ ts → variable n ∈ introducedIn names ts
-  body-introduced (t ∷ ts) names (List·Memᴰ·head p) = subst (λ (s : Step). variable n ∈ introducedIn (introducedBy s names) ts) p (introduced-all ts _ _ (List·Memᴰ·head refl))
-  body-introduced (t ∷ ts) names (List·Memᴰ·tail m) = body-introduced ts (introducedBy t names) m
-
-  extension-introduced : (ts : List Step) (names : List ℕ) → record { letter = Extension; numbers = n ∷ L } ∈ ts → variable n ∈ introducedIn names ts
-  extension-introduced (t ∷ ts) names (List·Memᴰ·head p) = subst (λ (s : Step). variable n ∈ introducedIn (introducedBy s names) ts) p (introduced-all ts _ _ (List·Memᴰ·head refl))
-  extension-introduced (t ∷ ts) names (List·Memᴰ·tail m) = extension-introduced ts (introducedBy t names) m
+  -- a line of a letter that introduces its first number
+  line-introduced : (c : Letter) → ((names : List ℕ) → variable n ∈ introducedBy (record { letter = c; numbers = n ∷ L }) names)
+      → (ts : List Step) (names : List ℕ) → record { letter = c; numbers = n ∷ L } ∈ ts → variable n ∈ introducedIn names ts
+  line-introduced c here (t ∷ ts) names (List·Memᴰ·head p) = subst (λ (s : Step). variable n ∈ introducedIn (introducedBy s names) ts) p (introduced-all ts _ _ (here names))
+  line-introduced c here (t ∷ ts) names (List·Memᴰ·tail m) = line-introduced c here ts (introducedBy t names) m
 
   extension-there : (ts : List Step) (names : List ℕ) → record { letter = Extension; numbers = n ∷ L } ∈ ts → variable n ∈ extendedIn names ts
   extension-there (t ∷ ts) names (List·Memᴰ·head p) = subst (λ (s : Step). variable n ∈ extendedIn (extendedBy names s) ts) p (extended-all ts _ _ (List·Memᴰ·head refl))
@@ -245,11 +243,11 @@ module _ (N : ℕ) (P : List Rule) (small : plainAtoms P ≤ N) (v : ℕ) (atom 
   introduces₁ : (c : Letter) (zs : List ℤ) → record { letter = c; numbers = zs } ∈ one → Introduces N P small (pos v) (λ n. n) [] start i₁ setting₁ c zs
   introduces₁ Addition zs m = tt
   introduces₁ Body [] m = tt
-  introduces₁ Body (n ∷ L) m = (body-introduced n L one [] m, inr (tt, λ i. elim i [ ], λ y i. elim i [ ]))
+  introduces₁ Body (n ∷ L) m = (line-introduced n L Body (λ l. List·Memᴰ·head refl) one [] m, inr (tt, λ i. elim i [ ], λ y i. elim i [ ]))
   introduces₁ Completion zs m = tt
   introduces₁ Deletion zs m = tt
   introduces₁ Extension [] m = tt
-  introduces₁ Extension (n ∷ L) m = (extension-introduced n L one [] m, λ i. elim i [ ])
+  introduces₁ Extension (n ∷ L) m = (line-introduced n L Extension (λ l. List·Memᴰ·head refl) one [] m, λ i. elim i [ ])
   introduces₁ Loop zs m = tt
   introduces₁ Support zs m = tt
 
@@ -374,11 +372,11 @@ module _ (N : ℕ) (P : List Rule) (small : plainAtoms P ≤ N) (v : ℕ) (atom 
     introduces₂ : (c : Letter) (zs : List ℤ) → record { letter = c; numbers = zs } ∈ two → Introduces N P small (negℤ (pos v)) f₂ bodies₁ w₁ i₂ setting₂ c zs
     introduces₂ Addition zs m = tt
     introduces₂ Body [] m = tt
-    introduces₂ Body (n ∷ L) m = let i = body-introduced n L two [] m in body-line n L i (body-there n L two [] m) (kinds₂ .kinds (variable n) i)
+    introduces₂ Body (n ∷ L) m = let i = line-introduced n L Body (λ l. List·Memᴰ·head refl) two [] m in body-line n L i (body-there n L two [] m) (kinds₂ .kinds (variable n) i)
     introduces₂ Completion zs m = tt
     introduces₂ Deletion zs m = tt
     introduces₂ Extension [] m = tt
-    introduces₂ Extension (n ∷ L) m = let i = extension-introduced n L two [] m in (i, extension-line n L m (kinds₂ .kinds (variable n) i))
+    introduces₂ Extension (n ∷ L) m = let i = line-introduced n L Extension (λ l. List·Memᴰ·head refl) two [] m in (i, extension-line n L m (kinds₂ .kinds (variable n) i))
     introduces₂ Loop zs m = tt
     introduces₂ Support zs m = tt
 

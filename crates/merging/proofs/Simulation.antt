@@ -9,7 +9,8 @@ use lib.IntN.{ℤ, pos, negsuc, negℤ}
 use Rattle.words.specs.Lists.{_∈_, all}
 use Rattle.words.specs.Literals.{variable, complement, has, distinct, ascending}
 use Rattle.words.proofs.Lists.{each-cons, zero-one, Decides, itself, passed, failed, is-true, and-decides, not-decides, if-decides, any-decides, all-decides, keep→, keep←, dropFirst→}
-use Rattle.words.proofs.Literals.{sameList-decides, has-decides, complement-twice, ascending→, ascending←}
+use Rattle.words.proofs.Literals.{sameList-decides, has-decides, complement-twice, same-variable, ascending→, ascending←}
+use Rattle.words.proofs.Places.{distinct-last}
 use Rattle.text.specs.declared.Letter.{Letter}
 use Rattle.text.specs.declared.Letter.the-variants.{Addition, Body, Completion, Deletion, Extension, Loop, Support}
 use Rattle.aspif.specs.Rules.{Rule, plainAtoms}
@@ -24,11 +25,11 @@ use Rattle.derivation.specs.Steps.{Outcome, refused, next, add, definition, def
 use Rattle.derivation.specs.Steps as Steps
 use Rattle.derivation.proofs.Closure.{refuted-decides}
 use Rattle.derivation.proofs.Invariant.{AllKnown, AllAtoms}
-use Rattle.derivation.proofs.Questions.{positive-is, head-atom, body-atom, known-decides, atom-known, name-decides, hasName-decides}
+use Rattle.derivation.proofs.Questions.{positive-is, head-atom, body-atom, known-decides, allKnown-decides, atom-known, name-decides, hasName-decides}
 use Rattle.merging.specs.Merge.{demand, demanding, renamed, namedBy, isBody, isAmong, one, kept, half, fits, allFit}
 use Rattle.merging.specs.Merge as Merge
 use Rattle.merging.proofs.Propagates.{Covered, conflict-follows, renamed-complement, renamed-variable}
-use Rattle.merging.proofs.Lines.{cond-cases, Then, if-yes, if-no, if-line, line-passes, signed-renamed, renamed-nonzero, distinct-renamed, distinct-end, same-variable, steps-append, fit-append}
+use Rattle.merging.proofs.Lines.{cond-cases, Then, if-yes, if-no, if-line, line-passes, signed-renamed, renamed-nonzero, distinct-renamed, steps-append, fit-append}
 use Rattle.merging.proofs.Relation.{demanding-atoms, loop-same, Defines, Within, definition-defines, covered-same, Setting, Bodies, Follows, bodies-more, half-adds, both-add, both-define, half-defines}
 
 -- a rule of a list that a `c` line names
@@ -93,9 +94,6 @@ module _ (N : ℕ) (P : List Rule) (small : plainAtoms P ≤ N) (x : ℤ) (f : �
         let q = Memᴰ·of-map (renamed f) L m in
         rw (← q .2, renamed-variable f (q .0)) (known-follows (variable (q .0)) (a (q .0) (q .1)))
 
-    allKnown-decides : (s : State) (L : List ℤ) → Decides (allKnown N s L) (AllKnown N s L)
-    allKnown-decides s L = all-decides (λ y. itself (isKnown N s (variable y))) L
-
     -- the names of the half and the atoms stay apart
     ours-apart : (u v : ℕ) → T (isAtom N u) ⊎ (u ∈ names) → T (isAtom N v) ⊎ (v ∈ names) → f u ≡ f v → u ≡ v
     ours-apart u v (inl a) (inl b) e = sym (S .atoms-stay u a) ∙ (e ∙ S .atoms-stay v b)
@@ -125,11 +123,11 @@ module _ (N : ℕ) (P : List Rule) (small : plainAtoms P ≤ N) (x : ℤ) (f : �
         (w′, ap (λ (o : Outcome). elim o [ refused k ↦ refused k | next z′ ↦ steps N P z′ [] ]) q, G)
 
     citing-passes : (L : List ℤ) (o : Outcome) → AllKnown N w L → citing N w L o ≡ o
-    citing-passes L o a = first (allKnown N w L) o (refused 26) (is-true (allKnown-decides w L) a)
+    citing-passes L o a = first (allKnown N w L) o (refused 26) (is-true (allKnown-decides N w L) a)
 
     naming-passes : (n : ℤ) (L : List ℤ) (o : Outcome) → AllKnown N w L → ¬ T (isKnown N w (variable n)) → naming N w n L o ≡ o
     naming-passes n L o a u =
-        first (allKnown N w L) _ (refused 26) (is-true (allKnown-decides w L) a)
+        first (allKnown N w L) _ (refused 26) (is-true (allKnown-decides N w L) a)
         ∙ second (isKnown N w (variable n)) (refused 27) o (failed (isKnown N w (variable n)) (not-decides (itself (isKnown N w (variable n))) .from u))
 
     -- Additions
@@ -175,15 +173,15 @@ module _ (N : ℕ) (P : List Rule) (small : plainAtoms P ≤ N) (x : ℤ) (f : �
             cond-cases (λ K. Goes z′ (one Addition K)) (has x (map (renamed f) L))
             (λ h. with-literal _ (λ y m. m) (has-decides x (map (renamed f) L) .to h) (λ k m. inr m) once)
             (λ h. with-literal _ (λ y m. Memᴰ·append-left _ m) (Memᴰ·append-right (map (renamed f) L) (List·Memᴰ·head refl)) ends
-            (distinct-end (map (renamed f) L) x once (apart h)))
+            (passed _ .from (distinct-last (map (renamed f) L) x (passed _ .to once) (apart h))))
           where
             ends : (k : ℤ) → k ∈ map (renamed f) L ++ (x ∷ []) → (k ≡ x) ⊎ (k ∈ map (renamed f) L)
             ends k m = elim (List·Memᴰ·append-cases (map (renamed f) L) m) [ inl v ↦ inr v | inr v ↦ inl (List·Memᴰ·eq-of-singleton v) ]
 
-            apart : T (not (has x (map (renamed f) L))) → ¬ ((k : ℤ) × (k ∈ map (renamed f) L) × (variable x ≡ variable k))
-            apart h q = elim (same-variable (q .0) x (sym (q .2))) [
-              | inl e ↦ not-decides (has-decides x (map (renamed f) L)) .to h (Memᴰ·cast (sym e) (q .1))
-              | inr e ↦ not-decides (has-decides (complement x) (map (renamed f) L)) .to u (Memᴰ·cast (sym e) (q .1))
+            apart : T (not (has x (map (renamed f) L))) → (k : ℤ) → k ∈ map (renamed f) L → ¬ (variable k ≡ variable x)
+            apart h k m q = elim (same-variable k x q) [
+              | inl e ↦ not-decides (has-decides x (map (renamed f) L)) .to h (Memᴰ·cast (sym e) m)
+              | inr e ↦ not-decides (has-decides (complement x) (map (renamed f) L)) .to u (Memᴰ·cast (sym e) m)
             ]
 
     -- Deletions
@@ -494,11 +492,11 @@ module _ (N : ℕ) (P : List Rule) (small : plainAtoms P ≤ N) (x : ℤ) (f : �
     Result c zs z′ = (z′ .named ≡ namedBy (record { letter = c; numbers = zs }) (z .named)) × Goes z′ (kept P x f shared (z .named) c zs)
 
     knowing : (Q : State → Type 0) (L : List ℤ) (o : Outcome) → (AllKnown N z L → Then Q o) → Then Q (citing N z L o)
-    knowing Q L o g = if-yes Q (allKnown-decides z L) o 26 g
+    knowing Q L o g = if-yes Q (allKnown-decides N z L) o 26 g
 
     introducing : (Q : State → Type 0) (n : ℤ) (L : List ℤ) (o : Outcome) → (AllKnown N z L → ¬ T (isKnown N z (variable n)) → Then Q o)
         → Then Q (naming N z n L o)
-    introducing Q n L o g = if-yes Q (allKnown-decides z L) _ 26 (λ a. if-no Q (itself (isKnown N z (variable n))) o 27 (λ u. g a u))
+    introducing Q n L o g = if-yes Q (allKnown-decides N z L) _ 26 (λ a. if-no Q (itself (isKnown N z (variable n))) o 27 (λ u. g a u))
 
     letter-goes : (c : Letter) (zs : List ℤ) → ¬ (pos 0 ∈ zs) → T (signed (signsOf c) zs) → T (distinct zs) → Introduces c zs → Then (Result c zs) (byLetter N (demanding P x) z c zs)
     letter-goes Addition L nz s t i =

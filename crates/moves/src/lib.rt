@@ -15,7 +15,6 @@ use aspif::tables::LONGEST_RULE;
 use packets::HEADER;
 use packets::PacketWriting;
 use packets::Version;
-use packets::numbers;
 use packets::reader;
 use packets::reader::Part;
 use packets::reader::RulesPart;

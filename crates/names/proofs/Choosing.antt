@@ -71,7 +71,7 @@ module _ {pairs body : List ℤ} {bound total least left n : ℕ} {found : List 
     also = λ called C. rw (ends-heavy bound total least (paired pairs) (λ t i j. omega arith)) (also-none found);
   }
 
-  -- "never include after the bound is reached"
+  -- never include after the bound is reached
   pub reached : {bodies : List ℤ} {found′ : List ℕ} → bound ≤ total → total < bound + least
       → ((called : List ℤ → ℕ) → Called bodies called → AlsoMarks found found′ (called (ascending (take n body)) ∷ []))
       → MarksEnds pairs bound total least n body body bodies found found′
@@ -176,7 +176,7 @@ module _ {pairs body : List ℤ} {bound total least left n : ℕ} {found : List 
         sym (take-take n (n + 1) first (omega arith)) ∙ ap (take n) (j .keeps ∙ longer)
         ∙ take-at (take n body) (x .literal ∷ []) n (length-take-le n body (omega (arith, in-body)))
 
-    -- "stop where the weights left do not reach the bound"
+    -- stop where the weights left do not reach the bound
     pub stops : {bodies first : List ℤ} {found′ : List ℕ} → total + left < bound + x .weight → With bodies first found′
         → MarksEnds pairs bound total least n body first bodies found found′
     stops h j = record {

@@ -37,7 +37,7 @@ word-size true zero = refl
 word-size true (suc n) = refl
 word-size false n = refl
 
--- "0 is no origin", so that the sign says whether it is dead
+-- 0 is no origin, so that the sign says whether it is dead
 word-sign : (b : Bool) (n : ℕ) → 1 ≤ n → ltZ (cond b (negℤ (pos n)) (pos n)) (pos 0) ≡ b
 word-sign true zero h = absurd (omega arith)
 word-sign true (suc n) h = refl

@@ -1,5 +1,6 @@
 -- The index that goes with a store for the length of a check: chains by the literals and marks of the records' starts, for the records in front, as
 -- far as they were entered. The later cells belong to the search for a conflict, and nothing is said of them. Zeros are an index of any store.
+-- No reader of a public contract needs it.
 -- Assumes nothing.
 use mathlib.Core.Path.{_≡_}
 use mathlib.Core.Logic.{_⊎_}

@@ -184,12 +184,6 @@ pub parts-given : (v : Version) (packet : List ℕ) {table table′ : List ℤ} 
 unfolding reading
 parts-given v packet count part steps bytes e q = rw e q
 
--- a list that was made of zeros is zeros
-pub zeros-made : {A : Type 0} (z : A) {l : List A} {n : ℕ} → l ≡ replicate n z → Zeros z l × (length l ≡ n)
-zeros-made z {l} {n} e =
-    let k : length l ≡ n = ap length e ∙ length-replicate n z in
-    (e ∙ ap (λ m. replicate m z) (sym k), k)
-
 -- The version that is told
 
 pub told-one : {n : ℕ} → n ≡ 1 → versionOf n ≡ some One

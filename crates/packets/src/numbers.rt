@@ -24,7 +24,7 @@ pub fn value_of(bytes: &[u8], negative: bool) -> usize
     let mut n = 0;
     while 0 < i {
         i -= 1;
-        n = n * 256 + words::wide(flip_if(negative, bytes[i]));
+        n = n * 256 + words::wide_byte(flip_if(negative, bytes[i]));
     }
     n
 }

@@ -71,7 +71,7 @@ fn step_size(bytes: &[u8]) -> usize
     if bytes.len() < 2 {
         return 0;
     }
-    let size = 2 + 2 * words::wide(bytes[1]);
+    let size = 2 + 2 * words::wide_byte(bytes[1]);
     if bytes.len() < size {
         return 0;
     }
@@ -273,7 +273,7 @@ fn read_step(bytes: &[u8], proof: &mut [u8], at: usize, classes: &[u8; 256]) -> 
     requires { ⌜ now classes ≡ byteClasses ⌝ }
     ensures { λ r. ⌜ StepTold (stepAt (now (bytes .entry))) (now (proof .entry)) (now (proof .exit)) at r ⌝ }
 {
-    let count = words::wide(bytes[1]);
+    let count = words::wide_byte(bytes[1]);
     let class = text::class_of(classes, bytes[0]);
     match class {
         Class::Step(letter) => step_with(letter, count, &bytes[2..], proof, at),

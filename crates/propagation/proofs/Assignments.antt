@@ -10,7 +10,7 @@ use lib.ListN.{length, getD, set, drop, replicate}
 use lib.Seq.{getD-set-same, getD-set-other}
 use Rattle.words.specs.Lists.{_∈_}
 use Rattle.words.specs.Literals.{variable, complement}
-use Rattle.words.proofs.Literals.{variable-complement}
+use Rattle.words.proofs.Literals.{variable-complement, same-variable}
 use Rattle.words.proofs.Places.{equal?, in-at, place-of, variables-differ}
 use Rattle.words.proofs.Laws.{padded}
 use Rattle.nogoods.specs.Keeps.{Literals}
@@ -29,14 +29,6 @@ pub entry-complement : (z : ℤ) → 1 ≤ variable z → entry (complement z) �
 entry-complement (pos zero) h = absurd (omega arith)
 entry-complement (pos (suc n)) h = refl
 entry-complement (negsuc n) h = refl
-
--- a variable's literals are a literal and its complement
-same-variable : (x y : ℤ) → variable y ≡ variable x → (y ≡ x) ⊎ (y ≡ complement x)
-same-variable (pos a) (pos b) e = inl (ap pos e)
-same-variable (pos zero) (negsuc b) e = absurd (omega arith)
-same-variable (pos (suc a)) (negsuc b) e = inr (ap negsuc (omega arith))
-same-variable (negsuc a) (pos b) e = inr (ap pos e)
-same-variable (negsuc a) (negsuc b) e = inl (ap negsuc (omega arith))
 
 pub positive-complement : (z : ℤ) → 1 ≤ variable z → 1 ≤ variable (complement z)
 positive-complement z h = rw (variable-complement z) h
@@ -71,10 +63,6 @@ pub free-most : (m : List ℕ) → free m ≤ length m
 free-most [] = omega arith
 free-most (x ∷ m) = omega (arith, free-cons x m, free-most m)
 
--- nothing is true where all are free
-pub zeros : (n k : ℕ) → _≡_ {A = ℕ} (getD (replicate n 0) k 0) 0
-zeros n k = padded 0 [] n k
-
 -- one more entry, before the end
 pub blank-set : (m : List ℕ) (v e end last : ℕ) → BlankFrom end m → end ≤ last → v < last → BlankFrom last (set m v e)
 blank-set m v e end last b h l j k = getD-set-other m v j e 0 (λ p. omega arith) ∙ b j (omega arith)
@@ -86,8 +74,9 @@ blanked zero (x ∷ m) h b = ap₂ _∷_ (b 0 (omega arith)) (blanked zero m (om
 blanked (suc end) [] h b = absurd (omega arith)
 blanked (suc end) (x ∷ m) h b = ap (λ (l : List ℕ). 0 ∷ l) (blanked end m (omega arith) (λ j k. b (suc j) (omega arith)))
 
+-- nothing is true where all are free
 pub none-true : (n : ℕ) (z : ℤ) → ¬ Assigns (replicate n 0) z
-none-true n z a = let e = zeros n (variable z) in elim (entry-cases z) [ inl p ↦ omega arith | inr p ↦ omega arith ]
+none-true n z a = let e = padded {A = ℕ} 0 [] n (variable z) in elim (entry-cases z) [ inl p ↦ omega arith | inr p ↦ omega arith ]
 
 -- literals of which no variable stands twice have no literal with its complement
 pub alone : (L : List ℤ) → Literals L → (i : ℕ) → i < length L → ¬ (complement (getD L i (pos 0)) ∈ L)
@@ -116,7 +105,7 @@ module _ (m : List ℕ) (x : ℤ) (h : variable x < length m) where
   pub assigned→ : (y : ℤ) → 1 ≤ variable x → Assigns with-x y → (y ≡ x) ⊎ Assigns m y
   assigned→ y p a = elim (equal? (variable y) (variable x)) [
     | inr n ↦ inr (rw (getD-set-other m (variable x) (variable y) (entry x) 0 n) at a)
-    | inl e ↦ elim (same-variable x y e) [
+    | inl e ↦ elim (same-variable y x e) [
       | inl q ↦ inl q
       | inr q ↦ absurd (not-both with-x x p assigned (rw q at a))
     ]
@@ -125,7 +114,7 @@ module _ (m : List ℕ) (x : ℤ) (h : variable x < length m) where
   pub assigned-kept : ¬ Assigns m (complement x) → (y : ℤ) → Assigns m y → Assigns with-x y
   assigned-kept f y a = elim (equal? (variable y) (variable x)) [
     | inr n ↦ rw (getD-set-other m (variable x) (variable y) (entry x) 0 n) a
-    | inl e ↦ elim (same-variable x y e) [
+    | inl e ↦ elim (same-variable y x e) [
       | inl q ↦ rw q assigned
       | inr q ↦ absurd (f (rw q at a))
     ]

@@ -1,4 +1,4 @@
--- What the functions of src/propagation.rt, src/units.rt and src/replay.rt promise of the assignment. Only private
+-- What the functions of src/lib.rt, src/units.rt and src/replay.rt promise of the assignment. Only private
 -- functions cite this file; the contract of `refutes` names the derivation's `refuted` alone.
 -- Assumes nothing.
 use mathlib.Core.Path.{_≡_}

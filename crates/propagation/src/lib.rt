@@ -99,23 +99,12 @@ fn settle(nogoods: &[i32], rounds: usize, assignment: &mut [u8; ENTRIES]) -> Swe
     Swept::Changed
 }
 
-// Every entry becomes free.
-fn clear(assignment: &mut [u8])
-    ensures { λ _. ⌜ now (assignment .exit) ≡ replicate (length (now (assignment .entry))) 0 ⌝ }
-{
-    let mut v = 0;
-    while v < assignment.len() {
-        assignment[v] = 0;
-        v += 1;
-    }
-}
-
 // Every entry becomes free, where those from an end on are.
 fn release(assignment: &mut [u8], end: usize)
     requires { ⌜ (end ≤ length (now assignment)) × BlankFrom end (now assignment) ⌝ }
     ensures { λ _. ⌜ now (assignment .exit) ≡ replicate (length (now (assignment .entry))) 0 ⌝ }
 {
-    clear(&mut assignment[..end]);
+    words::zero_bytes(&mut assignment[..end]);
 }
 
 // What the replay leaves: sweeps until nothing changes. Each before the last one assigns a variable, so that one more than there are entries is enough.
@@ -126,7 +115,7 @@ fn exhaust(nogoods: &[i32], assignment: &mut [u8; ENTRIES]) -> bool
     ensures free { λ _. ⌜ now (assignment .exit) ≡ replicate entries 0 ⌝ }
 {
     let swept = settle(nogoods, ENTRIES + 1, assignment);
-    clear(assignment);
+    words::zero_bytes(assignment);
     match swept {
         Swept::Refuted => true,
         Swept::Same => false,

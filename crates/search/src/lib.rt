@@ -85,14 +85,11 @@ enum Turn {
 fn get(cells: &[u16], i: usize) -> usize
     ensures { λ r. ⌜ r ≤ 65535 ⌝ }
 {
-    if i < cells.len() { wide(cells[i]) } else { 0 }
-}
-
-// A cell's number.
-pub fn wide(x: u16) -> usize
-    ensures { λ r. ⌜ r ≤ 65535 ⌝ }
-{
-    x as usize
+    if i < cells.len() {
+        words::wide(cells[i])
+    } else {
+        0
+    }
 }
 
 // The cell at i becomes v, where both fit.

@@ -18,13 +18,6 @@ pub enum Walked {
     NoTree,
 }
 
-// A number as a size.
-pub fn wide(number: u16) -> usize
-    ensures { λ r. ⌜ r ≡ number ⌝ }
-{
-    number as usize
-}
-
 // The atom is on the path.
 fn is_on(path: &[u16], atom: u16) -> bool
     ensures { λ r. ⌜ r ≡ any (eqb atom) (now (path .entry)) ⌝ }
@@ -76,7 +69,7 @@ fn shape(depth: usize, path: [u16; MOST_SPLITS], atoms: usize, tree: &[u16]) -> 
         return Walked::NoTree;
     }
     let mut below = path;
-    if (atoms < wide(atom)) | is_on(&below[..MOST_SPLITS - depth], atom) {
+    if (atoms < words::wide(atom)) | is_on(&below[..MOST_SPLITS - depth], atom) {
         return Walked::NoTree;
     }
     below[MOST_SPLITS - depth] = atom;

@@ -1,5 +1,5 @@
 -- What the code that goes over the pairs of a weight body holds on to: some literals are chosen, of weight k and the least of them of
--- weight m; which of the others complete them to a minimal set.
+-- weight m; which of the others complete them to a minimal set. No reader of a public contract needs it.
 -- Assumes nothing.
 use mathlib.Core.Bool.{Bool, false, _&&_}
 use mathlib.Core.List.{List, [], _∷_, map}

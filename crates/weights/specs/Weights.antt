@@ -1,4 +1,4 @@
--- Weight bodies: "one for each subset-minimal set of literals that reaches the bound" (document 000, section 2.1).
+-- Weight bodies: a plain body "for each subset-minimal set of literals that reaches the bound" (document 02, Change 3; document 000, section 2.1).
 -- Assumes nothing.
 use mathlib.Core.Bool.{Bool, _&&_}
 use mathlib.Core.List.{List, [], _∷_, _++_, map}

@@ -40,12 +40,15 @@ if-true {b} i e = i .to (passed b .from e)
 pub is-true : {b : Bool} {A : Type 0} → Decides b A → A → b ≡ true
 is-true {b} i x = passed b .to (i .from x)
 
--- the parts of a conjunction
+-- the parts of a conjunction, and a conjunction from its parts
 pub and-left : (a b : Bool) → (a && b) ≡ true → a ≡ true
 and-left a b e = and-eq-true-iff a b .0 e .0
 
 pub and-right : (a b : Bool) → (a && b) ≡ true → b ≡ true
 and-right a b e = and-eq-true-iff a b .0 e .1
+
+pub and-both : {a b : Bool} → a ≡ true → b ≡ true → (a && b) ≡ true
+and-both p q = rw (p, q) refl
 
 -- the parts of a disjunction that is not passed
 pub or-false-left : (a b : Bool) → (a || b) ≡ false → a ≡ false

@@ -50,6 +50,15 @@ variable-complement (pos zero) = refl
 variable-complement (pos (suc n)) = refl
 variable-complement (negsuc n) = refl
 
+-- a variable's literals are a literal and its complement
+pub same-variable : (x y : ℤ) → variable x ≡ variable y → (x ≡ y) ⊎ (x ≡ complement y)
+same-variable (pos m) (pos n) e = inl (ap pos e)
+same-variable (pos zero) (negsuc n) e = absurd (omega arith)
+same-variable (pos (suc m)) (negsuc n) e = inr (ap pos e)
+same-variable (negsuc m) (pos zero) e = absurd (omega arith)
+same-variable (negsuc m) (pos (suc n)) e = inr (ap negsuc (omega arith))
+same-variable (negsuc m) (negsuc n) e = inl (ap negsuc (omega arith))
+
 -- only 0 has the variable 0
 pub variable-positive : (x : ℤ) → x ≢ pos 0 → 1 ≤ variable x
 variable-positive (pos zero) f = absurd (f refl)

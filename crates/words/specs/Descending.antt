@@ -1,5 +1,6 @@
 -- Descending chains: places of one key, newest first. A chain's entry is one more than a place, and 0 at its end, so that entries of zeros are
 -- empty chains. Nothing is said of what can be reached. The chains of nogoods by their literals, and of rules by a head, are such.
+-- No reader of a public contract needs it.
 -- Assumes nothing.
 use mathlib.Core.Path.{_≡_}
 use mathlib.Core.Logic.{_⊎_}

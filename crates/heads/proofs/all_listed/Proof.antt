@@ -1,17 +1,18 @@
 -- The walk along the chain of the atom: each rule of it that is not ahead has hit its name.
 use mathlib.Core.Path.{_≡_, refl, sym, ap, subst, _∙_}
 use mathlib.Core.Logic.{inl, inr}
-use mathlib.Core.List.{List}
+use mathlib.Core.List.{List, []}
 use Prim.Native.Nat.{ℕ, suc, _-_, _≤_, _<_}
 use native.Mathlib.Omega.{arith}
 use lib.IntN.{ℤ, pos}
 use lib.ListN.{length, getD, set, length-set}
 use lib.Seq.{getD-set-same, getD-set-other}
 use Rattle.words.specs.Literals.{variable}
+use Rattle.words.proofs.Laws.{padded}
 use Rattle.words.proofs.Places.{equal?}
 use Rattle.heads.specs.Heads.{Headed, headedTo, headedAt, Place, HasHead, Hit}
 use Rattle.heads.proofs.Starts.{head-of, all-seen}
-use Rattle.heads.proofs.Walks.{Walk, walk-from, walk-on, next-less, zero-at}
+use Rattle.heads.proofs.Walks.{Walk, walk-from, walk-on, next-less}
 use borrow.Author.Needs.{needs}
 use Rattle.heads.proofs.all_listed.Statement.{statement}
 use Rattle.heads.proofs.all_listed.Tie as tie
@@ -56,7 +57,7 @@ loop-holds c =
     let z = s .pre .1 .2 in (
       refl,
       walk-from (s .pre .0 .0 .entered .heads .chains) (omega (arith, s .pre .1 .0)) (c .word-of .ensures),
-      λ j e. absurd (omega (arith, e, ap (λ l. getD l j 0) z, zero-at (length (s .args .hits .now)) j)),
+      λ j e. absurd (omega (arith, e, ap (λ l. getD l j 0) z, padded {A = ℕ} 0 [] (length (s .args .hits .now)) j)),
     )
 
 -- the place at hand
@@ -97,7 +98,7 @@ returns : tie.Need-returns Inv-loop μ-loop
 returns c =
     let p = c .before in
     let w = p .before .before .before in
-    (w .word-of2 .result, headed w, rw (p .before .wide .ensures) at (p .place-of .ensures .1 .1 (c .if1 .taken)))
+    (w .word-of2 .result, headed w, rw (p .before .wide .ensures .0) at (p .place-of .ensures .1 .1 (c .if1 .taken)))
 
 -- the name is listed
 module _ (c : tie.Else1 Inv-loop μ-loop) where
@@ -111,7 +112,7 @@ module _ (c : tie.Else1 Inv-loop μ-loop) where
   low = omega (arith, c .if1 .left, p .place-of .ensures .0)
 
   named : variable (getD (s (i w) .args .listed .now) (p .place-of .result) (pos 0)) ≡ getD (s (i w) .args .names .now) (w .word-of2 .result) 0
-  named = p .place-of .ensures .1 .0 low ∙ p .before .wide .ensures
+  named = p .place-of .ensures .1 .0 low ∙ p .before .wide .ensures .0
 
   inside : p .place-of .result < length (i w .before .loop .hits)
   inside = omega (arith, low, s (i w) .pre .1 .1, i w .before .loop .inv .0)

@@ -36,7 +36,7 @@ returns-2 c =
     let s = e .before .before .before .before in
     let a = s .args in
     λ ws H. rw (← H .are) (λ called K.
-    one-body (a .table .now) (a .rules) (s .pre .0 .0 .1 .sound) (covers e .plain) K (a .body .now) (r .rule-with .result - 1) (c .wide .result) (found d) (c .wide .ensures))
+    one-body (a .table .now) (a .rules) (s .pre .0 .0 .1 .sound) (covers e .plain) K (a .body .now) (r .rule-with .result - 1) (c .wide .result) (found d) (c .wide .ensures .0))
 
 returns-3 : tie.Need-returns-3
 returns-3 c =

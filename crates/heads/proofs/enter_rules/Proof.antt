@@ -1,7 +1,7 @@
 use mathlib.Core.Path.{_≡_, refl, sym, ap, subst, _∙_}
 use mathlib.Core.Bool.{true, cond}
 use mathlib.Core.List.{List}
-use Prim.Native.Nat.{ℕ, zero, suc, _+_, _-_, _≤_, _<_}
+use Prim.Native.Nat.{ℕ, suc, _+_, _-_, _≤_, _<_}
 use native.Mathlib.Omega.{arith}
 use lib.IntN.{ℤ}
 use lib.ListN.{length, drop, getD, length-set}
@@ -16,7 +16,7 @@ use Rattle.heads.specs.Heads.{bucketAt, beforeAt, startOf, wordsFrom, ha
 use Rattle.names.proofs.ByRule.{ByRule}
 use Rattle.heads.proofs.Starts.{rule-here}
 use Rattle.heads.proofs.Walks.{walk-from, walk-on}
-use Rattle.heads.proofs.Bodies.{Naming, naming-start, naming-on, new-kept, naming-end}
+use Rattle.heads.proofs.Bodies.{Naming, naming-start, naming-on, new-kept, naming-end, before-less}
 use borrow.Author.Needs.{needs}
 use Rattle.heads.proofs.enter_rules.Statement.{statement}
 use Rattle.heads.proofs.enter_rules.Tie as tie
@@ -68,11 +68,7 @@ module _ (c : tie.In-loop Inv-loop μ-loop) where
   here = rule-here t (s .args .rules) (s .pre .1) k (place .0)
 
   less : getD (s .args .index .now) (beforeAt + k) 0 ≤ k
-  less = by (getD (s .args .index .now) (beforeAt + k) 0) refl
-    where
-      by : (r : ℕ) → getD (s .args .index .now) (beforeAt + k) 0 ≡ r → r ≤ k
-      by zero e = omega arith
-      by (suc r) e = omega (arith, s .pre .0 .entered .bodies .next k _ r place e .1)
+  less = before-less (s .pre .0) k (place .0)
 
 -- and where it starts
 module _ (c : tie.After-word-of2 Inv-loop μ-loop) where

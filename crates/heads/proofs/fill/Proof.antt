@@ -7,13 +7,13 @@ use native.Mathlib.Omega.{arith}
 use borrow.Author.Tests.{eqb-true}
 use lib.IntN.{ℤ}
 use lib.ListN.{length, drop, getD, length-set, length-append, length-map, length-replicate}
+use Rattle.words.proofs.Laws.{padded}
 use Rattle.words.proofs.Parts.{tail-of}
 use Rattle.aspif.specs.Tables.{sizeAt, headsAt}
 use Rattle.heads.specs.Heads.{startOf, wordsFrom, indexWords, covered, headedBy, headedTo, Entered, Covers}
 use Rattle.names.proofs.ByRule.{Turn}
 use Rattle.heads.proofs.Starts.{start-first, start-on, course-at, rule-turn, heads-few}
 use Rattle.heads.proofs.Entering.{heads-on, none-entered, entered-flag}
-use Rattle.heads.proofs.Walks.{zero-at}
 use borrow.Author.Needs.{needs}
 use Rattle.heads.proofs.fill.Statement.{statement}
 use Rattle.heads.proofs.fill.Tie as tie
@@ -44,7 +44,7 @@ loop-holds c =
       sym (start-first t),
       no-heads t,
       subst (λ l. Entered l t 0) (sym e) (none-entered t),
-      ap (λ l. getD l 0 0) e ∙ zero-at indexWords 0,
+      ap (λ l. getD l 0 0) e ∙ padded {A = ℕ} 0 [] indexWords 0,
       refl,
     )
 

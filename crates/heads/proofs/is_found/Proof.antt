@@ -71,7 +71,7 @@ returns-2 c =
     let a = s d .args in
     let q = g .completes .ensures (c .if2 .taken) in
     let ws = tail-of (w .word-of2 .result) (t d) ∙ words-at w in
-    λ e. (k d, low d, subst (λ (l : List ℤ). Completes l (a .heads .now) (a .name) (getD (a .names .now) (k d) 0)) ws (q .0, sym (g .before .wide .ensures) ∙ q .1))
+    λ e. (k d, low d, subst (λ (l : List ℤ). Completes l (a .heads .now) (a .name) (getD (a .names .now) (k d) 0)) ws (q .0, sym (g .before .wide .ensures .0) ∙ q .1))
 
 loop-again : tie.Need-loop-again Inv-loop μ-loop
 loop-again c =

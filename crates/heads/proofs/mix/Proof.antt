@@ -3,19 +3,15 @@ use mathlib.Core.Bool.{true, false}
 use Prim.Native.Nat.{ℕ, _+_, _*_, _%_, _≤_, _<_}
 use lib.Signed.{ltZ}
 use native.Mathlib.Omega.{arith}
-use lib.IntN.{ℤ, pos, negsuc}
+use lib.IntN.{ℤ, pos}
 use mir.Syntax.{w32}
-use mir.Val.{SFits}
 use mir.Facts.{toZ-ofZ}
 use Rattle.words.specs.Literals.{variable}
+use Rattle.words.proofs.Words.{variable-most}
 use Rattle.heads.specs.Heads.{mixed, hashes}
 use borrow.Author.Needs.{needs}
 use Rattle.heads.proofs.mix.Statement.{statement}
 use Rattle.heads.proofs.mix.Tie as tie
-
-small : (z : ℤ) → SFits w32 z → variable z ≤ 2147483648
-small (pos n) f = omega (arith, f .sfits)
-small (negsuc n) f = omega (arith, f .sfits)
 
 v-is : (c : tie.After-variable-of) → c .variable-of .result ≡ variable (c .before .args .word)
 v-is c = rw (toZ-ofZ (c .before .fits .word)) at (c .variable-of .ensures)
@@ -34,7 +30,7 @@ below n = omega arith
 -- the sums fit
 module _ (c : tie.After-variable-of) where
   room : (c .before .args .h < hashes) × (c .variable-of .result ≤ 2147483648)
-  room = (c .before .pre, omega (arith, v-is c, small _ (c .before .fits .word)))
+  room = (c .before .pre, omega (arith, v-is c, variable-most w32 _ (c .before .fits .word)))
 
 add-result : tie.Need-add-result
 add-result c = let k = room (c .before) in search needs

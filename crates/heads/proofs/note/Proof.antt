@@ -20,12 +20,12 @@ use Rattle.heads.proofs.note.Tie as tie
 returns : tie.Need-returns
 returns c =
     let s = c .before .before in
-    ((s .pre .0, (s .pre .2, λ h. absurd (omega (arith, c .if1 .taken, c .before .wide .ensures)))), ((λ x i. i), λ x i. inl i))
+    ((s .pre .0, (s .pre .2, λ h. absurd (omega (arith, c .if1 .taken, c .before .wide .ensures .0)))), ((λ x i. i), λ x i. inl i))
 
 -- the name is a variable, and its word is the name
 module _ (c : tie.Else1) where
   high : c .before .before .args .name ≤ largest
-  high = omega (arith, c .if1 .left, c .before .wide .ensures)
+  high = omega (arith, c .if1 .left, c .before .wide .ensures .0)
 
   word : toZ w32 (c .before .before .args .name) ≡ pos (c .before .before .args .name)
   word = toZ-pos w32 {n = c .before .before .args .name} (omega (arith, high))

@@ -27,7 +27,7 @@ module _ (c : tie.After-wide Inv-loop μ-loop) where
   i = c .before .before .before .loop .i
 
   tells : c .wide .result ≡ getD l i 0
-  tells = c .wide .ensures
+  tells = c .wide .ensures .0
 
 returns : tie.Need-returns Inv-loop μ-loop
 returns c =

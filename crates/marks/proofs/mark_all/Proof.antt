@@ -25,7 +25,7 @@ loop-again c =
     let a = n .before .before .before .before .args in (
       omega arith,
       c .before .marks .given ∙ k .inv .1,
-      k .inv .2 ∙ mark-on (a .set .now) (k .marks) (k .i) (n .loop-test .taken) ∙ rw (d .mark .ensures .marks, d .before .wide .ensures),
+      k .inv .2 ∙ mark-on (a .set .now) (k .marks) (k .i) (n .loop-test .taken) ∙ rw (d .mark .ensures .marks, d .before .wide .ensures .0),
     )
 
 same-length : tie.Need-same-length Inv-loop μ-loop

@@ -9,13 +9,14 @@ use lib.ListN.{length, take, drop, length-drop}
 use lib.Seq.{length-take-le}
 use borrow.Author.Tests.{not-true, not-false}
 use borrow.Author.Needs.{needs}
+use Rattle.words.proofs.Laws.{zeros}
 use Rattle.words.proofs.Parts.{tail-of}
 use Rattle.packets.specs.Packets.{wordCount, stepCount, wordPart, stepPart, lengthsFit, fills, partsRead, pairIn}
 use Rattle.packets.specs.Parts.{Zeros}
 use Rattle.packets.specs.declared.Version.{Version}
 use Rattle.packets.proofs.Littles.{part-is}
 use Rattle.packets.proofs.Decoded.{fit-parts}
-use Rattle.packets.proofs.Given.{no-mark, no-lengths, parts-left, zeros-made}
+use Rattle.packets.proofs.Given.{no-mark, no-lengths, parts-left}
 use Rattle.moves.proofs.Answers.{moved-early, moved-kept}
 use Rattle.moves.proofs.move_packet.Statement.{statement}
 use Rattle.moves.proofs.move_packet.Tie as tie
@@ -46,7 +47,7 @@ module _ (c : tie.Else2) where
 
   -- the output holds zeros
   cleared : Zeros 0 (c .before .before .before .before .before .before .zero-bytes .last .0) × (length (c .before .before .before .before .before .before .zero-bytes .last .0) ≡ length (c .before .before .before .before .before .before .before .before .before .before .args .output .now))
-  cleared = zeros-made 0 (c .before .before .before .before .before .before .zero-bytes .ensures)
+  cleared = zeros 0 (c .before .before .before .before .before .before .zero-bytes .ensures)
 
 count-at-requires : tie.Need-count-at-requires
 count-at-requires c κs = omega (arith, known c .0)

@@ -3,36 +3,37 @@
 use lib.IntN.{pos}
 use lib.ListN.{length}
 use borrow.Author.Needs.{needs}
+use Rattle.words.proofs.Laws.{zeros}
 use Rattle.packets.specs.Packets.{versionOf}
 use Rattle.packets.specs.declared.Version.the-variants.{One, Two}
-use Rattle.packets.proofs.Given.{zeros-made, told-one, told-two, told-other, told-read, told-nothing}
+use Rattle.packets.proofs.Given.{told-one, told-two, told-other, told-read, told-nothing}
 use Rattle.packets.proofs.read_packet.Statement.{statement}
 use Rattle.packets.proofs.read_packet.Tie as tie
 
 read-as-requires : tie.Need-read-as-requires
 read-as-requires c κs =
     let a = c .before .before .before .before .before .before .before .before .before .before .before .before .args in
-    (zeros-made (pos 0) {n = length (a .table .now)} (c .before .before .before .before .before .before .before .before .zero-all .ensures) .0, zeros-made 0 {n = length (a .proof .now)} (c .before .before .before .before .before .zero-bytes .ensures) .0)
+    (zeros (pos 0) {n = length (a .table .now)} (c .before .before .before .before .before .before .before .before .zero-all .ensures) .0, zeros 0 {n = length (a .proof .now)} (c .before .before .before .before .before .zero-bytes .ensures) .0)
 
 read-as-requires-2 : tie.Need-read-as-requires-2
 read-as-requires-2 c κs =
     let a = c .before .before .before .before .before .before .before .before .before .before .before .before .args in
-    (zeros-made (pos 0) {n = length (a .table .now)} (c .before .before .before .before .before .before .before .before .zero-all .ensures) .0, zeros-made 0 {n = length (a .proof .now)} (c .before .before .before .before .before .zero-bytes .ensures) .0)
+    (zeros (pos 0) {n = length (a .table .now)} (c .before .before .before .before .before .before .before .before .zero-all .ensures) .0, zeros 0 {n = length (a .proof .now)} (c .before .before .before .before .before .zero-bytes .ensures) .0)
 
 returns : tie.Need-returns
 returns c =
     let a = c .before .before .before .before .before .before .before .before .before .before .before .before .before .before .before .before .args in
     told-read (versionOf (a .version)) One (a .packet .now) {table = a .table .now} {proof = a .proof .now} (told-one (c .before .before .before .before .before .before .match .keys1))
-    (zeros-made (pos 0) {n = length (a .table .now)} (c .before .before .before .before .before .before .before .before .before .before .before .before .zero-all .ensures) .1)
-    (zeros-made 0 {n = length (a .proof .now)} (c .before .before .before .before .before .before .before .before .before .zero-bytes .ensures) .1)
+    (zeros (pos 0) {n = length (a .table .now)} (c .before .before .before .before .before .before .before .before .before .before .before .before .zero-all .ensures) .1)
+    (zeros 0 {n = length (a .proof .now)} (c .before .before .before .before .before .before .before .before .before .zero-bytes .ensures) .1)
     (c .before .before .before .read-as .ensures)
 
 returns-2 : tie.Need-returns-2
 returns-2 c =
     let a = c .before .before .before .before .before .before .before .before .before .before .before .before .before .before .before .before .args in
     told-read (versionOf (a .version)) Two (a .packet .now) {table = a .table .now} {proof = a .proof .now} (told-two (c .before .before .before .before .before .before .match .keys2))
-    (zeros-made (pos 0) {n = length (a .table .now)} (c .before .before .before .before .before .before .before .before .before .before .before .before .zero-all .ensures) .1)
-    (zeros-made 0 {n = length (a .proof .now)} (c .before .before .before .before .before .before .before .before .before .zero-bytes .ensures) .1)
+    (zeros (pos 0) {n = length (a .table .now)} (c .before .before .before .before .before .before .before .before .before .before .before .before .zero-all .ensures) .1)
+    (zeros 0 {n = length (a .proof .now)} (c .before .before .before .before .before .before .before .before .before .zero-bytes .ensures) .1)
     (c .before .before .before .read-as2 .ensures)
 
 returns-3 : tie.Need-returns-3

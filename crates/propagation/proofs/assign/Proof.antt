@@ -1,6 +1,7 @@
 -- The loop: the literals before i are true, only literals of the list are, and the entries from the end on are free.
 use mathlib.Core.Path.{_≡_, _∙_}
 use mathlib.Core.Logic.{inl, inr}
+use mathlib.Core.List.{[]}
 use Prim.Native.Nat.{ℕ, _-_, _≤_, _<_}
 use native.Mathlib.Omega.{arith}
 use borrow.Author.Count.{below-more}
@@ -9,11 +10,12 @@ use lib.IntN.{ℤ, pos}
 use lib.ListN.{length, getD, set, length-set, length-replicate}
 use Rattle.words.specs.Lists.{_∈_}
 use Rattle.words.specs.Literals.{variable, complement}
+use Rattle.words.proofs.Laws.{padded}
 use Rattle.words.proofs.Words.{back}
 use Rattle.words.proofs.Places.{in-at, place-of}
 use Rattle.words.specs.Limits.{entries}
 use Rattle.propagation.specs.Propagate.{entry, Assigns, BlankFrom}
-use Rattle.propagation.proofs.Assignments.{zeros, none-true, blank-set, alone, assigned, assigned→, assigned-kept}
+use Rattle.propagation.proofs.Assignments.{none-true, blank-set, alone, assigned, assigned→, assigned-kept}
 use Rattle.propagation.proofs.assign.Statement.{statement}
 use Rattle.propagation.proofs.assign.Tie as tie
 
@@ -33,7 +35,7 @@ loop-holds c =
       length-replicate {A = ℕ} entries 0,
       λ j h. absurd (omega arith),
       λ z a. absurd (none-true entries z a),
-      (omega arith, λ j h. zeros entries j),
+      (omega arith, λ j h. padded {A = ℕ} 0 [] entries j),
     )
 
 -- the literal at i

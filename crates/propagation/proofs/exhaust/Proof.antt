@@ -17,8 +17,8 @@ told : (c : tie.After-settle) (x : Swept) → c .settle .result ≡ x → let s 
 told c x e = rw e at (c .settle .ensures)
 
 -- all are free afterwards
-freed : (c : tie.After-clear) → c .clear .last .0 ≡ replicate entries 0
-freed c = c .clear .ensures ∙ ap (λ (n : ℕ). replicate n 0) (c .before .clear-arg .given .0 .1)
+freed : (c : tie.After-zero-bytes) → c .zero-bytes .last .0 ≡ replicate entries 0
+freed c = c .zero-bytes .ensures ∙ ap (λ (n : ℕ). replicate n 0) (c .before .zero-bytes-arg .given .0 .1)
 
 returns : tie.Need-returns
 returns c = let k = c .before .before in (told (k .before .before) _ (c .enum-told .given .1), freed k)

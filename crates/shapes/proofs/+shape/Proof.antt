@@ -22,7 +22,7 @@ use Rattle.shapes.proofs.shape.Kinds as shape-kinds
 use Rattle.shapes.proofs.+shape.Lts-shape as shape-lts
 use Rattle.shapes.proofs.is_on.Reads as is-on-reads
 use Rattle.shapes.proofs.joined.Reads as joined-reads
-use Rattle.shapes.proofs.wide.Reads as wide-reads
+use Rattle.words.proofs.wide.Reads as wide-reads
 use Rattle.shapes.proofs.+shape.{statement}
 use Rattle.shapes.proofs.+shape.Tie.{close}
 
@@ -65,7 +65,7 @@ module _ (t : ℕ) (c : shape-lts.After-shape (told t) (shape-at t) shape.Post) 
   deep = c .before .before .before .before .before .before .if3 .left
 
   good : (ltb (s .args .atoms) (getD l 0 0) || any (eqb (getD l 0 0)) path) ≡ false
-  good = rw (c .before .before .before .before .before .wide .ensures, c .before .before .before .is-on .ensures) at (c .before .before .if4 .left)
+  good = rw (c .before .before .before .before .before .wide .ensures .0, c .before .before .before .is-on .ensures) at (c .before .before .if4 .left)
 
   below : take (6 - (s .args .depth - 1)) (set (s .args .path) (6 - s .args .depth) (getD l 0 0)) ≡ path ++ (getD l 0 0 ∷ [])
   below = path-below (s .args .path) (s .args .depth) (getD l 0 0) (s .pre .1 .1) (omega (arith, deep)) (s .pre .1 .0)
@@ -113,7 +113,7 @@ shape-slice-aggregate-is-on t c = sym (length-take-le _ _ (omega (arith, c .befo
 
 shape-returns-4 : (t : ℕ) → shape-lts.Need-returns-4 (told t) (shape-at t) shape.Post
 shape-returns-4 t c =
-    refused-atom _ _ _ _ (c .before .before .before .before .before .before .before .if1 .left) (c .before .before .before .before .before .if2 .left) (c .before .before .before .before .if3 .left) (rw (c .before .before .before .wide .ensures, c .before .is-on .ensures) at (c .if4 .taken))
+    refused-atom _ _ _ _ (c .before .before .before .before .before .before .before .if1 .left) (c .before .before .before .before .before .if2 .left) (c .before .before .before .before .if3 .left) (rw (c .before .before .before .wide .ensures .0, c .before .is-on .ensures) at (c .if4 .taken))
 
 shape-shape-requires : (t : ℕ) → shape-lts.Need-shape-requires (told t) (shape-at t) shape.Post
 shape-shape-requires t c κs =

@@ -85,9 +85,6 @@ module _ (c : tie.After-mark-body Inv-loop μ-loop) where
   abbrev d : tie.In-loop Inv-loop μ-loop
   d = b .before .before
 
-  abbrev e : List ℕ
-  e = c .mark-body .last .1 .1 .1 .0
-
   body : b .body-of .result .now ≡ bodyWordsAt (wordsFrom (k d) (t d))
   body = b .body-of .ensures ∙ ap bodyWordsAt (b .before .words-of .ensures)
 

@@ -26,7 +26,7 @@ mark-edge-requires c κs =
     let l = c .before .before .before .before .loop in
     let s = c .before .before .before .before .before .before .before in
     let i = in-at 0 (s .args .heads .now) (l .k) (c .before .before .before .loop-test .taken) in
-    (l .inv .1 .long, s .pre .1, s .pre .2, rw (c .wide .ensures) (s .pre .3 _ i))
+    (l .inv .1 .long, s .pre .1, s .pre .2, rw (c .wide-byte .ensures) (s .pre .3 _ i))
 
 loop-again : tie.Need-loop-again Inv-loop μ-loop
 loop-again c =
@@ -35,7 +35,7 @@ loop-again c =
     let t = w .before .before .before in
     let l = t .before .loop in
     let s = t .before .before .before .before in
-    let more = rw (w .wide .ensures) at (m .mark-edge .ensures) in (
+    let more = rw (w .wide-byte .ensures) at (m .mark-edge .ensures) in (
       omega (arith, t .loop-test .taken),
       filling-on (l .inv .1) more (λ i j. heads-split (isPlace j) (s .args .heads .now) (l .k) 0 (t .loop-test .taken) (eqb (s .args .a) (suc i))),
     )

@@ -1,21 +1,17 @@
 use mathlib.Core.Path.{_≡_}
 use mathlib.Core.Bool.{true, false}
-use Prim.Native.Nat.{ℕ, _+_, _*_, _%_, _≤_, _<_}
+use Prim.Native.Nat.{ℕ, _+_, _*_, _%_, _<_}
 use lib.Signed.{ltZ}
 use native.Mathlib.Omega.{arith}
-use lib.IntN.{ℤ, pos, negsuc}
+use lib.IntN.{ℤ, pos}
 use mir.Syntax.{w32}
-use mir.Val.{SFits}
 use mir.Facts.{toZ-ofZ}
 use Rattle.words.specs.Literals.{variable}
+use Rattle.words.proofs.Words.{variable-most}
 use Rattle.nogoods.specs.Index.{keys, mixed}
 use borrow.Author.Needs.{needs}
 use Rattle.nogoods.proofs.chains.mix.Statement.{statement}
 use Rattle.nogoods.proofs.chains.mix.Tie as tie
-
-small : (z : ℤ) → SFits w32 z → variable z ≤ 2147483648
-small (pos n) f = omega (arith, f .sfits)
-small (negsuc n) f = omega (arith, f .sfits)
 
 v-is : (c : tie.After-variable-of) → c .variable-of .result ≡ variable (c .before .args .word)
 v-is c = rw (toZ-ofZ (c .before .fits .word)) at (c .variable-of .ensures)
@@ -32,22 +28,22 @@ below : (n : ℕ) → n % keys < keys
 below n = omega arith
 
 mul-result-2 : tie.Need-mul-result-2
-mul-result-2 c = let k = small _ (c .before .before .fits .word) in let e = v-is (c .before) in search needs
+mul-result-2 c = let k = variable-most w32 _ (c .before .before .fits .word) in let e = v-is (c .before) in search needs
 
 add-result : tie.Need-add-result
-add-result c = let k = small _ (c .before .before .fits .word) in let e = v-is (c .before) in search needs
+add-result c = let k = variable-most w32 _ (c .before .before .fits .word) in let e = v-is (c .before) in search needs
 
 add-result-2 : tie.Need-add-result-2
-add-result-2 c = let k = small _ (c .before .before .fits .word) in let e = v-is (c .before) in search needs
+add-result-2 c = let k = variable-most w32 _ (c .before .before .fits .word) in let e = v-is (c .before) in search needs
 
 mul-result-4 : tie.Need-mul-result-4
-mul-result-4 c = let k = small _ (c .before .before .fits .word) in let e = v-is (c .before) in search needs
+mul-result-4 c = let k = variable-most w32 _ (c .before .before .fits .word) in let e = v-is (c .before) in search needs
 
 add-result-3 : tie.Need-add-result-3
-add-result-3 c = let k = small _ (c .before .before .fits .word) in let e = v-is (c .before) in search needs
+add-result-3 c = let k = variable-most w32 _ (c .before .before .fits .word) in let e = v-is (c .before) in search needs
 
 add-result-4 : tie.Need-add-result-4
-add-result-4 c = let k = small _ (c .before .before .fits .word) in let e = v-is (c .before) in search needs
+add-result-4 c = let k = variable-most w32 _ (c .before .before .fits .word) in let e = v-is (c .before) in search needs
 
 returns : tie.Need-returns
 returns c = let f = c .before .before .fits .word in (mixed-neg _ _ _ (v-is (c .before)) (simp (toZ-ofZ f) at (c .if1 .taken)), below _)

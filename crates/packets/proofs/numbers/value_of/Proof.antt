@@ -37,7 +37,7 @@ loop-again c =
     let g = bytes-flips (a .args .negative) (drop j bytes) (bytes-part j bytes (bytes-all bytes (λ k. c .before .before .before .before .before .shared-slice-known .given k .fits)) .1) in
     let s = value-small 4 (map f (drop j bytes)) (omega (arith, length-map (drop j bytes) f, length-drop j bytes, a .pre)) g in
     let w = rw e at v in
-    let n : l .n * 256 + c .wide .result ≡ value (map f (drop j bytes)) = omega (arith, c .wide .ensures, c .before .flip-if .ensures, l .inv .1 .0, w) in
+    let n : l .n * 256 + c .wide-byte .result ≡ value (map f (drop j bytes)) = omega (arith, c .wide-byte .ensures, c .before .flip-if .ensures, l .inv .1 .0, w) in
     (omega arith, (n, omega (arith, n, s)))
 
 returns : tie.Need-returns Inv-loop μ-loop

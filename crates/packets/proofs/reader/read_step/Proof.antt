@@ -12,8 +12,8 @@ use Rattle.packets.proofs.Decoded.{size-bytes, step-letter, no-letter}
 use Rattle.packets.proofs.reader.read_step.Statement.{statement}
 use Rattle.packets.proofs.reader.read_step.Tie as tie
 
-shared-slice-read-wide : tie.Need-shared-slice-read-wide
-shared-slice-read-wide c = let a = c .before .before .before in omega (arith, size-bytes (a .args .bytes .now) (a .pre .0 .0) .0)
+shared-slice-read-wide-byte : tie.Need-shared-slice-read-wide-byte
+shared-slice-read-wide-byte c = let a = c .before .before .before in omega (arith, size-bytes (a .args .bytes .now) (a .pre .0 .0) .0)
 
 shared-slice-read-class-of : tie.Need-shared-slice-read-class-of
 shared-slice-read-class-of c = let a = c .before .before .before .before .before in omega (arith, size-bytes (a .args .bytes .now) (a .pre .0 .0) .0)
@@ -29,14 +29,14 @@ step-with-requires c κs =
     let a = c .before .before .before .before .before .before .before .before .before .before .before in
     let bs = a .args .bytes .now in
     let s = size-bytes bs (a .pre .0 .0) in
-    rw (tail-of 2 bs) (omega (arith, s .1, length-drop 2 bs, c .before .before .before .before .before .before .before .wide .ensures), a .pre .0 .1)
+    rw (tail-of 2 bs) (omega (arith, s .1, length-drop 2 bs, c .before .before .before .before .before .before .before .wide-byte .ensures), a .pre .0 .1)
 
 returns : tie.Need-returns
 returns c =
     let a = c .before .before .before .before .before .before .before .before .before .before .before .before .before .before in
     let bs = a .args .bytes .now in
     let s = size-bytes bs (a .pre .0 .0) .0 in
-    rw (step-letter bs s (c .before .before .before .before .before .before .class .given .0 .0) (sym (c .before .before .before .before .before .before .before .before .class-of .ensures) ∙ c .before .before .before .before .before .before .class .given .1)) (rw (tail-of 2 bs, c .before .before .before .before .before .before .before .before .before .before .wide .ensures) at (c .before .before .step-with .ensures))
+    rw (step-letter bs s (c .before .before .before .before .before .before .class .given .0 .0) (sym (c .before .before .before .before .before .before .before .before .class-of .ensures) ∙ c .before .before .before .before .before .before .class .given .1)) (rw (tail-of 2 bs, c .before .before .before .before .before .before .before .before .before .before .wide-byte .ensures) at (c .before .before .step-with .ensures))
 
 -- the first byte is no letter
 module _ (c : tie.After-class-of) where
@@ -64,7 +64,7 @@ pub read-step-spec : {M : Type 1} → statement M
 read-step-spec =
     tie.close
     (tie.spec
-    shared-slice-read-wide
+    shared-slice-read-wide-byte
     (λ c κs. search needs)
     shared-slice-read-class-of
     (λ c κs. search needs)
