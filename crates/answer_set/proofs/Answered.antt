@@ -7,20 +7,19 @@ use mathlib.Core.Option.{Option, none, some}
 use mathlib.Core.List.{List, [], _∷_, List·Memᴰ·head, List·Memᴰ·tail, Memᴰ·cast}
 use Prim.Native.Nat.{ℕ, zero, suc, _+_, _≤_, _<_}
 use native.Mathlib.Omega.{arith}
-use borrow.Author.Tests.{eqb-true, eqb-false}
-use lib.Dec.{T, eqb}
+use lib.Dec.{T}
 use lib.IntN.{ℤ, pos}
 use lib.Signed.{ltZ}
 use lib.ListN.{length, drop, replicate, length-replicate}
 use Rattle.words.specs.Limits.{largest, entries}
 use Rattle.words.specs.Lists.{_∈_, all}
-use Rattle.words.proofs.Lists.{Decides, itself, passed, failed, reworded, and-decides, not-decides, eqb-decides, any-decides, all-decides, same-test, and-left, and-right, or-false-left, or-false-right}
+use Rattle.words.proofs.Lists.{Decides, itself, passed, failed, reworded, and-decides, not-decides, eqb-decides, any-decides, all-decides, same-test, and-left, and-right}
 use Rattle.aspif.specs.Rules.{InputRule, withBody, expand, ruleTop, atoms}
 use Rattle.words.proofs.Tops.{top-le}
 use Rattle.aspif.specs.AnswerSets.{Constraint, LeastModel, derive, Met, AnswerSet}
 use Rattle.aspif.specs.Tables.{headsSound, sizeAt, headsAt, shapeSound, soundAt, rulesAt, soundRules}
 use Rattle.marks.specs.Marks.{listed, marked}
-use Rattle.answer_set.specs.SetTest.{rounds, least, isBroken, lowestFrom, justOne, yes, differs, breaks, brokenFrom, differsAt, verdictOf, shown}
+use Rattle.answer_set.specs.SetTest.{rounds, least, isBroken, lowestFrom, justOne, yes, breaks, brokenFrom, differsAt, verdictOf, shown}
 use Rattle.answer_set.specs.Claims.{Listed, Ready, MarksLeast, YesAnswerSet}
 use Rattle.words.proofs.Ascending.{ascends-in}
 use Rattle.aspif.specs.declared.Kind.the-variants.{Normal}

@@ -2,7 +2,7 @@
 -- Assumes nothing.
 use mathlib.Core.Path.{_≡_, refl, sym, _∙_, ap}
 use mathlib.Core.Bool.{true, _&&_, Bool, cond, false, not, and-false}
-use mathlib.Core.List.{List, [], _∷_, map}
+use mathlib.Core.List.{List, [], _∷_}
 use Prim.Native.Nat.{ℕ, zero, suc, _+_, _*_, _-_, _≤_, _<_}
 use native.Mathlib.Omega.{arith}
 use borrow.Author.Tests.{leb-true, lt-leb}
@@ -14,8 +14,8 @@ use lib.Seq.{drop-drop}
 use mathlib.Core.Option.{some, none, Option·some-injective, Option·none-ne-some}
 use Rattle.words.proofs.Ascending.{top-ascends}
 use Rattle.words.specs.Lists.{all}
-use Rattle.words.specs.Literals.{variable, same, top}
-use Rattle.weights.specs.Weights.{literals, paired, mostWeighted}
+use Rattle.words.specs.Literals.{same}
+use Rattle.weights.specs.Weights.{paired, mostWeighted}
 use Rattle.aspif.specs.Reading.{allWeights}
 use Rattle.aspif.specs.Rules.{plain, weights, isPlainBody, isPlain, literalsOf, InputRule, isCount, isWeight, ruleTop, atoms}
 use Rattle.aspif.proofs.Counts.{count-small}

@@ -1,6 +1,6 @@
 -- Laws on the loops of the reader over pairs as they stand in words, each literal with its weight behind it.
 -- Assumes nothing.
-use mathlib.Core.Path.{_≡_, refl, sym, ap, _∙_}
+use mathlib.Core.Path.{_≡_, refl, ap, _∙_}
 use mathlib.Core.Bool.{true, false}
 use mathlib.Core.List.{List, [], _∷_, _++_, map-append, append-nil}
 use Prim.Native.Nat.{ℕ, zero, suc, _+_, _*_, _<_, _≤_}
@@ -15,7 +15,7 @@ use Rattle.weights.specs.Weights.{Weighted, literals, paired, pairWords}
 use Rattle.aspif.specs.Reading.{weightIn}
 use Rattle.aspif.specs.Turns.{weighted}
 use Rattle.weights.proofs.Matching.{pair-on}
-use Rattle.aspif.proofs.PairWords.{length-pairs, literals-with}
+use Rattle.aspif.proofs.PairWords.{length-pairs}
 
 -- The literals of the pairs
 

@@ -18,7 +18,7 @@ use Rattle.text.specs.Strings.{startsWith}
 use Rattle.text.proofs.Lines.{bounds-of}
 use Rattle.weights.specs.Weights.{literals, paired}
 use Rattle.aspif.specs.Rules.{Body, plain, weights, InputRule, isWeight, boundWords, bodyWords, ruleWords, programWords}
-use Rattle.aspif.specs.Reading.{allWeights, ranged, shapeOf, headsGood, bodyGood, arranged, RuleRead, fails, reads, ruleWith, ruleOf, Turn, refuses, ends, adds, isLast, room, turnOf, linesFrom, Reading, refused, program, header, readLines, readText}
+use Rattle.aspif.specs.Reading.{allWeights, ranged, shapeOf, headsGood, bodyGood, arranged, RuleRead, fails, reads, ruleWith, ruleOf, Turn, refuses, ends, adds, isLast, room, turnOf, linesFrom, refused, program, header, readLines, readText}
 use Rattle.aspif.specs.declared.Kind.{Kind}
 use Rattle.aspif.specs.declared.rules.Shape.{Shape}
 use Rattle.aspif.specs.declared.rules.Shape.the-variants.{Wrong, Shaped, Weighed}

@@ -10,7 +10,7 @@ use lib.Dec.{leb}
 use lib.IntN.{ℤ, pos}
 use lib.ListN.{length, drop, getD, length-take}
 use Rattle.words.specs.Limits.{largest}
-use Rattle.words.specs.Literals.{variable, rising}
+use Rattle.words.specs.Literals.{rising}
 use Rattle.words.specs.Literals as Literals
 use Rattle.words.proofs.Lists.{and-left, and-right}
 use Rattle.words.proofs.Ascending.{ascends-rising}

@@ -1,6 +1,6 @@
 -- The text of a program, and that a program whose rules are formed is read back from it: `written-read`. The rules are kept as
 -- they are, since their heads and bodies ascend already. Assumes nothing.
-use mathlib.Core.Path.{_≡_, refl, sym, _∙_, ap, ap₂}
+use mathlib.Core.Path.{_≡_, refl, _∙_, ap, ap₂}
 use mathlib.Core.Bool.{Bool, true, false, _||_}
 use mathlib.Core.List.{List, [], _∷_, _++_, append-nil, List·Memᴰ·head, List·Memᴰ·tail, List·Memᴰ·append-cases, List·Memᴰ·eq-of-singleton, Memᴰ·append-right}
 use mathlib.Core.Logic.{inl, inr}
@@ -13,8 +13,7 @@ use lib.ListN.{length, take, drop, getD, length-append}
 use lib.Seq.{take-append-seam, drop-append-seam, drop-append-add, getD-append-add, take-length, append-snoc}
 use Rattle.words.specs.Limits.{largest, mostLiterals, mostRules}
 use Rattle.words.specs.Lists.{_∈_}
-use Rattle.words.specs.Literals.{variable, distinct, rising, insert, insertAll, ascending}
-use Rattle.words.proofs.Sorting.{rising-ascending}
+use Rattle.words.specs.Literals.{variable, rising, insert, insertAll, ascending}
 use Rattle.text.specs.Line.{numbers, lineOf, outside, anyOutside}
 use Rattle.text.proofs.Lines.{bounds-of}
 use Rattle.weights.specs.Weights.{Weighted, literals, paired, pairWords, mostWeight, mostWeighted}

@@ -9,7 +9,6 @@ use borrow.Author.Tests.{le-leb, lt-leb, ne-eqb}
 use lib.IntN.{ℤ, pos}
 use lib.ListN.{length, replicate}
 use Rattle.words.specs.Lists.{ascends}
-use Rattle.words.proofs.Lists.{zero-one}
 use Rattle.weights.specs.Weights.{paired, mostWeight, mostWeighted}
 use Rattle.aspif.specs.Rules.{InputRule, atoms, tableWords}
 use Rattle.aspif.specs.Reading.{Reading, program, readText, allWeights, programAnswer, tableOf}
@@ -28,6 +27,7 @@ use Rattle.words.specs.Limits.{mostRules, entries}
 use Rattle.runs.specs.Course.{Course, stopped, through}
 use Rattle.checker.specs.Check.{saying, countsOf, isInconsistent, Checked, judged}
 use Rattle.checker.specs.declared.Verdict.{Verdict}
+use Rattle.checker.proofs.Verdicts.{unread}
 use Rattle.costs.specs.Costs.{Cost, costsOf, goodCosts, total, restricted}
 use Rattle.cheapest.specs.Service.{isYes, restrictedCourse, leavesNothing, passing, judgedProof, withCost, withCosts, cheapestReading, cheapest}
 use Rattle.cheapest.specs.Private.{saidYes, ProofChecked}
@@ -155,15 +155,11 @@ module _ (t s : ℕ) (ws : List InputRule) (set : List ℕ) (costs : List ℤ) (
 -- The program
 
 module _ (t s : ℕ) (text set : List ℕ) (costs : List ℤ) (proof : List ℕ) {r : ProgramReading} (answer : r ≡ programAnswer (readText t text)) {table : List ℤ} (words : table ≡ tableOf t (readText t text)) where
-  pub unread : (x : ProgramRefusal) {store : List ℤ} → r ≡ Answer.Refused x → store ≡ replicate s (pos 0)
+  pub program-unread : (x : ProgramRefusal) {store : List ℤ} → r ≡ Answer.Refused x → store ≡ replicate s (pos 0)
       → record { answer = RefusedProgram x; table = table; store = store } ≡ cheapest t s text set costs proof
   unfolding cheapest
-  unread x {store} e z = by (readText t text) (sym answer ∙ e) words
-    where
-      by : (d : Reading) → programAnswer d ≡ Answer.Refused x → table ≡ tableOf t d
-          → record { answer = RefusedProgram x; table = table; store = store } ≡ cheapestReading t s set costs proof d
-      by (Reading.refused k n) e w = let p : x ≡ record { number = k; line = n } = cc in rw (p, w, z)
-      by (program ws) e w = absurd (zero-one (cc))
+  program-unread x {store} e z =
+      unread t text answer words (cheapestReading t s set costs proof) (λ q l. record { answer = RefusedProgram q; table = l; store = store }) (λ k n. rw z refl) x e
 
   pub cheapest-read : (ws : List InputRule) → readText t text ≡ program ws → cheapestReading t s set costs proof (program ws) ≡ cheapest t s text set costs proof
   unfolding cheapest

@@ -8,7 +8,7 @@ use native.Mathlib.Omega.{arith}
 use borrow.Author.Tests.{lt-ltb}
 use lib.Dec.{leb}
 use lib.IntN.{ℤ, pos}
-use lib.ListN.{length, replicate, length-replicate}
+use lib.ListN.{length, replicate}
 use Rattle.words.proofs.Lists.{zero-one}
 use Rattle.words.specs.Limits.{longest, mostRules}
 use Rattle.words.specs.Lists.{any}
@@ -72,10 +72,6 @@ module _ (t s : ℕ) (P : List InputRule) (o : Course) {v : Verdict} {table stor
 pub judged-lengths : (P : List InputRule) (proof : List ℕ) {t t′ s s′ : ℕ} → t ≡ t′ → s ≡ s′ → judged t s P (course (atoms P) (expand P) s proof) ≡ judged t′ s′ P (course (atoms P) (expand P) s′ proof)
 judged-lengths P proof a b = ap₂ (λ t s. judged t s P (course (atoms P) (expand P) s proof)) a b
 
--- words that are all 0
-pub zeros : (store : List ℤ) (n : ℕ) → store ≡ replicate n (pos 0) → store ≡ replicate (length store) (pos 0)
-zeros store n e = e ∙ ap (λ (k : ℕ). replicate k (pos 0)) (sym (ap length e ∙ length-replicate n (pos 0)))
-
 -- The program
 
 pub lines-read : (t : ℕ) (text : List ℕ) (P : List InputRule) → readText t text ≡ program P → readLines t text ≡ program P
@@ -86,16 +82,23 @@ lines-read t text P e = by (leb (length text) longest) e
     by true e = e
     by false e = absurd (zero-one (cc))
 
+-- a program that is not read: what a service says of its refusal and of a table of zeros
+pub unread : (t : ℕ) (text : List ℕ) {r : ProgramReading} → r ≡ programAnswer (readText t text) → {table : List ℤ} → table ≡ tableOf t (readText t text)
+    → {A : Type 0} (f : Reading → A) (g : ProgramRefusal → List ℤ → A)
+    → ((k n : ℕ) → g (record { number = k; line = n }) (replicate t (pos 0)) ≡ f (Reading.refused k n))
+    → (x : ProgramRefusal) → r ≡ Refused x → g x table ≡ f (readText t text)
+unread t text answer {table} words f g same x e = by (readText t text) (sym answer ∙ e) words
+  where
+    by : (d : Reading) → programAnswer d ≡ Refused x → table ≡ tableOf t d → g x table ≡ f d
+    by (Reading.refused k n) e w = let p : x ≡ record { number = k; line = n } = cc in rw (p, w) (same k n)
+    by (program P) e w = absurd (zero-one (cc))
+
 module _ (t s : ℕ) (text proof : List ℕ) {r : ProgramReading} (answer : r ≡ programAnswer (readText t text)) {table : List ℤ} (words : table ≡ tableOf t (readText t text)) where
   pub program-refused : (x : ProgramRefusal) {store : List ℤ} → r ≡ Refused x → store ≡ replicate s (pos 0)
       → record { verdict = RefusedProgram x; table = table; store = store } ≡ check text proof t s
   unfolding check
-  program-refused x {store} e z = by (readText t text) (sym answer ∙ e) words
-    where
-      by : (d : Reading) → programAnswer d ≡ Refused x → table ≡ tableOf t d
-          → record { verdict = RefusedProgram x; table = table; store = store } ≡ judgedReading t s proof d
-      by (Reading.refused k n) e w = let p : x ≡ record { number = k; line = n } = cc in rw (p, w, z)
-      by (program P) e w = absurd (zero-one (cc))
+  program-refused x {store} e z =
+      unread t text answer words (judgedReading t s proof) (λ y l. record { verdict = RefusedProgram y; table = l; store = store }) (λ k n. rw z refl) x e
 
   -- a program that was read, and what the table then holds
   pub record ReadProgram (N R : ℕ) : Type 0 where

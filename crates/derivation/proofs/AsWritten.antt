@@ -1,8 +1,6 @@
 -- Demand 3 for programs as they are written: what `soundness` says of the plain rules that they stand for. Assumes nothing.
-use mathlib.Core.Path.{_≡_, subst}
-use mathlib.Core.Bool.{true}
-use mathlib.Core.List.{List, _++_}
-use Prim.Native.Nat.{ℕ}
+use mathlib.Core.Path.{subst}
+use mathlib.Core.List.{List}
 use Rattle.words.specs.Lists.{_∈_}
 use Rattle.aspif.specs.Rules.{Rule, InputRule, expand, atoms}
 use Rattle.aspif.specs.AnswerSets.{Constraint, AnswerSet}

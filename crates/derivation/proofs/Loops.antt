@@ -9,7 +9,7 @@ use native.Mathlib.Omega.{arith}
 use lib.Dec.{T}
 use lib.IntN.{ℤ}
 use lib.ListN.{length}
-use Rattle.words.specs.Lists.{_∈_, any, filter}
+use Rattle.words.specs.Lists.{_∈_, any}
 use Rattle.words.specs.Literals.{has}
 use Rattle.words.proofs.Lists.{Decides, passed, itself, reworded, and-decides, not-decides, any-decides, all-decides, keep→, keep←}
 use Rattle.words.proofs.Literals.{has-decides}

@@ -21,7 +21,7 @@ use Rattle.words.proofs.Lists.{Decides, reworded, passed, if-true, is-true, or-
 use Rattle.aspif.specs.Rules.{Rule, InputRule, isPlain, allPlain, withBody, expandRule, expand}
 use Rattle.aspif.specs.Tables.{isWeighted, headCount, headStart, sizeAt, headsAt, bodyWordsAt, ruleAt, rulesAt, headsSound, shapeSound, soundAt, soundRules}
 use Rattle.aspif.proofs.Cursors.{plain-at, shaped}
-use Rattle.names.specs.Queries.{entry, Kept}
+use Rattle.names.specs.Queries.{Kept}
 use Rattle.heads.specs.Heads.{startOf, wordsFrom, Headed, headedBy, headedTo, headedAt, Place, HasHead}
 use Rattle.names.proofs.Asked.{plain-bodies, plain-entry}
 use Rattle.names.proofs.ByRule.{Course, course-start, Turn, turn}

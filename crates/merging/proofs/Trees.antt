@@ -1,11 +1,10 @@
 -- The merged proof of a tree of splits is accepted: from the ends upward, each merge by `merged-accepted`. Assumes nothing.
-use mathlib.Core.Path.{_≡_}
 use mathlib.Core.List.{List}
 use Prim.Native.Nat.{ℕ, _≤_}
 use lib.IntN.{pos, negℤ}
 use Rattle.words.proofs.Lists.{passed}
 use Rattle.words.proofs.Literals.{variable-complement}
-use Rattle.aspif.specs.Rules.{Rule, InputRule, expand, atoms, plainAtoms}
+use Rattle.aspif.specs.Rules.{Rule, expand, atoms, plainAtoms}
 use Rattle.aspif.proofs.Expansion.{plain-atoms}
 use Rattle.derivation.proofs.Sound.{soundness}
 use Rattle.derivation.proofs.AsWritten.{soundness-as-written}

@@ -1,7 +1,7 @@
 -- A tree of splits with proofs at its ends, over lists of steps: document 02, Change 14. proofs/Trees.antt proves the claims.
 -- Assumes nothing.
 use mathlib.Core.Path.{_≡_}
-use mathlib.Core.Bool.{Bool, true}
+use mathlib.Core.Bool.{true}
 use mathlib.Core.List.{List}
 use Prim.Native.Nat.{ℕ, _≤_}
 use lib.IntN.{ℤ, pos, negℤ}

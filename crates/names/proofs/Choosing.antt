@@ -10,7 +10,7 @@ use lib.Dec.{eqb, ltb}
 use lib.IntN.{ℤ, pos}
 use lib.ListN.{length, take, drop, getD, set, length-set}
 use lib.Seq.{take-suc-set, take-take, take-at, length-take-le}
-use Rattle.words.specs.Limits.{largest, entries}
+use Rattle.words.specs.Limits.{entries}
 use Rattle.words.specs.Literals.{ascending}
 use Rattle.words.proofs.Lists.{passed}
 use Rattle.weights.specs.Weights.{Weighted, sum, paired, mostWeighted, mostSum}

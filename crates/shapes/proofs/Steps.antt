@@ -1,6 +1,6 @@
 -- One turn of the definitions: what the first number of a list makes of a tree, and one more length of a sum. Assumes nothing.
 use mathlib.Core.Path.{_≡_, refl, sym, ap, ap₂, _∙_, subst}
-use mathlib.Core.Bool.{Bool, true, false, cond, not, _&&_, _||_, and-false, true≢false}
+use mathlib.Core.Bool.{Bool, true, false, not, _&&_, _||_, and-false, true≢false}
 use mathlib.Core.List.{List, [], _∷_, _++_}
 use Prim.Native.Nat.{ℕ, zero, suc, _+_, _-_, _<_, _≤_}
 use native.Mathlib.Numerals.{add-one}
@@ -11,7 +11,7 @@ use lib.ListN.{length, take, drop, set, getD, drop-of-length-le, length-drop}
 use lib.Seq.{drop-cons, take-suc-set, drop-drop}
 use Rattle.words.specs.Lists.{any}
 use Rattle.derivation.specs.States.{isAtom}
-use Rattle.shapes.specs.Tree.{Shape, end, split, Parsed, bad, found, andThen, treeOf, leaves, sum}
+use Rattle.shapes.specs.Tree.{end, split, Parsed, bad, found, andThen, treeOf, sum}
 use Rattle.shapes.specs.Walks.{Walks, largestSize, AreJoined, joinedTo, isTree}
 use Rattle.shapes.specs.declared.Walked.{Walked}
 use Rattle.shapes.specs.declared.Walked.the-variants.{Tree, NoTree}

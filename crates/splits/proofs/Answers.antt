@@ -1,17 +1,17 @@
 -- What the service leaves, from what its parts leave. Assumes nothing.
 use mathlib.Core.Path.{_≡_, refl, sym, ap, _∙_}
-use mathlib.Core.Logic.{_⊎_, inl, inr}
+use mathlib.Core.Logic.{inl, inr}
 use mathlib.Core.Bool.{Bool, true, false, cond, true≢false}
 use mathlib.Core.List.{List, _++_}
 use Prim.Native.Nat.{ℕ, _-_, _≤_}
 use native.Mathlib.Omega.{arith}
 use lib.Dec.{leb}
 use lib.IntN.{ℤ, pos}
-use lib.ListN.{length, replicate, take, length-replicate}
+use lib.ListN.{length, replicate, take}
 use lib.Seq.{take-at}
 use Rattle.words.specs.Limits.{longest}
-use Rattle.words.proofs.Lists.{zero-one, if-true, and-right, leb-decides}
-use Rattle.aspif.specs.Rules.{InputRule, expand, atoms, tableWords}
+use Rattle.words.proofs.Lists.{if-true, and-right, leb-decides}
+use Rattle.aspif.specs.Rules.{InputRule, atoms, tableWords}
 use Rattle.aspif.specs.Reading.{Reading, program, readText, programAnswer, tableOf}
 use Rattle.aspif.specs.Reading as Reading
 use Rattle.aspif.specs.declared.ProgramReading.{ProgramReading}
@@ -21,14 +21,13 @@ use Rattle.drupe.specs.Texts.{textOf}
 use Rattle.derivation.specs.Steps.{emptyLive}
 use Rattle.nogoods.specs.Store.{storeWords}
 use Rattle.merging.specs.Merge.{allFit}
-use Rattle.runs.specs.Course.{Course, stopped, through, course}
+use Rattle.runs.specs.Course.{Course, stopped, through}
 use Rattle.checker.specs.Check.{saying, countsOf, Checked, judged, isInconsistent}
 use Rattle.checker.specs.declared.Verdict.{Verdict}
-use Rattle.checker.specs.declared.Verdict.the-variants.{Inconsistent, Open, RefusedProof}
-use Rattle.splits.specs.Service.{areHalves, mergedSteps, isWritable, MergeLeft, leavesNothing, judgedText, mergedReading, merge}
+use Rattle.checker.proofs.Verdicts.{unread}
+use Rattle.splits.specs.Service.{mergedSteps, isWritable, leavesNothing, judgedText, mergedReading, merge}
 use Rattle.splits.specs.Joined.{WrittenBy}
 use Rattle.splits.specs.Judging.{judgedAs}
-use Rattle.splits.specs.declared.MergeAnswer.{MergeAnswer}
 use Rattle.splits.specs.declared.MergeAnswer.the-variants.{Merged, RefusedProgram, Refused}
 use Rattle.splits.specs.declared.texts.Written.{Written}
 use Rattle.splits.specs.declared.texts.Written.the-variants as Written
@@ -112,15 +111,11 @@ module _ (t s o : ℕ) (ws : List InputRule) (v : ℕ) (first second output : Li
 -- The program
 
 module _ (t s o : ℕ) (text : List ℕ) (v : ℕ) (first second : List ℕ) {r : ProgramReading} (answer : r ≡ programAnswer (readText t text)) {table : List ℤ} (words : table ≡ tableOf t (readText t text)) where
-  pub unread : (x : ProgramRefusal) {store : List ℤ} {output : List ℕ} → r ≡ Answer.Refused x → store ≡ replicate s (pos 0) → output ≡ replicate o 0
+  pub unread-halves : (x : ProgramRefusal) {store : List ℤ} {output : List ℕ} → r ≡ Answer.Refused x → store ≡ replicate s (pos 0) → output ≡ replicate o 0
       → record { answer = RefusedProgram x; table = table; store = store; output = output } ≡ merge t s o text v first second
   unfolding merge
-  unread x {store} {output} e z y = by (readText t text) (sym answer ∙ e) words
-    where
-      by : (d : Reading) → programAnswer d ≡ Answer.Refused x → table ≡ tableOf t d
-          → record { answer = RefusedProgram x; table = table; store = store; output = output } ≡ mergedReading t s o v first second d
-      by (Reading.refused k n) e w = let p : x ≡ record { number = k; line = n } = cc in rw (p, w, z, y)
-      by (program ws) e w = absurd (zero-one (cc))
+  unread-halves x {store} {output} e z y =
+      unread t text answer words (mergedReading t s o v first second) (λ q l. record { answer = RefusedProgram q; table = l; store = store; output = output }) (λ k n. rw (z, y) refl) x e
 
   pub merge-read : (ws : List InputRule) → readText t text ≡ program ws → mergedReading t s o v first second (program ws) ≡ merge t s o text v first second
   unfolding merge
@@ -129,7 +124,3 @@ module _ (t s o : ℕ) (text : List ℕ) (v : ℕ) (first second : List ℕ) {r 
 pub reading-same : (v : ℕ) (first second : List ℕ) (r : Reading) {t t′ s s′ o o′ : ℕ} → t ≡ t′ → s ≡ s′ → o ≡ o′
     → mergedReading t s o v first second r ≡ mergedReading t′ s′ o′ v first second r
 reading-same v first second r a b c = rw (a, b, c)
-
--- bytes that are all 0
-pub zero-bytes : (l : List ℕ) (n : ℕ) → l ≡ replicate n 0 → l ≡ replicate (length l) 0
-zero-bytes l n e = e ∙ ap (λ (k : ℕ). replicate k 0) (sym (ap length e ∙ length-replicate n 0))

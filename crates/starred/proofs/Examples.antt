@@ -12,7 +12,7 @@ use Rattle.text.specs.Line.{lineOf}
 use Rattle.weights.specs.Weights.{sublists, minimalSets, bodies}
 use Rattle.aspif.specs.Rules.{plain, InputRule, bodiesOf, expandRule, expand, programWords}
 use Rattle.aspif.specs.Reading.{allWeights, ranged, shapeOf, arranged, program, readLines, readText, linesFrom}
-use Rattle.aspif.specs.Tables.{sizeAt, headsAt, bodyWordsAt, boundAt, bodyAt, shapeSound, weightsSound, bodySound, soundAt, soundTable}
+use Rattle.aspif.specs.Tables.{sizeAt, headsAt, bodyWordsAt, bodyAt, shapeSound, bodySound, soundAt, soundTable}
 use Rattle.aspif.specs.declared.Kind.the-variants.{Normal, Choice}
 use Rattle.marks.specs.Marks.{listed}
 use Rattle.answer_set.specs.SetTest.{giveHead, giveRule, least, yes, differs, verdictOf, asked, setAnswer}

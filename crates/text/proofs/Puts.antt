@@ -12,8 +12,8 @@ use borrow.Author.Tests.{ltb-true, ltb-false, lt-ltb, le-ltb}
 use lib.Dec.{ltb}
 use lib.IntN.{ℤ, pos, negsuc}
 use lib.Signed.{ltZ}
-use lib.ListN.{length, set, take, getD, length-append}
-use lib.Seq.{sets, take-suc, length-take-le}
+use lib.ListN.{length, set, take, drop, getD, length-append}
+use lib.Seq.{sets, sets-eq, take-suc, length-take-le}
 use mir.Syntax.{w32}
 use mir.Val.{SFits}
 use Rattle.words.specs.Literals.{variable}
@@ -35,6 +35,12 @@ put-on {xs} {ys} {before} {at = at} p q = record {
   stands = q .stands ∙ rw (p .stands, p .ends) (sym (sets-append xs ys before at));
   ends = omega (arith, p .ends, q .ends, length-append xs ys);
 }
+
+-- bytes put at the front of a buffer that holds them
+pub front-put : (vs before after : List ℕ) {next : ℕ} → Put vs before after 0 next → length vs ≤ length before → after ≡ vs ++ drop (length vs) before
+front-put vs before after p h =
+    let n : 0 + length vs ≡ length vs = omega arith in
+    p .stands ∙ (sets-eq vs before 0 (omega (arith, h)) ∙ ap (λ (k : ℕ). vs ++ drop k before) n)
 
 -- Digits
 

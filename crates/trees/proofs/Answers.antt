@@ -7,9 +7,9 @@ use native.Mathlib.Omega.{arith}
 use borrow.Author.Tests.{lt-leb, le-leb, eqb-true}
 use lib.Dec.{eqb}
 use lib.IntN.{ℤ, pos}
+use Rattle.text.proofs.Puts.{front-put}
 use lib.ListN.{length, drop, replicate}
-use lib.Seq.{sets-eq}
-use Rattle.words.proofs.Lists.{zero-one, and-left, and-right}
+use Rattle.words.proofs.Lists.{and-left, and-right}
 use Rattle.text.specs.Writing.{Put}
 use Rattle.aspif.specs.Rules.{InputRule, expand, atoms}
 use Rattle.aspif.specs.Reading.{Reading, program, readText, programAnswer, tableOf}
@@ -22,6 +22,7 @@ use Rattle.derivation.specs.Steps.{emptyLive}
 use Rattle.runs.specs.Course.{Course, stopped, through, course, endsEmpty, isAccepted}
 use Rattle.checker.specs.Check.{saying, countsOf, Checked, judged, isInconsistent}
 use Rattle.checker.specs.declared.Verdict.{Verdict}
+use Rattle.checker.proofs.Verdicts.{unread}
 use Rattle.splits.specs.Service.{leavesNothing}
 use Rattle.splits.specs.declared.MergeAnswer.the-variants.{Merged, RefusedProgram, Refused}
 use Rattle.splits.proofs.Answers.{found-inconsistent}
@@ -31,11 +32,6 @@ use Rattle.trees.specs.Service.{treeOutcome, writtenTree, parsedTree, tr
 use Rattle.trees.specs.Sides.{Subtree, pending}
 
 -- A text put at the front of a buffer
-
-pub front-put : (vs before after : List ℕ) {next : ℕ} → Put vs before after 0 next → length vs ≤ length before → after ≡ vs ++ drop (length vs) before
-front-put vs before after p h =
-    let n : 0 + length vs ≡ length vs = omega arith in
-    p .stands ∙ (sets-eq vs before 0 (omega (arith, h)) ∙ ap (λ (k : ℕ). vs ++ drop k before) n)
 
 pub put-size : {text before after : List ℕ} {next : ℕ} → Put text before after 0 next → next ≡ length text
 put-size p = omega (arith, p .ends)
@@ -121,12 +117,8 @@ module _ (t s o : ℕ) (text tree texts lengths : List ℕ) {r : ProgramReading}
   pub unread-tree : (x : ProgramRefusal) {store : List ℤ} {output : List ℕ} → r ≡ Answer.Refused x → store ≡ replicate s (pos 0) → output ≡ replicate o 0
       → record { answer = RefusedProgram x; table = table; store = store; output = output } ≡ mergeTree t s o text tree texts lengths
   unfolding mergeTree
-  unread-tree x {store} {output} e z y = by (readText t text) (sym answer ∙ e) words
-    where
-      by : (d : Reading) → programAnswer d ≡ Answer.Refused x → table ≡ tableOf t d
-          → record { answer = RefusedProgram x; table = table; store = store; output = output } ≡ treeReading t s o tree texts lengths d
-      by (Reading.refused k n) e w = let p : x ≡ record { number = k; line = n } = cc in rw (p, w, z, y)
-      by (program ws) e w = absurd (zero-one (cc))
+  unread-tree x {store} {output} e z y =
+      unread t text answer words (treeReading t s o tree texts lengths) (λ q l. record { answer = RefusedProgram q; table = l; store = store; output = output }) (λ k n. rw (z, y) refl) x e
 
   pub tree-read : (ws : List InputRule) → readText t text ≡ program ws → treeReading t s o tree texts lengths (program ws) ≡ mergeTree t s o text tree texts lengths
   unfolding mergeTree

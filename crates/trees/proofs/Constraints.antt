@@ -6,12 +6,12 @@ use Prim.Native.Nat.{ℕ, _+_, _-_, _≤_}
 use native.Mathlib.Omega.{arith}
 use borrow.Rule.Slice.PartMut.{putMid}
 use lib.IntN.{ℤ, pos}
-use lib.ListN.{length, take, drop, replicate, length-append, length-drop, length-replicate}
+use lib.ListN.{length, take, drop, replicate, length-append, length-replicate}
 use lib.Seq.{take-at, take-take, length-take-le}
 use Rattle.words.specs.Literals.{variable, complement}
 use Rattle.words.specs.Limits.{largest, longest, mostRules}
 use Rattle.words.proofs.Lists.{passed, and-decides, leb-decides}
-use Rattle.words.proofs.Parts.{tail-of, put-tail, put-next}
+use Rattle.words.proofs.Parts.{put-next}
 use Rattle.aspif.specs.Rules.{InputRule, programWords}
 use Rattle.aspif.specs.Tables.{rulesAt}
 use Rattle.aspif.proofs.Formed.{words-append}
@@ -32,11 +32,6 @@ use Rattle.trees.specs.declared.sides.Place.{Place}
 module _ (used : ℕ) (xs : List ℤ) (h : used ≤ length xs) where
   front-size : length (take used xs) ≡ used
   front-size = length-take-le used xs h
-
-  -- the tail was lent, and became 0
-  pub tail-zeroed : (zs : List ℤ) → zs ≡ replicate (length (take (length xs - used) (drop used xs))) (pos 0)
-      → putMid used (length xs - used) xs zs ≡ cleared used xs
-  tail-zeroed zs e = put-tail used xs zs h ∙ ap (λ (l : List ℤ). take used xs ++ l) (e ∙ ap (λ (n : ℕ). replicate n (pos 0)) (ap length (tail-of used xs) ∙ length-drop used xs))
 
   pub length-cleared : length (cleared used xs) ≡ length xs
   length-cleared = omega (arith, length-append (take used xs) (replicate (length xs - used) (pos 0)), front-size, length-replicate (length xs - used) (pos 0), h)

@@ -3,12 +3,9 @@ use mathlib.Core.Path.{_≡_, refl, sym, ap, _∙_}
 use mathlib.Core.Bool.{true, false, true≢false}
 use mathlib.Core.List.{List, _++_}
 use Prim.Native.Nat.{ℕ, _-_, _≤_}
-use borrow.Rule.Slice.PartMut.{putMid}
 use lib.IntN.{ℤ, pos}
-use lib.ListN.{length, replicate, take, drop, length-drop}
+use lib.ListN.{length, replicate, take}
 use lib.Seq.{length-take-le, take-at}
-use Rattle.words.proofs.Lists.{zero-one}
-use Rattle.words.proofs.Parts.{tail-of, put-tail}
 use Rattle.aspif.specs.Rules.{InputRule, expand, atoms, tableWords}
 use Rattle.aspif.specs.Reading.{Reading, program, readText, programAnswer, tableOf}
 use Rattle.aspif.specs.Reading as Reading
@@ -22,17 +19,12 @@ use Rattle.runs.specs.Course.{Course, stopped, through, course, endsEmpty, isAc
 use Rattle.checker.specs.Check.{Checked, judged, judgedReading}
 use Rattle.checker.specs.declared.Verdict.{Verdict}
 use Rattle.checker.proofs.Whole.{text-accepted, accepted-steps}
+use Rattle.checker.proofs.Verdicts.{unread}
 use Rattle.trimming.specs.Service.{courseOf, accepted, trimmedSteps, untouched, storeAfter, trimmedRead, trimmedReading, trim}
 use Rattle.trimming.specs.Passing.{Reads}
 use Rattle.trimming.specs.declared.TrimAnswer.the-variants.{Trimmed, RefusedProgram, Refused}
 use Rattle.trimming.proofs.Passes.{trimmed-settles, trimmed-order}
 use Rattle.trimming.proofs.Turns.{sub-course}
-
--- zeros from n on
-pub zeros-behind : (n : ℕ) (xs ys : List ℕ) → n ≤ length xs → ys ≡ replicate (length (take (length xs - n) (drop n xs))) 0
-    → putMid n (length xs - n) xs ys ≡ take n xs ++ replicate (length xs - n) 0
-zeros-behind n xs ys h e =
-    put-tail n xs ys h ∙ ap (λ (l : List ℕ). take n xs ++ l) (e ∙ ap (λ (k : ℕ). replicate k 0) (ap length (tail-of n xs) ∙ length-drop n xs))
 
 -- The proof
 
@@ -83,12 +75,8 @@ module _ (t s : ℕ) (text proof : List ℕ) {r : ProgramReading} (answer : r �
   pub program-unread : (x : ProgramRefusal) {store : List ℤ} → r ≡ Answer.Refused x → store ≡ replicate s (pos 0)
       → record { answer = RefusedProgram x; text = proof; table = table; store = store } ≡ trim t s proof text
   unfolding trim
-  program-unread x {store} e z = by (readText t text) (sym answer ∙ e) words
-    where
-      by : (d : Reading) → programAnswer d ≡ Answer.Refused x → table ≡ tableOf t d
-          → record { answer = RefusedProgram x; text = proof; table = table; store = store } ≡ trimmedReading t s proof d
-      by (Reading.refused k n) e w = let p : x ≡ record { number = k; line = n } = cc in rw (p, w, z)
-      by (program ws) e w = absurd (zero-one (cc))
+  program-unread x {store} e z =
+      unread t text answer words (trimmedReading t s proof) (λ q l. record { answer = RefusedProgram q; text = proof; table = l; store = store }) (λ k n. rw z refl) x e
 
   pub program-trimmed : (ws : List InputRule) → readText t text ≡ program ws → trimmedReading t s proof (program ws) ≡ trim t s proof text
   unfolding trim

@@ -7,8 +7,9 @@ use Prim.Native.Nat.{ℕ, zero, suc, _+_, _-_, _<_, _≤_}
 use native.Mathlib.Omega.{arith}
 use lib.Dec.{eqb}
 use lib.IntN.{ℤ, pos}
+use Rattle.text.proofs.Puts.{front-put}
 use lib.ListN.{length, take, drop, replicate, length-append, length-drop}
-use lib.Seq.{length-take-le, take-length, take-take, take-add, take-at, drop-at, append-snoc, sets-eq}
+use lib.Seq.{length-take-le, take-length, take-take, take-add, take-at, drop-at, append-snoc}
 use Rattle.words.specs.Limits.{longest}
 use Rattle.words.proofs.Lists.{passed, eqb-decides, is-true}
 use Rattle.weights.specs.Claims.{none, with-it}
@@ -58,10 +59,10 @@ module _ {ts : List Step} (good : AllPass ts) (short : length (textOf ts) ≤ lo
 -- A trial
 
 -- what was put at the front of a buffer that holds it
-pub front-put : (vs before after : List ℕ) (r : ℕ) → Put vs before after 0 r → length vs ≤ length before → (r ≡ length vs) × (take r after ≡ vs)
-front-put vs before after r p h =
+pub front-taken : (vs before after : List ℕ) (r : ℕ) → Put vs before after 0 r → length vs ≤ length before → (r ≡ length vs) × (take r after ≡ vs)
+front-taken vs before after r p h =
     let n : r ≡ length vs = omega (arith, p .ends) in
-    (n, ap (take r) (p .stands ∙ sets-eq vs before 0 (omega (arith, h))) ∙ take-at vs (drop (0 + length vs) before) r (sym n))
+    (n, ap (take r) (front-put vs before after p h) ∙ take-at vs (drop (length vs) before) r (sym n))
 
 pub without-size : (text : List ℕ) (a e n : ℕ) → a ≤ e → e ≤ n → n ≤ length text → length (without text a e n) ≡ a + (n - e)
 without-size text a e n h k l =

@@ -10,7 +10,7 @@ use lib.IntN.{ℤ, pos}
 use lib.ListN.{length, drop, getD}
 use lib.Seq.{drop-cons}
 use Rattle.words.specs.Lists.{_∈_, any, filter}
-use Rattle.words.specs.Literals.{variable, same, sameList, distinct}
+use Rattle.words.specs.Literals.{variable, sameList, distinct}
 use Rattle.words.proofs.Lists.{keep→, if-true, passed, failed, not-decides}
 use Rattle.words.proofs.Literals.{same-decides, sameList-decides}
 use Rattle.words.proofs.Places.{once-decides}

@@ -4,7 +4,7 @@ use mathlib.Core.Path.{_≡_, refl, sym, _∙_, ap}
 use mathlib.Core.List.{List, [], _∷_, _++_, append-nil}
 use Prim.Native.Nat.{ℕ, zero, suc, _+_, _-_, _≤_}
 use native.Mathlib.Omega.{arith}
-use lib.ListN.{length, take, drop, length-drop, length-append}
+use lib.ListN.{length, take, drop, replicate, length-drop, length-append}
 use lib.Seq.{drop-length, take-all, drop-drop, length-take-le, take-at, drop-at, take-append-le, take-take}
 use borrow.Rule.Slice.PartMut.{putMid, midOf, post-is}
 
@@ -16,6 +16,11 @@ module _ {X : Type 0} (a : ℕ) (xs : List X) where
   -- the whole with ys in its place
   pub put-tail : (ys : List X) → a ≤ length xs → putMid a (length xs - a) xs ys ≡ take a xs ++ ys
   put-tail ys h = rw (post-is a (length xs) xs, drop-length, append-nil)
+
+  -- it is one element throughout
+  pub tail-filled : (z : X) (ys : List X) → a ≤ length xs → ys ≡ replicate (length (take (length xs - a) (drop a xs))) z
+      → putMid a (length xs - a) xs ys ≡ take a xs ++ replicate (length xs - a) z
+  tail-filled z ys h e = put-tail ys h ∙ ap (λ l. take a xs ++ l) (e ∙ ap (λ n. replicate n z) (ap length tail-of ∙ length-drop a xs))
 
   -- k elements at its front were written
   pub put-front : (new ys : List X) (k : ℕ) → a ≤ length xs → ys ≡ new ++ drop k (take (length xs - a) (drop a xs))

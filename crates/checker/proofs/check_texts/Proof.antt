@@ -1,8 +1,10 @@
 use mathlib.Core.Path.{_≡_, sym, _∙_}
 use native.Mathlib.Omega.{arith}
+use lib.IntN.{pos}
 use lib.ListN.{length}
+use Rattle.words.proofs.Laws.{zeros}
 use Rattle.aspif.specs.Reading.{ProgramRead}
-use Rattle.checker.proofs.Verdicts.{judged-lengths, zeros, program-refused, ReadProgram, program-read, check-read, held}
+use Rattle.checker.proofs.Verdicts.{judged-lengths, program-refused, ReadProgram, program-read, check-read, held}
 use borrow.Author.Needs.{needs}
 use Rattle.checker.proofs.check_texts.Statement.{statement}
 use Rattle.checker.proofs.check_texts.Tie as tie
@@ -25,7 +27,7 @@ check-proof-requires : tie.Need-check-proof-requires
 check-proof-requires c κs =
     let d = c .before .before .before in
     let h = held _ _ _ _ (read d .answer) (read d .table) (found d) (search needs) in
-    (((found d .P, h .0), omega (arith, h .1)), zeros _ (length (start d .args .store .now)) (c .before .before .before .before .before .before .before .before .before .zero-all .ensures))
+    (((found d .P, h .0), omega (arith, h .1)), zeros (pos 0) {n = length (start d .args .store .now)} (c .before .before .before .before .before .before .before .before .before .zero-all .ensures) .0)
 
 returns : tie.Need-returns
 returns c =

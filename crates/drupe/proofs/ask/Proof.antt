@@ -1,8 +1,6 @@
 -- `drupe::ask` meets its contract. A copy of the numbers is sorted.
 -- Assumes nothing.
-use mathlib.Core.Path.{_≡_, sym, ap, _∙_}
-use mathlib.Core.List.{List}
-use lib.IntN.{ℤ}
+use mathlib.Core.Path.{sym, ap, _∙_}
 use borrow.Author.Tests.{not-true, not-false}
 use Rattle.words.specs.Literals.{ascending, distinct}
 use Rattle.drupe.specs.Lines.{lineAnswer}

@@ -1,9 +1,7 @@
 use mathlib.Core.Path.{sym, ap, _∙_}
 use mathlib.Core.Bool.{true≢false}
-use Prim.Native.Nat.{_+_}
 use native.Mathlib.Omega.{arith}
 use lib.ListN.{take}
-use Rattle.words.specs.Limits.{mostHeld}
 use Rattle.aspif.proofs.Readable.{rules-count}
 use Rattle.heads.specs.Heads.{Covers, hintOf}
 use Rattle.heads.proofs.Bodies.{covers-few, found-few, kept-front}

@@ -1,12 +1,12 @@
 use mathlib.Core.Path.{_≡_, refl, _∙_}
 use mathlib.Core.List.{List}
 use Prim.Native.Nat.{ℕ}
-use lib.IntN.{ℤ}
+use lib.IntN.{ℤ, pos}
 use lib.ListN.{length}
+use Rattle.words.proofs.Laws.{zeros}
 use Rattle.aspif.specs.Rules.{InputRule}
 use Rattle.drupe.specs.Texts.{textOf}
 use Rattle.steps.specs.Held.{Program}
-use Rattle.checker.proofs.Verdicts.{zeros}
 use Rattle.aspif.specs.Reading.{program}
 use Rattle.splits.specs.Service.{mergedSteps, leavesNothing, mergedReading}
 use Rattle.splits.specs.declared.MergeAnswer.the-variants.{Refused}
@@ -66,7 +66,7 @@ judge-requires : tie.Need-judge-requires
 judge-requires c κs =
     let d = c .before .before .before .before .before .before .before .before .before in
     let q = start d .pre .0 in
-    (q, (zeros (store′ d) (s d) (d .write .ensures .0), written d (q .0 .0) (q .0 .1) _ (c .before .before .before .before .written2 .given .1) .within))
+    (q, (zeros (pos 0) {n = s d} (d .write .ensures .0) .0, written d (q .0 .0) (q .0 .1) _ (c .before .before .before .before .written2 .given .1) .within))
 
 returns : tie.Need-returns
 returns c = λ ws p w.

@@ -1,9 +1,10 @@
 use mathlib.Core.Path.{_≡_, _∙_}
+use lib.IntN.{pos}
 use lib.ListN.{length}
+use Rattle.words.proofs.Laws.{zeros}
 use Rattle.aspif.specs.Reading.{ProgramRead, program}
 use Rattle.aspif.proofs.Shorter.{read-shorter}
-use Rattle.checker.proofs.Verdicts.{zeros, ReadProgram, program-read, held}
-use Rattle.splits.proofs.Answers.{zero-bytes}
+use Rattle.checker.proofs.Verdicts.{ReadProgram, program-read, held}
 use Rattle.trees.proofs.Answers.{unread-tree, tree-read, tree-reading-same}
 use borrow.Author.Needs.{needs}
 use Rattle.trees.proofs.merge_tree.Statement.{statement}
@@ -28,7 +29,7 @@ merge-read-requires c κs =
     let d = c .before .before .before .before in
     let f = found d in
     let h = held _ _ _ _ (read d .answer) (read d .table) f (search needs) in
-    (((f .P, h .0), h .1), (rw (h .0 .holds .are) (read-shorter _ _ (f .P) (f .read)), (zeros _ (length (start d .args .store .now)) (c .before .before .before .before .before .before .before .before .before .before .before .before .before .before .zero-all .ensures), zero-bytes _ (length (start d .args .output .now)) (c .before .before .before .before .before .before .before .before .before .before .before .zero-bytes .ensures))))
+    (((f .P, h .0), h .1), (rw (h .0 .holds .are) (read-shorter _ _ (f .P) (f .read)), (zeros (pos 0) {n = length (start d .args .store .now)} (c .before .before .before .before .before .before .before .before .before .before .before .before .before .before .zero-all .ensures) .0, zeros 0 {n = length (start d .args .output .now)} (c .before .before .before .before .before .before .before .before .before .before .before .zero-bytes .ensures) .0)))
 
 returns : tie.Need-returns
 returns c =

@@ -2,13 +2,13 @@ use mathlib.Core.Path.{_≡_, refl, sym, ap, _∙_, subst}
 use mathlib.Core.List.{List, []}
 use Prim.Native.Nat.{ℕ, _≤_}
 use native.Mathlib.Omega.{arith}
-use lib.IntN.{ℤ}
+use lib.IntN.{ℤ, pos}
 use lib.ListN.{length, take, length-replicate}
 use lib.Seq.{length-take-le}
+use Rattle.words.proofs.Laws.{zeros}
 use Rattle.words.specs.Limits.{longest}
 use Rattle.aspif.specs.Rules.{InputRule}
 use Rattle.steps.specs.Held.{Program}
-use Rattle.checker.proofs.Verdicts.{zeros}
 use Rattle.splits.proofs.Answers.{same-nothing}
 use Rattle.shapes.specs.Tree.{Shape, mostSplits}
 use Rattle.trees.specs.Service.{writtenTree}
@@ -107,7 +107,7 @@ write-out-requires : tie.Need-write-out-requires
 write-out-requires c κs =
     let d = c .before .before .before .before .before in
     let q = begun (side d) .pre in
-    (q .0, ((zeros (store′ (side d)) (s (side d)) (side d .merge-side .ensures .0), q .1 .1 .1 .1), omega (arith, size-is d, within d)))
+    (q .0, ((zeros (pos 0) {n = s (side d)} (side d .merge-side .ensures .0) .0, q .1 .1 .1 .1), omega (arith, size-is d, within d)))
 
 returns : tie.Need-returns
 returns c = λ ws p w u T.

@@ -1,7 +1,9 @@
 use mathlib.Core.Path.{_≡_, _∙_}
+use lib.IntN.{pos}
 use lib.ListN.{length}
+use Rattle.words.proofs.Laws.{zeros}
 use Rattle.aspif.specs.Reading.{ProgramRead, program}
-use Rattle.checker.proofs.Verdicts.{zeros, ReadProgram, program-read, held}
+use Rattle.checker.proofs.Verdicts.{ReadProgram, program-read, held}
 use Rattle.trimming.proofs.Answers.{program-unread, program-trimmed, trimmed-same}
 use borrow.Author.Needs.{needs}
 use Rattle.trimming.proofs.trim_proof.Statement.{statement}
@@ -26,7 +28,7 @@ trim-read-requires c κs =
     let d = c .before .before .before .before in
     let f = found d in
     let h = held _ _ _ _ (read d .answer) (read d .table) f (search needs) in
-    (((f .P, h .0), h .1), zeros _ (length (start d .args .store .now)) (c .before .before .before .before .before .before .before .before .before .before .zero-all .ensures))
+    (((f .P, h .0), h .1), zeros (pos 0) {n = length (start d .args .store .now)} (c .before .before .before .before .before .before .before .before .before .before .zero-all .ensures) .0)
 
 returns : tie.Need-returns
 returns c =

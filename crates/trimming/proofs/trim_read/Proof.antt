@@ -4,9 +4,11 @@ use mathlib.Core.List.{List, _++_}
 use Prim.Native.Nat.{ℕ, _-_, _≤_}
 use native.Mathlib.Omega.{arith}
 use borrow.Rule.Slice.PartMut.{putMid}
-use lib.IntN.{ℤ}
+use lib.IntN.{ℤ, pos}
+use Rattle.words.proofs.Parts.{tail-filled}
 use lib.ListN.{length, take, replicate}
 use lib.Seq.{length-take-le}
+use Rattle.words.proofs.Laws.{zeros}
 use Rattle.words.specs.Limits.{longest}
 use borrow.Author.Tests.{not-true, not-false}
 use Rattle.aspif.specs.Rules.{InputRule}
@@ -15,12 +17,11 @@ use Rattle.drupe.proofs.Texts.{steps-exact}
 use Rattle.runs.specs.Course.{isAccepted}
 use Rattle.checker.specs.Check.{judgedReading}
 use Rattle.steps.specs.Held.{Program}
-use Rattle.checker.proofs.Verdicts.{zeros}
 use Rattle.checker.proofs.Whole.{accepted-steps}
 use Rattle.trimming.specs.Service.{trimmedSteps}
 use Rattle.trimming.specs.Passing.{Reads}
 use Rattle.trimming.specs.declared.TrimAnswer.the-variants.{Trimmed}
-use Rattle.trimming.proofs.Answers.{zeros-behind, front-kept, not-accepted, written}
+use Rattle.trimming.proofs.Answers.{front-kept, not-accepted, written}
 use borrow.Author.Needs.{needs}
 use Rattle.trimming.proofs.trim_read.Statement.{statement}
 use Rattle.trimming.proofs.trim_read.Tie as tie
@@ -64,7 +65,7 @@ passes-requires : tie.Need-passes-requires
 passes-requires c κs =
     let e = c .before .before .before in
     let d = first e in
-    (short e, (s d .pre .0, zeros (store₁ d) (size d) (d .is-accepted .ensures .0)))
+    (short e, (s d .pre .0, zeros (pos 0) {n = size d} (d .is-accepted .ensures .0) .0))
 
 -- the passes
 module _ (c : tie.After-passes) where
@@ -101,7 +102,7 @@ module _ (c : tie.After-zero-bytes) where
   text″ = putMid (n done) (length (text′ done) - n done) (text′ done) (c .zero-bytes .last .0)
 
   behind : text″ ≡ take (n done) (text′ done) ++ replicate (length (text′ done) - n done) 0
-  behind = zeros-behind (n done) (text′ done) (c .zero-bytes .last .0) (within done) (c .zero-bytes .ensures)
+  behind = tail-filled (n done) (text′ done) 0 (c .zero-bytes .last .0) (within done) (c .zero-bytes .ensures)
 
 slice-aggregate-check-proof : tie.Need-slice-aggregate-check-proof
 slice-aggregate-check-proof c =
@@ -113,7 +114,7 @@ check-proof-requires : tie.Need-check-proof-requires
 check-proof-requires c κs =
     let d = done (c .before .before .before .before .before) in
     let q = a d .pre .0 in
-    ((q .0, omega (arith, q .1)), zeros (store₂ d) (length (store₁ (first (e d)))) (d .passes .ensures .1 .0))
+    ((q .0, omega (arith, q .1)), zeros (pos 0) {n = length (store₁ (first (e d)))} (d .passes .ensures .1 .0) .0)
 
 returns-2 : tie.Need-returns-2
 returns-2 c =

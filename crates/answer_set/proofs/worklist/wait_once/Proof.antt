@@ -1,5 +1,4 @@
-use Prim.Native.Nat.{_≤_, _<_, _-_}
-use native.Mathlib.Omega.{arith}
+use Prim.Native.Nat.{_≤_, _-_}
 use borrow.Author.Needs.{needs}
 use Rattle.answer_set.proofs.worklist.wait_once.Statement.{statement}
 use Rattle.answer_set.proofs.worklist.wait_once.Tie as tie

@@ -2,7 +2,6 @@ use mathlib.Core.Path.{_≡_, sym, _∙_}
 use native.Mathlib.Omega.{arith}
 use lib.IntN.{pos}
 use lib.ListN.{getD}
-use Rattle.words.specs.Literals.{variable}
 use Rattle.words.proofs.Words.{back}
 use Rattle.aspif.specs.Tables.{isWeighted, bodyCount}
 use Rattle.aspif.proofs.Counts.{count-small}

@@ -1,4 +1,4 @@
-use mathlib.Core.Path.{_≡_, _∙_, sym}
+use mathlib.Core.Path.{_∙_, sym}
 use Rattle.aspif.specs.Tables.{bodySound}
 use borrow.Author.Needs.{needs}
 use Rattle.aspif.proofs.tables.body_sound.Statement.{statement}

@@ -1,9 +1,9 @@
-use mathlib.Core.Path.{_≡_, refl, sym, _∙_}
-use Prim.Native.Nat.{_≤_, _-_, _+_, max}
+use mathlib.Core.Path.{_≡_}
+use Prim.Native.Nat.{_≤_, _-_, max}
 use native.Mathlib.Omega.{arith}
 use lib.IntN.{pos}
 use lib.ListN.{length, drop, getD}
-use Rattle.words.specs.Literals.{variable, top}
+use Rattle.words.specs.Literals.{top}
 use Rattle.words.proofs.Words.{back}
 use Rattle.weights.specs.Weights.{literals, paired}
 use Rattle.aspif.proofs.Weighings.{top-pair, top-empty}

@@ -1,8 +1,8 @@
 use mathlib.Core.Path.{_≡_}
-use Prim.Native.Nat.{_+_, _-_, _<_}
+use Prim.Native.Nat.{_-_}
 use native.Mathlib.Omega.{arith}
 use lib.IntN.{pos}
-use lib.ListN.{length, getD}
+use lib.ListN.{getD}
 use Rattle.words.proofs.Words.{back}
 use Rattle.aspif.specs.Tables.{headCount, sizeAt}
 use Rattle.aspif.proofs.Cursors.{shaped, start-small, body-small}

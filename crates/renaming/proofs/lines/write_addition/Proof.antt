@@ -1,5 +1,4 @@
 use mathlib.Core.Path.{_≡_, sym, ap, _∙_}
-use mathlib.Core.Bool.{true}
 use borrow.Author.Needs.{needs, sfits-of}
 use lib.IntN.{ℤ}
 use mir.Syntax.{w32}

@@ -1,4 +1,3 @@
-use native.Mathlib.Omega.{arith}
 use borrow.Author.Needs.{needs}
 use Rattle.renaming.proofs.Written.{one-long, one-written, one-past}
 use Rattle.renaming.proofs.lines.write_line.Statement.{statement}

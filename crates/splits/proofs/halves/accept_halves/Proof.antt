@@ -8,6 +8,7 @@ use lib.ListN.{length, replicate, length-replicate}
 use mir.Syntax.{w32}
 use mir.Val.{toZ, ofZ}
 use mir.Facts.{toZ-ofZ, toZ-pos}
+use Rattle.words.proofs.Laws.{zeros}
 use Rattle.words.specs.Limits.{largest}
 use Rattle.words.specs.Literals.{complement}
 use Rattle.words.proofs.Lists.{passed, and-decides, leb-decides}
@@ -15,7 +16,6 @@ use Rattle.words.proofs.Literals.{variable-complement}
 use Rattle.derivation.specs.States.{isAtom}
 use Rattle.names.specs.ByName.{bodyWords}
 use Rattle.heads.specs.Heads.{nameWords}
-use Rattle.checker.proofs.Verdicts.{zeros}
 use Rattle.merging.specs.Claims.{demandingAsWritten}
 use Rattle.splits.specs.Halves.{HalfChecked}
 use Rattle.splits.proofs.Accepting.{no-atom, no-half, halves-checked}
@@ -102,7 +102,7 @@ accepts-with-requires-2 c κs =
             (p .1 .1 .0 .0, c .before .before .before .before .before .before .before .before .before .before .zero-names .ensures ∙ ap (λ (n : ℕ). replicate n 0) (same-names a)),
             (
               λ w. c .before .before .before .before .before .before .zero-bodies .ensures ∙ ap (λ (n : ℕ). replicate n (pos 0)) (same-bodies a {n = bodyWords} (p .1 .1 .1 .1 .0 w)),
-              zeros _ (length (s x .args .store .now)) (a .accepts-with .ensures .0),
+              zeros (pos 0) {n = length (s x .args .store .now)} (a .accepts-with .ensures .0) .0,
             ),
           ),
         ),

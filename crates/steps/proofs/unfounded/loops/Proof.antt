@@ -5,8 +5,6 @@ use Prim.Native.Nat.{_≤_}
 use native.Mathlib.Omega.{arith}
 use borrow.Author.Tests.{not-true, not-false}
 use lib.IntN.{ℤ}
-use lib.ListN.{take}
-use Rattle.words.specs.Limits.{largest}
 use Rattle.words.specs.Lists.{all}
 use Rattle.words.specs.Literals.{variable, top}
 use Rattle.marks.specs.Marks.{marked}

@@ -10,13 +10,13 @@ use lib.ListN.{length, take, drop, replicate, length-drop, length-replicate}
 use borrow.Fn.Kinds.{In}
 use borrow.Fn.PlainCycle.{Measures, is, falls, and}
 use borrow.Author.Needs.{needs}
+use Rattle.words.proofs.Laws.{zeros}
 use Rattle.words.specs.Limits.{largest, longest}
 use Rattle.words.specs.Literals.{variable}
 use Rattle.words.proofs.Literals.{complement-twice, variable-complement}
 use Rattle.words.proofs.Parts.{tail-of}
 use Rattle.aspif.specs.Rules.{InputRule}
 use Rattle.derivation.specs.States.{isAtom}
-use Rattle.checker.proofs.Verdicts.{zeros}
 use Rattle.merging.specs.Claims.{demandingAsWritten}
 use Rattle.shapes.specs.Tree.{Shape}
 use Rattle.shapes.specs.Walks.{largestSize}
@@ -439,7 +439,7 @@ merge-side-requires-2 t c κs =
             rest,
             subtree-as x (sym (tail-of (1 + p t k .numbers) (numbers t s))) (sym (tail-of (p t k .bytes) (texts t s))) (sym (tail-of (p t k .ends) (lengths t s))) (side-second (subtree t s) H (took₁ t k (standing t s) (subtree t s) .1)),
           ),
-          (zeros (store₂ t (one t k)) (size t s) (one t k .merge-side .ensures .0), refl),
+          (zeros (pos 0) {n = size t s} (one t k .merge-side .ensures .0) .0, refl),
         ),
       ),
     )
@@ -456,7 +456,7 @@ join-sides-requires t c κs =
         (
           sides-joinable (size t s) (place t s .limit) (s .pre .1 .0 .0) T (halved t (wide₅ t d) T) (merged₁ t (one t k) (standing t s) T) (p t k) (k .one .given .1) (merged₂ t d (standing t s) T)
               (long-first t (one t k)) (long-second t d) (counted t s .0) (counted t s .1) (counted t s .2),
-          (zeros (store₄ t d) (size t s) (empty₄ t d), blank t s),
+          (zeros (pos 0) {n = size t s} (empty₄ t d) .0, blank t s),
         ),
       ),
     )

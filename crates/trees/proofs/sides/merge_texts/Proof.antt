@@ -5,20 +5,20 @@ use Prim.Native.Nat.{ℕ, _-_}
 use native.Mathlib.Omega.{arith}
 use borrow.Rule.Slice.PartMut.{putMid}
 use lib.IntN.{ℤ, pos}
+use Rattle.words.proofs.Parts.{tail-filled}
 use lib.ListN.{length, take, replicate, length-replicate}
+use Rattle.words.proofs.Laws.{zeros}
 use Rattle.words.specs.Limits.{longest}
 use Rattle.aspif.specs.Rules.{InputRule, programWords, atoms}
 use Rattle.derivation.specs.States.{isAtom}
 use Rattle.steps.specs.Held.{Program}
 use Rattle.runs.specs.Course.{isAccepted}
-use Rattle.checker.proofs.Verdicts.{zeros}
 use Rattle.merging.specs.Claims.{demandingAsWritten}
-use Rattle.splits.proofs.Answers.{zero-bytes}
 use Rattle.trees.specs.Service.{fails}
 use Rattle.trees.specs.Sides.{cleared, Standing, sideOf, Adds}
 use Rattle.trees.specs.declared.sides.Pending.{Pending}
 use Rattle.trees.specs.declared.sides.Sided.the-variants.{Text}
-use Rattle.trees.proofs.Constraints.{within, tail-zeroed, length-cleared, front-cleared, standing-same}
+use Rattle.trees.proofs.Constraints.{within, length-cleared, front-cleared, standing-same}
 use Rattle.trees.proofs.Outcomes.{over-buffer, not-halves, text-size, over-limit, text-pending}
 use borrow.Author.Needs.{needs}
 use Rattle.trees.proofs.sides.merge_texts.Statement.{statement}
@@ -39,7 +39,7 @@ module _ (c : tie.After-zero-all) where
   now-table = putMid used (length table - used) table (c .zero-all .last .0)
 
   clear : now-table ≡ cleared used table
-  clear = tail-zeroed used table (within (s .pre .0 .1)) (c .zero-all .last .0) (c .zero-all .ensures)
+  clear = tail-filled used table (pos 0) (c .zero-all .last .0) (within (s .pre .0 .1)) (c .zero-all .ensures)
 
   front : take used now-table ≡ take used table
   front = ap (take used) clear ∙ front-cleared used table (within (s .pre .0 .1))
@@ -63,7 +63,7 @@ write-requires c κs =
     let S = s d .pre .0 .1 in
     let P = program d S in (
       ((s d .pre .0 .0, P), omega (arith, S .rules)),
-      (omega (arith, ap (λ (rs : List InputRule). length (programWords rs)) (P .holds .are), S .used, S .room), (s d .pre .1 .1 .1 .0, zero-bytes (s d .args .output .now) longest (s d .pre .1 .1 .1 .1))),
+      (omega (arith, ap (λ (rs : List InputRule). length (programWords rs)) (P .holds .are), S .used, S .room), (s d .pre .1 .1 .1 .0, zeros 0 {n = longest} (s d .pre .1 .1 .1 .1) .0)),
     )
 
 -- what 57 and 58 left
@@ -103,7 +103,7 @@ first-refusal-requires : tie.Need-first-refusal-requires
 first-refusal-requires c κs =
     let w = c .before .before .before .before .before .before .before .before .before in
     let q = s (z w) .pre in
-    ((q .0 .0, standing (z w) (q .0 .1)), (q .1 .0, zeros (store′ w) (length (s (z w) .args .store .now)) (w .write .ensures .0)))
+    ((q .0 .0, standing (z w) (q .0 .1)), (q .1 .0, zeros (pos 0) {n = length (s (z w) .args .store .now)} (w .write .ensures .0) .0))
 
 returns-2 : tie.Need-returns-2
 returns-2 c =

@@ -5,8 +5,9 @@ use lib.IntN.{ℤ, pos}
 use mir.Syntax.{w32}
 use mir.Val.{toZ, ofZ}
 use mir.Facts.{toZ-ofZ}
+use Rattle.words.proofs.Parts.{tail-filled}
 use Rattle.splits.specs.Halves.{demandWords}
-use Rattle.trees.proofs.Constraints.{tail-zeroed, put-behind}
+use Rattle.trees.proofs.Constraints.{put-behind}
 use borrow.Author.Needs.{needs}
 use Rattle.trees.proofs.sides.put_demand.Statement.{statement}
 use Rattle.trees.proofs.sides.put_demand.Tie as tie
@@ -26,7 +27,7 @@ returns : tie.Need-returns
 returns c =
     let a = s c .args in
     let z = c .before .before .before .before .before .zero-all in
-    let k = put-behind (a .used) (a .table .now) (omega (arith, s c .pre)) (row c) (c .before .copy .last .0) (tail-zeroed (a .used) (a .table .now) (omega (arith, s c .pre)) (z .last .0) (z .ensures)) (c .before .copy .ensures) in
+    let k = put-behind (a .used) (a .table .now) (omega (arith, s c .pre)) (row c) (c .before .copy .last .0) (tail-filled (a .used) (a .table .now) (pos 0) (z .last .0) (omega (arith, s c .pre)) (z .ensures)) (c .before .copy .ensures) in
     rw (row-is c) at k
 
 pub put-demand-spec : {M : Type 1} → statement M

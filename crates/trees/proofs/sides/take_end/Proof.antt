@@ -6,7 +6,7 @@ use lib.ListN.{length, take, getD}
 use lib.Seq.{length-take-le, take-at}
 use Rattle.words.specs.Limits.{longest}
 use Rattle.trees.proofs.Outcomes.{first-length}
-use Rattle.trees.proofs.Answers.{front-put}
+use Rattle.text.proofs.Puts.{front-put}
 use borrow.Author.Needs.{needs}
 use Rattle.trees.proofs.sides.take_end.Statement.{statement}
 use Rattle.trees.proofs.sides.take_end.Tie as tie

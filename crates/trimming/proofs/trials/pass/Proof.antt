@@ -3,8 +3,8 @@ use Prim.Native.Nat.{ℕ, _<_, _≤_}
 use native.Mathlib.Omega.{arith}
 use lib.IntN.{pos}
 use lib.ListN.{length, take, replicate}
+use Rattle.words.proofs.Laws.{zeros}
 use Rattle.drupe.proofs.Texts.{steps-exact}
-use Rattle.checker.proofs.Verdicts.{zeros}
 use Rattle.trimming.proofs.Turns.{Passing, try-start, try-on, try-end, try-reads}
 use borrow.Author.Needs.{needs}
 use Rattle.trimming.proofs.trials.pass.Statement.{statement}
@@ -54,7 +54,7 @@ try-without-requires c κs =
     let I = l d .loop .inv in
     let q = s d .pre in
     let h = b .line-start .ensures .0 in
-    (((omega (arith, h), inside d .0), inside d .1), ((omega (arith, I .same-text, q .0 .0), I .same-trial ∙ q .0 .1), (q .1 .1 .0, zeros (l d .loop .store) (length (s d .args .store .now)) (I .zeros))))
+    (((omega (arith, h), inside d .0), inside d .1), ((omega (arith, I .same-text, q .0 .0), I .same-trial ∙ q .0 .1), (q .1 .1 .0, zeros (pos 0) {n = length (s d .args .store .now)} (I .zeros) .0)))
 
 loop-less : tie.Need-loop-less Inv-loop μ-loop
 loop-less c = c .before .before .before .before .before .before .before .before .before .line-start .ensures .0

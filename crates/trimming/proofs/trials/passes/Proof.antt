@@ -4,11 +4,11 @@ use Prim.Native.Nat.{ℕ, _≤_}
 use native.Mathlib.Omega.{arith}
 use lib.IntN.{pos}
 use lib.ListN.{length, replicate, length-replicate}
+use Rattle.words.proofs.Laws.{zeros}
 use Rattle.words.specs.Limits.{longest}
 use Rattle.aspif.specs.Rules.{InputRule}
 use Rattle.drupe.specs.Texts.{Step, steps, stepsOf}
 use Rattle.steps.specs.Held.{Program}
-use Rattle.checker.proofs.Verdicts.{zeros}
 use Rattle.trimming.specs.Trims.{pass}
 use Rattle.trimming.specs.Service.{accepted}
 use Rattle.trimming.specs.Passing.{Reads}
@@ -70,7 +70,7 @@ pass-requires c κs =
     let k = c .before .before .before in
     let q = k .before .before .pre in
     let I = k .loop .inv in
-    ((omega (arith, I .same-text, q .0), I .room), (I .within, (q .1 .0, zeros (k .loop .store) (length (k .before .before .args .store .now)) (I .zeros))))
+    ((omega (arith, I .same-text, q .0), I .room), (I .within, (q .1 .0, zeros (pos 0) {n = length (k .before .before .args .store .now)} (I .zeros) .0)))
 
 returns : tie.Need-returns Inv-loop μ-loop
 returns c =

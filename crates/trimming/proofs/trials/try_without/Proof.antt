@@ -4,7 +4,7 @@ use Prim.Native.Nat.{ℕ, _≤_}
 use native.Mathlib.Omega.{arith}
 use lib.ListN.{length, take}
 use lib.Seq.{length-take-le}
-use Rattle.trimming.proofs.Turns.{front-put, goes-out, stays-in}
+use Rattle.trimming.proofs.Turns.{front-taken, goes-out, stays-in}
 use borrow.Author.Needs.{needs}
 use Rattle.trimming.proofs.trials.try_without.Statement.{statement}
 use Rattle.trimming.proofs.trials.try_without.Tie as tie
@@ -45,7 +45,7 @@ returns c =
     let q = c .before .before .before .before .before .before .before in
     let w = q .before .before .before .before .before in
     let a = s w .args in
-    let f = front-put (take (n w) (buffer w)) (a .text .now) _ _ (c .before .before .put-bytes .ensures) (omega (arith, size w, most w, s w .pre .0 .1)) in (
+    let f = front-taken (take (n w) (buffer w)) (a .text .now) _ _ (c .before .before .put-bytes .ensures) (omega (arith, size w, most w, s w .pre .0 .1)) in (
       (omega (arith, f .0, size w, least w), omega (arith, f .0, size w, most w)),
       (
         q .is-accepted .ensures .0,

@@ -4,7 +4,7 @@ use native.Mathlib.Omega.{arith}
 use lib.ListN.{length, take, drop, length-drop}
 use lib.Seq.{length-take-le}
 use Rattle.text.proofs.Puts.{put-on}
-use Rattle.trimming.proofs.Turns.{front-put, without-size}
+use Rattle.trimming.proofs.Turns.{front-taken, without-size}
 use borrow.Author.Needs.{needs}
 use Rattle.trimming.proofs.trials.write_without.Statement.{statement}
 use Rattle.trimming.proofs.trials.write_without.Tie as tie
@@ -40,7 +40,7 @@ returns c =
     let a = s .args in
     let b = s .pre .0 in
     let n = without-size (a .text .now) (a .start) (a .end) (a .len) (b .0 .0) (b .0 .1) (b .1) in
-    let f = front-put _ (a .trial .now) _ _ (put-on (p .put-bytes .ensures) (q .put-bytes2 .ensures)) (omega (arith, n, b .0 .0, b .0 .1, b .1, s .pre .1 .0, s .pre .1 .1)) in
+    let f = front-taken _ (a .trial .now) _ _ (put-on (p .put-bytes .ensures) (q .put-bytes2 .ensures)) (omega (arith, n, b .0 .0, b .0 .1, b .1, s .pre .1 .0, s .pre .1 .1)) in
     ((omega (arith, f .0, n), omega (arith, f .0, n, b .0 .0, b .0 .1)), f .1)
 
 pub write-without-spec : {M : Type 1} → statement M
