@@ -1,6 +1,6 @@
 -- What the service leaves, from what its parts leave. Assumes nothing.
 use mathlib.Core.Path.{_≡_, refl, sym, _∙_, ap}
-use mathlib.Core.Bool.{Bool, true, false, cond, true≢false}
+use mathlib.Core.Bool.{Bool, true, false, true≢false}
 use mathlib.Core.Option.{some}
 use mathlib.Core.List.{List}
 use Prim.Native.Nat.{ℕ, _*_, _≤_, _<_}
@@ -22,14 +22,13 @@ use Rattle.marks.specs.Marks.{listed}
 use Rattle.answer_set.specs.SetTest.{SetVerdict, yes, differs, breaks, verdictOf, saidOf, asked, setAnswer}
 use Rattle.derivation.specs.Steps.{emptyLive}
 use Rattle.names.specs.Queries.{HoldsRules}
-use Rattle.nogoods.specs.Store.{storeWords}
 use Rattle.words.specs.Limits.{mostRules, entries}
 use Rattle.runs.specs.Course.{Course, stopped, through}
-use Rattle.checker.specs.Check.{saying, countsOf, isInconsistent, Checked, judged}
+use Rattle.checker.specs.Check.{isInconsistent, Checked, judged}
 use Rattle.checker.specs.declared.Verdict.{Verdict}
-use Rattle.checker.proofs.Verdicts.{unread}
+use Rattle.checker.proofs.Verdicts.{said-empty, unread}
 use Rattle.costs.specs.Costs.{Cost, costsOf, goodCosts, total, restricted}
-use Rattle.cheapest.specs.Service.{isYes, restrictedCourse, leavesNothing, passing, judgedProof, withCost, withCosts, cheapestReading, cheapest}
+use Rattle.cheapest.specs.Service.{isYes, restrictedCourse, leavesNothing, judgedProof, withCost, withCosts, cheapestReading, cheapest}
 use Rattle.cheapest.specs.Private.{saidYes, ProofChecked}
 use Rattle.cheapest.specs.declared.CheapestAnswer.the-variants.{Cheapest, RefusedProgram, Refused}
 
@@ -70,21 +69,11 @@ module _ (t s : ℕ) (ws us : List InputRule) (C : ℕ) where
   accepted-by : (c : Course) → true ≡ isInconsistent (judged 0 s us c .verdict) → {store : List ℤ} → store ≡ judged 0 s us c .store → {table : List ℤ} → table ≡ tableWords t ws
       → record { answer = Cheapest C; table = table; store = store } ≡ judgedProof t s ws C c
   accepted-by (stopped k n) e f g = absurd (true≢false e)
-  accepted-by (through n z b) e {store} f {table} g = by (emptyLive z) e
-    where
-      by : (l : Bool) → true ≡ isInconsistent (saying l (countsOf (atoms us) (length us) n z))
-          → record { answer = Cheapest C; table = table; store = store } ≡ cond l (passing t s ws C (storeWords s b)) (leavesNothing t s (Refused 63))
-      by true e = rw (f, g) refl
-      by false e = absurd (true≢false e)
+  accepted-by (through n z b) e f g = let l : emptyLive z ≡ true = sym (e ∙ said-empty 0 s us (through n z b)) in rw (l, f, g) refl
 
   refused-by : (c : Course) → false ≡ isInconsistent (judged 0 s us c .verdict) → leavesNothing t s (Refused 63) ≡ judgedProof t s ws C c
   refused-by (stopped k n) e = refl
-  refused-by (through n z b) e = by (emptyLive z) e
-    where
-      by : (l : Bool) → false ≡ isInconsistent (saying l (countsOf (atoms us) (length us) n z))
-          → leavesNothing t s (Refused 63) ≡ cond l (passing t s ws C (storeWords s b)) (leavesNothing t s (Refused 63))
-      by true e = absurd (true≢false (sym e))
-      by false e = refl
+  refused-by (through n z b) e = let l : emptyLive z ≡ false = sym (e ∙ said-empty 0 s us (through n z b)) in rw l refl
 
 module _ (t s : ℕ) (ws : List InputRule) (ks : List Cost) (C : ℕ) (proof : List ℕ) where
   abbrev came : Course

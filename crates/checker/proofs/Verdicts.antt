@@ -23,10 +23,11 @@ use Rattle.aspif.proofs.Cursors.{few-rules, sound-rules, atoms-small, rules-of}
 use Rattle.aspif.proofs.Readable.{table-read}
 use Rattle.drupe.specs.Texts.{stepsOf}
 use Rattle.derivation.specs.States.{State}
+use Rattle.derivation.specs.Steps.{emptyLive}
 use Rattle.nogoods.specs.Store.{Stored, live, storeWords}
 use Rattle.nogoods.specs.Keeps.{Holds}
-use Rattle.runs.specs.Course.{Course, stopped, through, course}
-use Rattle.checker.specs.Check.{saying, judged, judgedReading, check}
+use Rattle.runs.specs.Course.{Course, stopped, through, course, endsEmpty}
+use Rattle.checker.specs.Check.{saying, countsOf, isInconsistent, Checked, judged, judgedReading, check}
 use Rattle.steps.specs.Held.{Program}
 use Rattle.runs.specs.Held.{Ran}
 use Rattle.runs.specs.declared.ProofRefusal.{ProofRefusal}
@@ -67,6 +68,19 @@ module _ (t s : ℕ) (P : List InputRule) (o : Course) {v : Verdict} {table stor
       → N ≡ atoms P → R ≡ length P → table ≡ tableWords t P → Holds store used stored → length store ≡ s
       → record { verdict = v; table = table; store = store } ≡ judged t s P o
   judged-through n used N R z stored p m q a b c H l = let w : store ≡ storeWords s stored = rw l at (H .words) in rw (p, q, a, b, c, w, m)
+
+-- the verdict is "inconsistent" exactly where the empty nogood is live at the end of the course
+pub said-empty : (t s : ℕ) (P : List InputRule) (o : Course) → isInconsistent (judged t s P o .verdict) ≡ endsEmpty o
+said-empty t s P (stopped k n) = refl
+said-empty t s P (through n z stored) = by (emptyLive z)
+  where
+    by : (b : Bool) → isInconsistent (saying b (countsOf (atoms P) (length P) n z)) ≡ b
+    by true = refl
+    by false = refl
+
+pub verdict-empty : (t s : ℕ) (P : List InputRule) (o : Course) {v : Verdict} {table store : List ℤ}
+    → record { verdict = v; table = table; store = store } ≡ judged t s P o → isInconsistent v ≡ endsEmpty o
+verdict-empty t s P o e = ap (λ (x : Checked). isInconsistent (x .verdict)) e ∙ said-empty t s P o
 
 -- the verdict of a course, with the lengths that the caller knows
 pub judged-lengths : (P : List InputRule) (proof : List ℕ) {t t′ s s′ : ℕ} → t ≡ t′ → s ≡ s′ → judged t s P (course (atoms P) (expand P) s proof) ≡ judged t′ s′ P (course (atoms P) (expand P) s′ proof)

@@ -1,7 +1,7 @@
 -- What the service leaves, from what its parts leave. Assumes nothing.
 use mathlib.Core.Path.{_≡_, refl, sym, ap, _∙_}
 use mathlib.Core.Logic.{inl, inr}
-use mathlib.Core.Bool.{Bool, true, false, cond, true≢false}
+use mathlib.Core.Bool.{true, false, true≢false}
 use mathlib.Core.List.{List, _++_}
 use Prim.Native.Nat.{ℕ, _-_, _≤_}
 use native.Mathlib.Omega.{arith}
@@ -11,7 +11,7 @@ use lib.ListN.{length, replicate, take}
 use lib.Seq.{take-at}
 use Rattle.words.specs.Limits.{longest}
 use Rattle.words.proofs.Lists.{if-true, and-right, leb-decides}
-use Rattle.aspif.specs.Rules.{InputRule, atoms, tableWords}
+use Rattle.aspif.specs.Rules.{InputRule}
 use Rattle.aspif.specs.Reading.{Reading, program, readText, programAnswer, tableOf}
 use Rattle.aspif.specs.Reading as Reading
 use Rattle.aspif.specs.declared.ProgramReading.{ProgramReading}
@@ -19,12 +19,11 @@ use Rattle.aspif.specs.declared.ProgramReading.the-variants as Answer
 use Rattle.aspif.specs.declared.ProgramRefusal.{ProgramRefusal}
 use Rattle.drupe.specs.Texts.{textOf}
 use Rattle.derivation.specs.Steps.{emptyLive}
-use Rattle.nogoods.specs.Store.{storeWords}
 use Rattle.merging.specs.Merge.{allFit}
 use Rattle.runs.specs.Course.{Course, stopped, through}
-use Rattle.checker.specs.Check.{saying, countsOf, Checked, judged, isInconsistent}
+use Rattle.checker.specs.Check.{Checked, judged, isInconsistent}
 use Rattle.checker.specs.declared.Verdict.{Verdict}
-use Rattle.checker.proofs.Verdicts.{unread}
+use Rattle.checker.proofs.Verdicts.{verdict-empty, unread}
 use Rattle.splits.specs.Service.{mergedSteps, isWritable, leavesNothing, judgedText, mergedReading, merge}
 use Rattle.splits.specs.Joined.{WrittenBy}
 use Rattle.splits.specs.Judging.{judgedAs}
@@ -50,31 +49,15 @@ module _ (t s o : ℕ) (ws : List InputRule) (text : List ℕ) {v : Verdict} {ta
   pub found-inconsistent : (c : Course) → record { verdict = v; table = table; store = store } ≡ judged t s ws c → isInconsistent v ≡ true → {output : List ℕ} {m : ℕ}
       → m ≡ length text → output ≡ text ++ replicate (o - m) 0
       → record { answer = Merged m; table = table; store = store; output = output } ≡ judgedText t s o ws text c
-  found-inconsistent (stopped k n) e i l p = absurd (true≢false (sym i ∙ ap (λ (x : Checked). isInconsistent (x .verdict)) e))
-  found-inconsistent (through n z stored) e i {output} {m} l p = by (emptyLive z) refl
-    where
-      by : (b : Bool) → emptyLive z ≡ b
-          → record { answer = Merged m; table = table; store = store; output = output }
-          ≡ cond b
-          (record { answer = Merged (length text); table = tableWords t ws; store = storeWords s stored; output = text ++ replicate (o - length text) 0 })
-          (leavesNothing t s o (Refused 59))
-      by true q = rw (ap (λ (x : Checked). x .table) e, ap (λ (x : Checked). x .store) e, p, l) refl
-      by false q =
-          absurd (true≢false (sym i ∙ ap (λ (x : Checked). isInconsistent (x .verdict)) e ∙ ap (λ b. isInconsistent (saying b (countsOf (atoms ws) (length ws) n z))) q))
+  found-inconsistent (stopped k n) e i l p = absurd (true≢false (sym i ∙ verdict-empty t s ws (stopped k n) e))
+  found-inconsistent (through n z stored) e i l p =
+      let f : emptyLive z ≡ true = sym (verdict-empty t s ws (through n z stored) e) ∙ i in
+      rw (f, ap (λ (x : Checked). x .table) e, ap (λ (x : Checked). x .store) e, p, l) refl
 
   pub found-otherwise : (c : Course) → record { verdict = v; table = table; store = store } ≡ judged t s ws c → isInconsistent v ≡ false
       → leavesNothing t s o (Refused 59) ≡ judgedText t s o ws text c
   found-otherwise (stopped k n) e i = refl
-  found-otherwise (through n z stored) e i = by (emptyLive z) refl
-    where
-      by : (b : Bool) → emptyLive z ≡ b
-          → leavesNothing t s o (Refused 59)
-          ≡ cond b
-          (record { answer = Merged (length text); table = tableWords t ws; store = storeWords s stored; output = text ++ replicate (o - length text) 0 })
-          (leavesNothing t s o (Refused 59))
-      by true q =
-          absurd (true≢false (sym (ap (λ b. isInconsistent (saying b (countsOf (atoms ws) (length ws) n z))) q) ∙ sym (ap (λ (x : Checked). isInconsistent (x .verdict)) e) ∙ i))
-      by false q = refl
+  found-otherwise (through n z stored) e i = let f : emptyLive z ≡ false = sym (verdict-empty t s ws (through n z stored) e) ∙ i in rw f refl
 
 -- the same, by the lengths that the caller knows
 pub judged-same : (ws : List InputRule) (text : List ℕ) {t t′ s s′ o o′ : ℕ} → t ≡ t′ → s ≡ s′ → o ≡ o′ → judgedAs t s o ws text ≡ judgedAs t′ s′ o′ ws text

@@ -1,6 +1,6 @@
 -- What the service leaves, from what its parts leave. Assumes nothing.
 use mathlib.Core.Path.{_≡_, refl, sym, ap, ap₂, _∙_, subst}
-use mathlib.Core.Bool.{Bool, true, false, true≢false}
+use mathlib.Core.Bool.{true, false, true≢false}
 use mathlib.Core.List.{List, [], _∷_, _++_}
 use Prim.Native.Nat.{ℕ, _+_, _-_, _≤_, _<_}
 use native.Mathlib.Omega.{arith}
@@ -18,11 +18,10 @@ use Rattle.aspif.specs.declared.ProgramReading.{ProgramReading}
 use Rattle.aspif.specs.declared.ProgramReading.the-variants as Answer
 use Rattle.aspif.specs.declared.ProgramRefusal.{ProgramRefusal}
 use Rattle.words.proofs.Laws.{drop-replicate}
-use Rattle.derivation.specs.Steps.{emptyLive}
-use Rattle.runs.specs.Course.{Course, stopped, through, course, endsEmpty, isAccepted}
-use Rattle.checker.specs.Check.{saying, countsOf, Checked, judged, isInconsistent}
+use Rattle.runs.specs.Course.{course, isAccepted}
+use Rattle.checker.specs.Check.{judged, isInconsistent}
 use Rattle.checker.specs.declared.Verdict.{Verdict}
-use Rattle.checker.proofs.Verdicts.{unread}
+use Rattle.checker.proofs.Verdicts.{verdict-empty, unread}
 use Rattle.splits.specs.Service.{leavesNothing}
 use Rattle.splits.specs.declared.MergeAnswer.the-variants.{Merged, RefusedProgram, Refused}
 use Rattle.splits.proofs.Answers.{found-inconsistent}
@@ -48,15 +47,7 @@ put-blank text before after {next} p z h =
 module _ (t s o : ℕ) (ws : List InputRule) (text : List ℕ) (number : ℕ) {v : Verdict} {table store : List ℤ}
     (e : record { verdict = v; table = table; store = store } ≡ judged t s ws (course (atoms ws) (expand ws) s text)) where
   verdict-is : isInconsistent v ≡ isAccepted s ws text
-  verdict-is = by (course (atoms ws) (expand ws) s text) e
-    where
-      by : (c : Course) → record { verdict = v; table = table; store = store } ≡ judged t s ws c → isInconsistent v ≡ endsEmpty c
-      by (stopped k n) e = ap (λ (x : Checked). isInconsistent (x .verdict)) e
-      by (through n z stored) e = ap (λ (x : Checked). isInconsistent (x .verdict)) e ∙ said (emptyLive z)
-        where
-          said : (b : Bool) → isInconsistent (saying b (countsOf (atoms ws) (length ws) n z)) ≡ b
-          said true = refl
-          said false = refl
+  verdict-is = verdict-empty t s ws (course (atoms ws) (expand ws) s text) e
 
   pub last-refused : isInconsistent v ≡ false → leavesNothing t s o (Refused number) ≡ writtenTree t s o ws (pending s ws text number)
   last-refused i = let a : isAccepted s ws text ≡ false = sym verdict-is ∙ i in rw a refl
