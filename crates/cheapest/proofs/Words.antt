@@ -31,7 +31,8 @@ use Rattle.aspif.proofs.PairWords.{literals-with, literals-arranged, arranged-l
 use Rattle.aspif.proofs.RuleTests.{greatest-more}
 use Rattle.aspif.proofs.SoundWeights.{pairs-half, sum-small}
 use Rattle.derivation.specs.States.{isAtom}
-use Rattle.names.proofs.Appended.{appended-words, appended-holds}
+use Rattle.aspif.proofs.Passes.{words-more}
+use Rattle.names.proofs.Appended.{appended-holds}
 use Rattle.steps.specs.Held.{Program}
 use Rattle.costs.specs.Costs.{Cost, goodCosts, restriction, restricted}
 use Rattle.cheapest.specs.Private.{Restricts}
@@ -157,7 +158,7 @@ module _ {N : ℕ} {ks : List Cost} {C : ℕ} {rule : List ℤ} (R : Restricts N
       h = e ∙ ap₂ (λ rs (l : List ℤ). (programWords rs ++ l) ++ replicate k (pos 0)) (p .holds .are) (R .is)
 
       w : wide ≡ programWords (restricted ws ks C) ++ replicate k (pos 0)
-      w = h ∙ ap (λ (l : List ℤ). l ++ replicate k (pos 0)) (sym (appended-words ws (restriction ks C)))
+      w = h ∙ ap (λ (l : List ℤ). l ++ replicate k (pos 0)) (sym (words-more ws (restriction ks C)))
 
       left : k ≡ length wide - length (programWords (restricted ws ks C))
       left = omega (arith, ap length w, length-append (programWords (restricted ws ks C)) (replicate k (pos 0)), length-replicate k (pos 0))

@@ -10,7 +10,7 @@ use lib.Dec.{leb, ltb}
 use lib.IntN.{ℤ}
 use lib.ListN.{length, take, drop, set, length-append}
 use Rattle.words.specs.Limits.{largest, longest, mostNumbers}
-use Rattle.words.proofs.Lists.{failed, answered, is-true, and-left, and-right, or-false-left, or-false-right, not-decides, leb-decides}
+use Rattle.words.proofs.Lists.{failed, answered, is-true, and-left, and-right, and-both, or-false-left, or-false-right, not-decides, leb-decides}
 use Rattle.words.specs.Literals.{variable, complement, has}
 use Rattle.text.specs.Line.{anyOutside}
 use Rattle.text.specs.Writing.{Put}
@@ -63,10 +63,7 @@ none-written before at h = (put-none before at, refl, h)
 
 fit-both : (ts us : List Step) → allFit ts ≡ true → allFit us ≡ true → allFit (ts ++ us) ≡ true
 fit-both [] us a b = b
-fit-both (t ∷ ts) us a b = and-both (fits t) (and-left (fits t) (allFit ts) a) (fit-both ts us (and-right (fits t) (allFit ts) a) b)
-  where
-    and-both : (x : Bool) {y : Bool} → x ≡ true → y ≡ true → (x && y) ≡ true
-    and-both x e f = rw (e, f)
+fit-both (t ∷ ts) us a b = and-both (and-left (fits t) (allFit ts) a) (fit-both ts us (and-right (fits t) (allFit ts) a) b)
 
 -- lines after lines
 pub then-written : (ts us : List Step) (before between after : List ℕ) (at from : ℕ) (r : Wrote) → Writes ts before between at (At from) → Writes us between after from r

@@ -15,7 +15,7 @@ use Rattle.words.specs.Lists.{_∈_, any, filter}
 use Rattle.words.specs.Literals.{variable, complement, mentions, distinct, rising, sameList, has, top, ascending}
 use Rattle.words.proofs.Lists.{Decides, itself, reworded, is-true, if-true, and-decides, any-decides, all-decides, eqb-decides, leb-decides, keep→, keep←, passed, failed, and-left, and-right, same-test}
 use Rattle.words.proofs.Literals.{sameList-decides, has-decides, variable-complement, ascending→, ascending←}
-use Rattle.words.proofs.Places.{equal?}
+use Rattle.words.proofs.Places.{equal?, mentions-decides}
 use Rattle.words.proofs.Sorting.{rising-ascending, rising-before, same-members}
 use Rattle.words.proofs.Tops.{top-decides}
 use Rattle.aspif.specs.Rules.{Rule}
@@ -137,11 +137,8 @@ module _ (f : ℕ → Bool) (h : ℤ) where
 module _ (f : ℕ → Bool) (h : ℤ) (ns : List ℤ) (low : 1 ≤ variable h) (high : variable h ≤ largest) (rise : rising ns ≡ true)
     (good : (x : ℤ) → x ∈ ns → (x ≡ pos (variable x)) × (1 ≤ variable x) × (variable x ≤ largest)) (same : (v : ℕ) → v ≤ largest → mentions v ns ≡ f v)
     (above : (v : ℕ) → v ≤ largest → f v ≡ true → 1 ≤ v → variable h < v) where
-  mentions-decides : (v : ℕ) → Decides (mentions v ns) ((x : ℤ) × (x ∈ ns) × (v ≡ variable x))
-  mentions-decides v = any-decides (λ x. eqb-decides v (variable x)) ns
-
   passes : (x : ℤ) → x ∈ ns → f (variable x) ≡ true
-  passes x i = sym (same (variable x) (good x i .2)) ∙ is-true (mentions-decides (variable x)) (x, i, refl)
+  passes x i = sym (same (variable x) (good x i .2)) ∙ is-true (mentions-decides (variable x) ns) (x, i, refl)
 
   rising-complements : (l : List ℤ) → rising l ≡ true → rising (map complement l) ≡ true
   rising-complements [] e = refl
@@ -165,7 +162,7 @@ module _ (f : ℕ → Bool) (h : ℤ) (ns : List ℤ) (low : 1 ≤ variable h) (
       by g = elim (g .3) [
         | inl p ↦ List·Memᴰ·head (p .1)
         | inr p ↦
-            let q = if-true (mentions-decides (g .0)) (same (g .0) (omega (arith, g .2)) ∙ passed (f (g .0)) .to (p .1 .0)) in
+            let q = if-true (mentions-decides (g .0) ns) (same (g .0) (omega (arith, g .2)) ∙ passed (f (g .0)) .to (p .1 .0)) in
             let e : x ≡ complement (q .0) = p .1 .1 ∙ ap (λ (n : ℕ). negℤ (pos n)) (q .2) ∙ ap complement (sym (good (q .0) (q .1) .0)) in
             List·Memᴰ·tail (Memᴰ·cast e (Memᴰ·map complement (q .1)))
       ]

@@ -290,7 +290,7 @@ pub fn merge_side(
     if tree[0] == 0 {
         return take_end(texts, lengths, output);
     }
-    let v = shapes::wide(tree[0]);
+    let v = words::wide(tree[0]);
     let next = below(place);
     let mut first = [0u8; LONGEST];
     demand_atom(table, place.used, v);

@@ -1,6 +1,6 @@
 use mathlib.Core.Path.{_≡_, refl, sym, ap, _∙_}
 use mathlib.Core.Bool.{true, false, true≢false}
-use Prim.Native.Nat.{ℕ, zero, suc, _<_}
+use Prim.Native.Nat.{ℕ, _<_}
 use native.Mathlib.Omega.{arith}
 use borrow.Author.Needs.{needs}
 use borrow.Author.Tests.{ltb-true}
@@ -11,13 +11,10 @@ use mir.Syntax.{w32}
 use mir.Val.{SFits, toZ}
 use mir.Facts.{toZ-ofZ, toZ-pos}
 use Rattle.words.specs.Literals.{variable}
+use Rattle.words.proofs.Words.{neg-fits}
 use Rattle.merging.specs.Merge.{renamed}
 use Rattle.renaming.proofs.lines.rename_word.Statement.{statement}
 use Rattle.renaming.proofs.lines.rename_word.Tie as tie
-
-neg-fits : (n : ℕ) → n < 65536 → SFits w32 (negℤ (pos n))
-neg-fits zero h = omega arith
-neg-fits (suc n) h = omega arith
 
 -- by the literal's sign
 renamed-neg : (f : ℕ → ℕ) (z : ℤ) → ltZ z (pos 0) ≡ true → renamed f z ≡ negℤ (pos (f (variable z)))
@@ -47,17 +44,17 @@ module _ (c : tie.After-name-of) where
   is-pos : toZ w32 (c .name-of .result) ≡ pos (new (variable word))
   is-pos = toZ-pos w32 {n = c .name-of .result} (omega (arith, small)) ∙ ap pos found
 
-  new-small : new (variable word) < 65536
-  new-small = rw (← found) small
+  negated : SFits w32 (negℤ (pos (new (variable word))))
+  negated = neg-fits w32 (new (variable word)) (omega (arith, small, found))
 
 sub-result : tie.Need-sub-result
-sub-result c = let k = c .before in simp (is-pos k, +ℤ-idl) (neg-fits (new k (variable (word k))) (new-small k))
+sub-result c = let k = c .before in simp (is-pos k, +ℤ-idl) (negated k)
 
 returns : tie.Need-returns
 returns c =
     let k = c .before in
     let t = rw (toZ-ofZ (k .before .before .before .fits .word)) at (c .if1 .taken) in
-    simp (is-pos k, +ℤ-idl, toZ-ofZ (neg-fits (new k (variable (word k))) (new-small k))) (sym (renamed-neg (new k) (word k) t))
+    simp (is-pos k, +ℤ-idl, toZ-ofZ (negated k)) (sym (renamed-neg (new k) (word k) t))
 
 returns-2 : tie.Need-returns-2
 returns-2 c =

@@ -30,7 +30,7 @@ use Rattle.trees.proofs.Outcomes.{end-merged, first-refused, first-took
 use Rattle.trees.proofs.sides.merge_side.Reads as merge-side
 use Rattle.trees.proofs.sides.merge_side.Kinds as merge-side-kinds
 use Rattle.trees.proofs.sides.+merge_side.Lts-merge_side as lts
-use Rattle.shapes.proofs.wide.Reads as wide-reads
+use Rattle.words.proofs.wide.Reads as wide-reads
 use Rattle.trees.proofs.sides.below.Reads as below-reads
 use Rattle.trees.proofs.sides.demand_atom.Reads as demand-atom-reads
 use Rattle.trees.proofs.sides.forbid_atom.Reads as forbid-atom-reads
@@ -151,7 +151,7 @@ module _ (t : ℕ) where
 
     halved : {u : Shape} {rest : List ℕ} (T : Begins start u rest) → Halved (depth start) (T .path) (place start .atoms) v (drop 1 (numbers start)) u rest
     halved {u} {rest} T =
-        subst (λ (n : ℕ). Halved (depth start) (T .path) (place start .atoms) n (drop 1 (numbers start)) u rest) (sym (c .wide .ensures)) (tree-split T (c .before .before .if1 .left))
+        subst (λ (n : ℕ). Halved (depth start) (T .path) (place start .atoms) n (drop 1 (numbers start)) u rest) (sym (c .wide .ensures .0)) (tree-split T (c .before .before .if1 .left))
 
     atom : isAtom (place start .atoms) v ≡ true
     atom = halved (subtree start) .atom
