@@ -3,7 +3,7 @@
 -- Assumes nothing.
 use mathlib.Core.Path.{_≡_, refl, sym, _∙_, ap, ap₂}
 use mathlib.Core.Bool.{Bool, true, false, cond, true≢false}
-use mathlib.Core.List.{List, [], _∷_, _++_}
+use mathlib.Core.List.{List, [], _∷_}
 use Prim.Native.Nat.{ℕ, _+_, _≤_}
 use native.Mathlib.Omega.{arith}
 use lib.ListN.{length}
@@ -28,7 +28,7 @@ use Rattle.checker.specs.Claims.{Ended, Written, EndedWritten, VerdictEx
 use Rattle.checker.specs.declared.Counts.{Counts}
 use Rattle.runs.specs.declared.ProofRefusal.{ProofRefusal}
 use Rattle.checker.specs.declared.Verdict.the-variants.{RefusedProof}
-use Rattle.runs.proofs.Lines.{storedNext, stepThen, run-after}
+use Rattle.runs.proofs.Lines.{storedNext}
 
 -- the first of some steps that run through: it is accepted and fits, and the others run through
 module _ (N : ℕ) (P : List Rule) (size n : ℕ) (z : State) (b : List Stored) (t : Step) (ts : List Step) where
@@ -65,22 +65,6 @@ run-through N P size n m z w b l (t ∷ ts) e =
     let r = run-first N P size n m z w b l t ts e in
     let q = run-through N P size (n + 1) m (r .left) w (storedNext size n b t (r .left)) l ts (r .later) in
     (rw (r .is, Steps.steps) (q .0), omega (arith, q .1))
-
--- steps after steps that run through
-pub run-append : (N : ℕ) (P : List Rule) (size n m : ℕ) (z w : State) (b l : List Stored) (ts us : List Step)
-    → runSteps N P size n z b ts ≡ through m w l → runSteps N P size n z b (ts ++ us) ≡ runSteps N P size m w l us
-run-append N P size n m z w b l [] us e =
-    let p : z ≡ w = cc in
-    let q : n ≡ m = cc in
-    let r : b ≡ l = cc in
-    ap₂ (λ i x. runSteps N P size i x b us) q p ∙ ap (λ (k : List Stored). runSteps N P size m w k us) r
-run-append N P size n m z w b l (t ∷ ts) us e =
-    let r = run-first N P size n m z w b l t ts e in
-    let b′ = storedNext size n b t (r .left) in
-    run-after N P size n z b t (steps (ts ++ us))
-    ∙ ap (stepThen N P size (λ z′. runSteps N P size (n + 1) z′ (storedNext size n b t z′) (ts ++ us)) n) (r .is)
-    ∙ ap (λ f. cond f (runSteps N P size (n + 1) (r .left) b′ (ts ++ us)) (stopped 34 (n + 1))) (r .fits)
-    ∙ run-append N P size (n + 1) m (r .left) w b′ l ts us (r .later)
 
 -- the course of a text that a writer of good steps leaves
 pub course-written : (N : ℕ) (P : List Rule) (size : ℕ) (ts : List Step) → ((t : Step) → t ∈ ts → LinePasses t) → length (textOf ts) ≤ longest

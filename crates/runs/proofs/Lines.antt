@@ -29,7 +29,7 @@ storedNext size n b t z = storedAfter (n + 1) size (t .letter) (t .numbers) b z
 
 module _ (N : ℕ) (P : List Rule) (size : ℕ) where
   -- what a step comes to; `on` goes on with the state that it left
-  abbrev pub stepThen : (State → Course) → ℕ → Outcome → Course
+  abbrev stepThen : (State → Course) → ℕ → Outcome → Course
   stepThen on n (Steps.refused k) = stopped k (n + 1)
   stepThen on n (next z) = cond (fitting size z) (on z) (stopped 34 (n + 1))
 
