@@ -135,8 +135,8 @@ fn bodies() {
     case(b"41 body -1 2", &[0, 0, 0, 2, -1, 2], 1, &[]);
 }
 
-// Constraints with a weight body of twelve and of thirteen pairs.
-fn pair_counts() {
+// A constraint with a weight body of twelve pairs.
+fn twelve_pairs() {
     let twelve = [
         0i32,
         0,
@@ -169,6 +169,10 @@ fn pair_counts() {
         1,
     ];
     case(b"41 12 pairs", &twelve, 1, &[]);
+}
+
+// The same with thirteen.
+fn thirteen_pairs() {
     let thirteen = [
         0i32,
         0,
@@ -299,7 +303,8 @@ fn main() {
     shapes();
     heads();
     bodies();
-    pair_counts();
+    twelve_pairs();
+    thirteen_pairs();
     weights();
     sets();
     mark_counts();
