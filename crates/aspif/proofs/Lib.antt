@@ -8,6 +8,7 @@ pub mod Agree
 pub mod Passes
 pub mod Programs
 pub mod Formed
+pub mod Spelled
 pub mod Written
 pub mod RuleTests
 pub mod Cursors

@@ -26,7 +26,8 @@ use Rattle.aspif.specs.declared.Kind.{Kind}
 use Rattle.aspif.specs.declared.Kind.the-variants.{Normal, Choice}
 use Rattle.aspif.proofs.PairWords.{up-to, is-up-to, light-decides, words-paired, paired-light, length-pairs, length-paired}
 use Rattle.aspif.proofs.Formed.{Weighing, Formed, FitsTable, inside-decides, read-fits}
-use Rattle.aspif.proofs.Written.{textOf, written-read}
+use Rattle.aspif.specs.Text.{programText}
+use Rattle.aspif.proofs.Written.{written-read}
 use Rattle.aspif.specs.Tables.{ReadAs, kindOf, isKind, isWeighted, isHeaded, headsSound, literalsSound, headCount, bodyCount, headStart, bodyLength, sizeAt, headsAt, bodyWordsAt, boundAt, bodyAt, ruleAt, shapeSound, weightsSound, bodySound, soundAt, rulesAt, soundRules, soundTable, rulesOf}
 use Rattle.aspif.specs.Claims.{TableRead}
 use Rattle.words.proofs.Ascending.{ascends-rising, rising-ascends, ascends-words}
@@ -385,7 +386,7 @@ module _ (table : List ℤ) (rules : ℕ) (s : soundTable table rules ≡ true) 
       }
 
   read-as : ReadAs table rules rs
-  read-as = record { text = textOf rs; read = written-read (length table) rs table-fits; count = rules-count rules table; words = table-words }
+  read-as = record { text = programText rs; read = written-read (length table) rs table-fits; count = rules-count rules table; words = table-words }
 
 pub table-read : TableRead
 table-read table rules rs = (there, back)

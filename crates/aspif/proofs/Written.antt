@@ -1,8 +1,9 @@
--- The text of a program, and that a program whose rules are formed is read back from it: `written-read`. The rules are kept as
--- they are, since their heads and bodies ascend already. Assumes nothing.
+-- A program whose rules pass the reader's tests is read from its text, its heads and bodies put in order: `taken-read`; one whose rules
+-- are formed is read as it is, since its heads and bodies ascend already: `written-read`.
+-- Assumes nothing.
 use mathlib.Core.Path.{_≡_, refl, _∙_, ap, ap₂}
-use mathlib.Core.Bool.{Bool, true, false, _||_}
-use mathlib.Core.List.{List, [], _∷_, _++_, append-nil, List·Memᴰ·head, List·Memᴰ·tail, List·Memᴰ·append-cases, List·Memᴰ·eq-of-singleton, Memᴰ·append-right}
+use mathlib.Core.Bool.{Bool, true, false, not, _||_}
+use mathlib.Core.List.{List, [], _∷_, _++_, map, append-nil, List·Memᴰ·head, List·Memᴰ·tail, List·Memᴰ·append-cases, List·Memᴰ·eq-of-singleton}
 use mathlib.Core.Logic.{inl, inr}
 use Prim.Native.Nat.{ℕ, zero, suc, _+_, _*_, _-_, _≤_, _<_}
 use native.Mathlib.Omega.{arith}
@@ -11,65 +12,26 @@ use lib.Dec.{ltb}
 use lib.IntN.{ℤ, pos}
 use lib.ListN.{length, take, drop, getD, length-append}
 use lib.Seq.{take-append-seam, drop-append-seam, drop-append-add, getD-append-add, take-length, append-snoc}
-use Rattle.words.specs.Limits.{largest, mostLiterals, mostRules}
+use Rattle.words.specs.Limits.{longest, largest, mostLiterals, mostRules}
 use Rattle.words.specs.Lists.{_∈_}
 use Rattle.words.specs.Literals.{variable, rising, insert, insertAll, ascending}
 use Rattle.text.specs.Line.{numbers, lineOf, outside, anyOutside}
 use Rattle.text.proofs.Lines.{bounds-of}
+use Rattle.text.proofs.Decimals.{lineBytes, line-read}
 use Rattle.weights.specs.Weights.{Weighted, literals, paired, pairWords, mostWeight, mostWeighted}
+use Rattle.weights.proofs.Matching.{paired-words}
+use Rattle.weights.proofs.Reordered.{rising-distinct}
 use Rattle.aspif.specs.Rules.{Body, plain, weights, InputRule, literalsOf, suits, kindWord, ruleWords, programWords}
-use Rattle.aspif.specs.Reading.{suited, ranged, bodyShape, headShape, shapeOf, arranged, reads, ruleWith, ruleOf, adds, isLast, room, turnOf, linesFrom, program, header, readLines}
+use Rattle.aspif.specs.Reading.{suited, ranged, bodyShape, headShape, shapeOf, arranged, headsGood, bodyGood, reads, ruleWith, ruleOf, adds, isLast, room, turnOf, linesFrom, program, header, readLines, readText}
 use Rattle.aspif.specs.declared.Kind.{Kind}
 use Rattle.aspif.specs.declared.Kind.the-variants.{Normal, Choice}
 use Rattle.aspif.specs.declared.rules.Shape.{Shape}
 use Rattle.aspif.specs.declared.rules.Shape.the-variants.{Shaped, Weighed}
-use Rattle.words.proofs.Lists.{is-true, or-false-left, or-false-right, and-left, and-right}
-use Rattle.text.proofs.Decimals.{lineBytes, line-read}
-use Rattle.weights.proofs.Reordered.{rising-distinct}
-use Rattle.weights.proofs.Matching.{paired-words}
+use Rattle.words.proofs.Lists.{is-true, or-false-left, or-false-right, and-left, and-right, and-both}
 use Rattle.aspif.proofs.PairWords.{is-up-to, Light, light-decides, length-pairs, arranged-same}
 use Rattle.aspif.proofs.Formed.{Weighing, Formed, FitsTable, words-append, lines-on}
-
--- Words that rise are in order
-
--- no variable is above v
-abbrev Under : ℕ → List ℤ → Type 0
-Under v l = (y : ℤ) → y ∈ l → variable y ≤ v
-
-insert-last : (x : ℤ) (l : List ℤ) → Under (variable x) l → insert x l ≡ l ++ (x ∷ [])
-unfolding insert
-insert-last x [] u = refl
-insert-last x (y ∷ l) u =
-    rw (le-ltb (variable x) (variable y) (u y (List·Memᴰ·head refl))) (ap (λ (k : List ℤ). y ∷ k) (insert-last x l (λ z i. u z (List·Memᴰ·tail i))))
-
-insert-rising : (acc : List ℤ) (x : ℤ) (l : List ℤ) → Under (variable x) acc → rising (x ∷ l) ≡ true → insertAll acc (x ∷ l) ≡ acc ++ (x ∷ l)
-unfolding insertAll
-insert-rising acc x [] u e = insert-last x acc u
-insert-rising acc x (y ∷ l) u e =
-    let h = ltb-true (variable x) (variable y) (and-left _ _ e) in
-    rw (insert-last x acc u) (insert-rising (acc ++ (x ∷ [])) y l (next h) (and-right (ltb (variable x) (variable y)) _ e) ∙ append-snoc acc x (y ∷ l))
-  where
-    next : variable x < variable y → Under (variable y) (acc ++ (x ∷ []))
-    next h z i = elim (List·Memᴰ·append-cases acc i) [
-      | inl j ↦ let k = u z j in omega arith
-      | inr j ↦ rw (List·Memᴰ·eq-of-singleton j) (omega arith)
-    ]
-
-in-order : (l : List ℤ) → rising l ≡ true → ascending l ≡ l
-unfolding insertAll
-in-order [] e = refl
-in-order (x ∷ l) e = insert-rising [] x l (λ y i. elim i [ ]) e
-
--- A rule's line
-
--- the numbers of a rule's line after its heads
-abbrev bodyNumbers : Body → List ℤ
-bodyNumbers (plain ls) = pos 0 ∷ pos (length ls) ∷ ls
-bodyNumbers (weights b l) = pos 1 ∷ pos b ∷ pos (length l) ∷ pairWords l
-
--- the numbers of a rule's line after the first, which is 1
-abbrev after : InputRule → List ℤ
-after r = kindWord (r .kind) ∷ pos (length (r .heads)) ∷ (r .heads ++ bodyNumbers (r .body))
+use Rattle.aspif.specs.Text.{bodyNumbers, ruleNumbers, ruleText, rulesText, programText}
+use Rattle.aspif.proofs.Spelled.{sortedBody, sortedRule, rule-line, last-line}
 
 module _ (k : Kind) (hs back : List ℤ) where
   abbrev zs : List ℤ
@@ -184,40 +146,46 @@ body-numbers-in (weights b l) w f e =
 suited-is : (k : Kind) (h : ℕ) (x : Shape) → suits k h ≡ true → suited k h x ≡ x
 suited-is k h x e = rw e
 
--- question 8 of what ascends already
-good-is : (r : InputRule) → Formed r → ruleWith (r .kind) (r .heads) (literalsOf (r .body)) (r .body) ≡ reads r
-good-is r f =
-    let h = rising-distinct (r .heads) (f .heads-rise) in
-    let l = rising-distinct (literalsOf (r .body)) (f .body-rise) in
-    rw (f .positive, h, f .nonzero, l, in-order (r .heads) (f .heads-rise))
+-- A rule that passes questions 4 to 8, 54 and 55, by the reader's tests
+pub record Passes (r : InputRule) : Type 0 where
+  pub heads-few : length (r .heads) ≤ mostLiterals
+  pub body-few : length (literalsOf (r .body)) ≤ mostLiterals
+  pub headed : suits (r .kind) (length (r .heads)) ≡ true
+  pub heads-good : headsGood (r .heads) ≡ true
+  pub body-good : bodyGood (literalsOf (r .body)) ≡ true
+  pub heads-in : anyOutside (r .heads) ≡ false
+  pub body-in : anyOutside (literalsOf (r .body)) ≡ false
+  pub weighing : Weighing (r .body)
+
+good-is : (r : InputRule) → Passes r → ruleWith (r .kind) (r .heads) (literalsOf (r .body)) (sortedBody (r .body)) ≡ reads (sortedRule r)
+good-is r f = rw (f .heads-good, f .body-good)
 
 module _ (k : Kind) (hs : List ℤ) where
   -- a line whose body has been read
   abbrev Back : Body → Type 0
   Back body =
       let line = zs k hs (bodyNumbers body) in
-      ruleOf line (bodyShape line (length line) k (length hs)) ≡ reads (record { kind = k; heads = hs; body = body })
+      ruleOf line (bodyShape line (length line) k (length hs)) ≡ reads (sortedRule (record { kind = k; heads = hs; body = body }))
 
-  body-back : (body : Body) → Formed (record { kind = k; heads = hs; body = body }) → Back body
+  body-back : (body : Body) → Passes (record { kind = k; heads = hs; body = body }) → Back body
   body-back (plain ls) f =
       let sh = plain-is k hs ls (f .body-few) ∙ suited-is k (length hs) (Shaped k (length hs) (length ls)) (f .headed) in
       ap (ruleOf (plain-line k hs ls)) sh
       ∙ ap₂ (λ h l. ruleWith k h l (plain (ascending l))) (the-heads k hs (after-plain k hs ls)) (the-body k hs ls)
-      ∙ ap (λ l. ruleWith k hs ls (plain l)) (in-order ls (f .body-rise)) ∙ good-is (record { kind = k; heads = hs; body = plain ls }) f
+      ∙ good-is (record { kind = k; heads = hs; body = plain ls }) f
   body-back (weights b l) f =
       let line = weighed-line k hs b l in
       let bound = getD line (4 + length hs) (pos 0) in
       let sh = weighed-is k hs b l (f .weighing) ∙ suited-is k (length hs) (Weighed k (length hs) (length l)) (f .headed) in
       let e : paired (take (2 * length l) (drop (6 + length hs) line)) ≡ l = ap paired (the-pairs k hs b l) ∙ paired-words l in
-      let o = arranged-same l (rising-distinct (literals l) (f .body-rise)) (in-order (literals l) (f .body-rise)) in
       ap (ruleOf line) sh
       ∙ ap₂ (λ h p. ruleWith k h (literals p) (weights (variable bound) (arranged p))) (the-heads k hs (after-weighed k hs b l)) e
-      ∙ ap₂ (λ n p. ruleWith k hs (literals l) (weights (variable n) p)) (the-bound k hs b l) o
+      ∙ ap (λ n. ruleWith k hs (literals l) (weights (variable n) (arranged l))) (the-bound k hs b l)
       ∙ good-is (record { kind = k; heads = hs; body = weights b l }) f
 
-module _ (r : InputRule) (f : Formed r) where
+module _ (r : InputRule) (f : Passes r) where
   abbrev line : List ℤ
-  line = pos 1 ∷ after r
+  line = pos 1 ∷ ruleNumbers r
 
   line-in : anyOutside line ≡ false
   line-in =
@@ -227,59 +195,129 @@ module _ (r : InputRule) (f : Formed r) where
   not-last : isLast line ≡ false
   not-last = let n = count (r .kind) (r .heads) (bodyNumbers (r .body)) in rw (ne-eqb (length line) 1 (λ e. omega arith))
 
-  rule-is : ruleOf line (shapeOf line (length line)) ≡ reads r
+  rule-is : ruleOf line (shapeOf line (length line)) ≡ reads (sortedRule r)
   rule-is = rw (shape-is (r .kind) (r .heads) (bodyNumbers (r .body)) (f .heads-few)) (body-back (r .kind) (r .heads) (r .body) f)
 
-  turn-is : (rules free left n : ℕ) → rules < mostRules → length (ruleWords r) ≤ free → turnOf rules free left (numbers line n) ≡ adds r n
-  turn-is rules free left n p q = rw (line-in, not-last, rule-is, lt-ltb rules mostRules p, le-leb (length (ruleWords r)) free q)
+  turn-is : (rules free left n : ℕ) → rules < mostRules → length (ruleWords (sortedRule r)) ≤ free → turnOf rules free left (numbers line n) ≡ adds (sortedRule r) n
+  turn-is rules free left n p q = rw (line-in, not-last, rule-is, lt-ltb rules mostRules p, le-leb (length (ruleWords (sortedRule r))) free q)
 
 -- A program's text
 
-pub ruleBytes : InputRule → List ℕ
-ruleBytes r = lineBytes (pos 1) (after r)
+some-bytes : (r : InputRule) → 0 < length (ruleText r)
+some-bytes r = rw (rule-line r) (bounds-of (lineBytes (pos 1) (ruleNumbers r) ++ []) (pos 1 ∷ ruleNumbers r) (length (lineBytes (pos 1) (ruleNumbers r))) (line-read (pos 1) (ruleNumbers r) []) .0)
 
--- the rules' lines, and the line `0`
-pub programBytes : List InputRule → List ℕ
-programBytes [] = lineBytes (pos 0) []
-programBytes (r ∷ rs) = ruleBytes r ++ programBytes rs
+more-bytes : (rs : List InputRule) → length rs < length (rulesText rs)
+unfolding rulesText
+more-bytes [] = omega arith
+more-bytes (r ∷ rs) = omega (arith, some-bytes r, more-bytes rs, length-append (ruleText r) (rulesText rs))
 
-pub textOf : List InputRule → List ℕ
-textOf rs = header ++ programBytes rs
+last-read : lineOf (rulesText []) ≡ numbers (pos 0 ∷ []) (length (rulesText []))
+last-read = rw last-line (rw (append-nil (lineBytes (pos 0) [])) at (line-read (pos 0) [] []))
 
-some-bytes : (z : ℤ) (l : List ℤ) → 0 < length (lineBytes z l)
-some-bytes z l = bounds-of (lineBytes z l ++ []) (z ∷ l) (length (lineBytes z l)) (line-read z l []) .0
+first-read : (r : InputRule) (t : List ℕ) → lineOf (ruleText r ++ t) ≡ numbers (pos 1 ∷ ruleNumbers r) (length (ruleText r))
+first-read r t = rw (rule-line r) (line-read (pos 1) (ruleNumbers r) t)
 
-more-bytes : (rs : List InputRule) → length rs < length (programBytes rs)
-unfolding programBytes ruleBytes
-more-bytes [] = some-bytes (pos 0) []
-more-bytes (r ∷ rs) =
-    let l = after r in
-    omega (arith, some-bytes (pos 1) l, more-bytes rs, length-append (lineBytes (pos 1) l) (programBytes rs))
-
-last-line : lineOf (lineBytes (pos 0) []) ≡ numbers (pos 0 ∷ []) (length (lineBytes (pos 0) []))
-last-line = rw (append-nil (lineBytes (pos 0) [])) at (line-read (pos 0) [] [])
+-- rules that pass, and whose words fit beside those before them
+pub record Fits (size : ℕ) (before ws : List InputRule) : Type 0 where
+  pub passes : (w : InputRule) → w ∈ ws → Passes w
+  pub few : length before + length ws ≤ mostRules
+  pub room : length (programWords before) + length (programWords (map sortedRule ws)) ≤ size
 
 module _ (size : ℕ) where
-  lines-read : (rs so-far : List InputRule) (turns line : ℕ) → FitsTable size (so-far ++ rs) → length rs < turns → linesFrom size turns (programBytes rs) line so-far ≡ program (so-far ++ rs)
-  unfolding linesFrom programBytes ruleBytes
-  lines-read rs so-far zero line f h = absurd (omega arith)
-  lines-read [] so-far (suc turns) line f h =
-      let n = length (lineBytes (pos 0) []) in
-      lines-on size turns (lineBytes (pos 0) []) line so-far ∙ rw (append-nil so-far, last-line, eq-eqb n n refl)
-  lines-read (r ∷ rs) so-far (suc turns) line f h =
-      let free = size - length (programWords so-far) in
-      let left = length (ruleBytes r ++ programBytes rs) in
-      let g = f .formed r (Memᴰ·append-right so-far (List·Memᴰ·head refl)) in
-      let p : length so-far < mostRules = omega (arith, f .few, length-append so-far (r ∷ rs)) in
-      let q : length (ruleWords r) ≤ free = omega (arith, f .room, ap length (words-append so-far (r ∷ rs)), length-append (programWords so-far) (programWords (r ∷ rs)), length-append (ruleWords r) (programWords rs)) in
-      let t : turnOf (length so-far) free left (lineOf (ruleBytes r ++ programBytes rs)) ≡ adds r (length (ruleBytes r)) =
-      ap (turnOf (length so-far) free left) (line-read (pos 1) (after r) (programBytes rs)) ∙ turn-is r g (length so-far) free left (length (ruleBytes r)) p q in
-      lines-on size turns (ruleBytes r ++ programBytes rs) line so-far
-      ∙ rw (t, drop-append-seam (ruleBytes r) (programBytes rs))
-      (lines-read rs (so-far ++ (r ∷ [])) turns (line + 1) (rw (append-snoc so-far r rs) f) (omega arith) ∙ ap program (append-snoc so-far r rs))
+  lines-taken : (ws before : List InputRule) (turns line : ℕ) → Fits size before ws → length ws < turns → linesFrom size turns (rulesText ws) line before ≡ program (before ++ map sortedRule ws)
+  unfolding linesFrom rulesText
+  lines-taken ws before zero line f h = absurd (omega arith)
+  lines-taken [] before (suc turns) line f h =
+      lines-on size turns (rulesText []) line before ∙ rw (append-nil before, last-read)
+  lines-taken (r ∷ rs) before (suc turns) line f h =
+      let x = sortedRule r in
+      let free = size - length (programWords before) in
+      let left = length (ruleText r ++ rulesText rs) in
+      let g = f .passes r (List·Memᴰ·head refl) in
+      let a = length-append (ruleWords x) (programWords (map sortedRule rs)) in
+      let p : length before < mostRules = omega (arith, f .few) in
+      let q : length (ruleWords x) ≤ free = omega (arith, f .room, a) in
+      let t : turnOf (length before) free left (lineOf (ruleText r ++ rulesText rs)) ≡ adds x (length (ruleText r)) =
+      ap (turnOf (length before) free left) (first-read r (rulesText rs)) ∙ turn-is r g (length before) free left (length (ruleText r)) p q in
+      let m : Fits size (before ++ (x ∷ [])) rs =
+      record {
+        passes = λ w i. f .passes w (List·Memᴰ·tail i);
+        few = omega (arith, f .few, length-append before (x ∷ []));
+        room = omega (arith, f .room, a, ap length (words-append before (x ∷ [])), length-append (programWords before) (programWords (x ∷ [])), length-append (ruleWords x) []);
+      } in
+      lines-on size turns (ruleText r ++ rulesText rs) line before
+      ∙ rw (t, drop-append-seam (ruleText r) (rulesText rs)) (lines-taken rs (before ++ (x ∷ [])) turns (line + 1) m (omega arith) ∙ ap program (append-snoc before x (map sortedRule rs)))
 
-  -- a program that is formed and fits is read from its text
-  pub written-read : (rs : List InputRule) → FitsTable size rs → readLines size (textOf rs) ≡ program rs
-  unfolding readLines textOf
-  written-read rs f =
-      lines-read rs [] (suc (length (textOf rs))) 2 f (omega (arith, more-bytes rs, length-append header (programBytes rs)))
+  pub taken-lines : (ws : List InputRule) → Fits size [] ws → readLines size (programText ws) ≡ program (map sortedRule ws)
+  unfolding readLines programText
+  taken-lines ws f =
+      lines-taken ws [] (suc (length (programText ws))) 2 f (omega (arith, more-bytes ws, length-append header (rulesText ws)))
+
+  pub taken-read : (ws : List InputRule) → Fits size [] ws → length (programText ws) ≤ longest → readText size (programText ws) ≡ program (map sortedRule ws)
+  unfolding readText
+  taken-read ws f h = rw (le-leb (length (programText ws)) longest h) (taken-lines ws f)
+
+-- Words that rise are in order
+
+-- no variable is above v
+abbrev Under : ℕ → List ℤ → Type 0
+Under v l = (y : ℤ) → y ∈ l → variable y ≤ v
+
+insert-last : (x : ℤ) (l : List ℤ) → Under (variable x) l → insert x l ≡ l ++ (x ∷ [])
+unfolding insert
+insert-last x [] u = refl
+insert-last x (y ∷ l) u =
+    rw (le-ltb (variable x) (variable y) (u y (List·Memᴰ·head refl))) (ap (λ (k : List ℤ). y ∷ k) (insert-last x l (λ z i. u z (List·Memᴰ·tail i))))
+
+insert-rising : (acc : List ℤ) (x : ℤ) (l : List ℤ) → Under (variable x) acc → rising (x ∷ l) ≡ true → insertAll acc (x ∷ l) ≡ acc ++ (x ∷ l)
+unfolding insertAll
+insert-rising acc x [] u e = insert-last x acc u
+insert-rising acc x (y ∷ l) u e =
+    let h = ltb-true (variable x) (variable y) (and-left _ _ e) in
+    rw (insert-last x acc u) (insert-rising (acc ++ (x ∷ [])) y l (next h) (and-right (ltb (variable x) (variable y)) _ e) ∙ append-snoc acc x (y ∷ l))
+  where
+    next : variable x < variable y → Under (variable y) (acc ++ (x ∷ []))
+    next h z i = elim (List·Memᴰ·append-cases acc i) [
+      | inl j ↦ let k = u z j in omega arith
+      | inr j ↦ rw (List·Memᴰ·eq-of-singleton j) (omega arith)
+    ]
+
+in-order : (l : List ℤ) → rising l ≡ true → ascending l ≡ l
+unfolding insertAll
+in-order [] e = refl
+in-order (x ∷ l) e = insert-rising [] x l (λ y i. elim i [ ]) e
+
+-- Rules that are formed
+
+formed-passes : (r : InputRule) → Formed r → Passes r
+formed-passes r f =
+    record {
+      heads-few = f .heads-few;
+      body-few = f .body-few;
+      headed = f .headed;
+      heads-good = and-both (f .positive) (rising-distinct (r .heads) (f .heads-rise));
+      body-good = and-both (ap not (f .nonzero)) (rising-distinct (literalsOf (r .body)) (f .body-rise));
+      heads-in = f .heads-in;
+      body-in = f .body-in;
+      weighing = f .weighing;
+    }
+
+same-body : (b : Body) → rising (literalsOf b) ≡ true → sortedBody b ≡ b
+same-body (plain ls) e = ap plain (in-order ls e)
+same-body (weights b l) e = ap (weights b) (arranged-same l (rising-distinct (literals l) e) (in-order (literals l) e))
+
+same-rule : (r : InputRule) → Formed r → sortedRule r ≡ r
+same-rule r f =
+    ap₂ (λ (h : List ℤ) (b : Body). record { kind = r .kind; heads = h; body = b }) (in-order (r .heads) (f .heads-rise)) (same-body (r .body) (f .body-rise))
+
+same-rules : (rs : List InputRule) → ((r : InputRule) → r ∈ rs → Formed r) → map sortedRule rs ≡ rs
+same-rules [] f = refl
+same-rules (r ∷ rs) f =
+    ap₂ (λ (x : InputRule) (l : List InputRule). x ∷ l) (same-rule r (f r (List·Memᴰ·head refl))) (same-rules rs (λ s i. f s (List·Memᴰ·tail i)))
+
+-- a program that is formed and fits is read from its text
+pub written-read : (size : ℕ) (rs : List InputRule) → FitsTable size rs → readLines size (programText rs) ≡ program rs
+written-read size rs f =
+    let e = same-rules rs (f .formed) in
+    taken-lines size rs (record { passes = λ r i. formed-passes r (f .formed r i); few = omega (arith, f .few); room = rw e (omega (arith, f .room)) })
+    ∙ ap program e

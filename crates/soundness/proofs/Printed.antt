@@ -1,0 +1,130 @@
+-- What the whole check, the line of `verdict` and the set test say of a program, over its text: specs/Page.antt.
+-- Assumes nothing.
+use mathlib.Core.Path.{_≡_, refl, sym, _∙_, ap, subst}
+use mathlib.Core.Bool.{true}
+use mathlib.Core.Logic.{_↔_}
+use mathlib.Core.Option.{some, Option·some-injective}
+use mathlib.Core.List.{List, _++_, map}
+use Prim.Native.Nat.{ℕ}
+use native.Mathlib.Omega.{arith}
+use lib.ListN.{length}
+use Rattle.words.specs.Limits.{entries}
+use Rattle.words.specs.Lists.{_∈_, ascends}
+use Rattle.words.proofs.Lists.{zero-one}
+use Rattle.text.specs.Strings.{bytes}
+use Rattle.aspif.specs.Rules.{InputRule, expand, atoms}
+use Rattle.aspif.specs.AnswerSets.{AnswerSet}
+use Rattle.aspif.specs.Reading.{Reading, refused, program, readText, programAnswer, tableOf}
+use Rattle.aspif.specs.Tables.{rulesOf}
+use Rattle.aspif.specs.Text.{programText}
+use Rattle.aspif.specs.declared.ProgramReading.the-variants.{Read}
+use Rattle.aspif.proofs.Formed.{read-fits}
+use Rattle.aspif.proofs.Readable.{table-back, table-read}
+use Rattle.aspif.proofs.Spelled.{sortedRule, Once, read-spelled}
+use Rattle.answer_set.specs.declared.SetAnswer.the-variants.{Yes}
+use Rattle.answer_set.proofs.Service.{service-yes}
+use Rattle.derivation.specs.Claims.{NoneAsWritten}
+use Rattle.checker.specs.Check.{check}
+use Rattle.checker.specs.Report.{lent, verdictLine, printed}
+use Rattle.checker.specs.declared.Counts.{Counts}
+use Rattle.checker.specs.declared.Verdict.{Verdict}
+use Rattle.checker.specs.declared.Verdict.the-variants.{Inconsistent, Open, RefusedProgram, RefusedProof}
+use Rattle.checker.proofs.Whole.{soundness-whole, service-sound}
+use Rattle.checker.proofs.Verdicts.{lines-read}
+use Rattle.soundness.specs.Page.{IsAnswerSet, HasNone, SoundPrinted, OnlyPrinted, SoundLine, YesPrinted}
+use Rattle.soundness.proofs.Once.{same-cons, printed-once}
+use Rattle.soundness.proofs.Direct.{plain-set, direct-set}
+use Rattle.soundness.proofs.Orders.{sorted-set, written-set, sorted-with}
+
+-- What is read of the text of a program are its rules in order, and no others
+pub record InOrder (ws rs : List InputRule) : Type 0 where
+  pub rules : rs ≡ map sortedRule ws
+  pub once : (w : InputRule) → w ∈ ws → Once w
+
+pub read-in-order : (size : ℕ) (ws rs : List InputRule) → readText size (programText ws) ≡ program rs → InOrder ws rs
+read-in-order size ws rs e =
+    let s = read-spelled size (programText ws) rs e in
+    let q : s .ws ≡ ws = sym (printed-once ws (s .ws) (s .is)) in
+    record { rules = s .rules ∙ ap (map sortedRule) q; once = subst (λ (l : List InputRule). (w : InputRule) → w ∈ l → Once w) q (s .once) }
+
+-- the rules have none where those that were read have none: by the plain rules, and by the rules as they are written
+pub none-printed : {ws rs : List InputRule} → InOrder ws rs → NoneAsWritten rs → NoneAsWritten ws
+none-printed {ws} o n =
+    let m = subst NoneAsWritten (o .rules) n in
+    (λ M S. m .0 M (sorted-set ws (o .once) M S), λ us f M S. m .1 us f M (sorted-with ws (o .once) M us S))
+
+has-none : {ws rs : List InputRule} → InOrder ws rs → NoneAsWritten rs → HasNone ws
+has-none {ws} o n =
+    let m = none-printed o n in
+    (λ M S. m .0 M (plain-set M ws S), λ us f M S. m .1 us f M (plain-set M (ws ++ us) S))
+
+-- The whole check
+
+pub sound-printed : SoundPrinted
+sound-printed ws proof table store table′ store′ c e =
+    let s = service-sound (programText ws) proof table store table′ store′ c e in
+    has-none (read-in-order (length table) ws (s .0) (s .1)) (s .2)
+
+pub only-printed : OnlyPrinted
+only-printed text proof table store table′ store′ c e =
+    let s = service-sound text proof table store table′ store′ c e in
+    let r = read-spelled (length table) text (s .0) (s .1) in
+    (r .ws, r .is)
+
+-- The line of `verdict`
+
+says-inconsistent : (v : Verdict) (more : List ℕ) → verdictLine v ≡ bytes "inconsistent" ++ more → (c : Counts) × (v ≡ Inconsistent c)
+says-inconsistent (Inconsistent c) more e = (c, refl)
+says-inconsistent (Open c) more e = absurd (let q = same-cons e .0 in omega arith)
+says-inconsistent (RefusedProgram r) more e = absurd (let q = same-cons e .0 in omega arith)
+says-inconsistent (RefusedProof r) more e = absurd (let q = same-cons e .0 in omega arith)
+
+pub sound-line : SoundLine
+unfolding printed
+sound-line ws proof more e =
+    let v = says-inconsistent (check (programText ws) proof lent lent .verdict) more e in
+    let s = soundness-whole (programText ws) proof lent lent (v .0) (v .1) in
+    has-none (read-in-order lent ws (s .0) (s .1)) (s .2)
+
+-- The set test after the reader
+
+pub told : {M N R S : ℕ} → Read M R ≡ Read N S → (M ≡ N) × (R ≡ S)
+told e = (cc, cc)
+
+pub yes-printed : YesPrinted
+yes-printed ws table table′ N R p l marks marks′ r t = by (readText (length table) (programText ws)) refl (p .answer) (p .table)
+  where
+    Listed : ℕ → Type 0
+    Listed v = v ∈ l
+
+    Passes : Type 0
+    Passes = (ascends 0 N l ≡ true) × (length marks ≡ entries) × IsAnswerSet Listed ws
+
+    by : (x : Reading) → readText (length table) (programText ws) ≡ x → Read N R ≡ programAnswer x → table′ ≡ tableOf (length table) x → (r ≡ Yes) ↔ Passes
+    by (refused k n) e q u = absurd (zero-one (cc))
+    by (program rs) e q u = (there, back)
+      where
+        o : InOrder ws rs
+        o = read-in-order (length table) ws rs e
+
+        held : rulesOf table′ R ≡ some rs
+        held = rw (u, told q .1) (table-back (length table) rs (read-fits (length table) (programText ws) rs (lines-read (length table) (programText ws) rs e)))
+
+        there : r ≡ Yes → Passes
+        there y =
+            let s = service-yes table′ R l marks marks′ r t .0 y in
+            let same : s .0 ≡ rs = Option·some-injective (s .0) rs (sym (table-read table′ R (s .0) .1 (s .1)) ∙ held) in (
+              subst (λ (n : ℕ). ascends 0 n l ≡ true) (ap atoms same ∙ sym (told q .0)) (s .2),
+              s .3,
+              direct-set Listed ws (written-set ws (o .once) Listed (subst (λ (v : List InputRule). AnswerSet Listed (expand v)) (same ∙ o .rules) (s .4))),
+            )
+
+        back : Passes → r ≡ Yes
+        back m =
+            service-yes table′ R l marks marks′ r t .1 (
+              rs,
+              table-read table′ R rs .0 held,
+              subst (λ (n : ℕ). ascends 0 n l ≡ true) (told q .0) (m .0),
+              m .1,
+              subst (λ (v : List InputRule). AnswerSet Listed (expand v)) (sym (o .rules)) (sorted-set ws (o .once) Listed (plain-set Listed ws (m .2))),
+            )

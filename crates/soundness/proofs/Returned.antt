@@ -1,0 +1,145 @@
+-- What the services for C say of a program over its text: each returns 0 of its passing answer and of no other, and the numbers at the
+-- front of the lent buffer are that answer's. `sound-returned`, `yes-returned`, `cheapest-returned`.
+-- Assumes nothing.
+use mathlib.Core.Path.{_≡_, refl, sym, _∙_, ap, subst}
+use mathlib.Core.Option.{Option, none, some}
+use mathlib.Core.List.{List, [], _∷_}
+use Prim.Native.Nat.{ℕ, _+_}
+use native.Mathlib.Omega.{arith}
+use lib.Dec.{eqb, leb}
+use lib.IntN.{ℤ}
+use lib.ListN.{length}
+use lib.Seq.{sets}
+use Rattle.words.specs.Limits.{entries}
+use Rattle.words.specs.Lists.{ascends}
+use Rattle.words.proofs.Lists.{zero-one, by-test}
+use Rattle.weights.specs.Weights.{pairWords, mostWeight}
+use Rattle.aspif.specs.Rules.{InputRule, atoms}
+use Rattle.aspif.specs.Reading.{Reading, refused, program, readText, programAnswer, ProgramRead}
+use Rattle.aspif.specs.Tables.{rulesOf}
+use Rattle.aspif.specs.Text.{programText}
+use Rattle.aspif.specs.declared.ProgramReading.the-variants.{Read}
+use Rattle.marks.specs.Marks.{listed}
+use Rattle.answer_set.specs.SetTest.{SetVerdict, yes, differs, breaks, verdictOf, askedOf, asked, saidOf, setAnswer}
+use Rattle.answer_set.specs.declared.SetAnswer.{SetAnswer}
+use Rattle.answer_set.specs.declared.SetAnswer.the-variants.{Yes}
+use Rattle.derivation.specs.Steps.{emptyLive}
+use Rattle.runs.specs.Course.{Course, stopped, through}
+use Rattle.checker.specs.Check.{CheckedTexts}
+use Rattle.checker.specs.declared.Counts.{Counts}
+use Rattle.checker.specs.declared.Verdict.{Verdict}
+use Rattle.checker.specs.declared.Verdict.the-variants.{Inconsistent, Open, RefusedProgram, RefusedProof}
+use Rattle.costs.specs.Costs.{Cost, costsOf, goodCosts, total}
+use Rattle.cheapest.specs.Service.{isYes, restrictedCourse, CheapestLeft, leavesNothing, judgedProof, withCost, withCosts, cheapestReading, cheapest, CheckedCheapest}
+use Rattle.cheapest.specs.declared.CheapestAnswer.{CheapestAnswer}
+use Rattle.cheapest.specs.declared.CheapestAnswer.the-variants as Answers
+use Rattle.exports.specs.Codes.{programCode, programNumbers, setCode, verdictCode, cheapestCode, cheapestNumbers}
+use Rattle.soundness.specs.Page.{SoundReturned, YesReturned, CheapestReturned}
+use Rattle.soundness.proofs.Numbers.{Numbered, read-numbered}
+use Rattle.soundness.proofs.Printed.{sound-printed, yes-printed}
+use Rattle.soundness.proofs.Cheapest.{cheapest-printed}
+
+-- The whole check
+
+is-inconsistent : (v : Verdict) → 0 ≡ verdictCode v → (c : Counts) × (v ≡ Inconsistent c)
+is-inconsistent (Inconsistent c) e = (c, refl)
+is-inconsistent (Open c) e = absurd (zero-one e)
+is-inconsistent (RefusedProgram r) e = absurd (omega arith)
+is-inconsistent (RefusedProof r) e = absurd (omega arith)
+
+pub sound-returned : SoundReturned
+sound-returned ws proof table store table′ store′ answer answer′ s =
+    let v = is-inconsistent (s .verdict) (s .told .returned) in
+    sound-printed ws proof table store table′ store′ (v .0)
+    (subst (λ (r : Verdict). CheckedTexts (programText ws) proof table store table′ store′ r) (v .1) (s .checked))
+
+-- The set test
+
+-- what is written at the front of a buffer that then begins with these
+front-one : {x y : ℕ} (before : List ℕ) {more : List ℕ} → y ∷ more ≡ sets before 0 (x ∷ []) → y ≡ x
+front-one [] e = absurd (zero-one (cc))
+front-one (b ∷ before) e = cc
+
+front-two : {x y u v : ℕ} (before : List ℕ) {more : List ℕ} → u ∷ v ∷ more ≡ sets before 0 (x ∷ y ∷ []) → (u ≡ x) × (v ≡ y)
+front-two [] e = absurd (zero-one (cc))
+front-two (b ∷ []) e = absurd (zero-one (cc))
+front-two (b ∷ c ∷ before) e = (cc, cc)
+
+-- the program that was read is told by 0, N and R
+is-read : (x : Reading) → Numbered x → 0 ≡ programCode (programAnswer x) → (before : List ℕ) {more : List ℕ} {N R : ℕ}
+    → N ∷ R ∷ more ≡ sets before 0 (programNumbers (programAnswer x)) → programAnswer x ≡ Read N R
+is-read (refused k n) p e before w = absurd (omega (arith, p))
+is-read (program rs) p e before w = let f = front-two before w in rw (f .0, f .1) refl
+
+-- an answer of which 0 is returned is yes
+abbrev OnlyYes : SetAnswer → Type 0
+OnlyYes a = setCode a ≡ 0 → a ≡ Yes
+
+said-only : (v : SetVerdict) → OnlyYes (saidOf v)
+said-only yes e = refl
+said-only (differs v) e = absurd (omega arith)
+said-only (breaks k) e = absurd (omega arith)
+
+asked-only : (o : Option (List InputRule)) (l : List ℕ) (n : ℕ) → OnlyYes (setAnswer l (askedOf o l n))
+asked-only none l n = λ e. absurd (omega arith)
+asked-only (some rs) l n =
+    by-test (λ a. OnlyYes (setAnswer l a)) (ascends 0 (atoms rs) l)
+    (λ p. by-test (λ a. OnlyYes (setAnswer l a)) (eqb n entries) (λ q. said-only (verdictOf (listed l) rs)) (λ q e. absurd (omega arith)))
+    (λ p e. absurd (omega arith))
+
+answer-only : (table : List ℤ) (R : ℕ) (l : List ℕ) (n : ℕ) → OnlyYes (setAnswer l (asked table R l n))
+unfolding asked
+answer-only table R l n = asked-only (rulesOf table R) l n
+
+pub yes-returned : YesReturned
+yes-returned ws table table′ before more N R s l marks marks′ answer answer′ code t =
+    let a = setAnswer l (asked table′ R l (length marks)) in
+    let x = readText (length table) (programText ws) in
+    let q : programAnswer x ≡ s .reading = sym (s .read .answer) in
+    let told : programAnswer x ≡ Read N R =
+    is-read x (read-numbered (length table) (programText ws)) (s .told .returned ∙ ap programCode (sym q)) before (s .told .written ∙ ap (λ r. sets before 0 (programNumbers r)) (sym q)) in
+    let y = yes-printed ws table table′ N R (subst (ProgramRead (programText ws) table table′) (sym q ∙ told) (s .read)) l marks marks′ a (record { answer = refl; marks = t .left }) in
+    (λ e. y .0 (answer-only table′ R l (length marks) (sym (t .told .returned) ∙ e)), λ m. t .told .returned ∙ ap setCode (y .1 m))
+
+-- The cheapest answer set
+
+-- an outcome of which 0 is returned passes
+abbrev OnlyCheap : CheapestLeft → Type 0
+OnlyCheap x = 0 ≡ cheapestCode (x .answer) → (C : ℕ) × (x .answer ≡ Answers.Cheapest C)
+
+module _ (t s : ℕ) where
+  nothing : (k : ℕ) → OnlyCheap (leavesNothing t s (Answers.Refused (k + 1)))
+  nothing k e = absurd (omega arith)
+
+  judged : (ws : List InputRule) (C : ℕ) (o : Course) → OnlyCheap (judgedProof t s ws C o)
+  judged ws C (stopped k n) = nothing 62
+  judged ws C (through n z stored) = by-test OnlyCheap (emptyLive z) (λ p e. (C, refl)) (λ p. nothing 62)
+
+  with-cost : (ws : List InputRule) (set : List ℕ) (ks : List Cost) (C : ℕ) (proof : List ℕ) → OnlyCheap (withCost t s ws set ks C proof)
+  with-cost ws set ks C proof =
+      by-test OnlyCheap (leb C mostWeight)
+      (λ p. by-test OnlyCheap (isYes (verdictOf (listed set) ws)) (λ p. by-test OnlyCheap (eqb C 0) (λ p e. (0, refl)) (λ p. judged ws C (restrictedCourse s ws ks C proof))) (λ p. nothing 62))
+      (λ p. nothing 61)
+
+  with-costs : (ws : List InputRule) (set : List ℕ) (o : Option (List Cost)) (proof : List ℕ) → OnlyCheap (withCosts t s ws set o proof)
+  with-costs ws set none proof = nothing 61
+  with-costs ws set (some ks) proof =
+      by-test OnlyCheap (goodCosts (atoms ws) ks) (λ p. with-cost ws set ks (total (listed set) ks) proof) (λ p. nothing 61)
+
+  reading-only : (set : List ℕ) (costs : List ℤ) (proof : List ℕ) (x : Reading) → Numbered x → OnlyCheap (cheapestReading t s set costs proof x)
+  reading-only set costs proof (refused k n) p = λ e. absurd (omega (arith, p))
+  reading-only set costs proof (program ws) p =
+      by-test OnlyCheap (ascends 0 (atoms ws) set) (λ p. with-costs ws set (costsOf costs) proof) (λ p. nothing 41)
+
+  cheap-only : (text set : List ℕ) (costs : List ℤ) (proof : List ℕ) → OnlyCheap (cheapest t s text set costs proof)
+  unfolding cheapest
+  cheap-only text set costs proof = reading-only set costs proof (readText t text) (read-numbered t text)
+
+pub cheapest-returned : CheapestReturned
+cheapest-returned ws l ks proof table store table′ store′ answer more C s =
+    let q : s .answered ≡ cheapest (length table) (length store) (programText ws) l (pairWords ks) proof .answer = ap (λ (x : CheapestLeft). x .answer) (s .checked) in
+    let p = cheap-only (length table) (length store) (programText ws) l (pairWords ks) proof (s .told .returned ∙ ap cheapestCode q) in
+    let e : s .answered ≡ Answers.Cheapest (p .0) = q ∙ p .1 in
+    let c : C ≡ p .0 = front-one answer (s .told .written ∙ ap (λ r. sets answer 0 (cheapestNumbers r)) e) in
+    cheapest-printed ws l ks proof table store table′ store′ C
+    (subst (λ (r : CheapestAnswer). CheckedCheapest (programText ws) l (pairWords ks) proof table store table′ store′ r) (e ∙ ap Answers.Cheapest (sym c)) (s .checked))
