@@ -18,12 +18,6 @@ use Rattle.derivation.specs.States.{State, start}
 use Rattle.derivation.specs.Steps.{Outcome, refused, next, byLetter}
 use Rattle.completeness.specs.Claims.{freeStep, freeSteps, Sized}
 
--- Numbers
-
--- a literal with a variable above 0 is not 0
-pub no-zero : (l : List ℤ) → ((x : ℤ) → x ∈ l → 1 ≤ variable x) → has (pos 0) l ≡ false
-no-zero l f = failed (has (pos 0) l) (not-decides (has-decides (pos 0) l) .from (λ i. absurd (let h : 1 ≤ 0 = f (pos 0) i in omega arith)))
-
 -- Outcomes
 
 abbrev isNext : Outcome → Bool
@@ -37,19 +31,22 @@ abbrev stateOf : Outcome → State
 stateOf (refused k) = start
 stateOf (next z) = z
 
-pub if-yes : {b : Bool} {o : Outcome} {z : State} (k : ℕ) → b ≡ true → o ≡ next z → cond b o (refused k) ≡ next z
-if-yes {b = true} k e p = p
-if-yes {b = false} k e p = absurd (true≢false (sym e))
+-- a question that asks for a yes, and one that asks for a no
+pub yes-passes : {b : Bool} {o : Outcome} {z : State} (k : ℕ) → b ≡ true → o ≡ next z → cond b o (refused k) ≡ next z
+yes-passes {b = true} k e p = p
+yes-passes {b = false} k e p = absurd (true≢false (sym e))
 
-pub if-no : {b : Bool} {o : Outcome} {z : State} (k : ℕ) → b ≡ false → o ≡ next z → cond b (refused k) o ≡ next z
-if-no {b = true} k e p = absurd (true≢false e)
-if-no {b = false} k e p = p
+pub no-passes : {b : Bool} {o : Outcome} {z : State} (k : ℕ) → b ≡ false → o ≡ next z → cond b (refused k) o ≡ next z
+no-passes {b = true} k e p = absurd (true≢false e)
+no-passes {b = false} k e p = p
 
 module _ (N : ℕ) (P : List Rule) where
   -- questions 22, 24 and 25 are passed, and those by letter
   pub accepted : (z z′ : State) (x : Letter) (l : List ℤ) → ((y : ℤ) → y ∈ l → 1 ≤ variable y) → signed (signsOf x) l ≡ true → distinct l ≡ true
       → byLetter N P z x l ≡ next z′ → freeStep N P z (record { letter = x; numbers = l }) ≡ next z′
-  accepted z z′ x l f s d e = if-no 22 (no-zero l f) (if-yes 24 s (if-yes 25 d e))
+  accepted z z′ x l f s d e =
+      no-passes 22 (failed (has (pos 0) l) (not-decides (has-decides (pos 0) l) .from (λ i. omega (arith, f (pos 0) i))))
+      (yes-passes 24 s (yes-passes 25 d e))
 
   -- the steps after one that leaves an outcome
   abbrev pub then : List Step → Outcome → Outcome

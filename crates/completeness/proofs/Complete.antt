@@ -125,8 +125,6 @@ complete N P wf = by (tree N P wf N 0 (omega arith) [] total-none (names .state)
     by (inl f) = inl (listed N P (f .0) (f .1) (f .2))
     by (inr w) = let r = w .standing .reached in inr (record {
       lines = r .0;
-      after = w .state;
-      accepted = r .1;
-      empty = is-true (empty-decides (w .state .live)) (w .live);
+      refutes = (w .state, r .1, is-true (empty-decides (w .state .live)) (w .live));
       sized = r .2;
     })

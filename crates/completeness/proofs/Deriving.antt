@@ -25,10 +25,10 @@ use Rattle.derivation.specs.Steps.{next, add, definition, isSupport, isExternal
 use Rattle.derivation.proofs.Closure.{refuted-decides}
 use Rattle.derivation.proofs.Loops.{loop-decides}
 use Rattle.derivation.proofs.Questions.{pos-positive, atom-decides, known-decides, atom-known, allKnown-decides, name-decides, hasName-decides, completion-decides, support-decides, allAtoms-decides, allNamed-decides}
-use Rattle.completeness.specs.Claims.{WellFormed, headCount, by-atoms, by-name, by-head, Sized}
+use Rattle.completeness.specs.Claims.{WellFormed, rulesFor, by-atoms, by-name, by-head, Sized}
 use Rattle.completeness.proofs.Totals.{Total, distinct-cons, distinct-keep, different-keep, not-more}
 use Rattle.completeness.proofs.Leaves.{Holds, Fails, BadRule, BadAtom, BadLoop, Bad, rule, atom, loop}
-use Rattle.completeness.proofs.Accepting.{if-yes, accepted, Reached, reached-more}
+use Rattle.completeness.proofs.Accepting.{yes-passes, accepted, Reached, reached-more}
 use Rattle.completeness.proofs.Naming.{HasName, nameOf, bodyOf, Ready, ready-add}
 
 -- Propagation
@@ -102,8 +102,8 @@ module _ (N : ℕ) (P : List Rule) (wf : WellFormed N P) where
     abbrev pub addition-step : (L : List ℤ) (k : ℕ) → k ≤ N → Total k L → Conflict (z .live) L → Further z (ascending L)
     addition-step L k h t c =
         one-more z s Addition L (ascending L) (λ y i. t .within y i .0) (signs L) (t .once)
-        (if-yes 26 (is-true (allKnown-decides N z L) (λ y i. let w = t .within y i in atom-known-in (variable y) (w .0) (omega (arith, w .1))))
-        (if-yes 33 (is-true (refuted-decides (z .live) L) c) refl))
+        (yes-passes 26 (is-true (allKnown-decides N z L) (λ y i. let w = t .within y i in atom-known-in (variable y) (w .0) (omega (arith, w .1))))
+        (yes-passes 33 (is-true (refuted-decides (z .live) L) c) refl))
         (tt, λ y i. omega (arith, t .within y i .1), by-atoms (omega (arith, t .size)))
       where
         signs : (L : List ℤ) → signed (signsOf Addition) L ≡ true
@@ -125,9 +125,9 @@ module _ (N : ℕ) (P : List Rule) (wf : WellFormed N P) where
         (pos-positive (x .name) (omega (arith, name-above x i)), λ h j. wf .heads r m h j .0))
         (distinct-cons (nameOf x) (r .heads) (λ h j q. let o : x .name ≡ variable h = q in omega (arith, name-above x i, wf .heads r m h j .1))
         (few-distinct (r .heads) (wf .single r m e)))
-        (if-yes 26 (is-true (allKnown-decides N z (nameOf x ∷ r .heads))
+        (yes-passes 26 (is-true (allKnown-decides N z (nameOf x ∷ r .heads))
         (each-cons (name-known x i) (λ h j. atom-known-in (variable h) (head-from h j) (wf .heads r m h j .1))))
-        (if-yes 29 (is-true (completion-decides P z (nameOf x) (r .heads)) (r, m, (e, (refl, name-decides z (x .name) (r .body) .from (x, i, (refl, p)))))) refl))
+        (yes-passes 29 (is-true (completion-decides P z (nameOf x) (r .heads)) (r, m, (e, (refl, name-decides z (x .name) (r .body) .from (x, i, (refl, p)))))) refl))
         (tt, each-cons (name-below x i) (λ h j. omega (arith, wf .heads r m h j .1)), by-name (omega (arith, wf .single r m e)))
       where
         head-from : (h : ℤ) → h ∈ r .heads → 1 ≤ variable h
@@ -166,15 +166,15 @@ module _ (N : ℕ) (P : List Rule) (wf : WellFormed N P) where
       pub n-below : (n : ℤ) → n ∈ supporting → variable n ≤ N + length P
       n-below n i = let q = in-supporting n i in rw (← q .2) (name-below (q .0) (q .1))
 
-      pub count : length supporting ≤ headCount P h
+      pub count : length supporting ≤ length (rulesFor P h)
       count =
           let names = filter supports (z .named) in
-          let rules = filter (λ (r : Rule). has h (r .heads)) P in
+          let rules = rulesFor P h in
           let h = not-more (map bodyOf names) (map (λ (r : Rule). r .body) rules) (different-keep bodyOf supports (z .named) (s .ready .different)) each in
           omega (arith, h, length-map names nameOf, length-map names bodyOf, length-map rules (λ (r : Rule). r .body))
         where
           each : (x : List ℤ) → x ∈ map bodyOf (filter supports (z .named))
-              → x ∈ map (λ (r : Rule). r .body) (filter (λ (r : Rule). has h (r .heads)) P)
+              → x ∈ map (λ (r : Rule). r .body) (rulesFor P h)
           each x i =
               let q = Memᴰ·of-map bodyOf (filter supports (z .named)) i in
               let v = supports-decides (q .0) .to (keep→ supports (z .named) (q .1) .1) in
@@ -206,8 +206,8 @@ module _ (N : ℕ) (P : List Rule) (wf : WellFormed N P) where
           (each-cons h-from (λ n i. omega (arith, n-above n i)))
           (is-true (and-decides (itself (isPositive h)) (all-decides (λ n. itself (isPositive n)) supporting)) (hp, n-positive))
           (distinct-cons h supporting (λ n i q. omega (arith, n-above n i, hn, q)) once)
-          (if-yes 26 (is-true (allKnown-decides N z (h ∷ supporting)) (each-cons (atom-known-in (variable h) h-from hn) n-known))
-          (if-yes 30 is-support refl))
+          (yes-passes 26 (is-true (allKnown-decides N z (h ∷ supporting)) (each-cons (atom-known-in (variable h) h-from hn) n-known))
+          (yes-passes 30 is-support refl))
           (tt, each-cons (omega (arith, hn)) n-below, by-head h (omega (arith, count)))
 
     -- `l`
@@ -232,10 +232,10 @@ module _ (N : ℕ) (P : List Rule) (wf : WellFormed N P) where
         from
         (is-true (all-decides (λ x. itself (isPositive x)) (h ∷ hs)) (λ x i. a x i .0))
         d
-        (if-yes 26 (is-true (allKnown-decides N z (h ∷ hs)) (λ x i. atom-known-in (variable x) (from x i) (a x i .1)))
-        (if-yes 31 (is-true (allAtoms-decides N z (h ∷ hs)) (λ x i. atom-decides N (variable x) .from (from x i, a x i .1)))
-        (if-yes 56 (is-true (loop-decides P (h ∷ hs)) l)
-        (if-yes 32 (is-true (allNamed-decides P z (h ∷ hs)) (λ r m _. hasName-decides z (r .body) .from (s .all r m)))
+        (yes-passes 26 (is-true (allKnown-decides N z (h ∷ hs)) (λ x i. atom-known-in (variable x) (from x i) (a x i .1)))
+        (yes-passes 31 (is-true (allAtoms-decides N z (h ∷ hs)) (λ x i. atom-decides N (variable x) .from (from x i, a x i .1)))
+        (yes-passes 56 (is-true (loop-decides P (h ∷ hs)) l)
+        (yes-passes 32 (is-true (allNamed-decides P z (h ∷ hs)) (λ r m _. hasName-decides z (r .body) .from (s .all r m)))
         refl))))
         (tt, λ x i. omega (arith, a x i .1), by-atoms c)
       where

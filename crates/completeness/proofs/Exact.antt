@@ -19,7 +19,7 @@ use Rattle.derivation.proofs.Invariant.{Kept}
 use Rattle.derivation.proofs.Outcomes.{if-no, if-signed}
 use Rattle.derivation.proofs.Sustaining.{Fine, letter-fine, never-empty}
 use Rattle.derivation.proofs.Sound.{answer-set-sustained, none-further}
-use Rattle.completeness.specs.Claims.{freeStep, freeSteps, WellFormed, Answer, Refutation, Exact}
+use Rattle.completeness.specs.Claims.{freeStep, freeSteps, WellFormed, Answer, Refutes, Refutation, Exact}
 use Rattle.completeness.proofs.Complete.{complete}
 
 module _ (N : ℕ) (P : List Rule) (fits : plainAtoms P ≤ N) (M : ℕ → Type 0) (S : AnswerSet M P) where
@@ -29,8 +29,8 @@ module _ (N : ℕ) (P : List Rule) (fits : plainAtoms P ≤ N) (M : ℕ → Type
       (λ nz. if-signed (Kept N M) (t .letter) (t .numbers) _
       (λ s _. letter-fine N P M (answer-set-sustained N P fits M S {Line = λ l. Unit {0}}) z k (t .letter) (t .numbers) nz tt s))
 
-  none-left : Refutation N P → ⊥
-  none-left r = never-empty N P M (freeStep N P) free-fine (freeSteps N P) (λ z. refl) (λ z t ts. refl) (r .lines) (r .after) (r .accepted) (r .empty)
+  none-left : (ts : List Step) → Refutes N P ts → ⊥
+  none-left ts r = never-empty N P M (freeStep N P) free-fine (freeSteps N P) (λ z. refl) (λ z t ts. refl) ts (r .0) (r .1) (r .2)
 
 -- a program that is well formed names no atom above N
 module _ (N : ℕ) where
@@ -42,7 +42,7 @@ module _ (N : ℕ) where
       atoms-within N P (λ r m. omega (arith, top-within (r .heads) (λ h i. wf .heads r m h i .1), top-within (r .body) (λ x i. wf .literals r m x i .1)))
 
 pub exact : Exact
-exact N P wf = (λ f. by f (complete N P wf), λ r. none-further P (λ M S. none-left N P (well-within N P wf) M S r))
+exact N P wf = (λ f. by f (complete N P wf), λ ts r. none-further P (λ M S. none-left N P (well-within N P wf) M S ts r))
   where
     by : ((M : ℕ → Type 0) → AnswerSet M P → ⊥) → Answer N P ⊎ Refutation N P → Refutation N P
     by f (inl a) = absurd (f (λ n. n ∈ a .0) (a .2))

@@ -6,14 +6,16 @@ use mathlib.Core.Bool.{Bool, true, false, cond, _||_}
 use mathlib.Core.List.{List, [], _∷_, List·Memᴰ·head, List·Memᴰ·tail}
 use Prim.Native.Nat.{ℕ, _≤_}
 use native.Mathlib.Omega.{arith}
-use lib.IntN.{ℤ, pos}
+use lib.IntN.{pos}
 use lib.ListN.{length}
 use borrow.Author.Tests.{le-ltb}
 use Rattle.words.specs.Lists.{_∈_}
 use Rattle.words.specs.Limits.{largest, mostNumbers}
 use Rattle.words.specs.Literals.{variable, has}
+use Rattle.words.proofs.Lists.{failed}
 use Rattle.text.specs.Line.{anyOutside}
 use Rattle.aspif.specs.Rules.{Rule}
+use Rattle.aspif.proofs.Formed.{inside-decides}
 use Rattle.drupe.specs.Texts.{Step}
 use Rattle.derivation.specs.States.{State, start}
 use Rattle.derivation.specs.Steps.{Outcome, refused, next, byLetter, step, steps}
@@ -21,10 +23,6 @@ use Rattle.derivation.proofs.Outcomes.{isBeyond, signing, step-asks}
 use Rattle.completeness.specs.Claims.{freeStep, freeSteps, Within, Short, by-atoms, by-name, by-body, by-head, Answer, Refutation, Accepted, SameSteps, AcceptedFree, CompleteWithin}
 use Rattle.completeness.proofs.Accepting.{not-refused, then}
 use Rattle.completeness.proofs.Complete.{complete}
-
-none-outside : (l : List ℤ) → ((x : ℤ) → x ∈ l → variable x ≤ largest) → anyOutside l ≡ false
-none-outside [] f = refl
-none-outside (x ∷ l) f = rw (le-ltb largest (variable x) (f x (List·Memᴰ·head refl))) (none-outside l (λ y i. f y (List·Memᴰ·tail i)))
 
 module _ (N : ℕ) (P : List Rule) where
   same-step : (z : State) (t : Step) → Within largest mostNumbers t → step N P z t ≡ freeStep N P z t
@@ -36,7 +34,9 @@ module _ (N : ℕ) (P : List Rule) where
       later = signing (t .letter) (t .numbers) (byLetter N P z (t .letter) (t .numbers))
 
       small : isBeyond (t .numbers) ≡ false
-      small = ap₂ (λ a b. a || b) (none-outside (t .numbers) (w .0)) (le-ltb mostNumbers (length (t .numbers)) (w .1))
+      small =
+          let inside = inside-decides (t .numbers) .from (λ x i. rw (le-ltb largest (variable x) (w .0 x i)) tt) in
+          ap₂ (λ a b. a || b) (failed (anyOutside (t .numbers)) inside) (le-ltb mostNumbers (length (t .numbers)) (w .1))
 
   after : (ts : List Step) → Outcome → Outcome
   after ts o = elim o [ refused k ↦ refused k | next z′ ↦ steps N P z′ ts ]
@@ -88,7 +88,7 @@ complete-within N P wf a b c d = by (complete N P wf)
 
     by : Answer N P ⊎ Refutation N P → Answer N P ⊎ Accepted N P
     by (inl s) = inl s
-    by (inr r) = inr (r .lines, r .after, same-steps N P start (r .lines) within ∙ r .accepted, r .empty)
+    by (inr r) = inr (r .lines, r .refutes .0, same-steps N P start (r .lines) within ∙ r .refutes .1, r .refutes .2)
       where
         within : (t : Step) → t ∈ r .lines → Within largest mostNumbers t
         within t i = let w = r .sized t i in (λ x j. omega (arith, w .1 x j), few (w .2))

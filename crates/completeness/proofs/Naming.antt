@@ -21,7 +21,7 @@ use Rattle.derivation.specs.Steps.{next, add, definition, define, body, isUnnam
 use Rattle.derivation.proofs.Questions.{pos-positive, atom-decides, known-decides, atom-known, allKnown-decides, hasName-decides, unnamed-decides}
 use Rattle.completeness.specs.Claims.{WellFormed, by-body}
 use Rattle.completeness.proofs.Totals.{distinct-cons, Different}
-use Rattle.completeness.proofs.Accepting.{if-yes, if-no, accepted, Reached, reached-start, reached-more}
+use Rattle.completeness.proofs.Accepting.{yes-passes, no-passes, accepted, Reached, reached-start, reached-more}
 
 -- a body with a name
 abbrev pub HasName : State → List ℤ → Type 0
@@ -120,10 +120,10 @@ module _ (N : ℕ) (P : List Rule) where
 
       pub named-so : byLetter N P z Body (pos n ∷ r .body) ≡ next after
       named-so =
-          if-yes 26 (is-true (allKnown-decides N z (r .body))
+          yes-passes 26 (is-true (allKnown-decides N z (r .body))
           (λ v i. let w = wf .literals r m v i in atom-known N z (variable v) (atom-decides N (variable v) .from w)))
-          (if-no 27 fresh
-          (if-yes 28 unnamed (ap (λ l. next (define z (pos n) (r .body) (record { name = n; body = l } ∷ z .named))) order)))
+          (no-passes 27 fresh
+          (yes-passes 28 unnamed (ap (λ l. next (define z (pos n) (r .body) (record { name = n; body = l } ∷ z .named))) order)))
 
       abbrev reached-after : Reached N P z → Reached N P after
       reached-after h =

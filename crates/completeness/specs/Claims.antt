@@ -24,7 +24,7 @@ use Rattle.aspif.specs.AnswerSets.{AnswerSet}
 use Rattle.drupe.specs.Lines.{signsOf, isPositive, signed}
 use Rattle.drupe.specs.Texts.{Step}
 use Rattle.derivation.specs.States.{State, start}
-use Rattle.derivation.specs.Claims.{NoAnswerSet}
+use Rattle.derivation.specs.Claims.{NoAnswerSet, NoneAsWritten}
 use Rattle.derivation.specs.Steps.{Outcome, refused, next, byLetter, steps, emptyLive}
 
 -- A step with question 23, of the sizes and the count of a line's numbers, not put: 22, 24, 25 and those by letter
@@ -52,13 +52,18 @@ pub record WellFormed (N : ℕ) (P : List Rule) : Type 0 where
 abbrev pub Answer : ℕ → List Rule → Type 0
 Answer N P = (l : List ℕ) × (ascends 0 N l ≡ true) × AnswerSet (λ n. n ∈ l) P
 
+-- Steps that are accepted, each in its turn, with the empty nogood live after the last: "an ASP-DRUPE proof for the inconsistency of P if it actually
+-- derives inconsistency". Of any of the seven letters, and numbers of any size and count.
+abbrev pub Refutes : ℕ → List Rule → List Step → Type 0
+Refutes N P ts = (z : State) × (freeSteps N P start ts ≡ next z) × (emptyLive z ≡ true)
+
 -- a line's numbers have sizes up to `size`, and there are up to `count`
 abbrev pub Within : (size count : ℕ) → Step → Type 0
 Within size count t = ((x : ℤ) → x ∈ t .numbers → variable x ≤ size) × (length (t .numbers) ≤ count)
 
--- how many rules have the head h
-abbrev pub headCount : List Rule → ℤ → ℕ
-headCount P h = length (filter (λ r. has h (r .heads)) P)
+-- the rules that have the head h
+abbrev pub rulesFor : List Rule → ℤ → List Rule
+rulesFor P h = filter (λ r. has h (r .heads)) P
 
 -- n numbers are at most as many as there are atoms (`a` and `l`); or a body's name and a head (`c`); or one more than a body has literals (`b`);
 -- or one more than a head has rules (`s`)
@@ -66,7 +71,7 @@ pub data Short (N : ℕ) (P : List Rule) (n : ℕ) : Type 0 where
   by-atoms : n ≤ N → Short N P n
   by-name : n ≤ 2 → Short N P n
   by-body : (r : Rule) → r ∈ P → n ≤ suc (length (r .body)) → Short N P n
-  by-head : (h : ℤ) → n ≤ suc (headCount P h) → Short N P n
+  by-head : (h : ℤ) → n ≤ suc (length (rulesFor P h)) → Short N P n
 
 -- the letters that completeness needs: neither deletions nor extensions
 abbrev pub isNeeded : Letter → Bool
@@ -83,30 +88,35 @@ abbrev pub Sized : ℕ → List Rule → Step → Type 0
 Sized N P t =
     T (isNeeded (t .letter)) × ((x : ℤ) → x ∈ t .numbers → variable x ≤ N + length P) × Short N P (length (t .numbers))
 
--- An accepted derivation that ends with the empty nogood live: "an ASP-DRUPE proof for the inconsistency of P if it actually derives inconsistency"
+-- such steps as they are found
 pub record Refutation (N : ℕ) (P : List Rule) : Type 0 where
   pub lines : List Step
-  pub after : State
-  pub accepted : freeSteps N P start lines ≡ next after
-  pub empty : emptyLive after ≡ true
+  pub refutes : Refutes N P lines
   pub sized : (t : Step) → t ∈ lines → Sized N P t
 
 -- For every program one or the other is found: the proof computes it
 abbrev pub Complete : Type 0
 Complete = (N : ℕ) (P : List Rule) → WellFormed N P → Answer N P ⊎ Refutation N P
 
--- and never both: where no set of numbers is an answer set, which is the first half of `NoAnswerSet`, there is a derivation; and where there is
--- a derivation `NoAnswerSet` holds, its half on further constraints too. The sets are any predicates, decidable or not.
+-- and never both: where no set of numbers is an answer set, which is the first half of `NoAnswerSet`, a derivation is found; and where any derivation
+-- is accepted `NoAnswerSet` holds, its half on further constraints too. The sets are any predicates, decidable or not.
 abbrev pub Exact : Type 1
 Exact =
     (N : ℕ) (P : List Rule) → WellFormed N P
-    → (((M : ℕ → Type 0) → AnswerSet M P → ⊥) → Refutation N P) × (Refutation N P → NoAnswerSet P)
+    → (((M : ℕ → Type 0) → AnswerSet M P → ⊥) → Refutation N P) × ((ts : List Step) → Refutes N P ts → NoAnswerSet P)
 
--- a program that a table holds: "the rules as written", and the plain rules that they stand for
-abbrev pub CompleteAsRead : Type 0
-CompleteAsRead =
+-- Programs that a table holds: "the rules as written", weight bodies too, and the plain rules that they stand for
+
+-- these are well formed
+abbrev pub ReadWellFormed : Type 0
+ReadWellFormed = (table : List ℤ) (rules : ℕ) (ws : List InputRule) → rulesOf table rules ≡ some ws → WellFormed (atoms ws) (expand ws)
+
+-- so that one or the other is found, and never both, with further constraints as they are written
+abbrev pub ExactAsRead : Type 1
+ExactAsRead =
     (table : List ℤ) (rules : ℕ) (ws : List InputRule) → rulesOf table rules ≡ some ws
-    → Answer (atoms ws) (expand ws) ⊎ Refutation (atoms ws) (expand ws)
+    → (Answer (atoms ws) (expand ws) ⊎ Refutation (atoms ws) (expand ws))
+    × ((ts : List Step) → Refutes (atoms ws) (expand ws) ts → NoneAsWritten ws)
 
 -- Question 23
 
@@ -130,14 +140,14 @@ Accepted N P = (ts : List Step) × (z : State) × (steps N P start ts ≡ next z
 abbrev pub CompleteWithin : Type 0
 CompleteWithin =
     (N : ℕ) (P : List Rule) → WellFormed N P → N ≤ mostNumbers → N + length P ≤ largest
-    → ((r : Rule) → r ∈ P → length (r .body) ≤ mostLiterals) → ((h : ℤ) → headCount P h ≤ mostLiterals)
+    → ((r : Rule) → r ∈ P → length (r .body) ≤ mostLiterals) → ((h : ℤ) → length (rulesFor P h) ≤ mostLiterals)
     → Answer N P ⊎ Accepted N P
 
 -- of a program that a table holds, whose bodies are that short
 abbrev pub CompleteReadWithin : Type 0
 CompleteReadWithin =
     (table : List ℤ) (rules : ℕ) (ws : List InputRule) → rulesOf table rules ≡ some ws
-    → atoms ws ≤ mostNumbers → atoms ws + length (expand ws) ≤ largest → ((h : ℤ) → headCount (expand ws) h ≤ mostLiterals)
+    → atoms ws ≤ mostNumbers → atoms ws + length (expand ws) ≤ largest → ((h : ℤ) → length (rulesFor (expand ws) h) ≤ mostLiterals)
     → Answer (atoms ws) (expand ws) ⊎ Accepted (atoms ws) (expand ws)
 
 -- and for each count of atoms above 65 there is a program without answer sets of which no derivation is accepted, of any letters and any length
