@@ -54,15 +54,16 @@ body-top (weights b l) i =
     let h = top-part (sublist-map (λ x. x .literal) (s .1)) in
     rw (← s.3) h
 
-each-plain : (n : ℕ) (rs : List Rule) → ((r : Rule) → r ∈ rs → max (top (r .heads)) (top (r .body)) ≤ n) → plainAtoms rs ≤ n
-each-plain n [] f = omega arith
-each-plain n (r ∷ rs) f =
+-- where each rule names no atom above n, the rules do not
+pub atoms-within : (n : ℕ) (rs : List Rule) → ((r : Rule) → r ∈ rs → max (top (r .heads)) (top (r .body)) ≤ n) → plainAtoms rs ≤ n
+atoms-within n [] f = omega arith
+atoms-within n (r ∷ rs) f =
     let a = f r (List·Memᴰ·head refl) in
-    let b = each-plain n rs (λ s i. f s (List·Memᴰ·tail i)) in
+    let b = atoms-within n rs (λ s i. f s (List·Memᴰ·tail i)) in
     omega arith
 
 pub plain-atoms : (ws : List InputRule) → plainAtoms (expand ws) ≤ atoms ws
-plain-atoms ws = each-plain (atoms ws) (expand ws) (λ r i. small (expand→ ws i))
+plain-atoms ws = atoms-within (atoms ws) (expand ws) (λ r i. small (expand→ ws i))
   where
     small : {r : Rule} → Expanded ws r → max (top (r .heads)) (top (r .body)) ≤ atoms ws
     small x =

@@ -282,7 +282,7 @@ insert-rising acc x (y ∷ l) u e =
       | inr j ↦ rw (List·Memᴰ·eq-of-singleton j) (omega arith)
     ]
 
-in-order : (l : List ℤ) → rising l ≡ true → ascending l ≡ l
+pub in-order : (l : List ℤ) → rising l ≡ true → ascending l ≡ l
 unfolding insertAll
 in-order [] e = refl
 in-order (x ∷ l) e = insert-rising [] x l (λ y i. elim i [ ]) e

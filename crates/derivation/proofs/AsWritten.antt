@@ -12,7 +12,8 @@ use Rattle.derivation.proofs.Sound.{soundness}
 pub constraints : (further : List InputRule) → ((r : InputRule) → r ∈ further → WrittenConstraint r) → (r : Rule) → r ∈ expand further → Constraint r
 constraints further f r i = let x = expand→ further i in subst Constraint (x .is) (f (x .rule) (x .among))
 
-as-written : (ws : List InputRule) → NoAnswerSet (expand ws) → NoneAsWritten ws
+-- what holds of the plain rules holds as it is written
+pub as-written : (ws : List InputRule) → NoAnswerSet (expand ws) → NoneAsWritten ws
 as-written ws none = (none .0, λ further f M S. none .1 (expand further) (constraints further f) M (subst (AnswerSet M) (expand-append ws further) S))
 
 pub soundness-as-written : SoundAsWritten

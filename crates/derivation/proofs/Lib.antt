@@ -5,6 +5,8 @@ pub mod Loops
 pub mod Valuations
 pub mod Questions
 pub mod Invariant
+pub mod Outcomes
 pub mod Nogoods
+pub mod Sustaining
 pub mod Sound
 pub mod AsWritten

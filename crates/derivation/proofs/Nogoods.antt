@@ -29,6 +29,16 @@ TrueIn M (negsuc n) = ¬ M (suc n)
 abbrev pub Positives : List ℤ → Type 0
 Positives L = (x : ℤ) → x ∈ L → T (isPositive x)
 
+module _ (N : ℕ) (M : ℕ → Type 0) (z : State) (k : Kept N M z) where
+  -- a name means its body, whose variables are atoms
+  pub name-means : (n : ℤ) (body : List ℤ) → T (isPositive n) → T (isName z (variable n) body) → Means (k .W) n body × AllAtoms N body
+  name-means n body p t =
+      let r = name-decides z (variable n) body .to t in
+      let q = k .named (r .0) (r .1) in (
+        subst₂ (λ (m : ℤ) (l : List ℤ). Means (k .W) m l) (ap pos (r .2 .0) ∙ sym (positive-is n p)) (r .2 .1) (q .means),
+        subst (λ (l : List ℤ). AllAtoms N l) (r .2 .1) (q .atoms),
+      )
+
 module _ (N : ℕ) (P : List Rule) (fits : plainAtoms P ≤ N) (M : ℕ → Type 0) (S : AnswerSet M P) (z : State) (k : Kept N M z) where
   -- Atoms
 
@@ -59,21 +69,12 @@ module _ (N : ℕ) (P : List Rule) (fits : plainAtoms P ≤ N) (M : ℕ → Type
   used r a f g (pos (suc n)) u = λ c. c (k .atoms (suc n) (a (pos (suc n)) u) .1 (S .least (suc n) .1 (g (suc n) u)))
   used r a f g (negsuc n) u = λ w. f n u (k .atoms (suc n) (a (negsuc n) u) .0 w)
 
-  -- a name means its body, whose variables are atoms
-  named : (n : ℤ) (body : List ℤ) → T (isPositive n) → T (isName z (variable n) body) → Means (k .W) n body × AllAtoms N body
-  named n body p t =
-      let r = name-decides z (variable n) body .to t in
-      let q = k .named (r .0) (r .1) in (
-        subst₂ (λ (m : ℤ) (l : List ℤ). Means (k .W) m l) (ap pos (r .2 .0) ∙ sym (positive-is n p)) (r .2 .1) (q .means),
-        subst (λ (l : List ℤ). AllAtoms N l) (r .2 .1) (q .atoms),
-      )
-
   -- Completion
 
   pub completion-fails : (n : ℤ) (hs : List ℤ) → T (isPositive n) → Positives hs
       → (r : Rule) → r ∈ P → r .kind ≡ Normal → r .heads ≡ hs → T (isName z (variable n) (r .body)) → ¬ All (k .W) (n ∷ map complement hs)
   completion-fails n hs p q r m normal-kind e t f =
-      let w = named n (r .body) p t in
+      let w = name-means N M z k n (r .body) p t in
       met r (w .1) (w .0 .0 (f n (List·Memᴰ·head refl))) (λ H. go H hs e q (λ x u. f x (List·Memᴰ·tail u)))
     where
       go : Met M r → (hs : List ℤ) → r .heads ≡ hs → Positives hs → ¬ All (k .W) (map complement hs)
@@ -95,7 +96,7 @@ module _ (N : ℕ) (P : List Rule) (fits : plainAtoms P ≤ N) (M : ℕ → Type
       go : {v : ℕ} → h ≡ pos v → LeastModel M P v → ⊥
       go e (derive r m t g b) =
           let y = s r m (Memᴰ·cast e (g .0)) in
-          let w = named (y .0) (r .body) (q (y .0) (y .1)) (y .2) in
+          let w = name-means N M z k (y .0) (r .body) (q (y .0) (y .1)) (y .2) in
           w .0 .1 (f (complement (y .0)) (List·Memᴰ·tail (Memᴰ·map complement (y .1)))) (used r (w .1) t b)
 
       unsupported : ¬ LeastModel M P (variable h)

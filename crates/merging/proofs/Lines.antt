@@ -1,26 +1,24 @@
 -- Questions 22 to 25 of a line under new names, and how a question that is passed is used. Assumes nothing.
 use mathlib.Core.Path.{_≡_, refl, sym, ap, _∙_}
-use mathlib.Core.Bool.{Bool, true, false, cond, not, _||_}
-use mathlib.Core.Option.{Option, none, some}
+use mathlib.Core.Bool.{Bool, true, false, cond, not}
 use mathlib.Core.List.{List, [], _∷_, _++_, map, List·Memᴰ·head, List·Memᴰ·tail, Memᴰ·append-left, Memᴰ·append-right, Memᴰ·of-map}
 use Prim.Native.Nat.{ℕ, zero, suc, _≤_}
 use native.Mathlib.Omega.{arith}
-use lib.Dec.{T, ltb}
+use lib.Dec.{T}
 use lib.IntN.{ℤ, pos, negsuc}
-use lib.ListN.{length}
-use Rattle.words.specs.Limits.{mostNumbers}
 use Rattle.words.specs.Lists.{_∈_}
 use Rattle.words.specs.Literals.{variable, has, distinct}
-use Rattle.words.proofs.Lists.{zero-one, Decides, passed, itself, and-decides, not-decides, if-decides, all-decides, leb-decides}
+use Rattle.words.proofs.Lists.{zero-one, Decides, passed, itself, and-decides, not-decides, if-decides, all-decides}
 use Rattle.words.proofs.Places.{once-decides}
 use Rattle.words.proofs.Literals.{has-decides}
-use Rattle.text.specs.Line.{anyOutside}
 use Rattle.text.specs.declared.Letter.{Letter}
-use Rattle.drupe.specs.Lines.{isPositive, signsOf, signed, lineRefusal}
+use Rattle.drupe.specs.Lines.{isPositive, signsOf, signed}
 use Rattle.aspif.specs.Rules.{Rule}
 use Rattle.derivation.specs.States.{State}
 use Rattle.drupe.specs.Texts.{Step}
 use Rattle.derivation.specs.Steps.{Outcome, refused, next, byLetter, step, steps}
+use Rattle.derivation.proofs.Questions.{pos-positive}
+use Rattle.derivation.proofs.Outcomes.{isBeyond, step-asks}
 use Rattle.merging.specs.Merge.{renamed, fits, allFit}
 use Rattle.merging.proofs.Propagates.{renamed-variable}
 
@@ -30,38 +28,15 @@ pub cond-cases : {A : Type 0} (F : A → Type 0) (b : Bool) {a c : A} → (T b �
 cond-cases F true f g = f tt
 cond-cases F false f g = g tt
 
--- what a step comes to, where no question refuses it
-module _ (Q : State → Type 0) where
-  abbrev pub Then : Outcome → Type 0
-  Then (refused k) = Unit {0}
-  Then (next z) = Q z
-
-  pub if-yes : {b : Bool} {A : Type 0} → Decides b A → (o : Outcome) (n : ℕ) → (A → Then o) → Then (cond b o (refused n))
-  if-yes {b = true} d o n f = f (d .to tt)
-  if-yes {b = false} d o n f = tt
-
-  pub if-no : {b : Bool} {A : Type 0} → Decides b A → (o : Outcome) (n : ℕ) → (¬ A → Then o) → Then (cond b (refused n) o)
-  if-no {b = true} d o n f = tt
-  if-no {b = false} d o n f = f (λ x. d .from x)
-
-  pub if-line : (x : Letter) (zs : List ℤ) (o : Outcome) → (T (signed (signsOf x) zs) → T (distinct zs) → Then o)
-      → Then (elim (lineRefusal x zs) [ some k ↦ refused k | none ↦ o ])
-  if-line x zs o f = go (anyOutside zs || ltb mostNumbers (length zs)) (signed (signsOf x) zs) (distinct zs) f
-    where
-      go : (a b c : Bool) → (T b → T c → Then o) → Then (elim (cond {A = Option ℕ} a (some 23) (cond b (cond c none (some 25)) (some 24))) [ some k ↦ refused k | none ↦ o ])
-      go true b c f = tt
-      go false true true f = f tt tt
-      go false true false f = tt
-      go false false c f = tt
-
 -- a line that passes them is the step of its letter
 pub line-passes : (N : ℕ) (P : List Rule) (w : State) (c : Letter) (zs : List ℤ) → ¬ (pos 0 ∈ zs) → T (fits (record { letter = c; numbers = zs }))
     → T (signed (signsOf c) zs) → T (distinct zs) → step N P w (record { letter = c; numbers = zs }) ≡ byLetter N P w c zs
 line-passes N P w c zs nz s t u =
-    go (has (pos 0) zs) (anyOutside zs || ltb mostNumbers (length zs)) (signed (signsOf c) zs) (distinct zs) (not-decides (has-decides (pos 0) zs) .from nz) s t u
+    step-asks N P w (record { letter = c; numbers = zs })
+    ∙ go (has (pos 0) zs) (isBeyond zs) (signed (signsOf c) zs) (distinct zs) (not-decides (has-decides (pos 0) zs) .from nz) s t u
   where
     go : (a b d e : Bool) → T (not a) → T (not b) → T d → T e
-        → cond a (refused 22) (elim (cond {A = Option ℕ} b (some 23) (cond d (cond e none (some 25)) (some 24))) [ some k ↦ refused k | none ↦ byLetter N P w c zs ]) ≡ byLetter N P w c zs
+        → cond a (refused 22) (cond b (refused 23) (cond d (cond e (byLetter N P w c zs) (refused 25)) (refused 24))) ≡ byLetter N P w c zs
     go true b d e p q r s = absurd p
     go false true d e p q r s = absurd q
     go false false true true p q r s = refl
@@ -69,9 +44,6 @@ line-passes N P w c zs nz s t u =
     go false false false e p q r s = absurd r
 
 -- Signs
-
-pos-positive : (m : ℕ) → 1 ≤ m → T (isPositive (pos m))
-pos-positive m h = leb-decides 1 m .from h
 
 module _ (f : ℕ → ℕ) (positive-stays : (v : ℕ) → 1 ≤ v → 1 ≤ f v) where
   pub renamed-positive : (y : ℤ) → T (isPositive y) → T (isPositive (renamed f y))

@@ -6,7 +6,7 @@ use Prim.Native.Nat.{ℕ, _≤_}
 use lib.Dec.{T}
 use lib.IntN.{ℤ, pos, negsuc}
 use Rattle.words.specs.Lists.{_∈_}
-use Rattle.words.specs.Literals.{variable, ascending, distinct}
+use Rattle.words.specs.Literals.{ascending, distinct}
 use Rattle.words.proofs.Lists.{zero-one, itself, and-decides, not-decides}
 use Rattle.words.proofs.Literals.{has-decides, variable-positive}
 use Rattle.text.specs.declared.Letter.{Letter}
@@ -17,10 +17,10 @@ use Rattle.derivation.specs.Propagation.{refuted}
 use Rattle.derivation.specs.Loops.{isLoop}
 use Rattle.derivation.specs.States.{Named, State, isAtom, isKnown, hasName}
 use Rattle.drupe.specs.Texts.{Step}
-use Rattle.derivation.specs.Steps.{Outcome, refused, next, allKnown, isCompletion, isSupport, allAtoms, allNamed, naming, citing, byLetter, step, steps}
+use Rattle.derivation.specs.Steps.{Outcome, refused, next, isCompletion, isSupport, allAtoms, allNamed, byLetter, step, steps}
 use Rattle.derivation.proofs.Questions.{known-decides, hasName-decides}
 use Rattle.merging.specs.Merge.{isBody, namedBy, namedIn, introducedBy, introducedIn}
-use Rattle.merging.proofs.Lines.{Then, if-yes, if-no, if-line}
+use Rattle.derivation.proofs.Outcomes.{Then, if-yes, if-no, if-line, if-citing, if-naming}
 
 -- what goes along with the steps, one after another
 abbrev pub alongAll : {A : Type 0} → (A → Step → A) → A → List Step → A
@@ -122,42 +122,36 @@ module _ (N : ℕ) (P : List Rule) where
   Does z t z′ = (z′ .introduced ≡ introducedBy t (z .introduced)) × (z′ .named ≡ namedBy t (z .named)) × Names z t
 
   module _ (z : State) where
-    citing-does : (Q : State → Type 0) (L : List ℤ) (o : Outcome) → Then Q o → Then Q (citing N z L o)
-    citing-does Q L o g = if-yes Q (itself (allKnown N z L)) o 26 (λ a. g)
-
-    naming-does : (Q : State → Type 0) (n : ℤ) (L : List ℤ) (o : Outcome) → (¬ T (isKnown N z (variable n)) → Then Q o) → Then Q (naming N z n L o)
-    naming-does Q n L o g = if-yes Q (itself (allKnown N z L)) _ 26 (λ a. if-no Q (itself (isKnown N z (variable n))) o 27 g)
-
     low : (m : ℕ) (L : List ℤ) → ¬ (pos 0 ∈ pos m ∷ L) → 1 ≤ m
     low m L nz = variable-positive (pos m) (λ e. nz (List·Memᴰ·head (sym e)))
 
     letter-does : (c : Letter) (zs : List ℤ) → ¬ (pos 0 ∈ zs) → T (signed (signsOf c) zs) → Then (Does z (record { letter = c; numbers = zs })) (byLetter N P z c zs)
     letter-does Addition L nz s =
-        citing-does (Does z (record { letter = Addition; numbers = L })) L _ (if-yes (Does z (record { letter = Addition; numbers = L })) (itself (refuted (z .live) L)) _ 33 (λ c. (refl, refl, none Addition L tt)))
+        if-citing (Does z (record { letter = Addition; numbers = L })) N z L _ (λ _. if-yes (Does z (record { letter = Addition; numbers = L })) (itself (refuted (z .live) L)) _ 33 (λ c. (refl, refl, none Addition L tt)))
     letter-does Body [] nz s = tt
     letter-does Body (pos m ∷ L) nz s =
-        naming-does (Does z (record { letter = Body; numbers = pos m ∷ L })) (pos m) L _ (λ u. if-yes (Does z (record { letter = Body; numbers = pos m ∷ L }))
+        if-naming (Does z (record { letter = Body; numbers = pos m ∷ L })) N z (pos m) L _ (λ _ u. if-yes (Does z (record { letter = Body; numbers = pos m ∷ L }))
         (and-decides (itself (isBody P (ascending L))) (not-decides (itself (hasName z (ascending L))))) _ 28 (λ q. (refl, refl, names-body m L (low m L nz) u (q .0) (q .1))))
     letter-does Body (negsuc m ∷ L) nz s = absurd s
     letter-does Completion [] nz s = tt
     letter-does Completion (n ∷ hs) nz s =
-        citing-does (Does z (record { letter = Completion; numbers = n ∷ hs })) (n ∷ hs) _ (if-yes (Does z (record { letter = Completion; numbers = n ∷ hs })) (itself (isCompletion P z n hs)) _ 29 (λ c. (refl, refl, none Completion (n ∷ hs) tt)))
-    letter-does Deletion L nz s = citing-does (Does z (record { letter = Deletion; numbers = L })) L _ (refl, refl, none Deletion L tt)
+        if-citing (Does z (record { letter = Completion; numbers = n ∷ hs })) N z (n ∷ hs) _ (λ _. if-yes (Does z (record { letter = Completion; numbers = n ∷ hs })) (itself (isCompletion P z n hs)) _ 29 (λ c. (refl, refl, none Completion (n ∷ hs) tt)))
+    letter-does Deletion L nz s = if-citing (Does z (record { letter = Deletion; numbers = L })) N z L _ (λ _. (refl, refl, none Deletion L tt))
     letter-does Extension [] nz s = tt
     letter-does Extension (pos m ∷ L) nz s =
-        naming-does (Does z (record { letter = Extension; numbers = pos m ∷ L })) (pos m) L _ (λ u. (refl, refl, extends m L (low m L nz) u))
+        if-naming (Does z (record { letter = Extension; numbers = pos m ∷ L })) N z (pos m) L _ (λ _ u. (refl, refl, extends m L (low m L nz) u))
     letter-does Extension (negsuc m ∷ L) nz s = absurd s
     letter-does Loop [] nz s = tt
     letter-does Loop (h ∷ hs) nz s =
-        citing-does (Does z (record { letter = Loop; numbers = h ∷ hs })) (h ∷ hs) _ (if-yes (Does z (record { letter = Loop; numbers = h ∷ hs })) (itself (allAtoms N z (h ∷ hs))) _ 31
+        if-citing (Does z (record { letter = Loop; numbers = h ∷ hs })) N z (h ∷ hs) _ (λ _. if-yes (Does z (record { letter = Loop; numbers = h ∷ hs })) (itself (allAtoms N z (h ∷ hs))) _ 31
         (λ a. if-yes (Does z (record { letter = Loop; numbers = h ∷ hs })) (itself (isLoop P (h ∷ hs))) _ 56
         (λ l. if-yes (Does z (record { letter = Loop; numbers = h ∷ hs })) (itself (allNamed P z (h ∷ hs))) _ 32 (λ e. (refl, refl, none Loop (h ∷ hs) tt)))))
     letter-does Support [] nz s = tt
     letter-does Support (h ∷ ns) nz s =
-        citing-does (Does z (record { letter = Support; numbers = h ∷ ns })) (h ∷ ns) _ (if-yes (Does z (record { letter = Support; numbers = h ∷ ns })) (itself (isSupport N P z h ns)) _ 30 (λ c. (refl, refl, none Support (h ∷ ns) tt)))
+        if-citing (Does z (record { letter = Support; numbers = h ∷ ns })) N z (h ∷ ns) _ (λ _. if-yes (Does z (record { letter = Support; numbers = h ∷ ns })) (itself (isSupport N P z h ns)) _ 30 (λ c. (refl, refl, none Support (h ∷ ns) tt)))
 
     pub step-does : (t : Step) → Then (Does z t) (step N P z t)
-    step-does t = if-no (Does z t) (has-decides (pos 0) (t .numbers)) _ 22 (λ nz. if-line (Does z t) (t .letter) (t .numbers) _ (λ s u. letter-does (t .letter) (t .numbers) nz s))
+    step-does t = if-no (Does z t) (has-decides (pos 0) (t .numbers)) _ 22 (λ nz. if-line (Does z t) (t .letter) (t .numbers) _ (λ _ s u. letter-does (t .letter) (t .numbers) nz s))
 
   -- All steps, for a property of the two lists of names and of whatever else goes along with the steps
   module _ {A : Type 0} (along : A → Step → A) (Keeps : List ℕ → List Named → A → Type 0)

@@ -8,15 +8,13 @@ use lib.Dec.{T, T-not}
 use lib.IntN.{ℤ, pos, negsuc, negℤ}
 use Rattle.words.specs.Lists.{_∈_, all}
 use Rattle.words.specs.Literals.{variable, complement, has, distinct, ascending}
-use Rattle.words.proofs.Lists.{each-cons, zero-one, Decides, itself, passed, failed, is-true, and-decides, not-decides, if-decides, any-decides, all-decides, keep→, keep←, dropFirst→}
+use Rattle.words.proofs.Lists.{each-cons, zero-one, itself, passed, failed, is-true, and-decides, not-decides, if-decides, any-decides, all-decides, keep→, keep←, dropFirst→}
 use Rattle.words.proofs.Literals.{sameList-decides, has-decides, complement-twice, same-variable, ascending→, ascending←}
 use Rattle.words.proofs.Places.{distinct-last}
 use Rattle.text.specs.declared.Letter.{Letter}
 use Rattle.text.specs.declared.Letter.the-variants.{Addition, Body, Completion, Deletion, Extension, Loop, Support}
 use Rattle.aspif.specs.Rules.{Rule, plainAtoms}
-use Rattle.aspif.specs.declared.Kind.the-variants.{Normal}
 use Rattle.drupe.specs.Lines.{isPositive, signsOf, signed}
-use Rattle.aspif.proofs.RuleTests.{normal-decides}
 use Rattle.derivation.specs.Propagation.{Conflict, refuted}
 use Rattle.derivation.specs.Loops.{isLoop}
 use Rattle.derivation.specs.States.{Named, State, isAtom, isKnown, isName, hasName}
@@ -25,20 +23,13 @@ use Rattle.derivation.specs.Steps.{Outcome, refused, next, add, definition, def
 use Rattle.derivation.specs.Steps as Steps
 use Rattle.derivation.proofs.Closure.{refuted-decides}
 use Rattle.derivation.proofs.Invariant.{AllKnown, AllAtoms}
-use Rattle.derivation.proofs.Questions.{positive-is, head-atom, body-atom, known-decides, allKnown-decides, atom-known, name-decides, hasName-decides}
+use Rattle.derivation.proofs.Questions.{positive-is, head-atom, body-atom, known-decides, allKnown-decides, atom-known, name-decides, hasName-decides, Completes, completion-decides}
+use Rattle.derivation.proofs.Outcomes.{Then, if-yes, if-no, if-line, if-citing, if-naming}
 use Rattle.merging.specs.Merge.{demand, demanding, renamed, namedBy, isBody, isAmong, one, kept, half, fits, allFit}
 use Rattle.merging.specs.Merge as Merge
 use Rattle.merging.proofs.Propagates.{Covered, conflict-follows, renamed-complement, renamed-variable}
-use Rattle.merging.proofs.Lines.{cond-cases, Then, if-yes, if-no, if-line, line-passes, signed-renamed, renamed-nonzero, distinct-renamed, steps-append, fit-append}
+use Rattle.merging.proofs.Lines.{cond-cases, line-passes, signed-renamed, renamed-nonzero, distinct-renamed, steps-append, fit-append}
 use Rattle.merging.proofs.Relation.{demanding-atoms, loop-same, Defines, Within, definition-defines, covered-same, Setting, Bodies, Follows, bodies-more, half-adds, both-add, both-define, half-defines}
-
--- a rule of a list that a `c` line names
-abbrev pub Completes : List Rule → State → ℤ → List ℤ → Type 0
-Completes Q s n hs = (q : Rule) × (q ∈ Q) × ((q .kind ≡ Normal) × ((q .heads ≡ hs) × T (isName s (variable n) (q .body))))
-
-pub completion-decides : (Q : List Rule) (s : State) (n : ℤ) (hs : List ℤ) → Decides (isCompletion Q s n hs) (Completes Q s n hs)
-completion-decides Q s n hs =
-    any-decides (λ q. and-decides (normal-decides (q .kind)) (and-decides (sameList-decides (q .heads) hs) (itself (isName s (variable n) (q .body))))) Q
 
 -- Booleans
 
@@ -491,19 +482,12 @@ module _ (N : ℕ) (P : List Rule) (small : plainAtoms P ≤ N) (x : ℤ) (f : �
     abbrev Result : Letter → List ℤ → State → Type 0
     Result c zs z′ = (z′ .named ≡ namedBy (record { letter = c; numbers = zs }) (z .named)) × Goes z′ (kept P x f shared (z .named) c zs)
 
-    knowing : (Q : State → Type 0) (L : List ℤ) (o : Outcome) → (AllKnown N z L → Then Q o) → Then Q (citing N z L o)
-    knowing Q L o g = if-yes Q (allKnown-decides N z L) o 26 g
-
-    introducing : (Q : State → Type 0) (n : ℤ) (L : List ℤ) (o : Outcome) → (AllKnown N z L → ¬ T (isKnown N z (variable n)) → Then Q o)
-        → Then Q (naming N z n L o)
-    introducing Q n L o g = if-yes Q (allKnown-decides N z L) _ 26 (λ a. if-no Q (itself (isKnown N z (variable n))) o 27 (λ u. g a u))
-
     letter-goes : (c : Letter) (zs : List ℤ) → ¬ (pos 0 ∈ zs) → T (signed (signsOf c) zs) → T (distinct zs) → Introduces c zs → Then (Result c zs) (byLetter N (demanding P x) z c zs)
     letter-goes Addition L nz s t i =
-        knowing (Result Addition L) L _ (λ a. if-yes (Result Addition L) (refuted-decides (z .live) L) _ 33 (λ c. (refl, addition-goes L nz t a c)))
+        if-citing (Result Addition L) N z L _ (λ a. if-yes (Result Addition L) (refuted-decides (z .live) L) _ 33 (λ c. (refl, addition-goes L nz t a c)))
     letter-goes Body [] nz s t i = tt
     letter-goes Body (pos m ∷ L) nz s t i =
-        introducing (Result Body (pos m ∷ L)) (pos m) L _
+        if-naming (Result Body (pos m ∷ L)) N z (pos m) L _
         (λ a u. if-yes (Result Body (pos m ∷ L)) (and-decides (any-decides (λ q. sameList-decides (q .body) (ascending L)) (demanding P x)) (not-decides (itself (hasName z (ascending L))))) _ 28
         (λ q. (refl, body-goes m L (i .0) nz t a u (atoms (q .0)) (q .1) s (i .1))))
       where
@@ -512,22 +496,22 @@ module _ (N : ℕ) (P : List Rule) (small : plainAtoms P ≤ N) (x : ℤ) (f : �
     letter-goes Body (negsuc m ∷ L) nz s t i = absurd (and-decides (itself (isPositive (negsuc m))) (itself true) .to s .0)
     letter-goes Completion [] nz s t i = tt
     letter-goes Completion (n ∷ hs) nz s t i =
-        knowing (Result Completion (n ∷ hs)) (n ∷ hs) _ (λ a. if-yes (Result Completion (n ∷ hs)) (completion-decides (demanding P x) z n hs) _ 29
+        if-citing (Result Completion (n ∷ hs)) N z (n ∷ hs) _ (λ a. if-yes (Result Completion (n ∷ hs)) (completion-decides (demanding P x) z n hs) _ 29
         (λ c. (refl, completion-goes n hs nz s t (and-decides (itself (isPositive n)) (itself (all isPositive hs)) .to s .0) a c)))
-    letter-goes Deletion L nz s t i = knowing (Result Deletion L) L _ (λ a. (refl, deletion-goes _ (λ h m. dropFirst→ _ (z .live) m)))
+    letter-goes Deletion L nz s t i = if-citing (Result Deletion L) N z L _ (λ a. (refl, deletion-goes _ (λ h m. dropFirst→ _ (z .live) m)))
     letter-goes Extension [] nz s t i = tt
     letter-goes Extension (pos m ∷ L) nz s t i =
-        introducing (Result Extension (pos m ∷ L)) (pos m) L _ (λ a u. (refl, extension-goes m L (i .0) nz t a u s (i .1)))
+        if-naming (Result Extension (pos m ∷ L)) N z (pos m) L _ (λ a u. (refl, extension-goes m L (i .0) nz t a u s (i .1)))
     letter-goes Extension (negsuc m ∷ L) nz s t i = absurd (and-decides (itself (isPositive (negsuc m))) (itself true) .to s .0)
     letter-goes Loop [] nz s t i = tt
     letter-goes Loop (h ∷ hs) nz s t i =
-        knowing (Result Loop (h ∷ hs)) (h ∷ hs) _ (λ a. if-yes (Result Loop (h ∷ hs)) (all-decides (λ y. itself (isAtom N (variable y))) (h ∷ hs)) _ 31
+        if-citing (Result Loop (h ∷ hs)) N z (h ∷ hs) _ (λ a. if-yes (Result Loop (h ∷ hs)) (all-decides (λ y. itself (isAtom N (variable y))) (h ∷ hs)) _ 31
         (λ b. if-yes (Result Loop (h ∷ hs)) (itself (isLoop (demanding P x) (h ∷ hs))) _ 56
         (λ l. if-yes (Result Loop (h ∷ hs)) (all-decides (λ q. if-decides (itself (isExternal (h ∷ hs) q)) (itself (hasName z (q .body)))) (demanding P x)) _ 32
         (λ e. (refl, loop-goes h hs nz s t a b l e)))))
     letter-goes Support [] nz s t i = tt
     letter-goes Support (h ∷ ns) nz s t i =
-        knowing (Result Support (h ∷ ns)) (h ∷ ns) _ (λ a. if-yes (Result Support (h ∷ ns))
+        if-citing (Result Support (h ∷ ns)) N z (h ∷ ns) _ (λ a. if-yes (Result Support (h ∷ ns))
         (and-decides (itself (isAtom N (variable h)))
         (and-decides (all-decides (λ q. if-decides (has-decides h (q .heads)) (any-decides (λ n. itself (isName z (variable n) (q .body))) ns)) (demanding P x))
         (all-decides (λ n. any-decides (λ q. and-decides (has-decides h (q .heads)) (itself (isName z (variable n) (q .body)))) (demanding P x)) ns))) _ 30
@@ -536,7 +520,7 @@ module _ (N : ℕ) (P : List Rule) (small : plainAtoms P ≤ N) (x : ℤ) (f : �
     step-goes : (t : Step) → Introduces (t .letter) (t .numbers) → Then (Result (t .letter) (t .numbers)) (step N (demanding P x) z t)
     step-goes t i =
         if-no (Result (t .letter) (t .numbers)) (has-decides (pos 0) (t .numbers)) _ 22
-        (λ nz. if-line (Result (t .letter) (t .numbers)) (t .letter) (t .numbers) _ (λ s u. letter-goes (t .letter) (t .numbers) nz s u i))
+        (λ nz. if-line (Result (t .letter) (t .numbers)) (t .letter) (t .numbers) _ (λ _ s u. letter-goes (t .letter) (t .numbers) nz s u i))
 
   -- All steps
 

@@ -24,12 +24,11 @@ use Rattle.drupe.specs.Lines.{signsOf, signed}
 use Rattle.drupe.specs.Texts.{Step}
 use Rattle.derivation.specs.States.{Named, State, start, isKnown, hasName}
 use Rattle.derivation.specs.Steps.{Outcome, refused, next, allKnown, isCompletion, byLetter, step, steps}
-use Rattle.derivation.proofs.Questions.{name-decides, hasName-decides}
+use Rattle.derivation.proofs.Questions.{name-decides, hasName-decides, Completes, completion-decides}
 use Rattle.merging.specs.Merge.{demand, demanding, renamed, namedBy, namedIn, isBody, isAmong, one, kept, half}
-use Rattle.merging.proofs.Lines.{Then, if-yes, if-no, if-line}
+use Rattle.derivation.proofs.Outcomes.{Then, if-yes, if-no, if-line}
 use Rattle.merging.proofs.Runs.{Named-well, start-well, steps-keep}
 use Rattle.merging.proofs.Merged.{named-all, body-cases}
-use Rattle.merging.proofs.Simulation.{Completes, completion-decides}
 use Rattle.renaming.specs.Standing.{isConstraint, HalfOf, namesAdded, nameAfter, isGone, standing, allStanding}
 
 -- A list of one literal is that list ascending
@@ -175,7 +174,7 @@ module _ (N : ℕ) (P : List Rule) (x : ℤ) (f : ℕ → ℕ) (bodies : List (L
         → Then (λ v. Agrees z name (t .letter) (t .numbers)) (step N (demanding P x) z t)
     step-agrees t s =
         if-no (λ v. Agrees z name (t .letter) (t .numbers)) (has-decides (pos 0) (t .numbers)) _ 22
-        (λ nz. if-line (λ v. Agrees z name (t .letter) (t .numbers)) (t .letter) (t .numbers) _ (λ g u. by (t .letter) (t .numbers) nz g s))
+        (λ nz. if-line (λ v. Agrees z name (t .letter) (t .numbers)) (t .letter) (t .numbers) _ (λ _ g u. by (t .letter) (t .numbers) nz g s))
       where
         by : (c : Letter) (zs : List ℤ) → ¬ (pos 0 ∈ zs) → T (signed (signsOf c) zs)
             → ((y : Named) → y ∈ namedBy (record { letter = c; numbers = zs }) (z .named) → marked shared (y .name) ≡ isAmong bodies (y .body))

@@ -33,7 +33,8 @@ use Rattle.steps.specs.Held.{nameOf}
 use Rattle.steps.proofs.Names.{name-found}
 use Rattle.steps.proofs.Turns.{good-line, steps-pass}
 use Rattle.merging.specs.Merge.{demanding, isBody, namedBy, namedIn, introducedBy, introducedIn, Renamed, newName, free, otherName, bodyName, renamedBy, renaming, secondNames, isAmong, renamed, one, kept, half, allFit}
-use Rattle.merging.proofs.Lines.{Then, fit-append}
+use Rattle.merging.proofs.Lines.{fit-append}
+use Rattle.derivation.proofs.Outcomes.{Then}
 use Rattle.merging.proofs.Runs.{Named-well, start-well, Names, none, extends, names-body, Does, step-does, names-well, steps-keep}
 use Rattle.merging.proofs.Renaming.{number-decides, lowest-is, pair, name-here, name-other, renaming-same}
 use Rattle.merging.proofs.Merged.{introduced-more, well-named, both-bodies}

@@ -78,7 +78,7 @@ same-test {b = false} {c = true} i j f g = absurd (i .from (g (j .to tt)))
 same-test {b = false} {c = false} i j f g = refl
 
 -- either the test is passed or its negation is
-pub answered : (b : Bool) → T b ⊎ T (not b)
+unfoldable pub answered : (b : Bool) → T b ⊎ T (not b)
 answered true = inl tt
 answered false = inr tt
 
@@ -110,7 +110,7 @@ leb-decides m n = record { to = leb→le m n; from = le→leb m n }
 -- Tests of every element
 
 -- what holds of the first and of the others holds of each
-pub each-cons : {A : Type 0} {P : A → Type 0} {x : A} {l : List A} → P x → ((y : A) → y ∈ l → P y) → (y : A) → y ∈ x ∷ l → P y
+unfoldable pub each-cons : {A : Type 0} {P : A → Type 0} {x : A} {l : List A} → P x → ((y : A) → y ∈ l → P y) → (y : A) → y ∈ x ∷ l → P y
 each-cons h k y (List·Memᴰ·head p) = rw p h
 each-cons h k y (List·Memᴰ·tail m) = k y m
 

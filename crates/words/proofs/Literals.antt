@@ -51,7 +51,7 @@ variable-complement (pos (suc n)) = refl
 variable-complement (negsuc n) = refl
 
 -- a variable's literals are a literal and its complement
-pub same-variable : (x y : ℤ) → variable x ≡ variable y → (x ≡ y) ⊎ (x ≡ complement y)
+unfoldable pub same-variable : (x y : ℤ) → variable x ≡ variable y → (x ≡ y) ⊎ (x ≡ complement y)
 same-variable (pos m) (pos n) e = inl (ap pos e)
 same-variable (pos zero) (negsuc n) e = absurd (omega arith)
 same-variable (pos (suc m)) (negsuc n) e = inr (ap pos e)
