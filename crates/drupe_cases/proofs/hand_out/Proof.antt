@@ -255,7 +255,7 @@ module _ {M : Type 1} (𝓤 : URA M) (H : Heap 𝓤) (A : Atoms 𝓤) (W : Given
         nothing ! $ move ! (3 ∷ 0 ∷ []) $ fjoin ! $ move ! (5 ∷ 0 ∷ []) $ fjoin ! $ move ! (1 ∷ 0 ∷ []) $ fjoin ! $
         -- [what table and rows own; what the table owns; what is kept of the second slice; its token; of the first; its token; _5; what the reader owns; the tokens; ..; _17; …]
         nothing ! $ move ! (4 ∷ 0 ∷ []) $ join ! $ move ! (5 ∷ 0 ∷ []) $ join ! $ move ! (8 ∷ 0 ∷ []) $ join ! $ move ! (7 ∷ 0 ∷ []) $ join ! $ join ! $
-        -- [_5; what the reader owns; the tokens and what table and rows own; what the table owns; what is kept of the second slice; of the first; _17; …]
+        -- [the tokens and what table and rows own; what the table owns; what is kept of the second slice; of the first; _5; what the reader owns; _17; …]
         move ! (4 ∷ 5 ∷ 0 ∷ []) $ use3 W (lent-out 𝓤 H A W mem run (lfts ρ ρ′) shares l₅ cl (row-ref l₃ γ₁ (x .1)) (row-ref l₄ γ₂ (x .2)) (x .0)) (lends 𝓤 H A W mem run (lfts ρ ρ′) shares l₅ cl (row-ref l₃ γ₁ (x .1)) (row-ref l₄ γ₂ (x .2)) (x .0) known (is₁ .1 .0 .1, is₂ .1 .0 .1)) $
         await ! tt $ pick ! (λ ν. pick ! (λ γ. split ! $
         rewrite ! 17 (λ (n : ℕ). ‵ (fat fullShare (ty 11) l₁₁ 0 (sliceVal (l₃, 0) n))) (sym (is₁ .1 .0 .1)) refl $ rewrite ! 13 (λ (n : ℕ). ‵ (fat fullShare (ty 13) l₁₃ 0 (sliceVal (l₄, 0) n))) (sym (is₂ .1 .0 .1)) refl $
