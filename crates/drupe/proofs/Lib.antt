@@ -3,3 +3,5 @@ pub mod Lines
 pub mod Texts
 pub mod Rows
 pub mod Lent
+pub mod LentRows
+pub mod LentNext

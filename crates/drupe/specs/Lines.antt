@@ -9,7 +9,6 @@ use lib.Dec.{eqb, ltb}
 use lib.IntN.{ℤ, pos}
 use lib.Signed.{ltZ}
 use lib.ListN.{length, take, drop, replicate}
-use denote.Ref.{now}
 use Rattle.words.specs.Limits.{longest, mostNumbers}
 use Rattle.words.specs.Lists.{all}
 use Rattle.words.specs.Literals.{distinct}
@@ -23,7 +22,6 @@ use Rattle.drupe.specs.declared.Signs.{Signs}
 use Rattle.drupe.specs.declared.LineAnswer.{LineAnswer}
 use Rattle.drupe.specs.declared.LineAnswer.the-variants.{Line as Answered, End, Refused}
 use Rattle.drupe.specs.declared.LineReading.{LineReading}
-use Rattle.drupe.specs.declared.reader.ProofReader.{ProofReader}
 
 -- the place of a letter in the table of signs
 abbrev pub placeOf : Letter → ℕ
@@ -153,9 +151,3 @@ abbrev pub positionAfter : LineAnswer → ℕ → ℕ
 positionAfter End at = at
 positionAfter (Refused k) at = at
 positionAfter (Answered x count next) at = next
-
--- what a reader at d hands out and what it is afterwards: the line at its position, over the same text, and the position that follows
-pub record HandsOut (d : ProofReader) (r : LineReading) (d′ : ProofReader) : Type 0 where
-  pub line : ProofLineRead (now (d .text)) (d .at) r
-  pub text : d′ .text ≡ d .text
-  pub at : d′ .at ≡ positionAfter (r .answer) (d .at)

@@ -8,8 +8,10 @@ use lib.IntN.{ℤ, pos}
 use lib.ListN.{length, take}
 use lib.Seq.{sets}
 use Rattle.words.specs.Literals.{ascending}
-use Rattle.drupe.specs.Lines.{LineAt, end, refused, line, lineAt, lineAnswer, AnswerBounds}
+use denote.Ref.{now}
+use Rattle.drupe.specs.Lines.{LineAt, end, refused, line, lineAt, lineAnswer, AnswerBounds, positionAfter}
 use Rattle.drupe.specs.declared.LineAnswer.{LineAnswer}
+use Rattle.drupe.specs.declared.reader.ProofReader.{ProofReader}
 
 -- "the numbers as written without the closing 0" at the front of the one row, and "ascending by variable" at that of the other. Where no
 -- line is answered nothing is said of the rows: what reads them is the check, which then ends.
@@ -36,3 +38,9 @@ pub record LineInto (l : LineAt) (before numbers sorted : List ℤ) (r : LineAns
   pub answer : r ≡ lineAnswer l
   pub rows : InRows l numbers sorted
   pub row : Written l before numbers
+
+-- What a reader at d hands out into the rows, and what it is afterwards: the line at its position, over the same text, and the position that follows
+pub record HandsInto (d : ProofReader) (before numbers sorted : List ℤ) (r : LineAnswer) (d′ : ProofReader) : Type 0 where
+  pub line : ReadInto (now (d .text)) (d .at) before numbers sorted r
+  pub text : d′ .text ≡ d .text
+  pub at : d′ .at ≡ positionAfter r (d .at)

@@ -265,9 +265,9 @@ fn read_letter(
     }
 }
 
-// The line of the text that begins at the position, its numbers at the front of one row, and ascending at the front of the other. For a
-// caller that reads line after line: the rows need not be cleared, and the table of classes is made once.
-pub fn read_into(
+// The line of the text that begins at the position, its numbers at the front of one row, and ascending at the front of the other. The rows
+// need not be cleared, and whoever reads line after line makes the table of classes once. Only the reader calls it.
+fn read_into(
     text: &[u8],
     position: usize,
     classes: &[u8; 256],
@@ -297,7 +297,7 @@ pub fn read_line(text: &[u8], position: usize) -> LineReading
     let classes = text::CLASSES;
     let mut numbers = [0; MOST_NUMBERS];
     let mut sorted = [0; MOST_NUMBERS];
-    let answer = read_into(text, position, &classes, &mut numbers, &mut sorted);
+    let answer = reader::step_at(text, position, &classes, &mut numbers, &mut sorted);
     match answer {
         LineAnswer::Line { .. } => LineReading { answer, numbers },
         LineAnswer::End => unread(answer),

@@ -1,10 +1,14 @@
 // The reader of proof lines as a struct that holds the text and a position in it: document 01, 'Where each language form
-// belongs'. The work is `read_line`'s; a function that takes, makes or lends the struct is proved by a walk.
+// belongs'. The work is `read_into`'s; a function that takes, makes or lends the struct is proved by a walk. All that read
+// proof lines do so by `next` or `step_at`.
 use crate::LineAnswer;
-use crate::LineReading;
-use crate::read_line;
+use crate::read_into;
 ghost use mathlib.Core.Path.{_≡_};
-ghost use Rattle.drupe.specs.Lines.{HandsOut, ProofLineRead, positionAfter};
+ghost use lib.ListN.{length};
+ghost use Rattle.words.specs.Limits.{mostNumbers};
+ghost use Rattle.text.specs.Classes.{byteClasses};
+ghost use Rattle.drupe.specs.Lines.{positionAfter};
+ghost use Rattle.drupe.specs.Rows.{HandsInto, ReadInto};
 
 // Where the reader stands once the step is handed out: after a line's newline, else where it was.
 fn position_after(answer: LineAnswer, at: usize) -> usize
@@ -29,20 +33,36 @@ pub fn start<'a>(text: &'a [u8]) -> ProofReader<'a>
     ProofReader { text, at: 0 }
 }
 
-// The step at the position. The reader moves on past a line, and stays at the end or a refusal.
-pub fn next<'s, 'a>(r: &'s mut ProofReader<'a>) -> LineReading
-    ensures { λ s. ⌜ HandsOut (now (r .entry)) s (now (r .exit)) ⌝ }
+// The step at the position: its numbers at the front of one row, and ascending at the front of the other. The reader moves on
+// past a line, and stays at the end or a refusal.
+pub fn next<'s, 'a>(
+    r: &'s mut ProofReader<'a>,
+    classes: &[u8; 256],
+    numbers: &mut [i32],
+    sorted: &mut [i32],
+) -> LineAnswer
+    requires { ⌜ now classes ≡ byteClasses ⌝ }
+    requires rows { ⌜ (length (now numbers) ≡ mostNumbers) × (length (now sorted) ≡ mostNumbers) ⌝ }
+    ensures { λ s. ⌜ HandsInto (now (r .entry)) (now (numbers .entry)) (now (numbers .exit)) (now (sorted .exit)) s (now (r .exit)) ⌝ }
 {
     let at = r.at;
-    let reading = read_line(r.text, at);
-    r.at = position_after(reading.answer, at);
-    reading
+    let answer = read_into(r.text, at, classes, numbers, sorted);
+    r.at = position_after(answer, at);
+    answer
 }
 
 // The step at a position of a text: its callers need no walk.
-pub fn step_at(text: &[u8], position: usize) -> LineReading
-    ensures { λ r. ⌜ ProofLineRead (now (text .entry)) position r ⌝ }
+pub fn step_at(
+    text: &[u8],
+    position: usize,
+    classes: &[u8; 256],
+    numbers: &mut [i32],
+    sorted: &mut [i32],
+) -> LineAnswer
+    requires { ⌜ now classes ≡ byteClasses ⌝ }
+    requires rows { ⌜ (length (now numbers) ≡ mostNumbers) × (length (now sorted) ≡ mostNumbers) ⌝ }
+    ensures { λ r. ⌜ ReadInto (now (text .entry)) position (now (numbers .entry)) (now (numbers .exit)) (now (sorted .exit)) r ⌝ }
 {
     let mut reader = ProofReader { text, at: position };
-    next(&mut reader)
+    next(&mut reader, classes, numbers, sorted)
 }

@@ -9,6 +9,9 @@ use drupe::LineReading;
 use drupe::reader;
 use libc::STDIN_FILENO;
 use text::Letter;
+use words::MOST_NUMBERS;
+ghost use mathlib.Core.Path.{_≡_};
+ghost use Rattle.text.specs.Classes.{byteClasses};
 
 fn say_letter(letter: Letter) {
     match letter {
@@ -81,22 +84,32 @@ fn lengths() {
     answer(&text, 65536);
 }
 
-fn say_step(reading: LineReading) {
+fn say_step(answer: LineAnswer, numbers: [i32; MOST_NUMBERS]) {
     say(b"step");
-    say_reading(reading);
+    say_reading(LineReading { answer, numbers });
 }
 
 // Each step of a proof as one `ProofReader` hands it out, with the end or the refusal, at which the reader stays. The struct
-// stands in a local through all turns, so the function is proved by a walk.
-fn steps(text: &[u8]) {
+// stands in a local through all turns, and is lent with the two rows in each, so the function is proved by a walk.
+fn hand_out(text: &[u8], classes: &[u8; 256])
+    requires { ⌜ now classes ≡ byteClasses ⌝ }
+{
+    let mut numbers = [0; MOST_NUMBERS];
+    let mut sorted = [0; MOST_NUMBERS];
     let mut reader = reader::start(text);
     loop {
         let at = reader.at;
-        say_step(reader::next(&mut reader));
+        let answer = reader::next(&mut reader, classes, &mut numbers, &mut sorted);
+        say_step(answer, numbers);
         if reader.at == at {
             return;
         }
     }
+}
+
+fn steps(text: &[u8]) {
+    let classes = text::CLASSES;
+    hand_out(text, &classes);
 }
 
 fn main() {

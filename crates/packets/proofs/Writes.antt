@@ -151,23 +151,6 @@ rule-on v r P Q e g p = going-on (rw (e, bytes-append 4 (packetRule v r) (packet
 
 -- Steps
 
-module _ {s : List ℕ} {at : ℕ} {r : LineReading} (R : ProofLineRead s at r) where
-  pub line-told : {a : LineAnswer} → r .answer ≡ a → lineAt s at ≡ lineTold a (r .numbers)
-  line-told e = rw (R .numbers) (by (lineAt s at)) ∙ ap (λ (a : LineAnswer). lineTold a (r .numbers)) (sym (R .answer) ∙ e)
-    where
-      by : (l : LineAt) → l ≡ lineTold (lineAnswer l) (numbersOf l)
-      by Lines.end = refl
-      by (Lines.refused k) = refl
-      by (line x zs next) = ap (λ (l : List ℤ). line x l next) (sym (take-append-seam zs (replicate (mostNumbers - length zs) (pos 0))))
-
-  -- the numbers are within the row
-  pub line-room : {x : Letter} {count next : ℕ} → r .answer ≡ Answer.Line x count next → (count ≤ mostNumbers) × (count ≤ length (r .numbers))
-  line-room {x} {count} {next} e =
-      let few = subst (AnswerBounds at (length s)) e (R .within) .2 in
-      let zs = take count (r .numbers) in
-      let n = ap length (R .numbers ∙ ap numbersOf (line-told e)) in
-      (few, omega (arith, few, n, length-append zs (replicate (mostNumbers - length zs) (pos 0)), length-replicate (mostNumbers - length zs) (pos 0)))
-
 -- The loop over the proof text stands at a position after n steps, which are put.
 pub record Stepping (text before now : List ℕ) (at position n largest end : ℕ) : Type 0 where
   pub done : List Step

@@ -28,6 +28,7 @@ use drupe::LineAnswer;
 use drupe::reader;
 use text::Letter;
 use text::writing;
+use words::MOST_NUMBERS;
 
 // The steps that were put, their largest variable, the position after them, and whether they are all that the text has.
 struct StepsPut {
@@ -177,14 +178,15 @@ fn put_lines(buffer: &mut [u8], at: usize, text: &[u8]) -> StepsPut
     requires { ⌜ (length (now text) ≤ longest) × (at ≤ lastRuleEnd) ⌝ }
     ensures { λ r. ⌜ StepsPutAs (stepsOf (now (text .entry))) (now (buffer .entry)) (now (buffer .exit)) at r ⌝ }
 {
+    let classes = text::CLASSES;
+    let mut numbers = [0; MOST_NUMBERS];
+    let mut sorted = [0; MOST_NUMBERS];
     let mut position = 0;
     let mut steps = 0;
     let mut top = 0;
     let mut end = at;
     loop {
-        let reading = reader::step_at(text, position);
-        let answer = reading.answer;
-        let numbers = reading.numbers;
+        let answer = reader::step_at(text, position, &classes, &mut numbers, &mut sorted);
         match answer {
             LineAnswer::End => {
                 return StepsPut {

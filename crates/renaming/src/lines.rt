@@ -18,6 +18,7 @@ ghost use Rattle.merging.specs.Merge.{addition, half, one, renamed};
 ghost use Rattle.renaming.specs.Standing.{HalfOf, isA, isB, namesAdded, nameAfter, isGone, standing, turnOf, Turned};
 ghost use Rattle.renaming.specs.Writing.{Writes};
 use drupe::LineAnswer;
+use drupe::reader;
 use drupe::writing;
 use text::Letter;
 use words::LONGEST;
@@ -275,7 +276,7 @@ fn write_at(
     ensures { λ r. ⌜ Turned x (λ v. getD (now (new .entry)) v 0) (now (shared .entry)) «has_body» «has_constraint» name
         (now (output .entry)) (now (output .exit)) at (lineAt (now (text .entry)) position) r ⌝ }
 {
-    let answer = drupe::read_into(text, position, classes, numbers, sorted);
+    let answer = reader::step_at(text, position, classes, numbers, sorted);
     match answer {
         LineAnswer::End => HalfTurn::Ends,
         LineAnswer::Refused(_) => HalfTurn::Ends,

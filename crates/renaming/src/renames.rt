@@ -19,6 +19,7 @@ ghost use Rattle.heads.specs.Heads.{Indexed};
 ghost use Rattle.steps.specs.Held.{PassedLine};
 ghost use Rattle.renaming.specs.Renames.{Halves, RenamedAll, NextFree, OtherNamed, BodyNamed, LineRenamed, renameTurn, TurnRenamed, TurnBounds};
 use drupe::LineAnswer;
+use drupe::reader;
 use text::Letter;
 use words::ENTRIES;
 use words::LARGEST;
@@ -200,7 +201,7 @@ fn rename_at(
         → TurnRenamed (now (known1 .entry)) (now (known2 .entry)) cursor (now (new .entry)) (now (new .exit))
         (now (shared .entry)) (now (shared .exit)) (expand ws) called (lineAt (now (second .entry)) at) r) ⌝ }
 {
-    let answer = drupe::read_into(second, at, classes, numbers, sorted);
+    let answer = reader::step_at(second, at, classes, numbers, sorted);
     match answer {
         LineAnswer::End => RenameTurn::Ends,
         LineAnswer::Refused(_) => RenameTurn::Over,

@@ -15,14 +15,13 @@ use Rattle.drupe.proofs.Lines.{passed-line}
 use Rattle.derivation.specs.States.{State, start}
 use Rattle.derivation.specs.Steps.{Outcome, refused, next, step}
 use Rattle.nogoods.specs.Store.{Stored, live, wordsFor}
-use Rattle.nogoods.specs.Keeps.{Holds}
 use Rattle.nogoods.specs.Index.{Blank, indexSize}
-use Rattle.nogoods.proofs.Live.{live-nil, live-few}
-use Rattle.nogoods.proofs.Indexing.{keeps-blank}
+use Rattle.nogoods.proofs.Live.{live-few}
 use Rattle.steps.specs.After.{storedAfter}
 use Rattle.runs.specs.Course.{Course, stopped, course}
 use Rattle.runs.specs.Claims.{Runs, ends, unread, unaccepted, full, good}
-use Rattle.steps.specs.Held.{Tracks, HoldsState, Leaves}
+use Rattle.steps.specs.Held.{Tracks, HoldsState, Starts, Leaves}
+use Rattle.steps.specs.declared.states.CheckingState.{CheckingState}
 use Rattle.runs.specs.Held.{proofTurn, LineLeaves, Ran, Ended}
 use Rattle.steps.specs.declared.outcomes.Stepped.{Stepped}
 use Rattle.steps.specs.declared.outcomes.Stepped.the-variants.{Uses, Fails}
@@ -32,12 +31,6 @@ use Rattle.runs.specs.declared.Run.{Run}
 use Rattle.runs.specs.declared.Run.the-variants as Run
 use Rattle.runs.proofs.Lines.{step-by-step}
 use Rattle.runs.proofs.Live.{step-live}
-
--- an empty store
-pub holds-none : (store : List ℤ) → store ≡ replicate (length store) (pos 0) → Holds store 0 []
-holds-none store e =
-    let n : length store - 0 ≡ length store = omega arith in
-    record { words = rw n e; extent = refl; fits = omega arith; literals = λ x i. elim i [ ]; origins = λ x i. elim i [ ] }
 
 module _ (N : ℕ) (ws : List InputRule) (size : ℕ) (text : List ℕ) where
   abbrev P : List Rule
@@ -55,17 +48,17 @@ module _ (N : ℕ) (ws : List InputRule) (size : ℕ) (text : List ℕ) where
     pub count : steps ≤ at
     pub long : length store ≡ size
 
-  pub going-start : {store : List ℤ} {index known names : List ℕ} {bodies : List ℤ} → Tracks N ws known names bodies [] [] → store ≡ replicate (length store) (pos 0) → length store ≡ size
-      → length index ≡ indexSize → Blank index → Going store index known names bodies 0 0 0
-  going-start {store} T e l n b =
+  pub going-start : {c : CheckingState} {store : List ℤ} {index known names : List ℕ} {bodies : List ℤ} → Starts c → Tracks N ws known names bodies [] [] → store ≡ replicate (length store) (pos 0) → length store ≡ size
+      → length index ≡ indexSize → Blank index → Going store index known names bodies (c .used) (c .at) (c .steps)
+  going-start {store = store} {index = index} S T e l n b =
       record {
         z = start;
         tracks = T;
         stored = [];
-        keeps = record { keeps = keeps-blank (holds-none store e) n b; same = live-nil };
-        onward = λ c r. r;
-        within = omega arith;
-        count = omega arith;
+        keeps = S .holds store index e n b;
+        onward = λ c. rw (S .at, S .steps) (λ r. r);
+        within = omega (arith, S .at);
+        count = omega (arith, S .steps);
         long = l;
       }
 

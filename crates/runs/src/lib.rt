@@ -23,6 +23,7 @@ ghost use Rattle.runs.specs.Held.{proofTurn, LineLeaves, Ran, Ended};
 ghost use Rattle.runs.specs.declared.Run.the-variants.{Through};
 use aspif::tables;
 use drupe::LineAnswer;
+use drupe::reader;
 use heads::INDEX_WORDS;
 use heads::NAME_WORDS;
 use loops::relevance;
@@ -104,7 +105,7 @@ fn turn_at(
         used origin (length (now (store .entry))) z stored (lineAt (now (proof .entry)) at) r) ⌝ }
     ensures free { λ _. ⌜ now (assignment .exit) ≡ replicate entries 0 ⌝ }
 {
-    let answer = drupe::read_into(proof, at, classes, numbers, sorted);
+    let answer = reader::step_at(proof, at, classes, numbers, sorted);
     match answer {
         LineAnswer::End => ProofTurn::Ends,
         LineAnswer::Refused(number) => ProofTurn::Fails(number),
@@ -174,7 +175,7 @@ fn run_lines(
     let mut numbers = [0; CheckingState::NUMBERS];
     let mut sorted = [0; CheckingState::NUMBERS];
     let mut index = [0u16; INDEX];
-    let mut assignment = [0u8; ENTRIES];
+    let mut assignment = [0u8; CheckingState::LARGEST + 1];
     let mut state = CheckingState::start();
     loop {
         let step = state.steps + 1;

@@ -4,10 +4,10 @@ use mathlib.Core.Path.{_≡_, refl, sym, _∙_, ap, ap₂}
 use mathlib.Core.Logic.{_⊎_, inl, inr}
 use mathlib.Core.Bool.{false, _&&_, _||_}
 use mathlib.Core.List.{List, [], _∷_, map, List·Memᴰ·head, List·Memᴰ·tail, Memᴰ·cast}
-use Prim.Native.Nat.{ℕ, zero, suc, _≤_}
+use Prim.Native.Nat.{ℕ, zero, suc, _-_, _≤_}
 use native.Mathlib.Omega.{arith}
 use lib.Dec.{T, eqb}
-use lib.IntN.{ℤ}
+use lib.IntN.{ℤ, pos}
 use lib.ListN.{length, take, set, replicate, length-set, length-replicate}
 use Rattle.words.specs.Limits.{largest}
 use Rattle.words.specs.Lists.{_∈_, any, all}
@@ -17,13 +17,17 @@ use Rattle.words.proofs.Places.{equal?}
 use Rattle.aspif.specs.Rules.{Body, plain, weights, InputRule}
 use Rattle.aspif.proofs.Readable.{rules-count}
 use Rattle.marks.specs.Marks.{listed, marked, Marks, upTo}
-use Rattle.derivation.specs.States.{Named, State, isAtom, isKnown}
+use Rattle.derivation.specs.States.{Named, State, start, isAtom, isKnown}
 use Rattle.derivation.specs.Steps.{allKnown}
 use Rattle.derivation.proofs.Questions.{known-decides}
+use Rattle.nogoods.specs.Index.{Blank, indexSize}
+use Rattle.nogoods.specs.Keeps.{Holds}
+use Rattle.nogoods.proofs.Live.{live-nil}
+use Rattle.nogoods.proofs.Indexing.{keeps-blank}
 use Rattle.names.specs.Queries.{HoldsRules, entry, Kept}
 use Rattle.names.proofs.Called.{none-called}
 use Rattle.marks.proofs.Sets.{marked-set}
-use Rattle.steps.specs.Held.{nameOf, Proper, Program, Tracks, Tracked, NoBodies}
+use Rattle.steps.specs.Held.{nameOf, Proper, Program, Tracks, Tracked, NoBodies, HoldsState}
 use Rattle.heads.specs.Heads.{nameWords}
 use Rattle.steps.proofs.Names.{unlisted, name-of, name-found}
 
@@ -86,6 +90,15 @@ start-tracks {N} {ws} {known} marks few none =
         different = refl;
       };
     }
+
+-- an empty store
+pub holds-none : (store : List ℤ) → store ≡ replicate (length store) (pos 0) → Holds store 0 []
+holds-none store e =
+    let n : length store - 0 ≡ length store = omega arith in
+    record { words = rw n e; extent = refl; fits = omega arith; literals = λ x i. elim i [ ]; origins = λ x i. elim i [ ] }
+
+pub holds-start : (store : List ℤ) (index : List ℕ) → store ≡ replicate (length store) (pos 0) → length index ≡ indexSize → Blank index → HoldsState store index 0 start []
+holds-start store index e n b = record { keeps = keeps-blank (holds-none store e) n b; same = live-nil }
 
 -- A new name
 

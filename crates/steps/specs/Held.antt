@@ -16,10 +16,10 @@ use Rattle.aspif.specs.Rules.{InputRule, allPlain, expand, atoms}
 use Rattle.marks.specs.Marks.{marked, listed}
 use Rattle.text.specs.declared.Letter.{Letter}
 use Rattle.drupe.specs.Lines.{signsOf, signed}
-use Rattle.derivation.specs.States.{Named, State, isAtom, isKnown}
+use Rattle.derivation.specs.States.{Named, State, start, isAtom, isKnown}
 use Rattle.derivation.specs.Steps.{Outcome, refused, next, byLetter}
 use Rattle.nogoods.specs.Keeps.{Literals}
-use Rattle.nogoods.specs.Index.{Keeps}
+use Rattle.nogoods.specs.Index.{Keeps, Blank, indexSize}
 use Rattle.nogoods.specs.Store.{Stored, addedIn, live, keptWith, wordsFor}
 use Rattle.nogoods.specs.declared.store.Added.{Added}
 use Rattle.nogoods.specs.declared.store.Added.the-variants as Added
@@ -28,6 +28,7 @@ use Rattle.names.specs.Queries.{HoldsRules, Kept}
 use Rattle.heads.specs.declared.Found.{Found}
 use Rattle.heads.specs.declared.Found.the-variants.{Names, Unnamed}
 use Rattle.steps.specs.After.{storedAfter}
+use Rattle.steps.specs.declared.states.CheckingState.{CheckingState}
 use Rattle.steps.specs.declared.outcomes.Stepped.{Stepped}
 use Rattle.steps.specs.declared.outcomes.Stepped.the-variants.{Uses, Fails}
 
@@ -94,6 +95,12 @@ Fitted stored store index (Fails k) = (k ≡ 34) × (length store < wordsFor (li
 pub record HoldsState (store : List ℤ) (index : List ℕ) (used : ℕ) (z : State) (stored : List Stored) : Type 0 where
   pub keeps : Keeps store index used stored
   pub same : live stored ≡ z .live
+
+-- "It starts empty": nothing is read, no step is done, and of a store and an index of zeros it says that they hold the state at the start
+pub record Starts (c : CheckingState) : Type 0 where
+  pub at : c .at ≡ 0
+  pub steps : c .steps ≡ 0
+  pub holds : (store : List ℤ) (index : List ℕ) → store ≡ replicate (length store) (pos 0) → length index ≡ indexSize → Blank index → HoldsState store index (c .used) start []
 
 -- what a step leaves, by what it comes to: the number of the question, or arrays and store that hold the next state, with what is
 -- `after` it in the store

@@ -1,5 +1,5 @@
 // Where the check stands between two steps.
-ghost use mathlib.Core.Path.{_≡_};
+ghost use Rattle.steps.specs.Held.{Starts};
 
 // The position in the proof text, the steps that are done, and the words of the store that are used. The store, the known variables and the
 // names of bodies stand beside it and are lent: an array that is a field is copied before it is lent.
@@ -18,7 +18,7 @@ impl CheckingState {
 
     // "It starts empty."
     pub fn start() -> CheckingState
-        ensures start { λ r. ⌜ (r .at ≡ 0) × (r .steps ≡ 0) × (r .used ≡ 0) ⌝ }
+        ensures start { λ r. ⌜ Starts r ⌝ }
     {
         CheckingState {
             at: 0,

@@ -8,29 +8,29 @@ use borrow.Author.Needs.{needs}
 use Rattle.drupe.proofs.read_line.Statement.{statement}
 use Rattle.drupe.proofs.read_line.Tie as tie
 
-read-into-requires : tie.Need-read-into-requires
+step-at-requires : tie.Need-step-at-requires
 unfolding byteClasses
-read-into-requires c κs = search needs
+step-at-requires c κs = search needs
 
 returns : tie.Need-returns
 returns c =
     let b = c .before .before .before .before in
     let a = b .before .before .before .before .before .args in
-    let i = b .read-into .ensures in
+    let i = b .step-at .ensures in
     reads-of (i .answer) (numbers-read (a .text .now) (a .position) i (c .enum-told .given .1))
 
 returns-2 : tie.Need-returns-2
 returns-2 c =
     let b = c .before .before .before .before .before in
     let a = b .before .before .before .before .before .args in
-    let e = b .read-into .ensures .answer in
+    let e = b .step-at .ensures .answer in
     reads-of (c .unread .ensures .0 ∙ e) (c .unread .ensures .1 ∙ sym (none-read (a .text .now) (a .position) e _ (c .before .enum-told2 .given .1) tt))
 
 returns-3 : tie.Need-returns-3
 returns-3 c =
     let b = c .before .before .before .before .before in
     let a = b .before .before .before .before .before .args in
-    let e = b .read-into .ensures .answer in
+    let e = b .step-at .ensures .answer in
     reads-of (c .unread2 .ensures .0 ∙ e) (c .unread2 .ensures .1 ∙ sym (none-read (a .text .now) (a .position) e _ (c .before .enum-told3 .given .1) tt))
 
 pub read-line-spec : {M : Type 1} → statement M
@@ -39,7 +39,7 @@ read-line-spec =
     (tie.spec
     (λ c. search needs)
     (λ c. search needs)
-    read-into-requires
+    step-at-requires
     (λ c. search needs)
     (λ c. search needs)
     (λ c κs. search needs)

@@ -85,8 +85,7 @@ loop-holds c =
     let q = c .before .before .before .before .before .before .pre in
     let p = q .0 .0 .1 in
     let b = q .1 .1 .1 in
-    let s = c .start .ensures in
-    rw (s .0, s .1, s .2) (q .0 .0 .0, p, going-start _ _ _ _ (rw (b .0 .1) (start-tracks (b .0 .0) (omega (arith, q .0 .1, rules-held (p .holds))) (rw (← p .holds .are) (b .1 .0)))) (b .1 .1 .1) refl (length-replicate {A = ℕ} indexSize 0) (blank-zeros indexSize), refl, refl, refl, length-replicate {A = ℤ} mostNumbers (pos 0), length-replicate {A = ℤ} mostNumbers (pos 0), refl)
+    (q .0 .0 .0, p, going-start _ _ _ _ (c .start .ensures) (rw (b .0 .1) (start-tracks (b .0 .0) (omega (arith, q .0 .1, rules-held (p .holds))) (rw (← p .holds .are) (b .1 .0)))) (b .1 .1 .1) refl (length-replicate {A = ℕ} indexSize 0) (blank-zeros indexSize), refl, refl, refl, length-replicate {A = ℤ} mostNumbers (pos 0), length-replicate {A = ℤ} mostNumbers (pos 0), refl)
 
 -- the number of the next step
 add-step : tie.Need-add-step Inv-loop μ-loop

@@ -20,26 +20,26 @@ use Rattle.runs.proofs.turn_at.Tie as tie
 
 -- the line that was read
 module _ (c : tie.After-answer2) where
-  abbrev b : tie.After-read-into
+  abbrev b : tie.After-step-at
   b = c .before .before .before .before
 
   abbrev start : tie.Start
   start = b .before .before .before .before .before .before .before .before
 
   abbrev numbers : List ℤ
-  numbers = b .read-into .last .1 .1 .1 .0
+  numbers = b .step-at .last .1 .1 .1 .0
 
   abbrev sorted : List ℤ
-  sorted = b .read-into .last .1 .1 .1 .1 .0
+  sorted = b .step-at .last .1 .1 .1 .1 .0
 
   there : (let g = c .answer2 .given .0 in lineAt (start .args .proof .now) (start .args .at) ≡ line (g .0) (take (g .1 .0) numbers) (g .1 .1 .0))
-  there = into-told (b .read-into .ensures) (c .answer2 .given .1)
+  there = into-told (b .step-at .ensures) (c .answer2 .given .1)
 
   -- its numbers are within the rows
   room : (let g = c .answer2 .given .0 in (g .1 .0 ≤ length numbers) × (g .1 .0 ≤ length sorted))
   room =
-      let u = into-room (b .read-into .ensures) (c .answer2 .given .1) in
-      let k = b .read-into .kept in
+      let u = into-room (b .step-at .ensures) (c .answer2 .given .1) in
+      let k = b .step-at .kept in
       let r = start .pre .1 .1 .1 .1 .1 .1 .0 in
       (omega (arith, u .2, k .1 .1 .1 .0, r .0), omega (arith, u .2, k .1 .1 .1 .1 .0, r .1))
 
@@ -69,21 +69,21 @@ step-requires : tie.Need-step-requires
 step-requires c κs =
     let d = c .before .before .before .before .before .before .before .before .before in
     let s = start d in
-    (s .pre .0, (s .pre .1 .0, (s .pre .1 .1 .0, ((s .pre .1 .1 .1 .0 .0, numbered d), (good-line _ _ (good d .0) (good d .1), (into-sorted (b d .read-into .ensures) (d .answer2 .given .1), s .pre .1 .1 .1 .1 .1 .1 .1))))))
+    (s .pre .0, (s .pre .1 .0, (s .pre .1 .1 .0, ((s .pre .1 .1 .1 .0 .0, numbered d), (good-line _ _ (good d .0) (good d .1), (into-sorted (b d .step-at .ensures) (d .answer2 .given .1), s .pre .1 .1 .1 .1 .1 .1 .1))))))
 
 -- where there is no step the assignment is as it was
-free : (c : tie.After-read-into) → c .before .before .before .before .before .before .before .before .args .assignment .now ≡ replicate entries 0
+free : (c : tie.After-step-at) → c .before .before .before .before .before .before .before .before .args .assignment .now ≡ replicate entries 0
 free c = c .before .before .before .before .before .before .before .before .pre .1 .1 .1 .1 .1 .1 .1
 
 returns : tie.Need-returns
 returns c =
     let o = c .before .before .before .before in
-    (λ ws p z stored T K. rw (into-told (o .read-into .ensures) (c .enum-told .given .1)) (refl, K .keeps .holds, T), free o)
+    (λ ws p z stored T K. rw (into-told (o .step-at .ensures) (c .enum-told .given .1)) (refl, K .keeps .holds, T), free o)
 
 returns-2 : tie.Need-returns-2
 returns-2 c =
     let o = c .before .before .before .before .before in
-    (λ ws p z stored T K. rw (into-told (o .read-into .ensures) (c .before .answer .given .1)) refl, free o)
+    (λ ws p z stored T K. rw (into-told (o .step-at .ensures) (c .before .answer .given .1)) refl, free o)
 
 returns-3 : tie.Need-returns-3
 returns-3 c =

@@ -1,56 +1,84 @@
 -- `packets::writer::put_lines` meets its contract. After a turn the steps before the position are put.
 -- Assumes nothing.
-use mathlib.Core.Path.{_≡_, sym, ap, _∙_}
+use mathlib.Core.Path.{_≡_, refl, sym, ap, _∙_}
+use mathlib.Core.List.{List}
 use Prim.Native.Nat.{_-_, _≤_, max}
 use native.Mathlib.Omega.{arith}
-use lib.ListN.{length, take}
+use lib.IntN.{ℤ, pos}
+use lib.ListN.{length, take, length-replicate}
 use lib.Seq.{length-take-le}
 use borrow.Author.Needs.{needs}
 use Rattle.words.specs.Limits.{mostNumbers}
+use Rattle.text.specs.Classes.{byteClasses}
 use Rattle.drupe.specs.Lines.{line, lineAt}
 use Rattle.drupe.proofs.Lines.{passed-line}
-use Rattle.packets.proofs.Writes.{put-length, line-told, line-room, Stepping, stepping-start, stepping-on, stepping-end, stepping-refused}
+use Rattle.drupe.proofs.Rows.{into-told, into-room}
+use Rattle.packets.proofs.Writes.{put-length, Stepping, stepping-start, stepping-on, stepping-end, stepping-refused}
 use Rattle.packets.proofs.writer.put_lines.Statement.{statement}
 use Rattle.packets.proofs.writer.put_lines.Tie as tie
 
 abbrev Inv-loop : tie.InvT-loop
-Inv-loop buffer₀ at text position₀ steps₀ top₀ end₀ buffer position steps top end = Stepping text buffer₀ buffer at position steps top end
+Inv-loop buffer₀ at text classes numbers₀ sorted₀ position₀ steps₀ top₀ end₀ buffer numbers sorted position steps top end =
+    Stepping text buffer₀ buffer at position steps top end × (length numbers ≡ mostNumbers) × (length sorted ≡ mostNumbers)
 
 abbrev μ-loop : tie.MeasureT-loop
-μ-loop buffer₀ at text position₀ steps₀ top₀ end₀ buffer position steps top end = length text - position
+μ-loop buffer₀ at text classes numbers₀ sorted₀ position₀ steps₀ top₀ end₀ buffer numbers sorted position steps top end = length text - position
 
 loop-holds : tie.Need-loop-holds Inv-loop μ-loop
-loop-holds c = stepping-start _ _ (c .before .before .pre .0)
+loop-holds c = (stepping-start _ _ (c .before .before .pre .0), length-replicate {A = ℤ} mostNumbers (pos 0), length-replicate {A = ℤ} mostNumbers (pos 0))
 
 -- no byte is added
 same : (c : tie.At-loop Inv-loop μ-loop) → length (c .loop .buffer) ≡ length (c .before .before .before .args .buffer .now)
-same c = put-length (c .loop .inv .put)
+same c = put-length (c .loop .inv .0 .put)
+
+-- where the loop stands, when a line was read there
+abbrev here : tie.After-step-at Inv-loop μ-loop → tie.At-loop Inv-loop μ-loop
+here c = c .before .before .before .before
 
 -- the line that was read
 module _ (c : tie.After-answer Inv-loop μ-loop) where
+  abbrev b : tie.After-step-at Inv-loop μ-loop
+  b = c .before .before .before .before
+
   abbrev l : tie.At-loop Inv-loop μ-loop
-  l = c .before .before .before .before
+  l = here b
 
   abbrev a : tie.Start Inv-loop μ-loop
   a = l .before .before .before
 
-  there : (let g = c .answer .given .0 in lineAt (a .args .text .now) (l .loop .position) ≡ line (g .0) (take (g .1 .0) (c .before .before .before .step-at .result .numbers)) (g .1 .1 .0))
-  there = line-told (c .before .before .before .step-at .ensures) (c .answer .given .1)
+  abbrev numbers : List ℤ
+  numbers = b .step-at .last .1 .1 .1 .0
 
-  room : (let g = c .answer .given .0 in (g .1 .0 ≤ mostNumbers) × (g .1 .0 ≤ length (c .before .before .before .step-at .result .numbers)))
-  room = line-room (c .before .before .before .step-at .ensures) (c .answer .given .1)
+  there : (let g = c .answer .given .0 in lineAt (a .args .text .now) (l .loop .position) ≡ line (g .0) (take (g .1 .0) numbers) (g .1 .1 .0))
+  there = into-told (b .step-at .ensures) (c .answer .given .1)
+
+  -- its numbers are within the row
+  room : (let g = c .answer .given .0 in (g .1 .0 ≤ mostNumbers) × (g .1 .0 ≤ length numbers))
+  room =
+      let u = into-room (b .step-at .ensures) (c .answer .given .1) in
+      (u .2, omega (arith, u .2, b .step-at .kept .1 .1 .1 .0, l .loop .inv .1))
+
+slice-aggregate-step-at : tie.Need-slice-aggregate-step-at Inv-loop μ-loop
+slice-aggregate-step-at c = let p = c .before .before .loop .inv .1 in search needs
+
+slice-aggregate-step-at-2 : tie.Need-slice-aggregate-step-at-2 Inv-loop μ-loop
+slice-aggregate-step-at-2 c = let p = c .before .before .before .loop .inv .2 in search needs
+
+step-at-requires : tie.Need-step-at-requires Inv-loop μ-loop
+unfolding byteClasses
+step-at-requires c κs = let i = c .before .before .before .loop .inv in (refl, (i .1, i .2))
 
 same-length : tie.Need-same-length Inv-loop μ-loop
-same-length c = same (c .before .before .before .before)
+same-length c = same (here (c .before .before .before .before))
 
 returns : tie.Need-returns Inv-loop μ-loop
-returns c = stepping-end (c .before .before .before .before .loop .inv) (line-told (c .before .before .before .step-at .ensures) (c .enum-told .given .1))
+returns c = let b = c .before .before .before .before in stepping-end (here b .loop .inv .0) (into-told (b .step-at .ensures) (c .enum-told .given .1))
 
 same-length-2 : tie.Need-same-length-2 Inv-loop μ-loop
-same-length-2 c = same (c .before .before .before .before)
+same-length-2 c = same (here (c .before .before .before .before))
 
 returns-2 : tie.Need-returns-2 Inv-loop μ-loop
-returns-2 c = stepping-refused (c .before .before .before .before .loop .inv) _ (line-told (c .before .before .before .step-at .ensures) (c .enum-told2 .given .1))
+returns-2 c = let b = c .before .before .before .before in stepping-refused (here b .loop .inv .0) _ (into-told (b .step-at .ensures) (c .enum-told2 .given .1))
 
 array-share-prefix-numbers : tie.Need-array-share-prefix-numbers Inv-loop μ-loop
 array-share-prefix-numbers c = room (c .before .before) .1
@@ -61,7 +89,7 @@ slice-aggregate-put-step c = sym (length-take-le _ _ (room (c .before .before .b
 put-step-requires : tie.Need-put-step-requires Inv-loop μ-loop
 put-step-requires c κs =
     let d = c .before .before .before in
-    let S = l d .loop .inv in
+    let S = l d .loop .inv .0 in
     (rw (length-take-le _ _ (room d .1)) (room d .0), omega (arith, S .near, S .within, a d .pre .0, a d .pre .1))
 
 array-share-prefix-numbers-2 : tie.Need-array-share-prefix-numbers-2 Inv-loop μ-loop
@@ -72,8 +100,9 @@ slice-aggregate-largest-variable c = sym (length-take-le _ _ (room (c .before .b
 
 add-steps : tie.Need-add-steps Inv-loop μ-loop
 add-steps c =
-    let S = l (c .before .before .before .before .before .before .before .before .before) .loop .inv in
-    record { fits = omega (arith, S .few, S .within, a (c .before .before .before .before .before .before .before .before .before) .pre .0) }
+    let d = c .before .before .before .before .before .before .before .before .before in
+    let S = l d .loop .inv .0 in
+    record { fits = omega (arith, S .few, S .within, a d .pre .0) }
 
 loop-less : tie.Need-loop-less Inv-loop μ-loop
 loop-less c =
@@ -85,7 +114,9 @@ loop-again : tie.Need-loop-again Inv-loop μ-loop
 loop-again c =
     let d = c .before .before .before .before .before .before .before .before .before in
     let p = c .before .before .before .before .before .put-step .ensures in
-    stepping-on (l d .loop .inv) (there d) (p .0) (p .1) (c .larger .ensures ∙ ap (max (l d .loop .top)) (c .before .largest-variable .ensures))
+    let i = l d .loop .inv in
+    let k = b d .step-at .kept in
+    (stepping-on (i .0) (there d) (p .0) (p .1) (c .larger .ensures ∙ ap (max (l d .loop .top)) (c .before .largest-variable .ensures)), k .1 .1 .1 .0 ∙ i .1, k .1 .1 .1 .1 .0 ∙ i .2)
 
 pub put-lines-spec : {M : Type 1} → statement M
 put-lines-spec =
@@ -94,7 +125,9 @@ put-lines-spec =
     Inv-loop
     μ-loop
     loop-holds
-    (λ c κs. search needs)
+    slice-aggregate-step-at
+    slice-aggregate-step-at-2
+    step-at-requires
     (λ c. search needs)
     same-length
     returns

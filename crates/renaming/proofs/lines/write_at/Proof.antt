@@ -17,23 +17,23 @@ use Rattle.renaming.proofs.lines.write_at.Tie as tie
 
 -- the line that was read
 module _ (c : tie.After-answer) where
-  abbrev b : tie.After-read-into
+  abbrev b : tie.After-step-at
   b = c .before .before .before .before
 
   abbrev start : tie.Start
   start = b .before .before .before .before .before .before .before
 
   abbrev numbers : List ℤ
-  numbers = b .read-into .last .1 .1 .1 .0
+  numbers = b .step-at .last .1 .1 .1 .0
 
   there : (let g = c .answer .given .0 in lineAt (start .args .text .now) (start .args .position) ≡ line (g .0) (take (g .1 .0) numbers) (g .1 .1 .0))
-  there = into-told (b .read-into .ensures) (c .answer .given .1)
+  there = into-told (b .step-at .ensures) (c .answer .given .1)
 
   -- its numbers are within the row
   room : c .answer .given .0 .1 .0 ≤ length numbers
   room =
-      let u = into-room (b .read-into .ensures) (c .answer .given .1) in
-      omega (arith, u .2, b .read-into .kept .1 .1 .1 .0, start .pre .1 .1 .1 .1 .0)
+      let u = into-room (b .step-at .ensures) (c .answer .given .1) in
+      omega (arith, u .2, b .step-at .kept .1 .1 .1 .0, start .pre .1 .1 .1 .1 .0)
 
   literal : toZ w32 (ofZ w32 (start .args .x)) ≡ start .args .x
   literal = toZ-ofZ (start .fits .x)
@@ -44,10 +44,10 @@ write-standing-requires c κs =
     (s .pre .0, (rw (toZ-ofZ (s .fits .x)) (s .pre .1 .0), s .pre .1 .1 .0))
 
 returns : tie.Need-returns
-returns c = rw (into-told (c .before .before .before .before .read-into .ensures) (c .enum-told .given .1)) refl
+returns c = rw (into-told (c .before .before .before .before .step-at .ensures) (c .enum-told .given .1)) refl
 
 returns-2 : tie.Need-returns-2
-returns-2 c = rw (into-told (c .before .before .before .before .read-into .ensures) (c .enum-told2 .given .1)) tt
+returns-2 c = rw (into-told (c .before .before .before .before .step-at .ensures) (c .enum-told2 .given .1)) tt
 
 returns-3 : tie.Need-returns-3
 returns-3 c =

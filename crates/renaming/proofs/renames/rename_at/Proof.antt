@@ -19,23 +19,23 @@ use Rattle.renaming.proofs.renames.rename_at.Tie as tie
 
 -- the line that was read
 module _ (c : tie.After-answer) where
-  abbrev b : tie.After-read-into
+  abbrev b : tie.After-step-at
   b = c .before .before .before .before
 
   abbrev start : tie.Start
   start = b .before .before .before .before .before .before .before .before .before .before
 
   abbrev numbers : List ℤ
-  numbers = b .read-into .last .1 .1 .1 .0
+  numbers = b .step-at .last .1 .1 .1 .0
 
   there : (let g = c .answer .given .0 in lineAt (start .args .second .now) (start .args .at) ≡ line (g .0) (take (g .1 .0) numbers) (g .1 .1 .0))
-  there = into-told (b .read-into .ensures) (c .answer .given .1)
+  there = into-told (b .step-at .ensures) (c .answer .given .1)
 
   -- its numbers are within the row
   room : c .answer .given .0 .1 .0 ≤ length numbers
   room =
-      let u = into-room (b .read-into .ensures) (c .answer .given .1) in
-      let k = b .read-into .kept .1 .1 .1 .0 in
+      let u = into-room (b .step-at .ensures) (c .answer .given .1) in
+      let k = b .step-at .kept .1 .1 .1 .0 in
       let r = start .pre .1 .0 .0 in
       omega (arith, u .2, k, r)
 
@@ -48,10 +48,10 @@ rename-line-requires c κs =
     (good-line (d .answer .given .0 .0) (take (d .answer .given .0 .1 .0) (numbers d)) (good d .0) (good d .1), start d .pre .1 .1)
 
 returns : tie.Need-returns
-returns c = (tt, λ ws H called K. rw (into-told (c .before .before .before .before .read-into .ensures) (c .enum-told .given .1)) (refl, refl, refl))
+returns c = (tt, λ ws H called K. rw (into-told (c .before .before .before .before .step-at .ensures) (c .enum-told .given .1)) (refl, refl, refl))
 
 returns-2 : tie.Need-returns-2
-returns-2 c = (tt, λ ws H called K. rw (into-told (c .before .before .before .before .read-into .ensures) (c .enum-told2 .given .1)) refl)
+returns-2 c = (tt, λ ws H called K. rw (into-told (c .before .before .before .before .step-at .ensures) (c .enum-told2 .given .1)) refl)
 
 returns-3 : tie.Need-returns-3
 returns-3 c =
