@@ -6,7 +6,7 @@ use mathlib.Core.List.{List, [], _∷_, _++_, append-nil, List·Memᴰ·append-c
 use mathlib.Core.Logic.{inl, inr}
 use Prim.Native.Nat.{ℕ, zero, suc, _+_, _*_, _-_, _≤_, _<_}
 use native.Mathlib.Omega.{arith}
-use borrow.Author.Tests.{ltb-true, leb-true, not-true}
+use borrow.Author.Tests.{ltb-true, ltb-false, le-ltb, leb-true, not-true}
 use lib.Dec.{T, eqb, ltb, leb}
 use lib.IntN.{ℤ, pos}
 use lib.Signed.{ltZ}
@@ -20,7 +20,7 @@ use Rattle.words.proofs.Sorting.{length-ascending, rising-ascending}
 use Rattle.text.specs.Line.{Line, broken, numbers, lineOf, outside, anyOutside}
 use Rattle.weights.specs.Weights.{literals, paired, mostWeight, mostWeighted}
 use Rattle.aspif.specs.Rules.{Body, plain, weights, InputRule, literalsOf, suits, isWeight, ruleWords, programWords}
-use Rattle.words.specs.Limits.{mostLiterals, mostRules}
+use Rattle.words.specs.Limits.{largest, mostLiterals, mostRules}
 use Rattle.aspif.specs.Reading.{suited, allWeights, ranged, few, isAt, isCountAt, plainShape, weighedShape, bodyShape, headShape, shapeOf, headsGood, bodyGood, arranged, RuleRead, fails, reads, ruleWith, ruleOf, Turn, refuses, ends, adds, isLast, room, turnOf, linesFrom, Reading, refused, program, header, readLines}
 use Rattle.text.specs.Strings.{startsWith}
 use Rattle.aspif.specs.declared.Kind.{Kind}
@@ -28,7 +28,7 @@ use Rattle.aspif.specs.declared.Kind.the-variants.{Normal, Choice}
 use Rattle.aspif.specs.declared.rules.Shape.{Shape}
 use Rattle.aspif.specs.declared.rules.Shape.the-variants.{Wrong, Shaped, Weighed}
 use Rattle.aspif.proofs.Counts.{Counted, shape-counted}
-use Rattle.aspif.proofs.PairWords.{up-to, Light, length-paired, paired-light, literals-arranged, arranged-light}
+use Rattle.aspif.proofs.PairWords.{up-to, Light, length-paired, paired-light, literals-arranged, length-arranged, arranged-light}
 
 -- "Bound and weights are 0 to 4,095; at most 12 literals", of a weight body
 abbrev pub Weighing : Body → Type 0
@@ -84,9 +84,18 @@ inside-decides zs = subst (λ (b : Bool). Decides b ((z : ℤ) → z ∈ zs → 
     same [] = refl
     same (z ∷ zs) = rw (same zs) (de-morgan (outside z) (anyOutside zs))
 
+pub inside : (zs : List ℤ) → anyOutside zs ≡ false → (z : ℤ) → z ∈ zs → variable z ≤ largest
+inside zs e z i = ltb-false largest (variable z) (failed _ (inside-decides zs .to (rw e tt) z i))
+
+pub inside-of : (zs : List ℤ) → ((z : ℤ) → z ∈ zs → variable z ≤ largest) → anyOutside zs ≡ false
+inside-of zs f = not-true _ (passed _ .to (inside-decides zs .from (λ z i. rw (le-ltb largest (variable z) (f z i)) tt)))
+
+-- and none is 0
+pub no-zero : (zs : List ℤ) → ((z : ℤ) → z ∈ zs → 1 ≤ variable z) → has (pos 0) zs ≡ false
+no-zero zs f = failed _ (not-decides (has-decides (pos 0) zs) .from (λ i. omega (arith, f (pos 0) i)))
+
 ascending-in : (zs : List ℤ) → anyOutside zs ≡ false → anyOutside (ascending zs) ≡ false
-ascending-in zs e =
-    not-true _ (passed _ .to (inside-decides (ascending zs) .from (λ z i. inside-decides zs .to (rw e tt) z (ascending→ zs i))))
+ascending-in zs e = inside-of (ascending zs) (λ z i. inside zs e z (ascending→ zs i))
 
 -- One line
 
@@ -187,8 +196,7 @@ rule-formed zs o (Weighed k h b) c s =
     let many : length hs ≡ h = part-length h 3 zs (omega (arith, c .2)) in
     let long : length (literals ps) ≡ b =
     omega (arith, length-map ps (λ x. x .literal), length-paired ws light, part-length (2 * b) (6 + h) zs (omega (arith, c .2))) in
-    let few : length (arranged ps) ≤ mostWeighted =
-    omega (arith, length-map (arranged ps) (λ x. x .literal), ap length (literals-arranged ps), length-ascending (literals ps), long, c .1) in
+    let few : length (arranged ps) ≤ mostWeighted = omega (arith, length-arranged ps, length-map ps (λ x. x .literal), long, c .1) in
     with-formed k hs (literals ps) (weights (variable bound) (arranged ps)) (literals-arranged ps)
     (few, up-to mostWeight bound (and-left (isWeight bound) (allWeights ws) (c .3)) .1, arranged-light ps (paired-light ws light))
     (rw many (c .0)) (rw long (omega (arith, c .1))) (rw many s) (part-in h 3 zs o) (paired-in ws (part-in (2 * b) (6 + h) zs o))

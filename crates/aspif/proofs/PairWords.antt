@@ -9,12 +9,13 @@ use borrow.Author.Tests.{leb-true, le-leb}
 use lib.Dec.{leb}
 use lib.IntN.{ℤ, pos, negsuc}
 use lib.Signed.{leZ}
-use lib.ListN.{length}
+use lib.ListN.{length, length-map}
 use Rattle.words.specs.Lists.{_∈_}
 use Rattle.words.specs.Literals.{variable, same, distinct, ascending}
 use Rattle.words.proofs.Lists.{Decides, passed, failed, is-true, if-true, reworded, and-decides, not-decides, each-cons, by-test, and-left, and-right}
 use Rattle.words.proofs.Literals.{same-decides}
 use Rattle.words.proofs.Places.{once-decides}
+use Rattle.words.proofs.Sorting.{length-ascending}
 use Rattle.weights.specs.Weights.{Weighted, literals, paired, pairWords, mostWeight}
 use Rattle.aspif.specs.Rules.{isWeight}
 use Rattle.aspif.specs.Reading.{allWeights, weightIn, withWeight, arranged}
@@ -72,6 +73,10 @@ module _ (ps : List Weighted) where
   pub literals-arranged : literals (arranged ps) ≡ ascending (literals ps)
   unfolding arranged
   literals-arranged = literals-with (ascending (literals ps))
+
+  pub length-arranged : length (arranged ps) ≡ length ps
+  length-arranged =
+      omega (arith, length-map (arranged ps) (λ x. x .literal), length-map ps (λ x. x .literal), ap length literals-arranged, length-ascending (literals ps))
 
 weight-light : (ps : List Weighted) → Light ps → (z : ℤ) → weightIn ps z ≤ mostWeight
 weight-light [] h z = omega arith

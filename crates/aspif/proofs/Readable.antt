@@ -6,7 +6,7 @@ use mathlib.Core.Option.{some}
 use mathlib.Core.List.{List, [], _∷_, _++_, map, append-assoc, List·Memᴰ·head, List·Memᴰ·tail, Memᴰ·cast}
 use Prim.Native.Nat.{ℕ, zero, suc, _+_, _*_, _-_, _≤_, _<_}
 use native.Mathlib.Omega.{arith}
-use borrow.Author.Tests.{le-leb, le-ltb, leb-true, ltb-false, not-true}
+use borrow.Author.Tests.{le-leb, leb-true}
 use lib.Dec.{leb}
 use lib.IntN.{ℤ, pos}
 use lib.Signed.{ltZ}
@@ -15,9 +15,8 @@ use lib.Seq.{drop-cons, drop-drop, length-take-le, take-append-seam, drop-append
 use Rattle.words.specs.Limits.{largest, mostLiterals, mostRules}
 use Rattle.words.specs.Lists.{_∈_, all, ascends}
 use Rattle.words.specs.Literals.{variable, same, has}
-use Rattle.words.proofs.Lists.{itself, passed, failed, not-decides, all-decides, if-true, is-true, and-left, and-right, by-test}
+use Rattle.words.proofs.Lists.{itself, passed, all-decides, if-true, is-true, and-left, and-right, by-test}
 use Rattle.words.proofs.Literals.{same-decides, has-decides, variable-positive, positive}
-use Rattle.text.specs.Line.{anyOutside}
 use Rattle.weights.specs.Weights.{literals, paired, mostWeight, mostWeighted}
 use Rattle.weights.proofs.Matching.{paired-words}
 use Rattle.aspif.specs.Reading.{allWeights}
@@ -25,7 +24,7 @@ use Rattle.aspif.specs.Rules.{Body, plain, weights, InputRule, literalsO
 use Rattle.aspif.specs.declared.Kind.{Kind}
 use Rattle.aspif.specs.declared.Kind.the-variants.{Normal, Choice}
 use Rattle.aspif.proofs.PairWords.{up-to, is-up-to, light-decides, words-paired, paired-light, length-pairs, length-paired}
-use Rattle.aspif.proofs.Formed.{Weighing, Formed, FitsTable, inside-decides, read-fits}
+use Rattle.aspif.proofs.Formed.{Weighing, Formed, FitsTable, inside, inside-of, no-zero, read-fits}
 use Rattle.aspif.specs.Text.{programText}
 use Rattle.aspif.proofs.Written.{written-read}
 use Rattle.aspif.specs.Tables.{ReadAs, kindOf, isKind, isWeighted, isHeaded, headsSound, literalsSound, headCount, bodyCount, headStart, bodyLength, sizeAt, headsAt, bodyWordsAt, boundAt, bodyAt, ruleAt, shapeSound, weightsSound, bodySound, soundAt, rulesAt, soundRules, soundTable, rulesOf}
@@ -33,17 +32,7 @@ use Rattle.aspif.specs.Claims.{TableRead}
 use Rattle.words.proofs.Ascending.{ascends-rising, rising-ascends, ascends-words}
 use Rattle.aspif.proofs.Cursors.{shaped, shape-of, literals-sound, few-rules, sound-rules, rules-of}
 
--- Lists of words
-
-pub inside : (l : List ℤ) → anyOutside l ≡ false → (z : ℤ) → z ∈ l → variable z ≤ largest
-inside l e z i = ltb-false largest (variable z) (failed _ (inside-decides l .to (rw e tt) z i))
-
-ascends-inside : (l : List ℤ) → ascends 0 largest (map variable l) ≡ true → anyOutside l ≡ false
-ascends-inside l e =
-    not-true _ (passed _ .to (inside-decides l .from (λ z i. rw (le-ltb largest (variable z) (ascends-words 0 largest l e z i .1)) tt)))
-
-ascends-nonzero : (l : List ℤ) → ascends 0 largest (map variable l) ≡ true → has (pos 0) l ≡ false
-ascends-nonzero l e = failed _ (not-decides (has-decides (pos 0) l) .from (λ i. omega (arith, ascends-words 0 largest l e (pos 0) i .0)))
+-- Heads and literals
 
 heads-sound : (r : InputRule) → Formed r → headsSound (r .heads) ≡ true
 heads-sound r f =
@@ -285,10 +274,10 @@ module _ (ws : List ℤ) (s : soundAt ws ≡ true) where
         headed = rw length-heads (and-right (isKind (getD ws 0 (pos 0))) _ (fronted .headed));
         positive = and-left (all (λ h. ltZ (pos 0) h) (headsAt ws)) _ (sorted .0);
         heads-rise = ascends-rising 0 largest (headsAt ws) up;
-        nonzero = ascends-nonzero (literalsOf (bodyAt ws)) ls;
+        nonzero = no-zero (literalsOf (bodyAt ws)) (λ z i. ascends-words 0 largest (literalsOf (bodyAt ws)) ls z i .0);
         body-rise = ascends-rising 0 largest (literalsOf (bodyAt ws)) ls;
-        heads-in = ascends-inside (headsAt ws) up;
-        body-in = ascends-inside (literalsOf (bodyAt ws)) ls;
+        heads-in = inside-of (headsAt ws) (λ z i. ascends-words 0 largest (headsAt ws) up z i .1);
+        body-in = inside-of (literalsOf (bodyAt ws)) (λ z i. ascends-words 0 largest (literalsOf (bodyAt ws)) ls z i .1);
         weighing = weighing-at;
       }
 

@@ -8,7 +8,7 @@ use native.Mathlib.Omega.{arith}
 use borrow.Author.Tests.{leb-true}
 use lib.Dec.{eqb, ltb, leb}
 use lib.IntN.{ℤ, pos}
-use lib.ListN.{length, take, drop, getD, length-append, length-drop, length-map}
+use lib.ListN.{length, take, drop, getD, length-append, length-drop}
 use Rattle.words.specs.Limits.{longest, mostRules}
 use Rattle.words.specs.Literals.{variable, ascending}
 use Rattle.words.proofs.Lists.{by-test, and-right}
@@ -23,7 +23,7 @@ use Rattle.aspif.specs.declared.Kind.{Kind}
 use Rattle.aspif.specs.declared.rules.Shape.{Shape}
 use Rattle.aspif.specs.declared.rules.Shape.the-variants.{Wrong, Shaped, Weighed}
 use Rattle.aspif.proofs.Counts.{Counted, shape-counted}
-use Rattle.aspif.proofs.PairWords.{length-pairs, length-paired, literals-arranged}
+use Rattle.aspif.proofs.PairWords.{length-pairs, length-paired, length-arranged}
 use Rattle.aspif.proofs.Formed.{part-length, onward, words-append}
 
 -- One line
@@ -55,10 +55,8 @@ rule-fewer zs (Weighed k h b) c =
     let ps = paired ws in
     let bound = getD zs (4 + h) (pos 0) in
     let light = and-right (isWeight bound) (allWeights ws) (c .3) in
-    let long : length (arranged ps) ≡ length ps =
-    omega (arith, length-map (arranged ps) (λ x. x .literal), ap length (literals-arranged ps), length-ascending (literals ps), length-map ps (λ x. x .literal)) in
     let twice : length (bodyWords (weights (variable bound) (arranged ps))) ≡ 2 * b =
-    omega (arith, length-pairs (arranged ps), long, length-paired ws light, part-length (2 * b) (6 + h) zs (omega (arith, c .2))) in
+    omega (arith, length-pairs (arranged ps), length-arranged ps, length-paired ws light, part-length (2 * b) (6 + h) zs (omega (arith, c .2))) in
     with-fewer k hs (literals ps) (weights (variable bound) (arranged ps)) (length zs)
     (omega (arith, c .2, part-length h 3 zs (omega (arith, c .2)), twice))
 

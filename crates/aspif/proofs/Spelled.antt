@@ -55,13 +55,9 @@ module _ (zs : List ℤ) where
   abbrev ShapeSpelt : Shape → Type 0
   ShapeSpelt x = Spelt (ruleOf zs x)
 
+  -- a shape where a test is passed, and a refusal with the number w where it is not
   or-wrong : (w : ℕ) (t : Bool) (x : Shape) → (t ≡ true → ShapeSpelt x) → ShapeSpelt (cond t x (Wrong w))
-  or-wrong w true x f = f refl
-  or-wrong w false x f = tt
-
-  either : (t : Bool) (x y : Shape) → (t ≡ true → ShapeSpelt x) → ShapeSpelt y → ShapeSpelt (cond t x y)
-  either true x y f g = f refl
-  either false x y f g = g
+  or-wrong w t x f = by-test ShapeSpelt t f (λ e. tt)
 
   with-spelt : (r : InputRule) → zs ≡ pos 1 ∷ ruleNumbers r → Spelt (ruleWith (r .kind) (r .heads) (literalsOf (r .body)) (sortedBody (r .body)))
   with-spelt r q = by (headsGood (r .heads)) (bodyGood (literalsOf (r .body))) refl
@@ -165,8 +161,7 @@ module _ (zs : List ℤ) where
 
     body-shape : ShapeSpelt (bodyShape zs n k h)
     body-shape =
-        either (isAt zs n (3 + h) (pos 0)) (plainShape zs n k h) (cond (isAt zs n (3 + h) (pos 1)) (weighedShape zs n k h) (Wrong 5)) plain-shape
-        (or-wrong 5 (isAt zs n (3 + h) (pos 1)) (weighedShape zs n k h) weighed-shape)
+        by-test ShapeSpelt (isAt zs n (3 + h) (pos 0)) plain-shape (λ e. or-wrong 5 (isAt zs n (3 + h) (pos 1)) (weighedShape zs n k h) weighed-shape)
 
   head-shape : (k : Kind) → getD zs 0 (pos 0) ≡ pos 1 → getD zs 1 (pos 0) ≡ kindWord k → ShapeSpelt (headShape zs n k)
   head-shape k a b =
@@ -179,9 +174,8 @@ module _ (zs : List ℤ) where
   shape-spelt =
       or-wrong 5 (isAt zs n 0 (pos 1)) (cond (isAt zs n 1 (pos 0)) (headShape zs n Normal) (cond (isAt zs n 1 (pos 1)) (headShape zs n Choice) (Wrong 5)))
       (λ e.
-      either (isAt zs n 1 (pos 0)) (headShape zs n Normal) (cond (isAt zs n 1 (pos 1)) (headShape zs n Choice) (Wrong 5))
-      (λ f. head-shape Normal (is-at n 0 (pos 1) e) (is-at n 1 (pos 0) f))
-      (or-wrong 5 (isAt zs n 1 (pos 1)) (headShape zs n Choice) (λ f. head-shape Choice (is-at n 0 (pos 1) e) (is-at n 1 (pos 1) f))))
+      by-test ShapeSpelt (isAt zs n 1 (pos 0)) (λ f. head-shape Normal (is-at n 0 (pos 1) e) (is-at n 1 (pos 0) f))
+      (λ g. or-wrong 5 (isAt zs n 1 (pos 1)) (headShape zs n Choice) (λ f. head-shape Choice (is-at n 0 (pos 1) e) (is-at n 1 (pos 1) f))))
 
 -- Lines
 

@@ -1,5 +1,6 @@
 -- A line that is read into two lent rows: its numbers as written, and ascending by variable. What is read is `lineAt` of Lines.antt.
--- No reader of a public contract needs it.
+-- These are the contracts of the struct `ProofReader` and of `read_into` below it, which are no services: whoever reads the contract of
+-- the service `read_line` (Lines.antt) needs none of it.
 -- Assumes nothing.
 use mathlib.Core.Path.{_≡_}
 use mathlib.Core.List.{List, [], _∷_, _++_}
@@ -13,14 +14,16 @@ use Rattle.drupe.specs.Lines.{LineAt, end, refused, line, lineAt, lineAn
 use Rattle.drupe.specs.declared.LineAnswer.{LineAnswer}
 use Rattle.drupe.specs.declared.reader.ProofReader.{ProofReader}
 
--- "the numbers as written without the closing 0" at the front of the one row, and "ascending by variable" at that of the other. Where no
--- line is answered nothing is said of the rows: what reads them is the check, which then ends.
+-- "the numbers as written without the closing 0" at the front of the one row, and "ascending by variable" at that of the other. What stands
+-- behind the numbers in the second row is not said, and where no line is answered nothing is said of either row: the check, the walks of
+-- renaming, the packet writer and `read_line` read the rows where a line is answered, and of the second its front alone.
 abbrev pub InRows : LineAt → (numbers sorted : List ℤ) → Type 0
 InRows end numbers sorted = Unit {0}
 InRows (refused k) numbers sorted = Unit {0}
 InRows (line x zs next) numbers sorted = (take (length zs) numbers ≡ zs) × (take (length zs) sorted ≡ ascending zs)
 
--- The first row, all of it: the line's numbers and its closing 0 are written from the front on, as far as they fit, and nothing else is.
+-- The first row where a line is answered, all of it: the line's numbers and its closing 0 are written from the front on, as far as they
+-- fit, and nothing else is.
 abbrev pub Written : LineAt → (before numbers : List ℤ) → Type 0
 Written end before numbers = Unit {0}
 Written (refused k) before numbers = Unit {0}

@@ -22,9 +22,9 @@ use Rattle.aspif.specs.Tables.{isWeighted, headCount, bodyLength, sizeAt, bodyA
 use Rattle.aspif.specs.declared.Kind.{Kind}
 use Rattle.aspif.specs.declared.Kind.the-variants.{Normal, Choice}
 use Rattle.aspif.proofs.Cursors.{shaped, shape-of}
-use Rattle.aspif.proofs.Formed.{Weighing, Formed}
+use Rattle.aspif.proofs.Formed.{Weighing, Formed, inside}
 use Rattle.aspif.proofs.PairWords.{Light, length-pairs}
-use Rattle.aspif.proofs.Readable.{inside, sound-words, rule-at, rest-at, rule-formed, front-words}
+use Rattle.aspif.proofs.Readable.{sound-words, rule-at, rest-at, rule-formed, front-words}
 use Rattle.packets.specs.Packets.{packetRule, hasWords, packetWords, prepend, withKind, asTable, fewer, rulePasses, ruleSize, ruleIn, rulesFrom}
 use Rattle.packets.specs.declared.Version.{Version}
 use Rattle.packets.specs.declared.Version.the-variants.{One, Two}

@@ -21,7 +21,7 @@ use Rattle.text.specs.declared.Letter.{Letter}
 use Rattle.text.specs.declared.Class.{Class}
 use Rattle.text.specs.declared.Class.the-variants as Class
 use Rattle.text.proofs.Spelling.{Byte, byte-of, class-letter}
-use Rattle.aspif.proofs.Readable.{inside}
+use Rattle.aspif.proofs.Formed.{inside}
 use Rattle.drupe.specs.Lines.{allPassed, lineRefusal}
 use Rattle.drupe.specs.Texts.{Step, LinePasses}
 use Rattle.drupe.proofs.Texts.{AllPass, pass-one}

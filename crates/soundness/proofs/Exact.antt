@@ -5,21 +5,20 @@ use mathlib.Core.Bool.{Bool, true, false, cond, not}
 use mathlib.Core.List.{List, [], _∷_, map, List·Memᴰ·head, List·Memᴰ·tail, Memᴰ·map}
 use Prim.Native.Nat.{ℕ, _+_, _≤_, max}
 use native.Mathlib.Omega.{arith}
-use borrow.Author.Tests.{leb-true, le-leb, le-ltb, lt-ltb, ltb-false}
+use borrow.Author.Tests.{leb-true, le-leb, lt-ltb}
 use lib.Dec.{T, ltb, leb}
 use lib.IntN.{ℤ, pos}
 use lib.Signed.{ltZ}
 use lib.ListN.{length, length-append, length-map}
 use Rattle.words.specs.Limits.{longest, largest, mostLiterals}
 use Rattle.words.specs.Lists.{_∈_, all}
-use Rattle.words.specs.Literals.{variable, has, distinct, top, insert, insertAll, ascending}
-use Rattle.words.proofs.Lists.{zero-one, itself, passed, failed, if-true, is-true, all-decides, not-decides, and-both}
+use Rattle.words.specs.Literals.{variable, distinct, top, insert, insertAll, ascending}
+use Rattle.words.proofs.Lists.{zero-one, itself, passed, if-true, is-true, all-decides, not-decides, and-both}
 use Rattle.words.proofs.Literals.{has-decides, variable-positive, ascending←}
 use Rattle.words.proofs.Literals as Words
 use Rattle.words.proofs.Places.{once-decides}
 use Rattle.words.proofs.Sorting.{length-ascending, rising-ascending}
-use Rattle.text.specs.Line.{outside, anyOutside}
-use Rattle.weights.specs.Weights.{Weighted, literals, pairWords}
+use Rattle.weights.specs.Weights.{pairWords}
 use Rattle.weights.proofs.Reordered.{and-back, reorder-in}
 use Rattle.aspif.specs.Rules.{Body, plain, weights, InputRule, literalsOf, suits, ruleWords, programWords, ruleTop, atoms}
 use Rattle.aspif.specs.Reading.{Reading, refused, program, readLines, readText, programAnswer, arranged}
@@ -27,24 +26,20 @@ use Rattle.aspif.specs.Text.{programText}
 use Rattle.aspif.specs.declared.Kind.{Kind}
 use Rattle.aspif.specs.declared.Kind.the-variants.{Normal, Choice}
 use Rattle.aspif.specs.declared.ProgramReading.the-variants.{Read}
-use Rattle.aspif.proofs.PairWords.{literals-arranged, length-pairs}
-use Rattle.aspif.proofs.Formed.{Formed, FitsTable, Weighing, inside-decides, read-fits}
+use Rattle.aspif.proofs.PairWords.{literals-arranged, length-arranged, length-pairs}
+use Rattle.aspif.proofs.Formed.{Formed, FitsTable, Weighing, inside, inside-of, no-zero, read-fits}
 use Rattle.aspif.proofs.Spelled.{sortedBody, sortedRule, Once, read-spelled}
 use Rattle.aspif.proofs.Written.{Passes, Fits, taken-read}
 use Rattle.checker.proofs.Verdicts.{lines-read}
 use Rattle.costs.proofs.Order.{arranged-reorder}
 use Rattle.soundness.specs.Exact.{HeadCount, BodyCount, Named, Good, Within, ReadPrinted}
-use Rattle.soundness.proofs.Printed.{told}
+use Rattle.soundness.proofs.Printed.{same-told}
 
 -- What stays when a rule is put in order
 
 literals-sorted : (b : Body) → literalsOf (sortedBody b) ≡ ascending (literalsOf b)
 literals-sorted (plain ls) = refl
 literals-sorted (weights b ps) = literals-arranged ps
-
-length-arranged : (ps : List Weighted) → length (arranged ps) ≡ length ps
-length-arranged ps =
-    omega (arith, length-map (arranged ps) (λ x. x .literal), length-map ps (λ x. x .literal), ap length (literals-arranged ps), length-ascending (literals ps))
 
 words-sorted : (r : InputRule) → length (ruleWords (sortedRule r)) ≡ length (ruleWords r)
 words-sorted r = by (r .body)
@@ -106,16 +101,6 @@ distinct-of : (l : List ℤ) → Named l → distinct l ≡ true
 distinct-of [] n = refl
 distinct-of (x ∷ l) n = is-true (once-decides x l) (λ q. n .2 (q .0) (q .1) (q .2), distinct-of l (n .3))
 
-inside-of : (l : List ℤ) → Named l → anyOutside l ≡ false
-inside-of [] n = refl
-inside-of (x ∷ l) n = rw (le-ltb largest (variable x) (n .1)) (inside-of l (n .3))
-
-no-zero : (l : List ℤ) → Named l → has (pos 0) l ≡ false
-no-zero l n = failed _ (not-decides (has-decides (pos 0) l) .from (λ i. let r = range-of l n (pos 0) i in omega (arith, r .0)))
-
-inside : (l : List ℤ) → anyOutside l ≡ false → (x : ℤ) → x ∈ l → variable x ≤ largest
-inside l e x i = ltb-false largest (variable x) (failed (outside x) (inside-decides l .to (rw e tt) x i))
-
 -- A rule that is read, before it was put in order
 
 positive-in : (l : List ℤ) → all (λ h. ltZ (pos 0) h) l ≡ true → (x : ℤ) → x ∈ l → (x ≡ pos (variable x)) × (1 ≤ variable x)
@@ -172,9 +157,9 @@ passes-of r g =
       body-few = body-few (r .body) (g .bodyCount);
       headed = suits-of (r .kind) (length hs) (g .headCount);
       heads-good = and-both p (distinct-of hs (g .heads));
-      body-good = and-both (ap not (no-zero ls (g .body))) (distinct-of ls (g .body));
-      heads-in = inside-of hs (g .heads);
-      body-in = inside-of ls (g .body);
+      body-good = and-both (ap not (no-zero ls (λ x i. range-of ls (g .body) x i .0))) (distinct-of ls (g .body));
+      heads-in = inside-of hs (λ x i. range-of hs (g .heads) x i .1);
+      body-in = inside-of ls (λ x i. range-of ls (g .body) x i .1);
       weighing = weighing-of (r .body) (g .bodyCount);
     }
   where
@@ -209,7 +194,7 @@ read-printed text table table′ r p N R = (to, from)
             let s = read-spelled (length table) text rs e in
             let ws = s .ws in
             let f = subst (FitsTable (length table)) (s .rules) (read-fits (length table) text rs (lines-read (length table) text rs e)) in
-            let t = told q in
+            let t = same-told q in
             let c : length (map sortedRule ws) ≡ length ws = length-map ws sortedRule in (
               ws,
               s .is,

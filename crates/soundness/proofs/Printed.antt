@@ -31,7 +31,7 @@ use Rattle.checker.specs.declared.Verdict.{Verdict}
 use Rattle.checker.specs.declared.Verdict.the-variants.{Inconsistent, Open, RefusedProgram, RefusedProof}
 use Rattle.checker.proofs.Whole.{soundness-whole, service-sound}
 use Rattle.checker.proofs.Verdicts.{lines-read}
-use Rattle.soundness.specs.Page.{IsAnswerSet, HasNone, SoundPrinted, OnlyPrinted, SoundLine, YesPrinted}
+use Rattle.soundness.specs.Page.{IsAnswerSet, HasNone, SoundPrinted, OnlyPrinted, SoundLine, OnlyLine, YesPrinted}
 use Rattle.soundness.proofs.Once.{same-cons, printed-once}
 use Rattle.soundness.proofs.Direct.{plain-set, direct-set}
 use Rattle.soundness.proofs.Orders.{sorted-set, written-set, sorted-with}
@@ -65,11 +65,13 @@ sound-printed ws proof table store table′ store′ c e =
     let s = service-sound (programText ws) proof table store table′ store′ c e in
     has-none (read-in-order (length table) ws (s .0) (s .1)) (s .2)
 
+-- a text that is read is that of some rules
+is-text : (size : ℕ) (text : List ℕ) (rs : List InputRule) → readText size text ≡ program rs → (ws : List InputRule) × (text ≡ programText ws)
+is-text size text rs e = let r = read-spelled size text rs e in (r .ws, r .is)
+
 pub only-printed : OnlyPrinted
 only-printed text proof table store table′ store′ c e =
-    let s = service-sound text proof table store table′ store′ c e in
-    let r = read-spelled (length table) text (s .0) (s .1) in
-    (r .ws, r .is)
+    let s = service-sound text proof table store table′ store′ c e in is-text (length table) text (s .0) (s .1)
 
 -- The line of `verdict`
 
@@ -79,17 +81,22 @@ says-inconsistent (Open c) more e = absurd (let q = same-cons e .0 in omega arit
 says-inconsistent (RefusedProgram r) more e = absurd (let q = same-cons e .0 in omega arith)
 says-inconsistent (RefusedProof r) more e = absurd (let q = same-cons e .0 in omega arith)
 
-pub sound-line : SoundLine
+line-sound : (text proof more : List ℕ) → printed text proof ≡ bytes "inconsistent" ++ more
+    → (rs : List InputRule) × (readText lent text ≡ program rs) × NoneAsWritten rs
 unfolding printed
-sound-line ws proof more e =
-    let v = says-inconsistent (check (programText ws) proof lent lent .verdict) more e in
-    let s = soundness-whole (programText ws) proof lent lent (v .0) (v .1) in
-    has-none (read-in-order lent ws (s .0) (s .1)) (s .2)
+line-sound text proof more e =
+    let v = says-inconsistent (check text proof lent lent .verdict) more e in soundness-whole text proof lent lent (v .0) (v .1)
+
+pub sound-line : SoundLine
+sound-line ws proof more e = let s = line-sound (programText ws) proof more e in has-none (read-in-order lent ws (s .0) (s .1)) (s .2)
+
+pub only-line : OnlyLine
+only-line text proof more e = let s = line-sound text proof more e in is-text lent text (s .0) (s .1)
 
 -- The set test after the reader
 
-pub told : {M N R S : ℕ} → Read M R ≡ Read N S → (M ≡ N) × (R ≡ S)
-told e = (cc, cc)
+pub same-told : {M N R S : ℕ} → Read M R ≡ Read N S → (M ≡ N) × (R ≡ S)
+same-told e = (cc, cc)
 
 pub yes-printed : YesPrinted
 yes-printed ws table table′ N R p l marks marks′ r t = by (readText (length table) (programText ws)) refl (p .answer) (p .table)
@@ -108,13 +115,13 @@ yes-printed ws table table′ N R p l marks marks′ r t = by (readText (length 
         o = read-in-order (length table) ws rs e
 
         held : rulesOf table′ R ≡ some rs
-        held = rw (u, told q .1) (table-back (length table) rs (read-fits (length table) (programText ws) rs (lines-read (length table) (programText ws) rs e)))
+        held = rw (u, same-told q .1) (table-back (length table) rs (read-fits (length table) (programText ws) rs (lines-read (length table) (programText ws) rs e)))
 
         there : r ≡ Yes → Passes
         there y =
             let s = service-yes table′ R l marks marks′ r t .0 y in
             let same : s .0 ≡ rs = Option·some-injective (s .0) rs (sym (table-read table′ R (s .0) .1 (s .1)) ∙ held) in (
-              subst (λ (n : ℕ). ascends 0 n l ≡ true) (ap atoms same ∙ sym (told q .0)) (s .2),
+              subst (λ (n : ℕ). ascends 0 n l ≡ true) (ap atoms same ∙ sym (same-told q .0)) (s .2),
               s .3,
               direct-set Listed ws (written-set ws (o .once) Listed (subst (λ (v : List InputRule). AnswerSet Listed (expand v)) (same ∙ o .rules) (s .4))),
             )
@@ -124,7 +131,7 @@ yes-printed ws table table′ N R p l marks marks′ r t = by (readText (length 
             service-yes table′ R l marks marks′ r t .1 (
               rs,
               table-read table′ R rs .0 held,
-              subst (λ (n : ℕ). ascends 0 n l ≡ true) (told q .0) (m .0),
+              subst (λ (n : ℕ). ascends 0 n l ≡ true) (same-told q .0) (m .0),
               m .1,
               subst (λ (v : List InputRule). AnswerSet Listed (expand v)) (sym (o .rules)) (sorted-set ws (o .once) Listed (plain-set Listed ws (m .2))),
             )

@@ -1,5 +1,6 @@
 -- What the services for C say of a program over its text: each returns 0 of its passing answer and of no other, and the numbers at the
--- front of the lent buffer are that answer's. `sound-returned`, `yes-returned`, `cheapest-returned`.
+-- front of the lent buffer are that answer's. `sound-returned`, `yes-returned`, `cheapest-returned`, and of
+-- no other text do they: `only-returned`, `only-cheapest-returned`.
 -- Assumes nothing.
 use mathlib.Core.Path.{_≡_, refl, sym, _∙_, ap, subst}
 use mathlib.Core.Option.{Option, none, some}
@@ -13,7 +14,7 @@ use lib.Seq.{sets}
 use Rattle.words.specs.Limits.{entries}
 use Rattle.words.specs.Lists.{ascends}
 use Rattle.words.proofs.Lists.{zero-one, by-test}
-use Rattle.weights.specs.Weights.{pairWords, mostWeight}
+use Rattle.weights.specs.Weights.{mostWeight}
 use Rattle.aspif.specs.Rules.{InputRule, atoms}
 use Rattle.aspif.specs.Reading.{Reading, refused, program, readText, programAnswer, ProgramRead}
 use Rattle.aspif.specs.Tables.{rulesOf}
@@ -33,11 +34,12 @@ use Rattle.costs.specs.Costs.{Cost, costsOf, goodCosts, total}
 use Rattle.cheapest.specs.Service.{isYes, restrictedCourse, CheapestLeft, leavesNothing, judgedProof, withCost, withCosts, cheapestReading, cheapest, CheckedCheapest}
 use Rattle.cheapest.specs.declared.CheapestAnswer.{CheapestAnswer}
 use Rattle.cheapest.specs.declared.CheapestAnswer.the-variants as Answers
+use Rattle.exports.specs.Services.{CheckService, CheapestService}
 use Rattle.exports.specs.Codes.{programCode, programNumbers, setCode, verdictCode, cheapestCode, cheapestNumbers}
-use Rattle.soundness.specs.Page.{SoundReturned, YesReturned, CheapestReturned}
+use Rattle.soundness.specs.Page.{IsCheapest, SoundReturned, OnlyReturned, YesReturned, CheapestReturned, OnlyCheapestReturned}
 use Rattle.soundness.proofs.Numbers.{Numbered, read-numbered}
-use Rattle.soundness.proofs.Printed.{sound-printed, yes-printed}
-use Rattle.soundness.proofs.Cheapest.{cheapest-printed}
+use Rattle.soundness.proofs.Printed.{sound-printed, only-printed, yes-printed}
+use Rattle.soundness.proofs.Cheapest.{cheapest-printed, only-cheapest}
 
 -- The whole check
 
@@ -47,11 +49,21 @@ is-inconsistent (Open c) e = absurd (zero-one e)
 is-inconsistent (RefusedProgram r) e = absurd (omega arith)
 is-inconsistent (RefusedProof r) e = absurd (omega arith)
 
+-- where 0 is returned, the check said "inconsistent"
+checked-so : {text proof : List ℕ} {table store table′ store′ : List ℤ} {answer answer′ : List ℕ}
+    → CheckService text proof table store table′ store′ answer answer′ 0
+    → (c : Counts) × CheckedTexts text proof table store table′ store′ (Inconsistent c)
+checked-so {text} {proof} {table} {store} {table′} {store′} s =
+    let v = is-inconsistent (s .verdict) (s .told .returned) in
+    (v .0, subst (λ (r : Verdict). CheckedTexts text proof table store table′ store′ r) (v .1) (s .checked))
+
 pub sound-returned : SoundReturned
 sound-returned ws proof table store table′ store′ answer answer′ s =
-    let v = is-inconsistent (s .verdict) (s .told .returned) in
-    sound-printed ws proof table store table′ store′ (v .0)
-    (subst (λ (r : Verdict). CheckedTexts (programText ws) proof table store table′ store′ r) (v .1) (s .checked))
+    let c = checked-so s in sound-printed ws proof table store table′ store′ (c .0) (c .1)
+
+pub only-returned : OnlyReturned
+only-returned text proof table store table′ store′ answer answer′ s =
+    let c = checked-so s in only-printed text proof table store table′ store′ (c .0) (c .1)
 
 -- The set test
 
@@ -96,9 +108,9 @@ yes-returned ws table table′ before more N R s l marks marks′ answer answer�
     let a = setAnswer l (asked table′ R l (length marks)) in
     let x = readText (length table) (programText ws) in
     let q : programAnswer x ≡ s .reading = sym (s .read .answer) in
-    let told : programAnswer x ≡ Read N R =
+    let taken : programAnswer x ≡ Read N R =
     is-read x (read-numbered (length table) (programText ws)) (s .told .returned ∙ ap programCode (sym q)) before (s .told .written ∙ ap (λ r. sets before 0 (programNumbers r)) (sym q)) in
-    let y = yes-printed ws table table′ N R (subst (ProgramRead (programText ws) table table′) (sym q ∙ told) (s .read)) l marks marks′ a (record { answer = refl; marks = t .left }) in
+    let y = yes-printed ws table table′ N R (subst (ProgramRead (programText ws) table table′) (sym q ∙ taken) (s .read)) l marks marks′ a (record { answer = refl; marks = t .left }) in
     (λ e. y .0 (answer-only table′ R l (length marks) (sym (t .told .returned) ∙ e)), λ m. t .told .returned ∙ ap setCode (y .1 m))
 
 -- The cheapest answer set
@@ -135,11 +147,25 @@ module _ (t s : ℕ) where
   unfolding cheapest
   cheap-only text set costs proof = reading-only set costs proof (readText t text) (read-numbered t text)
 
+-- where 0 is returned, the answer was a cost, and its number stands at the front of the buffer
+module _ {text l : List ℕ} {costs : List ℤ} {proof : List ℕ} {table store table′ store′ : List ℤ} {answer answer′ : List ℕ}
+    (s : CheapestService text l costs proof table store table′ store′ answer answer′ 0) where
+  is-cost : (C : ℕ) × (s .answered ≡ Answers.Cheapest C)
+  is-cost =
+      let q : s .answered ≡ cheapest (length table) (length store) text l costs proof .answer = ap (λ (x : CheapestLeft). x .answer) (s .checked) in
+      let p = cheap-only (length table) (length store) text l costs proof (s .told .returned ∙ ap cheapestCode q) in
+      (p .0, q ∙ p .1)
+
+  cheapest-so : CheckedCheapest text l costs proof table store table′ store′ (Answers.Cheapest (is-cost .0))
+  cheapest-so = subst (λ (r : CheapestAnswer). CheckedCheapest text l costs proof table store table′ store′ r) (is-cost .1) (s .checked)
+
+  in-front : answer′ ≡ sets answer 0 (is-cost .0 ∷ [])
+  in-front = s .told .written ∙ ap (λ r. sets answer 0 (cheapestNumbers r)) (is-cost .1)
+
 pub cheapest-returned : CheapestReturned
 cheapest-returned ws l ks proof table store table′ store′ answer more C s =
-    let q : s .answered ≡ cheapest (length table) (length store) (programText ws) l (pairWords ks) proof .answer = ap (λ (x : CheapestLeft). x .answer) (s .checked) in
-    let p = cheap-only (length table) (length store) (programText ws) l (pairWords ks) proof (s .told .returned ∙ ap cheapestCode q) in
-    let e : s .answered ≡ Answers.Cheapest (p .0) = q ∙ p .1 in
-    let c : C ≡ p .0 = front-one answer (s .told .written ∙ ap (λ r. sets answer 0 (cheapestNumbers r)) e) in
-    cheapest-printed ws l ks proof table store table′ store′ C
-    (subst (λ (r : CheapestAnswer). CheckedCheapest (programText ws) l (pairWords ks) proof table store table′ store′ r) (e ∙ ap Answers.Cheapest (sym c)) (s .checked))
+    subst (IsCheapest ws ks l) (sym (front-one answer (in-front s))) (cheapest-printed ws l ks proof table store table′ store′ (is-cost s .0) (cheapest-so s))
+
+pub only-cheapest-returned : OnlyCheapestReturned
+only-cheapest-returned text l costs proof table store table′ store′ answer answer′ s =
+    only-cheapest text l costs proof table store table′ store′ (is-cost s .0) (cheapest-so s)

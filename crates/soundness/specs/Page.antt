@@ -6,7 +6,7 @@
 use mathlib.Core.Path.{_≡_}
 use mathlib.Core.Logic.{_↔_}
 use mathlib.Core.Bool.{true}
-use mathlib.Core.List.{List, [], _∷_, _++_}
+use mathlib.Core.List.{List, _∷_, _++_}
 use Prim.Native.Nat.{ℕ, suc, _≤_}
 use lib.IntN.{ℤ, pos, negsuc}
 use lib.ListN.{length}
@@ -19,8 +19,9 @@ use Rattle.aspif.specs.Rules.{Body, plain, weights, InputRule, expand}
 use Rattle.aspif.specs.Text.{programText}
 use Rattle.aspif.specs.AnswerSets.{AnswerSet}
 use Rattle.aspif.specs.Reading.{ProgramRead}
-use Rattle.aspif.specs.declared.Kind.the-variants.{Normal, Choice}
+use Rattle.aspif.specs.declared.Kind.the-variants.{Choice}
 use Rattle.aspif.specs.declared.ProgramReading.the-variants.{Read}
+use Rattle.derivation.specs.Claims.{WrittenConstraint}
 use Rattle.answer_set.specs.SetTest.{SetTested}
 use Rattle.answer_set.specs.declared.SetAnswer.{SetAnswer}
 use Rattle.answer_set.specs.declared.SetAnswer.the-variants.{Yes}
@@ -43,10 +44,6 @@ pub data Enough : Body → List ℤ → Type 0 where
   weighing : {b : ℕ} {ps s : List Weighted} → s ⊑ ps → b ≤ sum s
       → Enough (weights b ps) (literals s)
 
--- "A normal rule has 0 or 1 heads; with 0 it is a constraint"
-abbrev pub IsConstraint : InputRule → Type 0
-IsConstraint r = (r .kind ≡ Normal) × (r .heads ≡ [])
-
 module _ (M : ℕ → Type 0) where
   -- "negated atoms are all outside M": the literal -1 is `negsuc 0`
   abbrev pub Outside : List ℤ → Type 0
@@ -63,7 +60,7 @@ module _ (M : ℕ → Type 0) where
   -- positive atoms all in M and its negated atoms all outside."
   pub record IsAnswerSet (P : List InputRule) : Type 0 where
     pub least : (a : ℕ) → M a ↔ Least P a
-    pub kept : (r : InputRule) (ls : List ℤ) → r ∈ P → IsConstraint r
+    pub kept : (r : InputRule) (ls : List ℤ) → r ∈ P → WrittenConstraint r
         → Enough (r .body) ls → Outside ls → ¬ ((a : ℕ) → pos a ∈ ls → M a)
 
 -- "no set of atoms is an answer set of that program. Nor is any set an answer set of that program
@@ -71,7 +68,7 @@ module _ (M : ℕ → Type 0) where
 abbrev pub HasNone : List InputRule → Type 1
 HasNone ws =
     ((M : ℕ → Type 0) → ¬ IsAnswerSet M ws)
-    × ((further : List InputRule) → ((r : InputRule) → r ∈ further → IsConstraint r)
+    × ((further : List InputRule) → ((r : InputRule) → r ∈ further → WrittenConstraint r)
     → (M : ℕ → Type 0) → ¬ IsAnswerSet M (ws ++ further))
 
 -- The whole check
@@ -98,11 +95,23 @@ SoundReturned =
     (answer answer′ : List ℕ)
     → CheckService (programText ws) proof table store table′ store′ answer answer′ 0 → HasNone ws
 
--- Of no other text does it answer "inconsistent", and a text is that of one program at most
+-- Of no other text is "inconsistent" answered, printed or returned, and a text is that of one program at
+-- most
 abbrev pub OnlyPrinted : Type 0
 OnlyPrinted =
     (text proof : List ℕ) (table store table′ store′ : List ℤ) (c : Counts)
     → CheckedTexts text proof table store table′ store′ (Inconsistent c)
+    → (ws : List InputRule) × (text ≡ programText ws)
+
+abbrev pub OnlyLine : Type 0
+OnlyLine =
+    (text proof more : List ℕ) → printed text proof ≡ bytes "inconsistent" ++ more
+    → (ws : List InputRule) × (text ≡ programText ws)
+
+abbrev pub OnlyReturned : Type 0
+OnlyReturned =
+    (text proof : List ℕ) (table store table′ store′ : List ℤ) (answer answer′ : List ℕ)
+    → CheckService text proof table store table′ store′ answer answer′ 0
     → (ws : List InputRule) × (text ≡ programText ws)
 
 abbrev pub PrintedOnce : Type 0
@@ -141,7 +150,7 @@ pub record IsCheapest (ws : List InputRule) (ks : List Weighted) (l : List ℕ) 
   pub answers : IsAnswerSet (λ v. v ∈ l) ws
   pub costs : Costs (λ v. v ∈ l) ks C
   pub least : (M : ℕ → Type 0) → IsAnswerSet M ws → (c : ℕ) → Costs M ks c → C ≤ c
-  pub further : (more : List InputRule) → ((r : InputRule) → r ∈ more → IsConstraint r)
+  pub further : (more : List InputRule) → ((r : InputRule) → r ∈ more → WrittenConstraint r)
       → (M : ℕ → Type 0) → IsAnswerSet M (ws ++ more) → (c : ℕ) → Costs M ks c → C ≤ c
 
 -- What a passing verdict of `check_cheapest` means, by its contract, of the text of a program, a set
@@ -163,11 +172,18 @@ CheapestReturned =
     (C ∷ more) 0
     → IsCheapest ws ks l C
 
--- Of no other text and no other words does it pass
+-- Of no other text and no other words does it pass, or is 0 returned
 abbrev pub OnlyCheapest : Type 0
 OnlyCheapest =
     (text l : List ℕ) (costs : List ℤ) (proof : List ℕ) (table store table′ store′ : List ℤ) (C : ℕ)
     → CheckedCheapest text l costs proof table store table′ store′ (Cheapest C)
+    → (ws : List InputRule) × (ks : List Weighted) × (text ≡ programText ws) × (costs ≡ pairWords ks)
+
+abbrev pub OnlyCheapestReturned : Type 0
+OnlyCheapestReturned =
+    (text l : List ℕ) (costs : List ℤ) (proof : List ℕ) (table store table′ store′ : List ℤ)
+    (answer answer′ : List ℕ)
+    → CheapestService text l costs proof table store table′ store′ answer answer′ 0
     → (ws : List InputRule) × (ks : List Weighted) × (text ≡ programText ws) × (costs ≡ pairWords ks)
 
 -- Plain rules

@@ -15,7 +15,7 @@ use Rattle.words.proofs.Literals.{has-decides, variable-positive}
 use Rattle.text.specs.declared.Letter.{Letter}
 use Rattle.text.specs.Line.{anyOutside}
 use Rattle.aspif.specs.Rules.{Rule}
-use Rattle.aspif.proofs.Readable.{inside}
+use Rattle.aspif.proofs.Formed.{inside}
 use Rattle.words.specs.Limits.{mostNumbers}
 use Rattle.drupe.specs.Lines.{signsOf, signed, lineRefusal}
 use Rattle.drupe.specs.Texts.{Step, LinePasses}
