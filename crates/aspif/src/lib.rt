@@ -47,7 +47,7 @@ pub fn read_program(text: &[u8], table: &mut [i32]) -> ProgramReading
     if !text::starts_with(text, b"asp 1 0 0\n") {
         return refuse(table, ProgramRefusal { number: 2, line: 1 });
     }
-    let classes = text::CLASSES;
+    let classes = text::classes::CLASSES;
     let read = lines::read_lines(text, table, &classes);
     match read {
         Lines::Refused(refusal) => refuse(table, refusal),

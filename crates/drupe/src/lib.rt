@@ -294,7 +294,7 @@ fn read_into(
 pub fn read_line(text: &[u8], position: usize) -> LineReading
     ensures { λ r. ⌜ ProofLineRead (now (text .entry)) position r ⌝ }
 {
-    let classes = text::CLASSES;
+    let classes = text::classes::CLASSES;
     let mut numbers = [0; MOST_NUMBERS];
     let mut sorted = [0; MOST_NUMBERS];
     let answer = reader::step_at(text, position, &classes, &mut numbers, &mut sorted);

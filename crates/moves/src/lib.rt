@@ -57,7 +57,7 @@ fn measure(
     requires { ⌜ (4 * count ≤ length (now words)) × (fills steps (now bytes) ≡ true) ⌝ }
     ensures { λ r. ⌜ PairTold to (partsRead from count (now (words .entry)) steps (now (bytes .entry))) r ⌝ }
 {
-    let classes = text::CLASSES;
+    let classes = text::classes::CLASSES;
     let mut table = [0; 1];
     let mut proof = [0; 1];
     let text = reader::read_steps(bytes, steps, &mut proof, &classes);

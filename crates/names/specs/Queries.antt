@@ -1,5 +1,5 @@
 -- What private functions of the checker cite, and no reader of a public contract needs: how the names of bodies are kept, which plain
--- rules a query asks for, and the names of their bodies. The steps' own definitions are derivation's; crate checker shows that what is
+-- rules a query asks for, and the names of their bodies. The steps' own definitions are derivation's; crate steps shows that what is
 -- found here is what they ask for.
 -- Assumes nothing.
 use mathlib.Core.Path.{_≡_}

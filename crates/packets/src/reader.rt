@@ -369,7 +369,7 @@ fn read_parts(
         (partsRead version count (now (words .entry)) steps (now (bytes .entry)))) (now (table .entry)) (now (table .exit))
         (now (proof .entry)) (now (proof .exit)) r ⌝ }
 {
-    let classes = text::CLASSES;
+    let classes = text::classes::CLASSES;
     let text = read_steps(bytes, steps, proof, &classes);
     let rules = read_rules(version, words, count, table);
     match rules {

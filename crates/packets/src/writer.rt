@@ -178,7 +178,7 @@ fn put_lines(buffer: &mut [u8], at: usize, text: &[u8]) -> StepsPut
     requires { ⌜ (length (now text) ≤ longest) × (at ≤ lastRuleEnd) ⌝ }
     ensures { λ r. ⌜ StepsPutAs (stepsOf (now (text .entry))) (now (buffer .entry)) (now (buffer .exit)) at r ⌝ }
 {
-    let classes = text::CLASSES;
+    let classes = text::classes::CLASSES;
     let mut numbers = [0; MOST_NUMBERS];
     let mut sorted = [0; MOST_NUMBERS];
     let mut position = 0;

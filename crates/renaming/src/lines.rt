@@ -321,7 +321,7 @@ pub fn write_half(
         → HalfOf (now (text .entry)) x (now (shared .entry)) «has_body» «has_constraint» N P bodies ts
         → Writes (half P x (λ v. getD (now (new .entry)) v 0) bodies [] ts) (now (output .entry)) (now (output .exit)) at r) ⌝ }
 {
-    let classes = text::CLASSES;
+    let classes = text::classes::CLASSES;
     let mut numbers = [0; MOST_NUMBERS];
     let mut sorted = [0; MOST_NUMBERS];
     let mut position = 0;

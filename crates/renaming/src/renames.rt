@@ -254,7 +254,7 @@ pub fn rename_all(
         → RenamedAll atoms (expand ws) v one two (now (new .exit)) (now (shared .exit)) r) ⌝ }
 {
     keep_all(new);
-    let classes = text::CLASSES;
+    let classes = text::classes::CLASSES;
     let mut numbers = [0; MOST_NUMBERS];
     let mut sorted = [0; MOST_NUMBERS];
     let mut at = 0;

@@ -171,7 +171,7 @@ fn run_lines(
         → (let c = course atoms (expand ws) (length (now (store .entry))) (now (proof .entry)) in
         Ran (now (store .exit)) c r × Ended atoms ws (now (known .exit)) (now (names .exit)) (now (bodies .exit)) c)) ⌝ }
 {
-    let classes = text::CLASSES;
+    let classes = text::classes::CLASSES;
     let mut numbers = [0; CheckingState::NUMBERS];
     let mut sorted = [0; CheckingState::NUMBERS];
     let mut index = [0u16; INDEX];

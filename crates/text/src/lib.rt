@@ -1,5 +1,6 @@
 // Bytes to lines and numbers, for the program reader and the proof-line reader alike: document 01, 'Program text'.
 // The claim of `read_line` is `LineScanned` in specs/Scanned.antt. Module `writing` goes the other way.
+pub mod classes;
 pub mod writing;
 
 ghost use mathlib.Core.Path.{_≡_};
@@ -70,7 +71,7 @@ struct Seen {
 // One past the largest variable. It stands for every larger size, so that no size wraps.
 const CAP: u16 = words::ENTRIES as u16;
 
-// Numbers of classes, as in `CLASSES`.
+// Numbers of classes, as in the table of `classes`.
 const NEWLINE: u8 = 10;
 
 const SPACE: u8 = 11;
@@ -78,28 +79,6 @@ const SPACE: u8 = 11;
 const MINUS: u8 = 12;
 
 const OTHER: u8 = 20;
-
-// By byte value, the number of its class: 0 to 9 the digits, 10 newline, 11 space, 12 minus, 13 to 19 the letters a, b, c, d, e, l
-// and s, 20 other. 16 rows of 16, laid out by hand. A constant array is built anew wherever it is indexed: take it into a local once,
-// and lend that.
-pub const CLASSES: [u8; 256] = [
-    20, 20, 20, 20, 20, 20, 20, 20, 20, 20, 10, 20, 20, 20, 20, 20,
-    20, 20, 20, 20, 20, 20, 20, 20, 20, 20, 20, 20, 20, 20, 20, 20,
-    11, 20, 20, 20, 20, 20, 20, 20, 20, 20, 20, 20, 20, 12, 20, 20,
-    0, 1, 2, 3, 4, 5, 6, 7, 8, 9, 20, 20, 20, 20, 20, 20,
-    20, 20, 20, 20, 20, 20, 20, 20, 20, 20, 20, 20, 20, 20, 20, 20,
-    20, 20, 20, 20, 20, 20, 20, 20, 20, 20, 20, 20, 20, 20, 20, 20,
-    20, 13, 14, 15, 16, 17, 20, 20, 20, 20, 20, 20, 18, 20, 20, 20,
-    20, 20, 20, 19, 20, 20, 20, 20, 20, 20, 20, 20, 20, 20, 20, 20,
-    20, 20, 20, 20, 20, 20, 20, 20, 20, 20, 20, 20, 20, 20, 20, 20,
-    20, 20, 20, 20, 20, 20, 20, 20, 20, 20, 20, 20, 20, 20, 20, 20,
-    20, 20, 20, 20, 20, 20, 20, 20, 20, 20, 20, 20, 20, 20, 20, 20,
-    20, 20, 20, 20, 20, 20, 20, 20, 20, 20, 20, 20, 20, 20, 20, 20,
-    20, 20, 20, 20, 20, 20, 20, 20, 20, 20, 20, 20, 20, 20, 20, 20,
-    20, 20, 20, 20, 20, 20, 20, 20, 20, 20, 20, 20, 20, 20, 20, 20,
-    20, 20, 20, 20, 20, 20, 20, 20, 20, 20, 20, 20, 20, 20, 20, 20,
-    20, 20, 20, 20, 20, 20, 20, 20, 20, 20, 20, 20, 20, 20, 20, 20,
-];
 
 // The class of a number in the table. The digits come first: most bytes are digits.
 fn class_at(number: u8) -> Class
