@@ -123,13 +123,20 @@ pub same-both : (b : Bool) → justOne b b ≡ false
 same-both true = refl
 same-both false = refl
 
+-- no other verdict is yes
+pub no-differs : {a : ℕ} → ¬ (differs a ≡ yes)
+no-differs p = let z : _≡_ {A = ℕ} 0 1 = cc in omega arith
+
+pub no-breaks : {k : ℕ} → ¬ (breaks k ≡ yes)
+no-breaks p = let z : _≡_ {A = ℕ} 0 1 = cc in omega arith
+
 module _ (M : ℕ → Bool) where
   no-broken : (k : ℕ) (rs : List InputRule) → brokenFrom M k rs ≡ yes → {r : InputRule} → r ∈ rs → isBroken M r ≡ false
   no-broken k [] e i = elim i [ ]
   no-broken k (s ∷ rs) e {r} i = by (isBroken M s) refl e (λ f j. no-broken (k + 1) rs f j) i
     where
       by : (b : Bool) → isBroken M s ≡ b → cond b (breaks k) (brokenFrom M (k + 1) rs) ≡ yes → (brokenFrom M (k + 1) rs ≡ yes → r ∈ rs → isBroken M r ≡ false) → r ∈ s ∷ rs → isBroken M r ≡ false
-      by true p q f j = absurd (let z : _≡_ {A = ℕ} 0 1 = cc in omega arith)
+      by true p q f j = absurd (no-breaks q)
       by false p q f (List·Memᴰ·head t) = rw t p
       by false p q f (List·Memᴰ·tail j) = f q j
 
@@ -184,7 +191,7 @@ module _ (table : List ℤ) (rules : ℕ) (l : List ℕ) (rs : List InputRule) (
 
   answers : verdictOf (listed l) rs ≡ yes → AnswerSet (Listed l) (expand rs)
   answers e =
-      let w = verdict yes (λ a p. let z : _≡_ {A = ℕ} 0 1 = cc in omega arith) e in
+      let w = verdict yes (λ a. no-differs) e in
       record {
         least = equal (w .0);
         kept = λ r i c met.
