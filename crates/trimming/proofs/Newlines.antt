@@ -145,7 +145,7 @@ module _ (text : List ℕ) (end : ℕ) (inside : end ≤ length text) where
       by true e = omega (arith, ltb-true (length (textOf front)) start e)
       by false e =
           let s : length (textOf front) ≡ start = omega (arith, ltb-false (length (textOf front)) start e, g front t p) in
-          absurd (no-newline _ f (byte front t p (start - 1) (omega arith) ∙ rw (← s) (ends-line front (stepText t) (omega (arith, s, z)))))
+          absurd (no-newline (getD text (start - 1) 0) f (byte front t p (start - 1) (omega arith) ∙ rw (← s) (ends-line front (stepText t) (omega (arith, s, z)))))
 
   pub line-found : (start : ℕ) → 0 < start → start < end → isNewline (classOf (getD text (start - 1) 0)) ≡ true → NoLater text end start → LastLine text end start
   line-found start z h f g front t p = by (ltb (length (textOf front)) start) refl
@@ -153,7 +153,7 @@ module _ (text : List ℕ) (end : ℕ) (inside : end ≤ length text) where
       by : (b : Bool) → ltb (length (textOf front)) start ≡ b → start ≡ length (textOf front)
       by true e =
           absurd (within-line front t (start - 1) (omega (arith, ltb-true (length (textOf front)) start e)) (omega (arith, long front t p, h, z))
-          (sym (byte front t p (start - 1) (omega (arith, h, z))) ∙ newline-of _ (getD text (start - 1) 0) (byte-of (getD text (start - 1) 0)) f))
+          (sym (byte front t p (start - 1) (omega (arith, h, z))) ∙ newline-of (classOf (getD text (start - 1) 0)) (getD text (start - 1) 0) (byte-of (getD text (start - 1) 0)) f))
       by false e = omega (arith, ltb-false (length (textOf front)) start e, g front t p)
 
   pub line-first : NoLater text end 0 → LastLine text end 0

@@ -1,4 +1,4 @@
-use mathlib.Core.Path.{_≡_, sym, _∙_, ap}
+use mathlib.Core.Path.{_≡_, refl, sym, _∙_, ap}
 use mathlib.Core.List.{List, []}
 use Prim.Native.Nat.{ℕ, _≤_}
 use native.Mathlib.Omega.{arith}
@@ -40,7 +40,7 @@ loop-holds c =
 -- a pass
 module _ (c : tie.After-pass Inv-loop μ-loop) where
   abbrev l : tie.At-loop Inv-loop μ-loop
-  l = c .before .before .before .before
+  l = c .before .before .before .before .before
 
   abbrev s : tie.Start Inv-loop μ-loop
   s = l .before .before
@@ -69,10 +69,10 @@ module _ (c : tie.After-pass Inv-loop μ-loop) where
 pass-requires : tie.Need-pass-requires Inv-loop μ-loop
 unfolding byteClasses
 pass-requires c κs =
-    let k = c .before .before .before in
+    let k = c .before .before .before .before in
     let q = k .before .before .pre in
     let I = k .loop .inv in
-    ((omega (arith, I .same-text, q .0), I .room), (I .within, (q .1 .0, (zeros (pos 0) {n = length (k .before .before .args .store .now)} (I .zeros) .0, refl))))
+    ((omega (arith, I .same-text, q .0), I .room), (I .within, (q .1 .0, (zeros (pos 0) {n = length (k .before .before .args .store .now)} (I .zeros) .0, refl {a = byteClasses}))))
 
 returns : tie.Need-returns Inv-loop μ-loop
 returns c =
@@ -116,7 +116,7 @@ passes-spec =
     (λ c. sym (c .before .before .loop .inv .room))
     pass-requires
     (λ c. same-text (c .before .before .before .before .before))
-    (λ c. (c .before .before .before .before .before .pass .kept .1 .1 .1 .1 .1 .1 .0) ∙ (c .before .before .before .before .before .before .before .before .before .loop .inv .same-store))
+    (λ c. let d = c .before .before .before .before .before in d .pass .kept .1 .1 .1 .1 .1 .1 .0 ∙ l d .loop .inv .same-store)
     returns
     loop-less
     loop-again)
