@@ -104,7 +104,7 @@ unfolding verdictOf least giveRule giveHead
 broken-verdict = refl
 
 pub broken-second : BrokenSecond
-unfolding readText readLines linesFrom shapeOf ranged allWeights arranged lineOf insert insertAll asked soundTable soundAt bodySound weightsSound shapeSound sizeAt headsAt bodyWordsAt boundAt bodyAt verdictOf least giveRule giveHead
+unfolding readText readLines linesFrom shapeOf ranged allWeights arranged lineOf insert insertAll asked soundTable soundAt bodySound weightsSound shapeSound sizeAt headsAt bodyWordsAt boundAt bodyAt verdictOf least giveRule giveHead fails
 broken-second = record {
   answered = fails _ (1 ∷ []) brokenRead _ refl broken-ready broken-verdict no-breaks refl;
   lowest = breaks-lowest (programWords brokenRead) 4 (1 ∷ []) brokenRead broken-ready 2 broken-verdict .1;
