@@ -16,7 +16,7 @@ use Rattle.aspif.specs.AnswerSets.{Constraint, LeastModel, Met}
 use Rattle.aspif.specs.Tables.{ReadAs, rulesOf}
 use Rattle.aspif.proofs.Readable.{table-read}
 use Rattle.marks.specs.Marks.{listed}
-use Rattle.answer_set.specs.SetTest.{isBroken, lowestFrom, SetVerdict, yes, differs, breaks, shown, brokenFrom, verdictOf, asked, saidOf}
+use Rattle.answer_set.specs.SetTest.{isBroken, SetVerdict, yes, differs, breaks, brokenFrom, verdictOf, asked, saidOf}
 use Rattle.answer_set.specs.Claims.{Listed, Ready, Breaks, LowestRule, LowestBroken}
 use Rattle.answer_set.specs.declared.SetAnswer.the-variants.{Broken}
 use Rattle.answer_set.proofs.Answered.{SomeBroken, broken-decides, equal, equal-back, verdict}
@@ -47,16 +47,19 @@ module _ (l : List ℕ) where
           (1, sym s, record { before = []; rule = w; after = rs; are = refl; number = refl; broken = if-true (breaks-decides w) p; lowest = λ u i. elim i [ ] })
       by false p q f =
           let r = f q in
-          let a = r .2 in
-          (r .0 + 1, omega (arith, r .1), record {
-            before = w ∷ a .before;
-            rule = a .rule;
-            after = a .after;
-            are = ap (λ (t : List InputRule). w ∷ t) (a .are);
-            number = omega (arith, a .number);
-            broken = a .broken;
-            lowest = each-cons (λ b. true≢false (sym (is-true (breaks-decides w) b) ∙ p)) (a .lowest);
-          })
+          let a = r .2 in (
+            r .0 + 1,
+            omega (arith, r .1),
+            record {
+              before = w ∷ a .before;
+              rule = a .rule;
+              after = a .after;
+              are = ap (λ (t : List InputRule). w ∷ t) (a .are);
+              number = omega (arith, a .number);
+              broken = a .broken;
+              lowest = each-cons (λ b. true≢false (sym (is-true (breaks-decides w) b) ∙ p)) (a .lowest);
+            },
+          )
 
   lowest-breaks : (k : ℕ) (before : List InputRule) (w : InputRule) (after : List InputRule) → Breaks (Listed l) w → ((u : InputRule) → u ∈ before → ¬ Breaks (Listed l) u)
       → brokenFrom (listed l) (k + 1) (before ++ (w ∷ after)) ≡ breaks (k + (length before + 1))

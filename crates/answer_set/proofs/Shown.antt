@@ -14,7 +14,7 @@ use Rattle.words.proofs.Ascending.{ascends-in}
 use Rattle.aspif.specs.Rules.{InputRule, expand, atoms}
 use Rattle.aspif.specs.AnswerSets.{LeastModel}
 use Rattle.marks.specs.Marks.{listed}
-use Rattle.answer_set.specs.SetTest.{least, isBroken, lowestFrom, justOne, SetVerdict, yes, differs, breaks, shown, brokenFrom, verdictOf, passed, saidOf, setAnswer}
+use Rattle.answer_set.specs.SetTest.{isBroken, lowestFrom, justOne, SetVerdict, yes, differs, breaks, shown, brokenFrom, verdictOf, passed, saidOf, setAnswer}
 use Rattle.answer_set.specs.Claims.{Listed, Ready, JustOne, LowestShown}
 use Rattle.answer_set.specs.declared.SetAnswer.the-variants.{Differs}
 use Rattle.answer_set.proofs.Marking.{lowest-some, lowest-is}

@@ -1,6 +1,5 @@
 -- `least-found` at work: what it finds is computed. Assumes nothing.
 use mathlib.Core.Path.{refl}
-use Rattle.words.proofs.Lists.{each-cons}
 use Rattle.weights.specs.Weights.{sublists}
 use Rattle.aspif.specs.Tables.{sizeAt, headsAt, bodyWordsAt, bodyAt, shapeSound, bodySound, soundAt, soundTable}
 use Rattle.answer_set.specs.SetTest.{giveHead, giveRule, least, verdictOf}

@@ -15,16 +15,15 @@ use Rattle.words.proofs.Places.{equal?}
 use Rattle.weights.specs.Weights.{sublists}
 use Rattle.weights.specs.Claims.{_⊑_, none, with-it, without}
 use Rattle.weights.proofs.Sublists as sub
-use Rattle.aspif.specs.Rules.{Rule, InputRule, expand, atoms}
-use Rattle.aspif.specs.AnswerSets.{Chosen, LeastModel, derive, AnswerSet}
-use Rattle.aspif.specs.declared.Kind.{Kind}
-use Rattle.aspif.specs.declared.Kind.the-variants.{Normal, Choice}
+use Rattle.aspif.specs.Rules.{InputRule, expand, atoms}
+use Rattle.aspif.specs.AnswerSets.{AnswerSet}
 use Rattle.aspif.specs.Tables.{rulesOf}
 use Rattle.marks.specs.Marks.{listed}
 use Rattle.answer_set.specs.SetTest.{SetVerdict, yes, differs, breaks, verdictOf}
 use Rattle.answer_set.specs.Claims.{Listed, Ready}
 use Rattle.answer_set.proofs.Answered.{listed-decides, model-within, no-differs, no-breaks, yes-answer-set}
 use Rattle.derivation.proofs.Valuations.{shift}
+use Rattle.derivation.proofs.SameSet.{answer-under}
 use Rattle.costs.specs.Costs.{Cost, total, Holds, Costs}
 use Rattle.costs.specs.OneRate.{Least, LeastFound}
 use Rattle.costs.proofs.Sums.{costs-total, cost-listed}
@@ -111,22 +110,6 @@ module _ (M W : ℕ → Type 0) (same : (v : ℕ) → M v ↔ W v) where
   costs-under [] c p = p
   costs-under (k ∷ ks) c (inl p) = inl (holds-under (k .literal) .0 (p .0), (p .1 .0, p .1 .1, costs-under ks (p .1 .0) (p .1 .2)))
   costs-under (k ∷ ks) c (inr p) = inr (λ h. p .0 (holds-under (k .literal) .1 h), costs-under ks c (p .1))
-
--- Answer sets under another name
-
-module _ (P : List Rule) (M W : ℕ → Type 0) (to : (n : ℕ) → M n → W n) (from : (n : ℕ) → W n → M n) where
-  chosen-under : (k : Kind) (h : ℕ) → Chosen M k h → Chosen W k h
-  chosen-under Normal h c = c
-  chosen-under Choice h c = to h c
-
-  least-under : {a : ℕ} → LeastModel M P a → LeastModel W P a
-  least-under (derive {h = h} r m t g b) = derive r m (λ n i w. t n i (from (suc n) w)) (g .0, chosen-under (r .kind) h (g .1)) (λ c i. least-under (b c i))
-
-pub answer-under : (P : List Rule) (M W : ℕ → Type 0) → ((n : ℕ) → M n → W n) → ((n : ℕ) → W n → M n) → AnswerSet M P → AnswerSet W P
-answer-under P M W to from S = record {
-  least = λ a. (λ w. least-under P M W to from (S .least a .0 (from a w)), λ d. to a (S .least a .1 (least-under P W M from to d)));
-  kept = λ r m c t. S .kept r m c (λ a i. from a (t .0 a i), λ n i u. t .1 n i (to (suc n) u));
-}
 
 -- The search
 

@@ -5,7 +5,7 @@ use mathlib.Core.Path.{_≡_}
 use mathlib.Core.Option.{some}
 use mathlib.Core.List.{List, [], _∷_}
 use Prim.Native.Nat.{ℕ}
-use lib.IntN.{ℤ, pos, negsuc}
+use lib.IntN.{pos, negsuc}
 use Rattle.aspif.specs.Rules.{InputRule, plain, expand, programWords}
 use Rattle.aspif.specs.AnswerSets.{AnswerSet}
 use Rattle.aspif.specs.Tables.{rulesOf}

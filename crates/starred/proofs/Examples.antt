@@ -2,7 +2,6 @@
 use mathlib.Core.Path.{_≡_, refl, sym, _∙_}
 use mathlib.Core.List.{List, [], _∷_}
 use Prim.Native.Nat.{ℕ}
-use native.Mathlib.Omega.{arith}
 use lib.IntN.{pos, negsuc}
 use lib.ListN.{length}
 use Rattle.words.specs.Limits.{entries}
@@ -15,7 +14,7 @@ use Rattle.aspif.specs.Reading.{allWeights, ranged, shapeOf, arranged, program,
 use Rattle.aspif.specs.Tables.{sizeAt, headsAt, bodyWordsAt, boundAt, bodyAt, shapeSound, weightsSound, bodySound, soundAt, soundTable}
 use Rattle.aspif.specs.declared.Kind.the-variants.{Normal, Choice}
 use Rattle.marks.specs.Marks.{listed}
-use Rattle.answer_set.specs.SetTest.{giveHead, giveRule, least, SetVerdict, yes, differs, breaks, verdictOf, asked, setAnswer}
+use Rattle.answer_set.specs.SetTest.{giveHead, giveRule, least, SetVerdict, yes, breaks, verdictOf, asked, setAnswer}
 use Rattle.answer_set.specs.Claims.{Ready}
 use Rattle.answer_set.specs.declared.SetAnswer.{SetAnswer}
 use Rattle.answer_set.specs.declared.SetAnswer.the-variants.{Yes}
