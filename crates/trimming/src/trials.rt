@@ -140,7 +140,7 @@ pub fn passes(
         → stepsOf (now (text .entry)) ≡ steps ts
         → Reads (now (text .exit)) r (trimmedSteps (length (now (store .entry))) ws ts)) ⌝ }
 {
-    let classes = text::CLASSES;
+    let classes = text::classes::CLASSES;
     let mut trial = [0u8; LONGEST];
     let mut len = text.len();
     loop {
