@@ -1,19 +1,16 @@
 -- When the service writes a merge, and when it answers 59. Assumes nothing.
 use mathlib.Core.Path.{_≡_, refl, sym, ap, _∙_}
-use mathlib.Core.Logic.{_⊎_, inl, inr}
+use mathlib.Core.Logic.{inl, inr}
 use mathlib.Core.Bool.{Bool, true, false, cond, true≢false}
 use mathlib.Core.List.{List, _++_}
 use Prim.Native.Nat.{ℕ, _-_, _≤_}
 use native.Mathlib.Omega.{arith}
 use lib.Dec.{leb}
-use lib.IntN.{ℤ}
 use lib.ListN.{length, replicate}
 use Rattle.words.specs.Limits.{longest}
 use Rattle.words.proofs.Lists.{zero-one, if-true, leb-decides, and-left, and-right}
 use Rattle.aspif.specs.Rules.{InputRule, expand, atoms}
-use Rattle.aspif.specs.Reading.{program, readText}
 use Rattle.drupe.specs.Texts.{Step, textOf}
-use Rattle.derivation.specs.Steps.{emptyLive}
 use Rattle.runs.specs.Course.{Course, stopped, through, course, endsEmpty, isAccepted}
 use Rattle.merging.specs.Merge.{allFit}
 use Rattle.splits.specs.declared.MergeAnswer.{MergeAnswer}

@@ -54,10 +54,11 @@ parsed-atoms N end depth path tree rest e = tt
 parsed-atoms N (split v l r) depth path tree rest e =
     by tree (begins path N (split v l r) rest depth tree e) (λ p ns x. parsed-atoms N l (depth - 1) p ns x) (λ p ns x. parsed-atoms N r (depth - 1) p ns x)
   where
-    Side-atoms : Shape → Type 0
-    Side-atoms t = (path′ tree′ rest′ : List ℕ) → treeOf (depth - 1) path′ N tree′ ≡ found t rest′ → Atoms N t
+    -- what is known of a side
+    Below : Shape → Type 0
+    Below t = (path′ tree′ rest′ : List ℕ) → treeOf (depth - 1) path′ N tree′ ≡ found t rest′ → Atoms N t
 
-    by : (numbers : List ℕ) → Begins path N (split v l r) rest depth numbers → Side-atoms l → Side-atoms r → Atoms N (split v l r)
+    by : (numbers : List ℕ) → Begins path N (split v l r) rest depth numbers → Below l → Below r → Atoms N (split v l r)
     by [] b f g = absurd b
     by (u ∷ ns) (inl b) f g = absurd (subst IsEnd (sym (b .1)) tt)
     by (u ∷ ns) (inr b) f g =
