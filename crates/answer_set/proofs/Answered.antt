@@ -1,7 +1,7 @@
 -- The marks and the answer of specs/SetTest.antt are those of crates/aspif/specs/AnswerSets.antt: `marks-least` and `yes-answer-set`.
 -- Assumes nothing.
 use mathlib.Core.Path.{_≡_, refl, sym, _∙_, subst}
-use mathlib.Core.Logic.{inl}
+use mathlib.Core.Logic.{_↔_, inl}
 use mathlib.Core.Bool.{Bool, true, false, cond, true≢false}
 use mathlib.Core.Option.{Option, none, some}
 use mathlib.Core.List.{List, [], _∷_, List·Memᴰ·head, List·Memᴰ·tail, Memᴰ·cast}
@@ -17,9 +17,9 @@ use Rattle.words.proofs.Lists.{Decides, itself, passed, failed, reworded, and-d
 use Rattle.aspif.specs.Rules.{InputRule, withBody, expand, ruleTop, atoms}
 use Rattle.words.proofs.Tops.{top-le}
 use Rattle.aspif.specs.AnswerSets.{Constraint, LeastModel, derive, Met, AnswerSet}
-use Rattle.aspif.specs.Tables.{headsSound, sizeAt, headsAt, shapeSound, soundAt, rulesAt, soundRules}
+use Rattle.aspif.specs.Tables.{headsSound, sizeAt, headsAt, shapeSound, soundAt, rulesAt, soundRules, rulesOf}
 use Rattle.marks.specs.Marks.{listed, marked}
-use Rattle.answer_set.specs.SetTest.{rounds, least, isBroken, lowestFrom, justOne, yes, breaks, brokenFrom, differsAt, verdictOf, shown}
+use Rattle.answer_set.specs.SetTest.{rounds, least, isBroken, lowestFrom, justOne, SetVerdict, yes, differs, breaks, brokenFrom, differsAt, verdictOf, shown}
 use Rattle.answer_set.specs.Claims.{Listed, Ready, MarksLeast, YesAnswerSet}
 use Rattle.words.proofs.Ascending.{ascends-in}
 use Rattle.aspif.specs.declared.Kind.the-variants.{Normal}
@@ -55,18 +55,29 @@ no-bits zero v = inl refl
 no-bits (suc n) zero = inl refl
 no-bits (suc n) (suc v) = no-bits n v
 
-module _ (table : List ℤ) (rules : ℕ) (l : List ℕ) (rs : List InputRule) (ready : Ready table rules l rs) where
+module _ (table : List ℤ) (rules : ℕ) (rs : List InputRule) (readable : rulesOf table rules ≡ some rs) where
   sound : soundRules rules table ≡ true
-  sound = sound-rules table rules (rules-of table rules rs (ready .readable) .0)
+  sound = sound-rules table rules (rules-of table rules rs readable .0)
 
   are : rulesAt rules table ≡ rs
-  are = rules-of table rules rs (ready .readable) .1
+  are = rules-of table rules rs readable .1
 
-  heads : (r : InputRule) → r ∈ rs → (z : ℤ) → z ∈ r .heads → Head (atoms rs) z
-  heads r i = head-of rs r i (sound-heads rules table sound {r = r} (rw are i))
+  heads-of : (r : InputRule) → r ∈ rs → (z : ℤ) → z ∈ r .heads → Head (atoms rs) z
+  heads-of r i = head-of rs r i (sound-heads rules table sound {r = r} (rw are i))
 
   few : atoms rs ≤ largest
   few = rw (← are) (atoms-small rules table sound)
+
+  -- what is in the least model of any set's reduct is an atom
+  pub model-within : (M : ℕ → Type 0) {v : ℕ} → LeastModel M (expand rs) v → (1 ≤ v) × (v ≤ atoms rs)
+  model-within M (derive {h = h} r i taken g below) =
+      let x = expand→ rs i in
+      let p = heads-of (x .rule) (x .among) (pos h) (subst (λ s. pos h ∈ s .heads) (sym (x .is)) (g .0)) in
+      (p .low, p .high)
+
+module _ (table : List ℤ) (rules : ℕ) (l : List ℕ) (rs : List InputRule) (ready : Ready table rules l rs) where
+  heads : (r : InputRule) → r ∈ rs → (z : ℤ) → z ∈ r .heads → Head (atoms rs) z
+  heads = heads-of table rules rs (ready .readable)
 
   module _ (n : ℕ) (h : atoms rs < n) where
     abbrev m : List ℕ
@@ -84,7 +95,7 @@ module _ (table : List ℤ) (rules : ℕ) (l : List ℕ) (rs : List InputRule) (
     bits-of = rounds-bits (listed l) (Listed l) (listed-decides l) rs (atoms rs) heads (atoms rs) (replicate n 0) (no-bits n)
 
   fits : atoms rs < entries
-  fits = let h = few in omega arith
+  fits = let h = few table rules rs (ready .readable) in omega arith
 
   pub model : (v : ℕ) → Decides (marked (least (listed l) rs) v) (LeastModel (Listed l) (expand rs) v)
   unfolding least
@@ -112,13 +123,20 @@ pub same-both : (b : Bool) → justOne b b ≡ false
 same-both true = refl
 same-both false = refl
 
+-- no other verdict is yes
+pub no-differs : {a : ℕ} → ¬ (differs a ≡ yes)
+no-differs p = let z : _≡_ {A = ℕ} 0 1 = cc in omega arith
+
+pub no-breaks : {k : ℕ} → ¬ (breaks k ≡ yes)
+no-breaks p = let z : _≡_ {A = ℕ} 0 1 = cc in omega arith
+
 module _ (M : ℕ → Bool) where
   no-broken : (k : ℕ) (rs : List InputRule) → brokenFrom M k rs ≡ yes → {r : InputRule} → r ∈ rs → isBroken M r ≡ false
   no-broken k [] e i = elim i [ ]
   no-broken k (s ∷ rs) e {r} i = by (isBroken M s) refl e (λ f j. no-broken (k + 1) rs f j) i
     where
       by : (b : Bool) → isBroken M s ≡ b → cond b (breaks k) (brokenFrom M (k + 1) rs) ≡ yes → (brokenFrom M (k + 1) rs ≡ yes → r ∈ rs → isBroken M r ≡ false) → r ∈ s ∷ rs → isBroken M r ≡ false
-      by true p q f j = absurd (let z : _≡_ {A = ℕ} 0 1 = cc in omega arith)
+      by true p q f j = absurd (no-breaks q)
       by false p q f (List·Memᴰ·head t) = rw t p
       by false p q f (List·Memᴰ·tail j) = f q j
 
@@ -127,10 +145,10 @@ module _ (M : ℕ → Bool) where
   none-broken k (s ∷ rs) g = rw (g s (List·Memᴰ·head refl)) (none-broken (k + 1) rs (λ r i. g r (List·Memᴰ·tail i)))
 
 -- one of the plain rules of a rule as written is a constraint that is met
-abbrev SomeBroken : List ℕ → InputRule → Type 0
+abbrev pub SomeBroken : List ℕ → InputRule → Type 0
 SomeBroken l r = ((r .kind ≡ Normal) × (r .heads ≡ [])) × SomeMet (listed l) (Listed l) (listed-decides l) (Listed l) (r .body)
 
-broken-decides : (l : List ℕ) (r : InputRule) → Decides (isBroken (listed l) r) (SomeBroken l r)
+pub broken-decides : (l : List ℕ) (r : InputRule) → Decides (isBroken (listed l) r) (SomeBroken l r)
 broken-decides l r =
     and-decides (and-decides (normal-decides (r .kind)) (empty-decides (r .heads)))
     (met-decides (listed l) (Listed l) (listed-decides l) (listed l) (Listed l) (listed-decides l) (r .body))
@@ -140,28 +158,42 @@ module _ (table : List ℤ) (rules : ℕ) (l : List ℕ) (rs : List InputRule) (
   differing = differsAt (listed l) (least (listed l) rs)
 
   pub least-small : {v : ℕ} → LeastModel (Listed l) (expand rs) v → v ≤ atoms rs
-  least-small (derive {h = h} r i taken g below) =
-      let x = expand→ rs i in
-      heads table rules l rs ready (x .rule) (x .among) (pos h) (subst (λ s. pos h ∈ s .heads) (sym (x .is)) (g .0)) .high
+  least-small d = model-within table rules rs (ready .readable) (Listed l) d .1
 
-  verdict : verdictOf (listed l) rs ≡ yes → (lowestFrom differing (atoms rs + 1) 0 ≡ none) × (brokenFrom (listed l) 1 rs ≡ yes)
-  unfolding verdictOf
-  verdict = by (lowestFrom differing (atoms rs + 1) 0) refl
+  -- a number that does not differ is in both or in neither
+  pub same-there : (v : ℕ) → differing v ≡ false → Listed l v ↔ LeastModel (Listed l) (expand rs) v
+  same-there v e =
+      let p = just-one (listed l v) (marked (least (listed l) rs) v) e in
+      (λ i. model table rules l rs ready v .to (subst T p (listed-decides l v .from i)), λ d. listed-decides l v .to (subst T (sym p) (model table rules l rs ready v .from d)))
+
+  pub same-back : (v : ℕ) → Listed l v ↔ LeastModel (Listed l) (expand rs) v → differing v ≡ false
+  same-back v e = rw (same-test (listed-decides l v) (model table rules l rs ready v) (e .0) (e .1)) (same-both (marked (least (listed l) rs) v))
+
+  -- where none differs the set equals the least model
+  pub equal : lowestFrom differing (atoms rs + 1) 0 ≡ none → (v : ℕ) → Listed l v ↔ LeastModel (Listed l) (expand rs) v
+  equal e v = (λ i. same-there v (below (ascends-in 0 (atoms rs) (ready .ascending) i .1)) .0 i, λ d. same-there v (below (least-small d)) .1 d)
     where
-      by : (o : Option ℕ) → lowestFrom differing (atoms rs + 1) 0 ≡ o → shown o (brokenFrom (listed l) 1 rs) ≡ yes → (lowestFrom differing (atoms rs + 1) 0 ≡ none) × (brokenFrom (listed l) 1 rs ≡ yes)
-      by (some v) e p = absurd (let z : _≡_ {A = ℕ} 0 1 = cc in omega arith)
+      below : v ≤ atoms rs → differing v ≡ false
+      below h = lowest-none differing (atoms rs + 1) 0 e v (omega arith) (omega arith)
+
+  pub equal-back : ((v : ℕ) → Listed l v ↔ LeastModel (Listed l) (expand rs) v) → lowestFrom differing (atoms rs + 1) 0 ≡ none
+  equal-back s = none-lowest differing (atoms rs + 1) 0 (λ v h k. same-back v (s v))
+
+  -- a verdict that shows no atom: none differs, and the constraints decide
+  pub verdict : (x : SetVerdict) → ((a : ℕ) → ¬ (differs a ≡ x)) → verdictOf (listed l) rs ≡ x
+      → (lowestFrom differing (atoms rs + 1) 0 ≡ none) × (brokenFrom (listed l) 1 rs ≡ x)
+  unfolding verdictOf
+  verdict x other = by (lowestFrom differing (atoms rs + 1) 0) refl
+    where
+      by : (o : Option ℕ) → lowestFrom differing (atoms rs + 1) 0 ≡ o → shown o (brokenFrom (listed l) 1 rs) ≡ x → (lowestFrom differing (atoms rs + 1) 0 ≡ none) × (brokenFrom (listed l) 1 rs ≡ x)
+      by (some v) e p = absurd (other v p)
       by none e p = (e, p)
 
   answers : verdictOf (listed l) rs ≡ yes → AnswerSet (Listed l) (expand rs)
   answers e =
-      let w = verdict e in
-      let same : (v : ℕ) → v ≤ atoms rs → listed l v ≡ marked (least (listed l) rs) v =
-      λ v h. just-one _ _ (lowest-none differing (atoms rs + 1) 0 (w .0) v (omega arith) (omega arith)) in
+      let w = verdict yes (λ a. no-differs) e in
       record {
-        least = λ v. (
-          λ i. model table rules l rs ready v .to (subst T (same v (ascends-in 0 (atoms rs) (ready .ascending) i .1)) (listed-decides l v .from i)),
-          λ d. listed-decides l v .to (subst T (sym (same v (least-small d))) (model table rules l rs ready v .from d)),
-        );
+        least = equal (w .0);
         kept = λ r i c met.
             let x = expand→ rs i in
             let e = sym (x .is) in
@@ -169,14 +201,11 @@ module _ (table : List ℤ) (rules : ℕ) (l : List ℕ) (rs : List InputRule) (
             true≢false (sym (passed _ .to b) ∙ no-broken (listed l) 1 rs (w .1) (x .among));
       }
 
-  agree : AnswerSet (Listed l) (expand rs) → (v : ℕ) → differing v ≡ false
-  agree s v = rw (same-test (listed-decides l v) (model table rules l rs ready v) (s .least v .0) (s .least v .1)) (same-both (marked (least (listed l) rs) v))
-
   answered-yes : AnswerSet (Listed l) (expand rs) → verdictOf (listed l) rs ≡ yes
   unfolding verdictOf
   answered-yes s =
       rw (
-        none-lowest differing (atoms rs + 1) 0 (λ v h k. agree s v),
+        equal-back (s .least),
         none-broken (listed l) 1 rs (λ r i.
             failed _ (not-decides (broken-decides l r) .from (λ p. s .kept (withBody r (p .1 .0)) (expand← i (p .1 .1)) (p .0) (p .1 .2)))),
       )

@@ -5,4 +5,5 @@ pub mod LeastModels
 pub mod Answered
 pub mod Service
 pub mod Shown
+pub mod Broken
 pub mod Giving

@@ -1,25 +1,24 @@
 -- The atom that is shown is the lowest that lies in just one of the set and the least model: `lowest-shown`.
 -- Assumes nothing.
-use mathlib.Core.Path.{_≡_, sym, ap, subst}
+use mathlib.Core.Path.{_≡_, ap}
 use mathlib.Core.Logic.{_↔_, _⊎_, inl, inr}
 use mathlib.Core.Bool.{Bool, true, false, cond}
 use mathlib.Core.Option.{Option, none, some}
 use mathlib.Core.List.{List, [], _∷_}
 use Prim.Native.Nat.{ℕ, _+_, _≤_, _<_}
 use native.Mathlib.Omega.{arith}
-use lib.Dec.{T}
 use lib.IntN.{ℤ}
-use Rattle.words.proofs.Lists.{Decides, same-test}
+use Rattle.words.proofs.Lists.{Decides}
 use Rattle.words.proofs.Lists as Lists
 use Rattle.words.proofs.Ascending.{ascends-in}
 use Rattle.aspif.specs.Rules.{InputRule, expand, atoms}
 use Rattle.aspif.specs.AnswerSets.{LeastModel}
-use Rattle.marks.specs.Marks.{listed, marked}
-use Rattle.answer_set.specs.SetTest.{least, isBroken, lowestFrom, justOne, SetVerdict, yes, differs, breaks, shown, brokenFrom, verdictOf, passed, saidOf, setAnswer}
+use Rattle.marks.specs.Marks.{listed}
+use Rattle.answer_set.specs.SetTest.{isBroken, lowestFrom, justOne, SetVerdict, yes, differs, breaks, shown, brokenFrom, verdictOf, passed, saidOf, setAnswer}
 use Rattle.answer_set.specs.Claims.{Listed, Ready, JustOne, LowestShown}
 use Rattle.answer_set.specs.declared.SetAnswer.the-variants.{Differs}
 use Rattle.answer_set.proofs.Marking.{lowest-some, lowest-is}
-use Rattle.answer_set.proofs.Answered.{listed-decides, model, just-one, same-both, differing, least-small}
+use Rattle.answer_set.proofs.Answered.{listed-decides, model, differing, least-small, same-there, same-back}
 
 -- a test of just one of two things
 just-decides : {a b : Bool} {A B : Type 0} → Decides a A → Decides b B → Decides (justOne a b) ((A × ¬ B) ⊎ (B × ¬ A))
@@ -45,15 +44,6 @@ module _ (table : List ℤ) (rules : ℕ) (l : List ℕ) (rs : List InputRule) (
 
   tells : (u : ℕ) → Decides (g u) (JustOne (Listed l) (Model) u)
   tells u = just-decides (listed-decides l u) (model table rules l rs ready u)
-
-  -- the numbers that are the same in both
-  same-there : (u : ℕ) → g u ≡ false → Listed l u ↔ Model u
-  same-there u e =
-      let p = just-one (listed l u) (marked (least (listed l) rs) u) e in
-      (λ i. model table rules l rs ready u .to (subst T p (listed-decides l u .from i)), λ d. listed-decides l u .to (subst T (sym p) (model table rules l rs ready u .from d)))
-
-  same-back : (u : ℕ) → Listed l u ↔ Model u → g u ≡ false
-  same-back u e = rw (same-test (listed-decides l u) (model table rules l rs ready u) (e .0) (e .1)) (same-both (marked (least (listed l) rs) u))
 
   lowest : verdictOf (listed l) rs ≡ differs v → lowestFrom g (atoms rs + 1) 0 ≡ some v
   unfolding verdictOf
@@ -86,7 +76,7 @@ module _ (table : List ℤ) (rules : ℕ) (l : List ℕ) (rs : List InputRule) (
       there : setAnswer l (passed rs) ≡ Differs v → JustOne (Listed l) (Model) v × ((u : ℕ) → u < v → Listed l u ↔ Model u)
       there e =
           let w = lowest-some g (atoms rs + 1) 0 v (lowest (said-differs _ e)) in
-          (tells v .to (Lists.passed _ .from (w .here)), λ u h. same-there u (w .below u (omega arith) h))
+          (tells v .to (Lists.passed _ .from (w .here)), λ u h. same-there table rules l rs ready u (w .below u (omega arith) h))
 
       back : JustOne (Listed l) (Model) v × ((u : ℕ) → u < v → Listed l u ↔ Model u) → setAnswer l (passed rs) ≡ Differs v
       back p =
@@ -95,7 +85,7 @@ module _ (table : List ℤ) (rules : ℕ) (l : List ℕ) (rs : List InputRule) (
             low = omega arith;
             high = omega (arith, small (p .0));
             here = Lists.passed _ .to (tells v .from (p .0));
-            below = λ u h k. same-back u (p .1 u k);
+            below = λ u h k. same-back table rules l rs ready u (p .1 u k);
           })))
 
 pub lowest-shown : LowestShown

@@ -1,24 +1,25 @@
 -- How the executable definitions of specs/SetTest.antt stand to the program reader's definition and to what an answer
 -- set is (crates/aspif/specs/AnswerSets.antt), as statements: the answer sets of rules as written are those of `expand` of them.
--- proofs/Answered.antt proves those on marks and answers, proofs/Service.antt those on what the service answers.
+-- proofs/Answered.antt and proofs/Shown.antt prove those on marks and answers, proofs/Service.antt and proofs/Broken.antt those on what
+-- the service answers.
 -- Assumes nothing.
 use mathlib.Core.Path.{_≡_}
 use mathlib.Core.Logic.{_↔_, _⊎_}
 use mathlib.Core.Bool.{true}
 use mathlib.Core.Option.{some}
-use mathlib.Core.List.{List}
-use Prim.Native.Nat.{ℕ, _<_}
+use mathlib.Core.List.{List, _∷_, _++_}
+use Prim.Native.Nat.{ℕ, _+_, _<_}
 use lib.IntN.{ℤ}
 use lib.ListN.{length, getD}
 use Rattle.words.specs.Lists.{_∈_, ascends}
-use Rattle.aspif.specs.Rules.{InputRule, expand, atoms}
-use Rattle.aspif.specs.AnswerSets.{LeastModel, AnswerSet}
+use Rattle.aspif.specs.Rules.{Rule, InputRule, expandRule, expand, atoms}
+use Rattle.aspif.specs.AnswerSets.{Constraint, LeastModel, Met, AnswerSet}
 use Rattle.aspif.specs.Tables.{ReadAs, ReadTable, rulesOf}
 use Rattle.words.specs.Limits.{entries}
 use Rattle.marks.specs.Marks.{listed}
 use Rattle.answer_set.specs.SetTest.{least, verdictOf, yes, refused, asked, SetTested, passed, setAnswer}
 use Rattle.answer_set.specs.declared.SetAnswer.{SetAnswer}
-use Rattle.answer_set.specs.declared.SetAnswer.the-variants.{Yes, Differs}
+use Rattle.answer_set.specs.declared.SetAnswer.the-variants.{Yes, Differs, Broken}
 
 -- question 41 is answered no exactly where there is no program that the reader reads so
 abbrev pub TableRefused : Type 0
@@ -67,3 +68,26 @@ ServiceYes =
     (table : List ℤ) (rules : ℕ) (l before after : List ℕ) (r : SetAnswer) → SetTested table rules l before after r
     → (r ≡ Yes)
     ↔ ((rs : List InputRule) × ReadAs table rules rs × (ascends 0 (atoms rs) l ≡ true) × (length before ≡ entries) × AnswerSet (Listed l) (expand rs))
+
+-- one of the plain rules of a rule as written is a constraint that "has its positive atoms all in M and its negated atoms all outside"
+abbrev pub Breaks : (ℕ → Type 0) → InputRule → Type 0
+Breaks M w = (r : Rule) × (r ∈ expandRule w) × Constraint r × Met M r
+
+-- k is "the lowest rule number, counted from 1, of a broken constraint"; "Rule numbers .. count the rules as written" (Change 3)
+pub record LowestRule (M : ℕ → Type 0) (rs : List InputRule) (k : ℕ) : Type 0 where
+  pub before : List InputRule
+  pub rule : InputRule
+  pub after : List InputRule
+  pub are : rs ≡ before ++ (rule ∷ after)
+  pub number : k ≡ length before + 1
+  pub broken : Breaks M rule
+  pub lowest : (w : InputRule) → w ∈ before → ¬ Breaks M w
+
+-- "or, where the two are equal, the lowest rule number, counted from 1, of a broken constraint": its contract holds of the answer
+-- `Broken k` exactly where questions 41 to 43 are passed, the set equals the least model, and k is that number
+abbrev pub LowestBroken : Type 0
+LowestBroken =
+    (table : List ℤ) (rules : ℕ) (l before after : List ℕ) (r : SetAnswer) → SetTested table rules l before after r → (k : ℕ)
+    → (r ≡ Broken k)
+    ↔ ((rs : List InputRule) × ReadAs table rules rs × (ascends 0 (atoms rs) l ≡ true) × (length before ≡ entries)
+    × ((v : ℕ) → Listed l v ↔ LeastModel (Listed l) (expand rs) v) × LowestRule (Listed l) rs k)

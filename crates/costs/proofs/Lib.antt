@@ -4,3 +4,5 @@ pub mod Order
 pub mod Restriction
 pub mod NoneBelow
 pub mod OneRate
+pub mod Found
+pub mod Examples

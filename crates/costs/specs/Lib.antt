@@ -2,3 +2,4 @@
 pub mod Costs
 pub mod Claims
 pub mod OneRate
+pub mod Examples

@@ -3,6 +3,7 @@ pub mod Rounds
 pub mod Closure
 pub mod Loops
 pub mod Valuations
+pub mod SameSet
 pub mod Questions
 pub mod Invariant
 pub mod Outcomes

@@ -4,18 +4,20 @@ use mathlib.Core.Path.{_≡_, refl, sym, ap, ap₂, _∙_, subst}
 use mathlib.Core.Logic.{_⊎_, inl, inr}
 use mathlib.Core.Bool.{Bool, true, false, cond, _&&_, true≢false}
 use mathlib.Core.List.{List, [], _∷_, _++_}
-use Prim.Native.Nat.{ℕ, _+_, _-_, _≤_}
+use Prim.Native.Nat.{ℕ, _+_, _-_}
 use native.Mathlib.Omega.{arith}
 use lib.Dec.{leb}
 use lib.IntN.{ℤ, pos, negℤ}
 use lib.ListN.{length, take, replicate}
 use lib.Seq.{take-at}
 use Rattle.words.specs.Limits.{longest}
+use Rattle.words.specs.Lists.{_∈_}
 use Rattle.words.proofs.Lists.{zero-one, if-true, leb-decides, and-left, and-right}
 use Rattle.aspif.specs.Rules.{Rule, InputRule, expand, atoms, tableWords}
 use Rattle.aspif.specs.Reading.{Reading, program, readText}
-use Rattle.drupe.specs.Texts.{Step, StepsRead, steps, textOf}
+use Rattle.drupe.specs.Texts.{Step, StepsRead, steps, textOf, LinePasses}
 use Rattle.drupe.specs.Texts as Texts
+use Rattle.drupe.proofs.Texts.{read-back}
 use Rattle.derivation.specs.States.{State, start, isAtom}
 use Rattle.derivation.specs.Steps.{Outcome, refused, next, step, emptyLive}
 use Rattle.nogoods.specs.Store.{Stored, storeWords}
@@ -27,13 +29,14 @@ use Rattle.checker.specs.declared.Verdict.the-variants.{Inconsistent, RefusedPr
 use Rattle.steps.proofs.Turns.{steps-pass}
 use Rattle.checker.proofs.Whole.{accepted-steps, course-written}
 use Rattle.merging.specs.Merge.{allFit}
-use Rattle.merging.specs.Claims.{AcceptedAsWritten, demandingAsWritten}
+use Rattle.merging.specs.Claims.{Accepted, InOr34, AcceptedAsWritten, demandingAsWritten}
 use Rattle.merging.specs.Claims as Claims
 use Rattle.merging.proofs.AsWritten.{unsized-as-written, merged-as-written}
 use Rattle.splits.specs.declared.MergeAnswer.{MergeAnswer}
 use Rattle.splits.specs.declared.MergeAnswer.the-variants.{Merged, RefusedProgram, Refused}
 use Rattle.splits.specs.Service.{areHalves, stepsIn, mergedSteps, isWritable, MergeLeft, leavesNothing, judgedText, mergedReading, merge}
-use Rattle.splits.specs.Claims.{MergedText, Demand3Merged, AsChecked}
+use Rattle.splits.specs.Claims.{PastStore, MergedEnds, MergedText, Demand3Merged, AsChecked}
+use Rattle.splits.proofs.Stopping.{never-past, goes-past}
 
 -- Steps with question 34, as a course
 
@@ -61,7 +64,7 @@ module _ (N : ℕ) (P : List Rule) (size : ℕ) where
           fits false = (n + 1, refl)
 
 -- a text that is accepted: its steps are
-half-accepted : (size : ℕ) (ws : List InputRule) (text : List ℕ) → isAccepted size ws text ≡ true → AcceptedAsWritten (fitting size) ws (stepsIn text)
+pub half-accepted : (size : ℕ) (ws : List InputRule) (text : List ℕ) → isAccepted size ws text ≡ true → AcceptedAsWritten (fitting size) ws (stepsIn text)
 half-accepted size ws text a =
     let s = accepted-steps size ws text a in
     subst (λ (r : StepsRead). AcceptedAsWritten (fitting size) ws (elim r as (λ x. List Step) [ steps ts ↦ ts | Texts.refused ts k n ↦ ts ])) (sym (s .1))
@@ -88,45 +91,58 @@ module _ (size : ℕ) (ws : List InputRule) (v : ℕ) (first second : List ℕ) 
   second-half =
       half-accepted size (demandingAsWritten ws (negℤ (pos v))) second (and-right (isAccepted size (demandingAsWritten ws (pos v)) first) _ both)
 
-  -- the text is read back as the merged steps
-  merged-course : length (textOf (mergedSteps ws v first second)) ≤ longest
-      → course (atoms ws) (expand ws) size (textOf (mergedSteps ws v first second)) ≡ runSteps (atoms ws) (expand ws) size 0 start [] (mergedSteps ws v first second)
-  merged-course h =
-      let z = unsized-as-written (fitting size) ws v atom (stepsIn first) (stepsIn second) first-half second-half fit in
-      course-written (atoms ws) (expand ws) size (mergedSteps ws v first second)
-      (steps-pass (atoms ws) (expand ws) start (z .0) (mergedSteps ws v first second) (z .1)) h
+  -- question 34 aside
+  merged-good : Accepted (atoms ws) (expand ws) (mergedSteps ws v first second)
+  merged-good = unsized-as-written (fitting size) ws v atom (stepsIn first) (stepsIn second) first-half second-half fit
 
-  -- the merged text is accepted, or its check is stopped by 34
-  pub merged-ends : length (textOf (mergedSteps ws v first second)) ≤ longest
-      → (isAccepted size ws (textOf (mergedSteps ws v first second)) ≡ true)
-      ⊎ ((n : ℕ) × (course (atoms ws) (expand ws) size (textOf (mergedSteps ws v first second)) ≡ stopped 34 n))
-  merged-ends h =
-      ends (Claims.stepsIn (fitting size) (atoms ws) (expand ws) start (mergedSteps ws v first second))
-      (course (atoms ws) (expand ws) size (textOf (mergedSteps ws v first second)))
-      (subst (RunsAs (Claims.stepsIn (fitting size) (atoms ws) (expand ws) start (mergedSteps ws v first second)))
-      (sym (merged-course h)) (runs-as (atoms ws) (expand ws) size 0 start [] (mergedSteps ws v first second)))
-      (merged-as-written (fitting size) ws v atom (stepsIn first) (stepsIn second) first-half second-half fit .0)
-    where
-      ends : (o : Outcome) (c : Course) → RunsAs o c → ((z : State) × (o ≡ next z) × (emptyLive z ≡ true)) ⊎ (o ≡ refused 34)
-          → (endsEmpty c ≡ true) ⊎ ((n : ℕ) × (c ≡ stopped 34 n))
-      ends (refused k) c r (inl a) = absurd (zero-one (cc))
-      ends (refused k) c r (inr e) = let i : k ≡ 34 = cc in inr (r .0, r .1 ∙ ap (λ (j : ℕ). stopped j (r .0)) i)
-      ends (next w) c r (inl a) = let i : w ≡ a .0 = cc in inl (ap endsEmpty (r .2) ∙ (ap emptyLive i ∙ a .2))
-      ends (next w) c r (inr e) = absurd (zero-one (cc))
+  merged-pass : (t : Step) → t ∈ mergedSteps ws v first second → LinePasses t
+  merged-pass = let z = merged-good in steps-pass (atoms ws) (expand ws) start (z .0) (mergedSteps ws v first second) (z .1)
+
+pub merged-ends : MergedEnds
+merged-ends size ws v first second halves fit h = (
+  good,
+  (
+    read-back ts pass h,
+    by (merged-as-written (fitting size) ws v (atom size ws v first second halves fit) (stepsIn first) (stepsIn second)
+        (first-half size ws v first second halves fit) (second-half size ws v first second halves fit) fit .0),
+  ),
+)
+  where
+    ts : List Step
+    ts = mergedSteps ws v first second
+
+    good : Accepted (atoms ws) (expand ws) ts
+    good = merged-good size ws v first second halves fit
+
+    pass : (t : Step) → t ∈ ts → LinePasses t
+    pass = merged-pass size ws v first second halves fit
+
+    checked : Course
+    checked = course (atoms ws) (expand ws) size (textOf ts)
+
+    ran : (o : Outcome) → Claims.stepsIn (fitting size) (atoms ws) (expand ws) start ts ≡ o → RunsAs o checked
+    ran o e = subst (λ (x : Outcome). RunsAs x checked) e
+        (subst (RunsAs (Claims.stepsIn (fitting size) (atoms ws) (expand ws) start ts)) (sym (course-written (atoms ws) (expand ws) size ts pass h))
+        (runs-as (atoms ws) (expand ws) size 0 start [] ts))
+
+    by : InOr34 (fitting size) (atoms ws) (expand ws) ts
+        → ((¬ (PastStore size ws ts)) × (isAccepted size ws (textOf ts) ≡ true)) ⊎ (PastStore size ws ts × ((n : ℕ) × (checked ≡ stopped 34 n)))
+    by (inl (z, e, l)) = inl (never-past size ws ts z e, ap endsEmpty (ran (next z) e .2) ∙ l)
+    by (inr e) = inr (goes-past size ws ts (good .0) (good .1) e, ran (refused 34) e)
 
 pub merged-text : MergedText
 unfolding check
 merged-text text t s ws q v first second halves fit h =
     let m = merged-as-written (fitting s) ws v (atom s ws v first second halves fit) (stepsIn first) (stepsIn second)
     (first-half s ws v first second halves fit) (second-half s ws v first second halves fit) fit in
-    (rw q (by (course (atoms ws) (expand ws) s (textOf (mergedSteps ws v first second))) (merged-ends s ws v first second halves fit h)), m .1)
+    (rw q (by (course (atoms ws) (expand ws) s (textOf (mergedSteps ws v first second))) (merged-ends s ws v first second halves fit h .1 .1)), m .1)
   where
-    by : (c : Course) → (endsEmpty c ≡ true) ⊎ ((n : ℕ) × (c ≡ stopped 34 n))
+    by : {A B : Type 0} (c : Course) → (A × (endsEmpty c ≡ true)) ⊎ (B × ((n : ℕ) × (c ≡ stopped 34 n)))
         → ((k : Counts) × (judged t s ws c .verdict ≡ Inconsistent k))
         ⊎ ((n : ℕ) × (judged t s ws c .verdict ≡ RefusedProof (record { number = 34; step = n })))
-    by (stopped k m) (inl e) = absurd (true≢false (sym e))
-    by (through n z stored) (inl e) = inl (countsOf (atoms ws) (length ws) n z, rw e refl)
-    by c (inr (n, e)) = inr (n, rw e refl)
+    by (stopped k m) (inl (x, e)) = absurd (true≢false (sym e))
+    by (through n z stored) (inl (x, e)) = inl (countsOf (atoms ws) (length ws) n z, rw e refl)
+    by c (inr (x, (n, e))) = inr (n, rw e refl)
 
 -- What the service answers
 

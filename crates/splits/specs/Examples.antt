@@ -1,5 +1,5 @@
--- What the service answers on worked cases, by its definition; proofs/Examples.antt computes them. The texts are those of
--- merging/specs/Examples.antt.
+-- What the service answers on worked cases, by its definition; proofs/Examples.antt computes them, and takes `past` and `within` from
+-- `MergedExactly`. The texts are those of merging/specs/Examples.antt.
 -- Assumes nothing.
 use mathlib.Core.Path.{_≡_}
 use mathlib.Core.List.{List, [], _∷_, _++_}
@@ -7,10 +7,11 @@ use Prim.Native.Nat.{ℕ}
 use lib.IntN.{ℤ, pos, negℤ}
 use lib.ListN.{replicate}
 use Rattle.text.specs.Strings.{lines}
-use Rattle.merging.specs.Examples.{programA, laterFirstA, laterA, secondA}
+use Rattle.merging.specs.Examples.{rules, programA, laterFirstA, laterA, secondA}
 use Rattle.splits.specs.declared.MergeAnswer.{MergeAnswer}
 use Rattle.splits.specs.declared.MergeAnswer.the-variants.{Merged, RefusedProgram, Refused}
-use Rattle.splits.specs.Service.{merge}
+use Rattle.splits.specs.Service.{mergedSteps, merge}
+use Rattle.splits.specs.Claims.{PastStore}
 
 -- program A, its two halves and their merge, as texts
 abbrev pub textA : List ℕ
@@ -46,6 +47,8 @@ pub record Worked : Type 0 where
   pub short-table : answerA 29 124 167 1 ≡ RefusedProgram (record { number = 10; line = 6 })
   -- "live words past the store 59"; the second half needs 84
   pub short-store : answerA 30 123 167 1 ≡ Refused 59
+  pub past : PastStore 123 (rules programA) (mergedSteps (rules programA) 1 halfA otherA)
+  pub within : ¬ (PastStore 124 (rules programA) (mergedSteps (rules programA) 1 halfA otherA))
   pub half-store : answerA 30 84 167 1 ≡ Refused 59
   pub no-store : answerA 30 83 167 1 ≡ Refused 57
   -- 58 before 59

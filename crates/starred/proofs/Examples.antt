@@ -2,7 +2,6 @@
 use mathlib.Core.Path.{_≡_, refl, sym, _∙_}
 use mathlib.Core.List.{List, [], _∷_}
 use Prim.Native.Nat.{ℕ}
-use native.Mathlib.Omega.{arith}
 use lib.IntN.{pos, negsuc}
 use lib.ListN.{length}
 use Rattle.words.specs.Limits.{entries}
@@ -10,23 +9,24 @@ use Rattle.words.specs.Literals.{insert, insertAll}
 use Rattle.text.specs.Decimals.{decimals, decimal}
 use Rattle.text.specs.Line.{lineOf}
 use Rattle.weights.specs.Weights.{sublists, minimalSets, bodies}
-use Rattle.aspif.specs.Rules.{plain, InputRule, bodiesOf, expandRule, expand, programWords}
+use Rattle.aspif.specs.Rules.{plain, weights, InputRule, bodiesOf, expandRule, expand, programWords}
 use Rattle.aspif.specs.Reading.{allWeights, ranged, shapeOf, arranged, program, readLines, readText, linesFrom}
-use Rattle.aspif.specs.Tables.{sizeAt, headsAt, bodyWordsAt, bodyAt, shapeSound, bodySound, soundAt, soundTable}
+use Rattle.aspif.specs.Tables.{sizeAt, headsAt, bodyWordsAt, boundAt, bodyAt, shapeSound, weightsSound, bodySound, soundAt, soundTable}
 use Rattle.aspif.specs.declared.Kind.the-variants.{Normal, Choice}
 use Rattle.marks.specs.Marks.{listed}
-use Rattle.answer_set.specs.SetTest.{giveHead, giveRule, least, yes, differs, verdictOf, asked, setAnswer}
+use Rattle.answer_set.specs.SetTest.{giveHead, giveRule, least, SetVerdict, yes, breaks, verdictOf, asked, setAnswer}
 use Rattle.answer_set.specs.Claims.{Ready}
 use Rattle.answer_set.specs.declared.SetAnswer.{SetAnswer}
 use Rattle.answer_set.specs.declared.SetAnswer.the-variants.{Yes}
-use Rattle.answer_set.proofs.Answered.{yes-answer-set}
+use Rattle.answer_set.proofs.Answered.{no-differs, no-breaks, yes-answer-set}
+use Rattle.answer_set.proofs.Broken.{breaks-lowest}
 use Rattle.drupe.specs.Texts.{stepsAt, stepsOf}
 use Rattle.derivation.specs.Loops.{isLoop}
 use Rattle.nogoods.specs.Store.{live, closed, killed}
 use Rattle.checker.specs.Report.{lent, printed}
 use Rattle.runs.specs.Course.{course}
 use Rattle.checker.specs.Check.{check}
-use Rattle.starred.specs.Examples.{SetPasses, SetFails, Starred, Source000, WeightBodies, LoopsOnly, OriginWords, DeadWords, LongLines}
+use Rattle.starred.specs.Examples.{SetPasses, SetFails, Starred, Source000, WeightBodies, BrokenSecond, LoopsOnly, OriginWords, DeadWords, LongLines}
 
 -- Which sets pass: the programs as they are read
 
@@ -46,12 +46,9 @@ passes text l P e ready v a = record { P = P; read = e; answer = a; answerSet = 
 
 -- the set test's own verdict is not yes
 fails : (text l : List ℕ) (P : List InputRule) (r : SetAnswer) → readText lent text ≡ program P → Ready (programWords P) (length P) l P
-    → {v : ℕ} → verdictOf (listed l) P ≡ differs v → setAnswer l (asked (programWords P) (length P) l entries) ≡ r → SetFails text l r
-fails text l P r e ready d a =
-    record { P = P; read = e; answer = a; none = λ s. not-yes (sym d ∙ yes-answer-set (programWords P) (length P) l P ready .1 s) }
-  where
-    not-yes : {v : ℕ} → differs v ≡ yes → ⊥
-    not-yes p = let z : _≡_ {A = ℕ} 0 1 = cc in omega arith
+    → {v : SetVerdict} → verdictOf (listed l) P ≡ v → ¬ (v ≡ yes) → setAnswer l (asked (programWords P) (length P) l entries) ≡ r → SetFails text l r
+fails text l P r e ready d f a =
+    record { P = P; read = e; answer = a; none = λ s. f (sym d ∙ yes-answer-set (programWords P) (length P) l P ready .1 s) }
 
 pub starred : Starred
 unfolding check course live closed killed stepsOf stepsAt readText readLines linesFrom shapeOf lineOf insert insertAll isLoop printed decimal decimals asked soundTable soundAt bodySound shapeSound sizeAt headsAt bodyWordsAt bodyAt expand expandRule bodiesOf verdictOf least giveRule giveHead
@@ -70,7 +67,7 @@ starred = record {
   five = refl;
   fiveWithout = refl;
   sixEmpty = passes _ [] rules6 refl (record { readable = refl; ascending = refl }) refl refl;
-  sixOneTwo = fails _ (1 ∷ 2 ∷ []) rules6 _ refl (record { readable = refl; ascending = refl }) refl refl;
+  sixOneTwo = fails _ (1 ∷ 2 ∷ []) rules6 _ refl (record { readable = refl; ascending = refl }) refl no-differs refl;
   sevenEmpty = passes _ [] rules7 refl (record { readable = refl; ascending = refl }) refl refl;
   sevenOne = passes _ (1 ∷ []) rules7 refl (record { readable = refl; ascending = refl }) refl refl;
   seven = refl;
@@ -89,6 +86,28 @@ source000 = refl
 pub weight-bodies : WeightBodies
 unfolding check course live closed killed stepsOf stepsAt readText readLines linesFrom shapeOf ranged allWeights arranged lineOf insert insertAll expand expandRule bodiesOf bodies minimalSets sublists
 weight-bodies = record { refuted = refl; wholeSet = refl; weightRange = refl; tooMany = refl }
+
+abbrev brokenRead : List InputRule
+brokenRead =
+    record { kind = Normal; heads = []; body = weights 4 (record { literal = pos 1; weight = 3 } ∷ record { literal = pos 2; weight = 2 } ∷ record { literal = pos 3; weight = 2 } ∷ []) }
+    ∷ record { kind = Normal; heads = []; body = plain (pos 1 ∷ negsuc 1 ∷ []) }
+    ∷ record { kind = Choice; heads = pos 1 ∷ pos 2 ∷ pos 3 ∷ []; body = plain [] }
+    ∷ record { kind = Normal; heads = []; body = plain (pos 1 ∷ []) } ∷ []
+
+broken-ready : Ready (programWords brokenRead) 4 (1 ∷ []) brokenRead
+unfolding soundTable soundAt bodySound weightsSound shapeSound sizeAt headsAt bodyWordsAt boundAt bodyAt allWeights
+broken-ready = record { readable = refl; ascending = refl }
+
+broken-verdict : verdictOf (listed (1 ∷ [])) brokenRead ≡ breaks 2
+unfolding verdictOf least giveRule giveHead
+broken-verdict = refl
+
+pub broken-second : BrokenSecond
+unfolding readText readLines linesFrom shapeOf ranged allWeights arranged lineOf insert insertAll asked soundTable soundAt bodySound weightsSound shapeSound sizeAt headsAt bodyWordsAt boundAt bodyAt verdictOf least giveRule giveHead fails
+broken-second = record {
+  answered = fails _ (1 ∷ []) brokenRead _ refl broken-ready broken-verdict no-breaks refl;
+  lowest = breaks-lowest (programWords brokenRead) 4 (1 ∷ []) brokenRead broken-ready 2 broken-verdict .1;
+}
 
 pub loops-only : LoopsOnly
 unfolding check course live closed killed stepsOf stepsAt readText readLines linesFrom shapeOf ranged allWeights arranged lineOf insert insertAll isLoop expand expandRule bodiesOf bodies minimalSets sublists

@@ -12,9 +12,9 @@ use Rattle.aspif.specs.Rules.{InputRule, expand, programWords}
 use Rattle.aspif.specs.Reading.{program, readText}
 use Rattle.aspif.specs.AnswerSets.{AnswerSet}
 use Rattle.answer_set.specs.SetTest.{asked, setAnswer}
-use Rattle.answer_set.specs.Claims.{Listed}
+use Rattle.answer_set.specs.Claims.{Listed, LowestRule}
 use Rattle.answer_set.specs.declared.SetAnswer.{SetAnswer}
-use Rattle.answer_set.specs.declared.SetAnswer.the-variants.{Yes, Differs}
+use Rattle.answer_set.specs.declared.SetAnswer.the-variants.{Yes, Differs, Broken}
 use Rattle.checker.specs.Check.{check}
 use Rattle.checker.specs.Report.{verdictLine, lent, printed}
 use Rattle.text.specs.Strings.{lines}
@@ -179,6 +179,17 @@ pub record WeightBodies : Type 0 where
   -- "a weight or bound out of its range is 54, more than 12 literals 55"
   pub weightRange : verdict (rules ("1 0 1 1 1 3 1 2 -1" ∷ [])) [] ≡ refusedProgram 54 2
   pub tooMany : verdict (rules ("1 0 0 1 1 13 1 1 2 1 3 1 4 1 5 1 6 1 7 1 8 1 9 1 10 1 11 1 12 1 13 1" ∷ [])) [] ≡ refusedProgram 55 2
+
+-- A broken constraint, no starred one: the first rule is a constraint that stands for three plain ones, of {1, 2}, {1, 3} and {2, 3}, the third
+-- a choice. The set {1} equals the least model, and breaks the second rule and the fourth.
+
+abbrev pub brokenRules : List ℕ
+brokenRules = rules ("1 0 0 1 4 3 1 3 2 2 3 2" ∷ "1 0 0 0 2 1 -2" ∷ "1 1 3 1 2 3 0 0" ∷ "1 0 0 0 1 1" ∷ [])
+
+pub record BrokenSecond : Type 0 where
+  pub answered : SetFails brokenRules (1 ∷ []) (Broken 2)
+  -- what that number means: `LowestBroken` in crates/answer_set/specs/Claims.antt
+  pub lowest : LowestRule (Listed (1 ∷ [])) (answered .P) 2
 
 -- Loops (Change 5), no starred ones
 pub record LoopsOnly : Type 0 where

@@ -48,7 +48,7 @@ pub record Halved (depth : ℕ) (path : List ℕ) (N v : ℕ) (numbers : List �
 
 module _ (path : List ℕ) (N : ℕ) (t : Shape) (rest : List ℕ) where
   -- an end, or a split
-  abbrev Begins : (depth : ℕ) → List ℕ → Type 0
+  abbrev pub Begins : (depth : ℕ) → List ℕ → Type 0
   Begins depth [] = ⊥
   Begins depth (v ∷ numbers) = ((v ≡ 0) × (t ≡ end) × (rest ≡ numbers)) ⊎ ((¬ (v ≡ 0)) × Halved depth path N v numbers t rest)
 
@@ -79,7 +79,7 @@ module _ (path : List ℕ) (N : ℕ) (t : Shape) (rest : List ℕ) where
   first-side d v numbers a (found l between) f e =
       second-side d v numbers a l between f (treeOf d (path ++ (v ∷ [])) N between) refl e
 
-  begins : (depth : ℕ) (tree : List ℕ) → treeOf depth path N tree ≡ found t rest → Begins depth tree
+  pub begins : (depth : ℕ) (tree : List ℕ) → treeOf depth path N tree ≡ found t rest → Begins depth tree
   unfolding treeOf
   begins zero [] e = none e
   begins (suc d) [] e = none e

@@ -1,4 +1,4 @@
--- What is claimed of the merge of a tree over texts; proofs/OverTrees.antt and proofs/Roots.antt prove it.
+-- What is claimed of the merge of a tree over texts; OverTrees.antt, OneTree.antt, Only.antt and Roots.antt of proofs/ prove it.
 -- Assumes nothing.
 use mathlib.Core.Path.{_≡_}
 use mathlib.Core.Bool.{true, false}
@@ -11,12 +11,15 @@ use Rattle.aspif.specs.Reading.{program, readText}
 use Rattle.drupe.specs.Texts.{textOf}
 use Rattle.derivation.specs.States.{isAtom}
 use Rattle.derivation.specs.Claims.{NoneAsWritten}
-use Rattle.runs.specs.Course.{stopped, course, isAccepted}
+use Rattle.runs.specs.Course.{isAccepted}
 use Rattle.checker.specs.Check.{check, isInconsistent}
 use Rattle.checker.specs.declared.Counts.{Counts}
 use Rattle.checker.specs.declared.Verdict.the-variants.{Inconsistent}
 use Rattle.merging.specs.Claims.{demandingAsWritten}
-use Rattle.splits.specs.Service.{mergedSteps, isWritable, leavesNothing}
+use Rattle.merging.specs.Trees.{Tree, mergedTree, Fits}
+use Rattle.merging.specs.Trees as Trees
+use Rattle.splits.specs.Service.{stepsIn, mergedSteps, isWritable, leavesNothing}
+use Rattle.splits.specs.Claims.{PastStore}
 use Rattle.splits.specs.declared.MergeAnswer.the-variants.{Merged, Refused}
 use Rattle.shapes.specs.Tree.{Shape, end, split, found, treeOf, mostSplits, leaves, ends, matches}
 use Rattle.trees.specs.Service.{firstEnd, mergeTree, MergedTree}
@@ -30,8 +33,8 @@ treeText ws (split v l r) texts =
     (treeText (demandingAsWritten ws (negℤ (pos v))) r (drop (leaves l) texts)))
 
 -- with a store of s words and an output of o bytes: each end is accepted with the constraints on its path, each split is on an
--- atom of the program, and every merge keeps to the
--- limits of lines and text, to the output, and to the store: its check is not stopped by 34
+-- atom of the program, and every merge keeps to the limits of lines and text, to the output, and to the store: its live words never go
+-- past it
 abbrev pub FitsAll : (s o : ℕ) → List InputRule → Shape → (texts : List (List ℕ)) → Type 0
 FitsAll s o ws end texts = isAccepted s ws (firstEnd texts) ≡ true
 FitsAll s o ws (split v l r) texts =
@@ -41,7 +44,7 @@ FitsAll s o ws (split v l r) texts =
     (isAtom (atoms ws) v ≡ true)
     × ((FitsAll s o first l texts × FitsAll s o second r later)
     × ((isWritable o (mergedSteps ws v (treeText first l texts) (treeText second r later)) ≡ true)
-    × ((n : ℕ) → ¬ (course (atoms ws) (expand ws) s (treeText ws (split v l r) texts) ≡ stopped 34 n))))
+    × (¬ (PastStore s ws (mergedSteps ws v (treeText first l texts) (treeText second r later))))))
 
 -- "The result is accepted whenever every merge fits": the outcome is then success, with the tree's text in the output and
 -- 0 after it. A root end has to fit the output too.
@@ -53,6 +56,28 @@ TreeWritten =
     → (mergeTree t s o text tree texts lengths .answer ≡ Merged (length (treeText ws shape (ends texts lengths))))
     × (mergeTree t s o text tree texts lengths .output
     ≡ treeText ws shape (ends texts lengths) ++ replicate (o - length (treeText ws shape (ends texts lengths))) 0)
+
+-- the tree of steps, as merging/specs/Trees.antt has it, that a tree's ends are read as
+abbrev pub treeSteps : Shape → (texts : List (List ℕ)) → Tree
+treeSteps end texts = Trees.end (stepsIn (firstEnd texts))
+treeSteps (split v l r) texts = Trees.split v (treeSteps l texts) (treeSteps r (drop (leaves l) texts))
+
+-- `treeText` here and `mergedTree` there are one: where every merge fits, `Fits` holds there too, and the tree's text is that of the merged
+-- steps. So `TreeAsWritten` there speaks of what is written here.
+abbrev pub OneTree : Type 0
+OneTree =
+    (s o : ℕ) (ws : List InputRule) (shape : Shape) (texts : List (List ℕ)) → FitsAll s o ws shape texts
+    → Fits (atoms ws) (expand ws) (treeSteps shape texts)
+    × (treeText ws shape texts ≡ textOf (mergedTree (atoms ws) (expand ws) (treeSteps shape texts)))
+
+-- The service writes a proof only where every merge fits, and what it writes is the tree's text: by its contract, whatever it is lent.
+abbrev pub TreeOnly : Type 0
+TreeOnly =
+    (text tree texts lengths : List ℕ) (table store table′ store′ : List ℤ) (output output′ : List ℕ) (n : ℕ)
+    → MergedTree text tree texts lengths table store table′ store′ output output′ (Merged n)
+    → (ws : List InputRule) × (readText (length table) text ≡ program ws)
+    × ((shape : Shape) × (treeOf mostSplits [] (atoms ws) tree ≡ found shape []) × (matches shape texts lengths ≡ true)
+    × FitsAll (length store) (length output) ws shape (ends texts lengths) × (take n output′ ≡ treeText ws shape (ends texts lengths)))
 
 -- "demand 3 then holds of the undivided program", by the contract, whatever is lent; and "the store is as the check of the proof written
 -- or taken leaves it": the text written, checked with the same lengths, is found inconsistent, and table and store are as that check

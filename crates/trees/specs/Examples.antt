@@ -6,9 +6,15 @@ use Prim.Native.Nat.{ℕ}
 use lib.ListN.{length}
 use Rattle.words.specs.Lists.{concat}
 use Rattle.text.specs.Strings.{lines}
+use Rattle.aspif.specs.Rules.{InputRule, expand, atoms}
+use Rattle.aspif.specs.Reading.{refused, program, readText}
+use Rattle.drupe.specs.Texts.{textOf}
+use Rattle.merging.specs.Trees.{mergedTree}
 use Rattle.splits.specs.declared.MergeAnswer.{MergeAnswer}
 use Rattle.splits.specs.declared.MergeAnswer.the-variants.{Merged, Refused}
+use Rattle.shapes.specs.Tree.{Shape, end, split, found, treeOf, mostSplits}
 use Rattle.trees.specs.Service.{mergeTree}
+use Rattle.trees.specs.Claims.{treeText, FitsAll, treeSteps}
 
 -- program C of the change: a choice over 1 to 7, and constraints that demand 7 and forbid it
 abbrev pub textC : List ℕ
@@ -25,6 +31,19 @@ badC = lines ("b 8 7 0" ∷ "c 8 0" ∷ "b 9 -7 0" ∷ "c 9 0" ∷ [])
 abbrev pub answerC : (store output : ℕ) → (tree : List ℕ) → (ends : List (List ℕ)) → MergeAnswer
 answerC s o tree ends = mergeTree 21 s o textC tree (concat ends) (map length ends) .answer
 
+-- its rules; a tree of two splits, as numbers and as a shape, and its ends
+abbrev pub rulesC : List InputRule
+rulesC = elim (readText 21 textC) [ refused k n ↦ [] | program ws ↦ ws ]
+
+abbrev pub treeC : List ℕ
+treeC = 1 ∷ 2 ∷ 0 ∷ 0 ∷ 0 ∷ []
+
+abbrev pub shapeC : Shape
+shapeC = split 1 (split 2 end end) end
+
+abbrev pub endsC : List (List ℕ)
+endsC = endC ∷ endC ∷ endC ∷ []
+
 pub record Worked : Type 0 where
   -- the empty list; too few numbers; an atom twice on a path
   pub none : answerC 24 33 [] [] ≡ Refused 64
@@ -39,7 +58,13 @@ pub record Worked : Type 0 where
   pub split-58 : answerC 24 40 (1 ∷ 0 ∷ 0 ∷ []) (endC ∷ endC ∷ []) ≡ Refused 58
   pub split-59 : answerC 24 400 (1 ∷ 0 ∷ 0 ∷ []) (endC ∷ endC ∷ []) ≡ Refused 59
   -- a merge of a merge
-  pub split : answerC 200 87 (1 ∷ 2 ∷ 0 ∷ 0 ∷ 0 ∷ []) (endC ∷ endC ∷ endC ∷ []) ≡ Merged 87
+  pub split : answerC 200 87 treeC endsC ≡ Merged 87
+  -- its text is that of the merged tree of steps
+  pub parsed : treeOf mostSplits [] (atoms rulesC) treeC ≡ found shapeC []
+  pub one-tree : treeText rulesC shapeC endsC ≡ textOf (mergedTree (atoms rulesC) (expand rulesC) (treeSteps shapeC endsC))
+  pub bytes : length (treeText rulesC shapeC endsC) ≡ 87
+  -- every merge fits, by `TreeOnly`
+  pub fits : FitsAll 200 87 rulesC shapeC endsC
   -- "the demanding side before the other": its 58 or 59 before a bad end on the other side
   pub first-58 : answerC 200 40 (1 ∷ 2 ∷ 0 ∷ 0 ∷ 0 ∷ []) (endC ∷ endC ∷ badC ∷ []) ≡ Refused 58
   pub first-59 : answerC 24 400 (1 ∷ 2 ∷ 0 ∷ 0 ∷ 0 ∷ []) (endC ∷ endC ∷ badC ∷ []) ≡ Refused 59

@@ -1,7 +1,7 @@
 -- A newline ends each line of a proof text and stands nowhere else in it, so that the last line is found from its end. Assumes nothing.
 use mathlib.Core.Path.{_≡_, refl, sym, _∙_, ap}
 use mathlib.Core.Logic.{inl, inr}
-use mathlib.Core.Bool.{Bool, true, false}
+use mathlib.Core.Bool.{Bool, true, false, true≢false}
 use mathlib.Core.List.{List, [], _∷_, _++_, append-nil, append-assoc, List·Memᴰ·append-cases, Memᴰ·of-map}
 use Prim.Native.Nat.{ℕ, suc, _+_, _-_, _<_, _≤_}
 use native.Mathlib.Omega.{arith}
@@ -13,13 +13,28 @@ use lib.Seq.{length-take-le, getD-take, getD-at, getD-append-add}
 use Rattle.words.specs.Lists.{_∈_}
 use Rattle.words.proofs.Lists.{each-cons}
 use Rattle.words.proofs.Places.{in-at}
-use Rattle.text.specs.Bytes.{byteOf}
+use Rattle.text.specs.Bytes.{byteOf, classOf}
 use Rattle.text.specs.Decimals.{digitsOf, digitByte, decimal, numberBytes, spaced}
 use Rattle.text.specs.declared.Letter.{Letter}
 use Rattle.text.specs.declared.Letter.the-variants.{Addition, Body, Completion, Deletion, Extension, Loop, Support}
+use Rattle.text.specs.declared.Class.{Class}
+use Rattle.text.specs.declared.Class.the-variants as Class
+use Rattle.text.proofs.Spelling.{Byte, byte-of}
 use Rattle.drupe.specs.Texts.{Step, stepText, textOf}
 use Rattle.drupe.proofs.Texts.{some-byte, text-append}
-use Rattle.trimming.specs.Passing.{LastLine}
+use Rattle.trimming.specs.Passing.{isNewline, LastLine}
+
+-- the one byte of its class
+newline-of : (c : Class) (b : ℕ) → Byte b c → isNewline c ≡ true → b ≡ 10
+newline-of Class.Newline b o e = o
+newline-of Class.Space b o e = absurd (true≢false (sym e))
+newline-of Class.Minus b o e = absurd (true≢false (sym e))
+newline-of (Class.Digit d) b o e = absurd (true≢false (sym e))
+newline-of (Class.Step x) b o e = absurd (true≢false (sym e))
+newline-of Class.Other b o e = absurd (true≢false (sym e))
+
+no-newline : (b : ℕ) → isNewline (classOf b) ≡ false → ¬ (b ≡ 10)
+no-newline b e p = true≢false (rw p at e)
 
 -- no byte is a newline
 abbrev Unbroken : List ℕ → Type 0
@@ -123,22 +138,22 @@ module _ (text : List ℕ) (end : ℕ) (inside : end ≤ length text) where
   pub later-none : NoLater text end (end - 1)
   later-none front t p = omega (arith, long front t p, length-append (textOf front) (stepText t), some-byte t)
 
-  pub later-on : (start : ℕ) → 0 < start → start < end → ¬ (getD text (start - 1) 0 ≡ 10) → NoLater text end start → NoLater text end (start - 1)
+  pub later-on : (start : ℕ) → 0 < start → start < end → isNewline (classOf (getD text (start - 1) 0)) ≡ false → NoLater text end start → NoLater text end (start - 1)
   later-on start z h f g front t p = by (ltb (length (textOf front)) start) refl
     where
       by : (b : Bool) → ltb (length (textOf front)) start ≡ b → length (textOf front) ≤ start - 1
       by true e = omega (arith, ltb-true (length (textOf front)) start e)
       by false e =
           let s : length (textOf front) ≡ start = omega (arith, ltb-false (length (textOf front)) start e, g front t p) in
-          absurd (f (byte front t p (start - 1) (omega arith) ∙ rw (← s) (ends-line front (stepText t) (omega (arith, s, z)))))
+          absurd (no-newline (getD text (start - 1) 0) f (byte front t p (start - 1) (omega arith) ∙ rw (← s) (ends-line front (stepText t) (omega (arith, s, z)))))
 
-  pub line-found : (start : ℕ) → 0 < start → start < end → getD text (start - 1) 0 ≡ 10 → NoLater text end start → LastLine text end start
+  pub line-found : (start : ℕ) → 0 < start → start < end → isNewline (classOf (getD text (start - 1) 0)) ≡ true → NoLater text end start → LastLine text end start
   line-found start z h f g front t p = by (ltb (length (textOf front)) start) refl
     where
       by : (b : Bool) → ltb (length (textOf front)) start ≡ b → start ≡ length (textOf front)
       by true e =
           absurd (within-line front t (start - 1) (omega (arith, ltb-true (length (textOf front)) start e)) (omega (arith, long front t p, h, z))
-          (sym (byte front t p (start - 1) (omega (arith, h, z))) ∙ f))
+          (sym (byte front t p (start - 1) (omega (arith, h, z))) ∙ newline-of (classOf (getD text (start - 1) 0)) (getD text (start - 1) 0) (byte-of (getD text (start - 1) 0)) f))
       by false e = omega (arith, ltb-false (length (textOf front)) start e, g front t p)
 
   pub line-first : NoLater text end 0 → LastLine text end 0

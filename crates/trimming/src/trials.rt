@@ -5,25 +5,45 @@ ghost use Prim.Native.Nat.{_<_, _≤_};
 ghost use lib.IntN.{pos};
 ghost use lib.ListN.{length, take, replicate};
 ghost use Rattle.words.specs.Limits.{longest, mostRules};
+ghost use Rattle.text.specs.Bytes.{classOf};
+ghost use Rattle.text.specs.Classes.{byteClasses};
 ghost use Rattle.aspif.specs.Rules.{InputRule};
 ghost use Rattle.drupe.specs.Texts.{Step, steps, stepsOf};
 ghost use Rattle.steps.specs.Held.{Program};
 ghost use Rattle.trimming.specs.Trims.{pass};
 ghost use Rattle.trimming.specs.Service.{accepted, trimmedSteps};
-ghost use Rattle.trimming.specs.Passing.{Reads, LastLine, without, triedText};
+ghost use Rattle.trimming.specs.Passing.{Reads, isNewline, LastLine, without, triedText};
 use checker::judging;
+use text::Class;
 use text::writing;
 use words::LONGEST;
 
+// Whether a byte ends a line.
+fn is_newline(b: u8, classes: &[u8; 256]) -> bool
+    requires { ⌜ now classes ≡ byteClasses ⌝ }
+    ensures { λ r. ⌜ r ≡ isNewline (classOf b) ⌝ }
+{
+    let class = text::class_of(classes, b);
+    match class {
+        Class::Newline => true,
+        Class::Space => false,
+        Class::Minus => false,
+        Class::Digit(_) => false,
+        Class::Step(_) => false,
+        Class::Other => false,
+    }
+}
+
 // Where the line that ends at `end` begins: after the newline before it, or at 0.
-fn line_start(text: &[u8], end: usize) -> usize
-    requires { ⌜ (0 < end) × (end ≤ length (now text)) ⌝ }
+fn line_start(text: &[u8], end: usize, classes: &[u8; 256]) -> usize
+    requires inside { ⌜ (0 < end) × (end ≤ length (now text)) ⌝ }
+    requires classes { ⌜ now classes ≡ byteClasses ⌝ }
     ensures before { λ r. ⌜ r < end ⌝ }
     ensures line { λ r. ⌜ LastLine (now (text .entry)) end r ⌝ }
 {
     let mut start = end - 1;
     while 0 < start {
-        if text[start - 1] == b'\n' {
+        if is_newline(text[start - 1], classes) {
             return start;
         }
         start -= 1;
@@ -80,11 +100,13 @@ fn pass(
     rules: usize,
     atoms: usize,
     store: &mut [i32],
+    classes: &[u8; 256],
 ) -> usize
     requires room { ⌜ (length (now text) ≤ longest) × (length (now trial) ≡ longest) ⌝ }
     requires within { ⌜ len ≤ length (now text) ⌝ }
     requires program { ⌜ ((ws : List InputRule) × Program (now table) rules atoms ws) × (rules ≤ mostRules) ⌝ }
     requires empty { ⌜ now store ≡ replicate (length (now store)) (pos 0) ⌝ }
+    requires classes { ⌜ now classes ≡ byteClasses ⌝ }
     ensures within { λ r. ⌜ r ≤ len ⌝ }
     ensures empty { λ r. ⌜ now (store .exit) ≡ replicate (length (now (store .entry))) (pos 0) ⌝ }
     ensures left { λ r. ⌜ ((ws : List InputRule) (ts : List Step) → Program (now (table .entry)) rules atoms ws
@@ -94,7 +116,7 @@ fn pass(
     let mut at = len;
     let mut left = len;
     while 0 < at {
-        let start = line_start(text, at);
+        let start = line_start(text, at, classes);
         left = try_without(text, start, at, left, trial, table, rules, atoms, store);
         at = start;
     }
@@ -118,10 +140,11 @@ pub fn passes(
         → stepsOf (now (text .entry)) ≡ steps ts
         → Reads (now (text .exit)) r (trimmedSteps (length (now (store .entry))) ws ts)) ⌝ }
 {
+    let classes = text::classes::CLASSES;
     let mut trial = [0u8; LONGEST];
     let mut len = text.len();
     loop {
-        let left = pass(text, len, &mut trial, table, rules, atoms, store);
+        let left = pass(text, len, &mut trial, table, rules, atoms, store, &classes);
         if left == len {
             return left;
         }

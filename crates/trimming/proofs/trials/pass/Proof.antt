@@ -11,10 +11,10 @@ use Rattle.trimming.proofs.trials.pass.Statement.{statement}
 use Rattle.trimming.proofs.trials.pass.Tie as tie
 
 abbrev Inv-loop : tie.InvT-loop
-Inv-loop text₀ len trial₀ table rules atoms store₀ at₀ left₀ text trial store at left = Passing text₀ len trial₀ table rules atoms store₀ text trial store at left
+Inv-loop text₀ len trial₀ table rules atoms store₀ classes at₀ left₀ text trial store at left = Passing text₀ len trial₀ table rules atoms store₀ text trial store at left
 
 abbrev μ-loop : tie.MeasureT-loop
-μ-loop text₀ len trial₀ table rules atoms store₀ at₀ left₀ text trial store at left = at
+μ-loop text₀ len trial₀ table rules atoms store₀ classes at₀ left₀ text trial store at left = at
 
 loop-holds : tie.Need-loop-holds Inv-loop μ-loop
 loop-holds c =
@@ -24,7 +24,7 @@ loop-holds c =
       same-text = search needs;
       same-trial = search needs;
       same-store = search needs;
-      zeros = s .pre .1 .1 .1;
+      zeros = s .pre .1 .1 .1 .0;
       ahead = omega arith;
       within = omega arith;
       trying = λ ws ts p r. try-start (length (a .store .now)) ws ts (s .pre .1 .0) (steps-exact (take (a .len) (a .text .now)) ts .0 r .0);
@@ -45,7 +45,7 @@ module _ (c : tie.In-loop Inv-loop μ-loop) where
   inside = let I = l .loop .inv in (I .ahead, omega (arith, I .within, I .same-text, s .pre .1 .0))
 
 line-start-requires : tie.Need-line-start-requires Inv-loop μ-loop
-line-start-requires c κs = let d = c .before in (some d, omega (arith, inside d .0, inside d .1))
+line-start-requires c κs = let d = c .before in ((some d, omega (arith, inside d .0, inside d .1)), s d .pre .1 .1 .1 .1)
 
 try-without-requires : tie.Need-try-without-requires Inv-loop μ-loop
 try-without-requires c κs =

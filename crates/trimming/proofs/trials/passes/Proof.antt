@@ -1,4 +1,4 @@
-use mathlib.Core.Path.{_≡_, sym, _∙_, ap}
+use mathlib.Core.Path.{_≡_, refl, sym, _∙_, ap}
 use mathlib.Core.List.{List, []}
 use Prim.Native.Nat.{ℕ, _≤_}
 use native.Mathlib.Omega.{arith}
@@ -6,6 +6,7 @@ use lib.IntN.{pos}
 use lib.ListN.{length, replicate, length-replicate}
 use Rattle.words.proofs.Laws.{zeros}
 use Rattle.words.specs.Limits.{longest}
+use Rattle.text.specs.Classes.{byteClasses}
 use Rattle.aspif.specs.Rules.{InputRule}
 use Rattle.drupe.specs.Texts.{Step, steps, stepsOf}
 use Rattle.steps.specs.Held.{Program}
@@ -18,10 +19,10 @@ use Rattle.trimming.proofs.trials.passes.Statement.{statement}
 use Rattle.trimming.proofs.trials.passes.Tie as tie
 
 abbrev Inv-loop : tie.InvT-loop
-Inv-loop text₀ table rules atoms store₀ trial₀ len₀ text store trial len = Repeated text₀ table rules atoms store₀ text store trial len
+Inv-loop text₀ table rules atoms store₀ classes trial₀ len₀ text store trial len = Repeated text₀ table rules atoms store₀ text store trial len
 
 abbrev μ-loop : tie.MeasureT-loop
-μ-loop text₀ table rules atoms store₀ trial₀ len₀ text store trial len = len
+μ-loop text₀ table rules atoms store₀ classes trial₀ len₀ text store trial len = len
 
 loop-holds : tie.Need-loop-holds Inv-loop μ-loop
 loop-holds c =
@@ -39,7 +40,7 @@ loop-holds c =
 -- a pass
 module _ (c : tie.After-pass Inv-loop μ-loop) where
   abbrev l : tie.At-loop Inv-loop μ-loop
-  l = c .before .before .before .before
+  l = c .before .before .before .before .before
 
   abbrev s : tie.Start Inv-loop μ-loop
   s = l .before .before
@@ -66,11 +67,12 @@ module _ (c : tie.After-pass Inv-loop μ-loop) where
         (c .pass .ensures .1 .1 ws (R .steps) p (reads-now (length (s .args .store .now)) ws ts (s .args .text .now) r (l .loop .text) (l .loop .len) R))
 
 pass-requires : tie.Need-pass-requires Inv-loop μ-loop
+unfolding byteClasses
 pass-requires c κs =
-    let k = c .before .before .before in
+    let k = c .before .before .before .before in
     let q = k .before .before .pre in
     let I = k .loop .inv in
-    ((omega (arith, I .same-text, q .0), I .room), (I .within, (q .1 .0, zeros (pos 0) {n = length (k .before .before .args .store .now)} (I .zeros) .0)))
+    ((omega (arith, I .same-text, q .0), I .room), (I .within, (q .1 .0, (zeros (pos 0) {n = length (k .before .before .args .store .now)} (I .zeros) .0, refl {a = byteClasses}))))
 
 returns : tie.Need-returns Inv-loop μ-loop
 returns c =
@@ -114,7 +116,7 @@ passes-spec =
     (λ c. sym (c .before .before .loop .inv .room))
     pass-requires
     (λ c. same-text (c .before .before .before .before .before))
-    (λ c. (c .before .before .before .before .before .pass .kept .1 .1 .1 .1 .1 .1 .0) ∙ (c .before .before .before .before .before .before .before .before .before .loop .inv .same-store))
+    (λ c. let d = c .before .before .before .before .before in d .pass .kept .1 .1 .1 .1 .1 .1 .0 ∙ l d .loop .inv .same-store)
     returns
     loop-less
     loop-again)
