@@ -1,7 +1,7 @@
 -- Which plain rules a program as written stands for, and what they name.
 -- Assumes nothing.
 use mathlib.Core.Path.{_≡_, refl}
-use mathlib.Core.List.{List, [], _∷_, _++_, map, List·Memᴰ·head, List·Memᴰ·tail, List·Memᴰ·eq-of-singleton, Memᴰ·map, Memᴰ·of-map}
+use mathlib.Core.List.{List, _++_, map, List·Memᴰ·eq-of-singleton, Memᴰ·map, Memᴰ·of-map}
 use Prim.Native.Nat.{ℕ, _≤_, max}
 use native.Mathlib.Omega.{arith}
 use lib.IntN.{ℤ}
@@ -12,7 +12,7 @@ use Rattle.weights.specs.Claims.{_⊑_, none, with-it, without}
 use Rattle.weights.proofs.Sublists.{sublist-map}
 use Rattle.weights.proofs.Minimal.{body→}
 use Rattle.aspif.specs.Rules.{Rule, Body, plain, weights, InputRule, literalsOf, bodiesOf, withBody, expandRule, expand, plainAtoms, ruleTop, atoms}
-use Rattle.aspif.proofs.RuleTests.{in-greatest}
+use Rattle.aspif.proofs.RuleTests.{in-greatest, greatest-within}
 
 -- a plain rule comes from one as written, with one of its bodies
 pub record Expanded (ws : List InputRule) (r : Rule) : Type 0 where
@@ -54,16 +54,8 @@ body-top (weights b l) i =
     let h = top-part (sublist-map (λ x. x .literal) (s .1)) in
     rw (← s.3) h
 
--- where each rule names no atom above n, the rules do not
-pub atoms-within : (n : ℕ) (rs : List Rule) → ((r : Rule) → r ∈ rs → max (top (r .heads)) (top (r .body)) ≤ n) → plainAtoms rs ≤ n
-atoms-within n [] f = omega arith
-atoms-within n (r ∷ rs) f =
-    let a = f r (List·Memᴰ·head refl) in
-    let b = atoms-within n rs (λ s i. f s (List·Memᴰ·tail i)) in
-    omega arith
-
 pub plain-atoms : (ws : List InputRule) → plainAtoms (expand ws) ≤ atoms ws
-plain-atoms ws = atoms-within (atoms ws) (expand ws) (λ r i. small (expand→ ws i))
+plain-atoms ws = greatest-within (λ (r : Rule). max (top (r .heads)) (top (r .body))) (atoms ws) (expand ws) (λ r i. small (expand→ ws i))
   where
     small : {r : Rule} → Expanded ws r → max (top (r .heads)) (top (r .body)) ≤ atoms ws
     small x =

@@ -31,6 +31,14 @@ pub in-greatest : {A : Type 0} (f : A → ℕ) {x : A} {l : List A} → x ∈ l 
 in-greatest f (List·Memᴰ·head {xs = l} p) = rw p (omega arith)
 in-greatest f (List·Memᴰ·tail {xs = l} i) = let h = in-greatest f i in omega arith
 
+-- where no element has a number above n, the greatest is not
+pub greatest-within : {A : Type 0} (f : A → ℕ) (n : ℕ) (l : List A) → ((x : A) → x ∈ l → f x ≤ n) → greatest f l ≤ n
+greatest-within f n [] h = omega arith
+greatest-within f n (x ∷ l) h =
+    let a = h x (List·Memᴰ·head refl) in
+    let b = greatest-within f n l (λ y i. h y (List·Memᴰ·tail i)) in
+    omega arith
+
 -- one element more
 pub greatest-more : {A : Type 0} (f : A → ℕ) (l : List A) (x : A) → greatest f (l ++ (x ∷ [])) ≡ max (greatest f l) (f x)
 greatest-more f [] x = omega arith

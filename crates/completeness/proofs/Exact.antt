@@ -2,17 +2,16 @@
 use mathlib.Core.Path.{refl}
 use mathlib.Core.Logic.{_⊎_, inl, inr}
 use mathlib.Core.List.{List, []}
-use Prim.Native.Nat.{ℕ, _≤_}
+use Prim.Native.Nat.{ℕ, _≤_, max}
 use native.Mathlib.Omega.{arith}
-use lib.IntN.{ℤ, pos}
+use lib.IntN.{pos}
 use Rattle.words.specs.Lists.{_∈_}
-use Rattle.words.specs.Literals.{variable, top}
-use Rattle.words.proofs.Lists.{all-decides, leb-decides}
-use Rattle.words.proofs.Tops.{top-decides}
+use Rattle.words.specs.Literals.{top}
+use Rattle.words.proofs.Tops.{top-within}
 use Rattle.words.proofs.Literals.{has-decides}
 use Rattle.aspif.specs.Rules.{Rule, plainAtoms}
 use Rattle.aspif.specs.AnswerSets.{AnswerSet}
-use Rattle.aspif.proofs.Expansion.{atoms-within}
+use Rattle.aspif.proofs.RuleTests.{greatest-within}
 use Rattle.drupe.specs.Texts.{Step}
 use Rattle.derivation.specs.States.{State}
 use Rattle.derivation.proofs.Invariant.{Kept}
@@ -33,13 +32,9 @@ module _ (N : ℕ) (P : List Rule) (fits : plainAtoms P ≤ N) (M : ℕ → Type
   none-left ts r = never-empty N P M (freeStep N P) free-fine (freeSteps N P) (λ z. refl) (λ z t ts. refl) ts (r .0) (r .1) (r .2)
 
 -- a program that is well formed names no atom above N
-module _ (N : ℕ) where
-  top-within : (l : List ℤ) → ((x : ℤ) → x ∈ l → variable x ≤ N) → top l ≤ N
-  top-within l f = top-decides N l .to (all-decides (λ x. leb-decides (variable x) N) l .from f)
-
-  pub well-within : (P : List Rule) → WellFormed N P → plainAtoms P ≤ N
-  well-within P wf =
-      atoms-within N P (λ r m. omega (arith, top-within (r .heads) (λ h i. wf .heads r m h i .1), top-within (r .body) (λ x i. wf .literals r m x i .1)))
+pub well-within : (N : ℕ) (P : List Rule) → WellFormed N P → plainAtoms P ≤ N
+well-within N P wf =
+    greatest-within (λ (r : Rule). max (top (r .heads)) (top (r .body))) N P (λ r m. omega (arith, top-within N (r .heads) (λ h i. wf .heads r m h i .1), top-within N (r .body) (λ x i. wf .literals r m x i .1)))
 
 pub exact : Exact
 exact N P wf = (λ f. by f (complete N P wf), λ ts r. none-further P (λ M S. none-left N P (well-within N P wf) M S ts r))

@@ -2,7 +2,7 @@
 use mathlib.Core.Path.{_≡_, refl, sym, _∙_, ap}
 use mathlib.Core.Logic.{_⊎_, inl, inr, _≢_}
 use mathlib.Core.Bool.{Bool, true, false, not, cond}
-use mathlib.Core.List.{List, [], _∷_, map, map-id, List·Memᴰ·head, List·Memᴰ·tail, List·Memᴰ·cases-cons, Memᴰ·cast, Memᴰ·map, Memᴰ·of-map}
+use mathlib.Core.List.{List, [], _∷_, map, List·Memᴰ·head, List·Memᴰ·tail, List·Memᴰ·cases-cons, Memᴰ·cast, Memᴰ·map, Memᴰ·of-map}
 use Prim.Native.Nat.{ℕ, zero, suc, _≤_, _<_}
 use native.Mathlib.Omega.{arith}
 use lib.Dec.{T, leb}
@@ -10,8 +10,10 @@ use lib.IntN.{ℤ, pos, negsuc}
 use lib.ListN.{length}
 use Rattle.words.specs.Lists.{_∈_, filter}
 use Rattle.words.specs.Literals.{variable, complement, same, sameList, distinct}
-use Rattle.words.proofs.Lists.{itself, keep-lt, answered, is-true, if-true, not-decides, leb-decides, keep→, keep←, length-keep}
+use Rattle.words.proofs.Lists.{itself, keep-lt, answered, is-true, not-decides, leb-decides, keep→, keep←, length-keep}
 use Rattle.words.proofs.Places.{once-decides}
+use Rattle.weights.proofs.Sublists.{kept, sublist-map}
+use Rattle.weights.proofs.Reordered.{distinct-part}
 use Rattle.words.proofs.Literals.{same-decides, sameList-decides, same-variable, complement-twice, variable-complement}
 
 -- Lists in which no variable stands twice
@@ -24,18 +26,11 @@ pub in-kept : {A B : Type 0} (g : A → B) (f : A → Bool) {y : B} (l : List A)
 in-kept g f l i = let q = Memᴰ·of-map g (filter f l) i in Memᴰ·cast (sym (q .2)) (Memᴰ·map g (keep→ f l (q .1) .0))
 
 -- what is kept of such a list is one
-module _ {A : Type 0} (g : A → ℤ) (f : A → Bool) where
-  pub distinct-keep : (l : List A) → distinct (map g l) ≡ true → distinct (map g (filter f l)) ≡ true
-  distinct-keep [] e = refl
-  distinct-keep (x ∷ l) e = let d = if-true (once-decides (g x) (map g l)) e in go (f x) (d .0) (distinct-keep l (d .1))
-    where
-      go : (b : Bool) → ¬ ((y : ℤ) × (y ∈ map g l) × (variable (g x) ≡ variable y)) → distinct (map g (filter f l)) ≡ true
-          → distinct (map g (cond b (x ∷ filter f l) (filter f l))) ≡ true
-      go true h d = distinct-cons (g x) (map g (filter f l)) (λ y i p. h (y, in-kept g f l i, p)) d
-      go false h d = d
+pub distinct-keep : {A : Type 0} (g : A → ℤ) (f : A → Bool) (l : List A) → distinct (map g l) ≡ true → distinct (map g (filter f l)) ≡ true
+distinct-keep g f l e = distinct-part (sublist-map g (kept f l)) e
 
 pub distinct-filter : (f : ℤ → Bool) (l : List ℤ) → distinct l ≡ true → distinct (filter f l) ≡ true
-distinct-filter f l e = let d : distinct (map (λ x. x) (filter f l)) ≡ true = distinct-keep (λ x. x) f l (rw (map-id l) e) in rw (map-id (filter f l)) at d
+distinct-filter f l e = distinct-part (kept f l) e
 
 -- without those that pass the list is shorter
 pub fewer : {A : Type 0} (f : A → Bool) {x : A} {l : List A} → x ∈ l → T (f x) → length (filter (λ y. not (f y)) l) < length l

@@ -11,7 +11,7 @@ use Rattle.words.proofs.Places.{once-decides}
 use Rattle.words.proofs.Sorting.{rising-ascending}
 use Rattle.weights.specs.Weights.{literals}
 use Rattle.weights.specs.Claims.{Reorder, nothing, first-stays, exchange, one-more}
-use Rattle.weights.proofs.Reordered.{as-it-was, reorder-map, reorder-distinct, reorder-ascending}
+use Rattle.weights.proofs.Reordered.{as-it-was, reorder-after, reorder-front, reorder-map, reorder-distinct, reorder-ascending}
 use Rattle.aspif.specs.Reading.{weightIn, withWeight, arranged}
 use Rattle.aspif.proofs.PairWords.{own-weights}
 use Rattle.costs.specs.Costs.{Cost}
@@ -27,14 +27,6 @@ reorder-insert x (y ∷ l) = by (ltb (variable x) (variable y)) (reorder-insert 
     by : (t : Bool) → Reorder (insert x l) (x ∷ l) → Reorder (cond t (x ∷ y ∷ l) (y ∷ insert x l)) (x ∷ y ∷ l)
     by true r = as-it-was (x ∷ y ∷ l)
     by false r = one-more (first-stays r) exchange
-
-reorder-after : (k : List ℤ) {l m : List ℤ} → Reorder l m → Reorder (k ++ l) (k ++ m)
-reorder-after [] r = r
-reorder-after (x ∷ k) r = first-stays (reorder-after k r)
-
-reorder-front : (x : ℤ) (k l : List ℤ) → Reorder (k ++ (x ∷ l)) (x ∷ k ++ l)
-reorder-front x [] l = as-it-was (x ∷ l)
-reorder-front x (y ∷ k) l = one-more (first-stays (reorder-front x k l)) exchange
 
 reorder-all : (acc l : List ℤ) → Reorder (insertAll acc l) (l ++ acc)
 unfolding insertAll

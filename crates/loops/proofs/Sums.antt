@@ -17,8 +17,8 @@ use Rattle.words.proofs.Lists.{and-decides, or-decides, not-decides, any-decide
 use Rattle.words.proofs.Literals.{same-decides, has-decides}
 use Rattle.words.proofs.Places.{once-decides}
 use Rattle.weights.specs.Weights.{Weighted, sum, literals, sublists, isMinimal, bodies, paired}
-use Rattle.weights.specs.Claims.{_⊑_, none, with-it, without, Reorder, first-stays, exchange, one-more}
-use Rattle.weights.proofs.Sublists.{listed, is-sublist, through, kept, kept-of, in-whole, sublist-map, sum-le}
+use Rattle.weights.specs.Claims.{_⊑_, with-it, without, Reorder, first-stays, exchange, one-more}
+use Rattle.weights.proofs.Sublists.{listed, is-sublist, none-of, through, kept, kept-of, in-whole, sublist-map, sum-le}
 use Rattle.weights.proofs.Minimal.{ltb-decides, parts, body→, body←}
 use Rattle.weights.proofs.Matching.{pair-on}
 use Rattle.weights.proofs.Reached.{Trimmed, trim}
@@ -36,10 +36,6 @@ unfolding hasSum
 sum-decides low high l =
     reworded (λ r. (r .0, is-sublist l (r .1), r .2)) (λ r. (r .0, listed (r .1), r .2))
     (any-decides (λ s. and-decides (leb-decides low (sum s)) (ltb-decides (sum s) high)) (sublists l))
-
-none-of : (l : List Weighted) → [] ⊑ l
-none-of [] = none
-none-of (x ∷ l) = without (none-of l)
 
 module _ (low high : ℕ) where
   -- they do not reach the one

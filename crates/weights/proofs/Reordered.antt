@@ -2,7 +2,7 @@
 -- Assumes nothing.
 use mathlib.Core.Path.{_≡_, refl, sym, ap, _∙_}
 use mathlib.Core.Bool.{Bool, true, false, _&&_, _||_, and-comm, and-false}
-use mathlib.Core.List.{List, [], _∷_, map, List·Memᴰ·head, List·Memᴰ·tail, Memᴰ·cast}
+use mathlib.Core.List.{List, [], _∷_, _++_, map, List·Memᴰ·head, List·Memᴰ·tail, Memᴰ·cast}
 use Prim.Native.Nat.{ℕ, suc, _+_}
 use native.Mathlib.Omega.{arith}
 use lib.Dec.{T, eqb, ltb}
@@ -46,6 +46,14 @@ module _ {A : Type 0} where
   reorder-length (first-stays r) = ap suc (reorder-length r)
   reorder-length exchange = refl
   reorder-length (one-more r q) = reorder-length r ∙ reorder-length q
+
+  pub reorder-after : (k : List A) {l m : List A} → Reorder l m → Reorder (k ++ l) (k ++ m)
+  reorder-after [] r = r
+  reorder-after (x ∷ k) r = first-stays (reorder-after k r)
+
+  pub reorder-front : (x : A) (k l : List A) → Reorder (k ++ (x ∷ l)) (x ∷ k ++ l)
+  reorder-front x [] l = as-it-was (x ∷ l)
+  reorder-front x (y ∷ k) l = one-more (first-stays (reorder-front x k l)) exchange
 
   pub reorder-any : {l m : List A} (f : A → Bool) → Reorder l m → any f l ≡ any f m
   reorder-any f nothing = refl
@@ -97,6 +105,12 @@ pub rising-distinct : (l : List ℤ) → rising l ≡ true → distinct l ≡ tr
 rising-distinct [] e = refl
 rising-distinct (x ∷ l) e =
     is-true (once-decides x l) (λ r. omega (arith, rising-below x l e (r .0) (r .1), r .2), rising-distinct l (rising-tail x l e))
+
+pub distinct-part : {s l : List ℤ} → s ⊑ l → distinct l ≡ true → distinct s ≡ true
+distinct-part none e = refl
+distinct-part (with-it {x = x} {s = s} {l = l} h) e =
+    let d = if-true (once-decides x l) e in is-true (once-decides x s) (λ r. d .0 (r .0, in-whole (r .1) h, r .2), distinct-part h (d .1))
+distinct-part (without {x = x} {l = l} h) e = distinct-part h (if-true (once-decides x l) e .1)
 
 pub rising-part : {s l : List ℤ} → s ⊑ l → rising l ≡ true → rising s ≡ true
 rising-part none e = refl

@@ -120,6 +120,10 @@ module _ {A : Type 0} where
   itself [] = none
   itself (x ∷ l) = with-it (itself l)
 
+  pub none-of : (l : List A) → [] ⊑ l
+  none-of [] = none
+  none-of (x ∷ l) = without (none-of l)
+
   pub through : {r s l : List A} → r ⊑ s → s ⊑ l → r ⊑ l
   through h none = h
   through (with-it h) (with-it k) = with-it (through h k)

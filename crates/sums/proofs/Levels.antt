@@ -1,0 +1,301 @@
+-- `LevelsComplete`, `PlannedIs` and what follows for whole programs. Assumes nothing.
+use mathlib.Core.Path.{_≡_, refl, sym, ap, ap₂, subst, _∙_}
+use mathlib.Core.Logic.{_⊎_, inl, inr, _↔_}
+use mathlib.Core.Bool.{not}
+use mathlib.Core.List.{List, [], _∷_, _++_, map, append-assoc, append-nil, List·Memᴰ·eq-of-singleton, List·Memᴰ·head, List·Memᴰ·tail, Memᴰ·map, Memᴰ·of-map}
+use Prim.Native.Nat.{ℕ, zero, suc, _+_, _≤_, _<_, min}
+use native.Mathlib.Omega.{arith}
+use lib.Dec.{T, leb, ltb, eqb}
+use lib.ListN.{length, take, drop, take-append-drop, length-drop}
+use Rattle.words.specs.Lists.{_∈_, concat, filter}
+use Rattle.words.proofs.Lists.{Decides, answered, leb-decides, eqb-decides, not-decides, and-decides, or-decides, any-decides, all-decides, keep→, keep←, joinAll→, joinAll←, by-test}
+use Rattle.weights.specs.Weights.{Weighted, sum}
+use Rattle.weights.specs.Claims.{_⊑_, none, with-it, without, Reorder}
+use Rattle.weights.proofs.Sublists as sub
+use Rattle.weights.proofs.Minimal.{ltb-decides}
+use Rattle.weights.proofs.Reordered.{as-it-was}
+use Rattle.aspif.specs.Rules.{Body, plain, weights, InputRule, expand, atoms}
+use Rattle.aspif.specs.AnswerSets.{AnswerSet}
+use Rattle.derivation.specs.Claims.{NoneAsWritten}
+use Rattle.derivation.proofs.AsWritten.{soundness-as-written}
+use Rattle.sums.specs.Plans.{joined, pairsOf, levelsOf, Item, written, allNeeds, program, allDefinitions}
+use Rattle.sums.specs.Levels.{Shape, few, both, pairsIn, once, together, sumsOf, attained, isUseful, useful, levelled, dividedBy, isShort, chain, chained, planBody, planned, splitProgram, chunks}
+use Rattle.sums.specs.Extension.{UpTo, Extended}
+use Rattle.sums.specs.Claims.{Way, Complete, CompleteItem, LevelsComplete, LevelsWithin, Shaping, InGroups, PlannedIs, ProgramSound, ProofOfSplit, ProgramKeeps, ProgramConserves, ProgramDetermines, ProgramAtoms}
+use Rattle.sums.proofs.Lowest.{Lowest, lowest-at}
+use Rattle.sums.proofs.Nodes.{Cut, cut, sum-both}
+use Rattle.sums.proofs.Split.{split-keeps, split-conserves, split-determines, split-sound, split-within}
+
+-- Sums that can come about
+
+once-in : {x : ℕ} {l : List ℕ} → x ∈ l → x ∈ once l
+unfolding once
+once-in (List·Memᴰ·head e) = List·Memᴰ·head e
+once-in {x} (List·Memᴰ·tail {x = y} {xs = l} i) = go (answered (eqb y x)) (once-in i)
+  where
+    go : T (eqb y x) ⊎ T (not (eqb y x)) → x ∈ once l → x ∈ y ∷ filter (λ z. not (eqb y z)) (once l)
+    go (inl t) j = List·Memᴰ·head (sym (eqb-decides y x .to t))
+    go (inr t) j = List·Memᴰ·tail (keep← (λ z. not (eqb y z)) j t)
+
+once-of : {x : ℕ} (l : List ℕ) → x ∈ once l → x ∈ l
+unfolding once
+once-of [] i = i
+once-of (y ∷ l) (List·Memᴰ·head e) = List·Memᴰ·head e
+once-of (y ∷ l) (List·Memᴰ·tail i) = List·Memᴰ·tail (once-of l (keep→ (λ z. not (eqb y z)) (once l) i .0))
+
+module _ (b : ℕ) (us vs : List ℕ) where
+  together-in : {u v : ℕ} → u ∈ us → v ∈ vs → min b (u + v) ∈ together b us vs
+  unfolding together
+  together-in {u} i j = once-in (joinAll← (Memᴰ·map (λ u. map (λ v. min b (u + v)) vs) i) (Memᴰ·map (λ v. min b (u + v)) j))
+
+  together-low : {x : ℕ} → x ∈ together b us vs → x ≤ b
+  unfolding together
+  together-low {x} i =
+      let r = joinAll→ (map (λ u. map (λ v. min b (u + v)) vs) us) (once-of _ i) in
+      let u = Memᴰ·of-map (λ u. map (λ v. min b (u + v)) vs) us (r .1) in
+      let v = Memᴰ·of-map (λ v. min b (u .0 + v)) vs (subst (λ l. x ∈ l) (sym (u .2)) (r .2)) in
+      let e = v .2 in
+      omega arith
+
+sums-in : (b : ℕ) {s l : List Weighted} → s ⊑ l → min b (sum s) ∈ sumsOf b l
+unfolding sumsOf
+sums-in b none = let e : min b 0 ≡ 0 = omega arith in List·Memᴰ·head e
+sums-in b (with-it {x = x} {s = s} {l = l} h) =
+    let e : min b (x .weight + min b (sum s)) ≡ min b (x .weight + sum s) = omega arith in
+    subst (λ n. n ∈ together b (0 ∷ x .weight ∷ []) (sumsOf b l)) e (together-in b (0 ∷ x .weight ∷ []) (sumsOf b l) (List·Memᴰ·tail (List·Memᴰ·head refl)) (sums-in b h))
+sums-in b (without {x = x} {s = s} {l = l} h) =
+    let e : min b (0 + min b (sum s)) ≡ min b (sum s) = omega arith in
+    subst (λ n. n ∈ together b (0 ∷ x .weight ∷ []) (sumsOf b l)) e (together-in b (0 ∷ x .weight ∷ []) (sumsOf b l) (List·Memᴰ·head refl) (sums-in b h))
+
+attained-in : (b : ℕ) (s : Shape) {t : List Weighted} → t ⊑ pairsIn s → min b (sum t) ∈ attained b s
+unfolding attained
+attained-in b (few l) h = sums-in b h
+attained-in b (both p q) {t} h = go (cut (pairsIn p) (pairsIn q) h) (λ u o. attained-in b p o) (λ u o. attained-in b q o)
+  where
+    go : Cut t (pairsIn p) (pairsIn q) → ((u : List Weighted) → u ⊑ pairsIn p → min b (sum u) ∈ attained b p)
+        → ((u : List Weighted) → u ⊑ pairsIn q → min b (sum u) ∈ attained b q) → min b (sum t) ∈ together b (attained b p) (attained b q)
+    go c left right =
+        let d : sum t ≡ sum (c .first) + sum (c .second) = ap sum (c .is) ∙ sum-both (c .first) (c .second) in
+        let e : min b (min b (sum (c .first)) + min b (sum (c .second))) ≡ min b (sum t) = omega arith in
+        subst (λ n. n ∈ together b (attained b p) (attained b q)) e
+        (together-in b (attained b p) (attained b q) (left (c .first) (c .of-first)) (right (c .second) (c .of-second)))
+
+-- Levels
+
+pub levelled-pairs : (b : ℕ) (others : List ℕ) (s : Shape) → pairsOf (levelled b others s) ≡ pairsIn s
+unfolding levelled
+levelled-pairs b others (few l) = refl
+levelled-pairs b others (both s t) =
+    ap₂ (λ (k l : List Weighted). k ++ l) (levelled-pairs b (together b others (attained b t)) s) (levelled-pairs b (together b others (attained b s)) t)
+
+levelled-levels : (b : ℕ) (others : List ℕ) (s : Shape) → levelsOf (levelled b others s) ≡ useful b others (attained b s)
+unfolding levelled
+levelled-levels b others (few l) = refl
+levelled-levels b others (both s t) = refl
+
+-- u reaches the bound beside o, and nothing lower of us does
+abbrev Differs : (b o : ℕ) (us : List ℕ) (u : ℕ) → Type 0
+Differs b o us u = (b ≤ u + o) × ((v : ℕ) → v ∈ us → (u ≤ v) ⊎ (v + o < b))
+
+useful-decides : (b : ℕ) (others us : List ℕ) (u : ℕ)
+    → Decides (isUseful b others us u) ((0 < u) × ((o : ℕ) × (o ∈ others) × Differs b o us u))
+useful-decides b others us u =
+    and-decides (ltb-decides 0 u)
+    (any-decides (λ o. and-decides (leb-decides b (u + o)) (all-decides (λ v. or-decides (leb-decides u v) (ltb-decides (v + o) b)) us)) others)
+
+-- Levels are within the bound
+
+sums-low : (b : ℕ) (l : List Weighted) {u : ℕ} → u ∈ sumsOf b l → u ≤ b
+unfolding sumsOf
+sums-low b [] i = let e = List·Memᴰ·eq-of-singleton i in omega arith
+sums-low b (x ∷ l) i = together-low b (0 ∷ x .weight ∷ []) (sumsOf b l) i
+
+attained-low : (b : ℕ) (s : Shape) {u : ℕ} → u ∈ attained b s → u ≤ b
+unfolding attained
+attained-low b (few l) i = sums-low b l i
+attained-low b (both s t) i = together-low b (attained b s) (attained b t) i
+
+pub levels-within : LevelsWithin
+levels-within b others s t i =
+    let x = keep→ (isUseful b others (attained b s)) (attained b s) (subst (λ l. t ∈ l) (levelled-levels b others s) i) in
+    (useful-decides b others (attained b s) t .to (x .1) .0, attained-low b s (x .0))
+
+-- The levels are enough
+
+-- the level of a side that is enough beside o, where a is
+record Level (b : ℕ) (others : List ℕ) (s : Shape) (o a : ℕ) : Type 0 where
+  at : ℕ
+  came : at ∈ attained b s
+  among : at ∈ 0 ∷ levelsOf (levelled b others s)
+  lower : at ≤ a
+  reaches : b ≤ at + o
+
+level-at : (b : ℕ) (others : List ℕ) (s : Shape) (o a : ℕ) → o ∈ others → a ∈ attained b s → b ≤ a + o → Level b others s o a
+level-at b others s o a i j h = go (lowest-at (λ n. n) (λ v. leb b (v + o)) (attained b s) a j (leb-decides b (a + o) .from h))
+  where
+    go : Lowest (λ n. n) (λ v. leb b (v + o)) (attained b s) → Level b others s o a
+    go d =
+        record {
+          at = d .one;
+          came = d .among;
+          among = place (answered (ltb 0 (d .one)));
+          lower = d .least a j (leb-decides b (a + o) .from h);
+          reaches = reach;
+        }
+      where
+        reach : b ≤ d .one + o
+        reach = leb-decides b (d .one + o) .to (d .passes)
+
+        lowest-one : (v : ℕ) → v ∈ attained b s → (d .one ≤ v) ⊎ (v + o < b)
+        lowest-one v k = pick (answered (leb b (v + o)))
+          where
+            pick : T (leb b (v + o)) ⊎ T (not (leb b (v + o))) → (d .one ≤ v) ⊎ (v + o < b)
+            pick (inl t) = inl (d .least v k t)
+            pick (inr t) = inr (let n = not-decides (leb-decides b (v + o)) .to t in omega arith)
+
+        place : T (ltb 0 (d .one)) ⊎ T (not (ltb 0 (d .one))) → d .one ∈ 0 ∷ levelsOf (levelled b others s)
+        place (inl t) =
+            List·Memᴰ·tail (subst (λ l. d .one ∈ l) (sym (levelled-levels b others s))
+            (keep← (isUseful b others (attained b s)) (d .among)
+            (useful-decides b others (attained b s) (d .one) .from (ltb-decides 0 (d .one) .to t, (o, i, (reach, lowest-one))))))
+        place (inr t) = let n = not-decides (ltb-decides 0 (d .one)) .to t in let e : d .one ≡ 0 = omega arith in List·Memᴰ·head e
+
+module _ (b : ℕ) (others : List ℕ) (s t : Shape) where
+  abbrev lefts : List ℕ
+  lefts = together b others (attained b t)
+
+  abbrev rights : List ℕ
+  rights = together b others (attained b s)
+
+  -- a level of the node that makes a difference beside o is reached by levels of the two sides
+  enough-levels : (n o : ℕ) → o ∈ others → b ≤ n + o → ((v : ℕ) → v ∈ together b (attained b s) (attained b t) → (n ≤ v) ⊎ (v + o < b))
+      → (u v : List Weighted) → u ⊑ pairsIn s → v ⊑ pairsIn t → n ≤ sum u + sum v
+      → Way n (levelsOf (levelled b lefts s)) (levelsOf (levelled b rights t)) (sum u) (sum v)
+  enough-levels n o i h f u v p q g = first (level-at b lefts s (min b (o + c)) a (together-in b others (attained b t) i (attained-in b t q)) (attained-in b s p) (omega arith))
+    where
+      a : ℕ
+      a = min b (sum u)
+
+      c : ℕ
+      c = min b (sum v)
+
+      first : Level b lefts s (min b (o + c)) a → Way n (levelsOf (levelled b lefts s)) (levelsOf (levelled b rights t)) (sum u) (sum v)
+      first x =
+          let r = x .reaches in
+          second (level-at b rights t (min b (o + x .at)) c (together-in b others (attained b s) i (x .came)) (attained-in b t q) (omega arith))
+        where
+          second : Level b rights t (min b (o + x .at)) c → Way n (levelsOf (levelled b lefts s)) (levelsOf (levelled b rights t)) (sum u) (sum v)
+          second y =
+              let k = x .lower in
+              let l = y .lower in
+              (x .at, x .among, omega arith, (y .at, y .among, omega arith, last (f (min b (x .at + y .at)) (together-in b (attained b s) (attained b t) (x .came) (y .came)))))
+            where
+              last : (n ≤ min b (x .at + y .at)) ⊎ (min b (x .at + y .at) + o < b) → n ≤ x .at + y .at
+              last (inl m) = omega arith
+              last (inr m) = let r = y .reaches in absurd (omega arith)
+
+  joined-complete : (ts : List ℕ) → ((n : ℕ) → n ∈ ts → (o : ℕ) × (o ∈ others) × Differs b o (together b (attained b s) (attained b t)) n)
+      → Complete (levelled b lefts s) → Complete (levelled b rights t) → Complete (joined ts (levelled b lefts s) (levelled b rights t))
+  joined-complete ts f c d = (
+    c,
+    d,
+    λ n i u v p q g. let w = f n i in
+        enough-levels n (w .0) (w .1) (w .2 .0) (w .2 .1) u v (subst (λ l. u ⊑ l) (levelled-pairs b lefts s) p) (subst (λ l. v ⊑ l) (levelled-pairs b rights t) q) g,
+  )
+
+pub levels-complete : LevelsComplete
+unfolding levelled attained
+levels-complete b others (few l) = tt
+levels-complete b others (both s t) =
+    joined-complete b others s t (useful b others (attained b (both s t)))
+    (λ n i. let x = keep→ (isUseful b others (attained b (both s t))) (attained b (both s t)) i in
+    useful-decides b others (attained b (both s t)) n .to (x .1) .1)
+    (levels-complete b (together b others (attained b t)) s) (levels-complete b (together b others (attained b s)) t)
+
+-- Items
+
+record Covers (r : InputRule) (i : Item) : Type 0 where
+  is : written i ≡ r
+  complete : CompleteItem i
+
+divided-covers : (r : InputRule) (b : ℕ) (l : List Weighted) → r .body ≡ weights b l → (s : Shape) → Reorder l (pairsIn s) → Covers r (dividedBy r b l s)
+divided-covers r b l e (few k) o = record { is = refl; complete = tt }
+divided-covers r b l e (both s t) o =
+    record {
+      is = ap (λ c. record { kind = r .kind; heads = r .heads; body = c }) (sym e);
+      complete = (
+        subst (Reorder l) (sym (ap₂ (λ (k l : List Weighted). k ++ l) (levelled-pairs b _ s) (levelled-pairs b _ t))) o,
+        joined-complete b (0 ∷ []) s t (b ∷ []) bound-differs (levels-complete b _ s) (levels-complete b _ t),
+      );
+    }
+  where
+    bound-differs : (n : ℕ) → n ∈ b ∷ [] → (o : ℕ) × (o ∈ 0 ∷ []) × Differs b o (together b (attained b s) (attained b t)) n
+    bound-differs n i = let e = List·Memᴰ·eq-of-singleton i in (0, List·Memᴰ·head refl, (omega arith, λ v j. pick v (answered (leb n v))))
+      where
+        pick : (v : ℕ) → T (leb n v) ⊎ T (not (leb n v)) → (n ≤ v) ⊎ (v + 0 < b)
+        pick v (inl t) = inl (leb-decides n v .to t)
+        pick v (inr t) = inr (let e = List·Memᴰ·eq-of-singleton i in let m = not-decides (leb-decides n v) .to t in omega arith)
+
+module _ (shape : List Weighted → Shape) (shaping : Shaping shape) where
+  body-covers : (r : InputRule) (c : Body) → r .body ≡ c → Covers r (planBody shape r c)
+  body-covers r (plain ls) e = record { is = refl; complete = tt }
+  body-covers r (weights b l) e =
+      by-test (Covers r) (isShort l) (λ t. record { is = refl; complete = tt }) (λ t. divided-covers r b l e (shape l) (shaping l))
+
+  planned-is : (ws : List InputRule) → program (planned shape ws) ≡ ws
+  planned-is [] = refl
+  planned-is (r ∷ ws) = ap₂ (λ (w : InputRule) (l : List InputRule). w ∷ l) (body-covers r (r .body) refl .is) (planned-is ws)
+
+  all-complete : (ws : List InputRule) (i : Item) → i ∈ planned shape ws → CompleteItem i
+  all-complete ws i m =
+      let r = Memᴰ·of-map (λ r. planBody shape r (r .body)) ws m in
+      subst CompleteItem (r .2) (body-covers (r .0) (r .0 .body) refl .complete)
+
+pub planned-program : PlannedIs
+planned-program = planned-is
+
+pub program-sound : ProgramSound
+program-sound shape g ws h = subst NoneAsWritten (planned-is shape g ws) (split-sound (planned shape ws) (all-complete shape g ws) h)
+
+pub proof-of-split : ProofOfSplit
+proof-of-split shape g ws ts z e l = program-sound shape g ws (soundness-as-written (splitProgram shape ws) ts z e l)
+
+pub program-keeps : ProgramKeeps
+program-keeps shape g ws M s =
+    subst (λ us. AnswerSet (Extended (atoms us) (allDefinitions (planned shape ws)) M M) (expand (splitProgram shape ws))) (planned-is shape g ws)
+    (split-keeps (planned shape ws) (all-complete shape g ws) M (subst (λ us. AnswerSet M (expand us)) (sym (planned-is shape g ws)) s))
+
+pub program-conserves : ProgramConserves
+program-conserves shape g ws K s =
+    subst (λ us. AnswerSet (UpTo (atoms us) K) (expand us)) (planned-is shape g ws)
+    (split-conserves (planned shape ws) (all-complete shape g ws) K s)
+
+pub program-determines : ProgramDetermines
+program-determines shape g ws K s =
+    subst (λ us. (a : ℕ) → K a ↔ Extended (atoms us) (allDefinitions (planned shape ws)) (UpTo (atoms us) K) (UpTo (atoms us) K) a) (planned-is shape g ws)
+    (split-determines (planned shape ws) (all-complete shape g ws) K s)
+
+pub program-atoms : ProgramAtoms
+program-atoms shape g ws = subst (λ us. atoms (splitProgram shape ws) ≤ atoms us + allNeeds (planned shape ws)) (planned-is shape g ws) (split-within (planned shape ws) (all-complete shape g ws))
+
+-- Groups of one size
+
+pub chunks-are : (f k : ℕ) (l : List Weighted) → length l ≤ f → concat (chunks f k l) ≡ l
+unfolding chunks
+chunks-are zero k [] h = refl
+chunks-are zero k (x ∷ l) h = absurd (omega arith)
+chunks-are (suc f) k [] h = refl
+chunks-are (suc f) k (x ∷ l) h =
+    let d = length-drop k l in
+    ap (λ (m : List Weighted). x ∷ (take k l ++ m)) (chunks-are f k (drop k l) (omega arith)) ∙ ap (λ (m : List Weighted). x ∷ m) (take-append-drop k l)
+
+chain-pairs : (s : Shape) (gs : List (List Weighted)) → pairsIn (chain s gs) ≡ pairsIn s ++ concat gs
+chain-pairs s [] = sym (append-nil (pairsIn s))
+chain-pairs s (g ∷ gs) = chain-pairs (both s (few g)) gs ∙ append-assoc (pairsIn s) g (concat gs)
+
+pub chained-pairs : (gs : List (List Weighted)) → pairsIn (chained gs) ≡ concat gs
+chained-pairs [] = refl
+chained-pairs (g ∷ gs) = chain-pairs (few g) gs
+
+pub in-groups : InGroups
+in-groups k l = subst (Reorder l) (sym (chained-pairs (chunks (length l) k l) ∙ chunks-are (length l) k l (omega arith))) (as-it-was l)

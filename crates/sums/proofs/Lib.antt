@@ -1,0 +1,9 @@
+-- What holds of sums that are split.
+pub mod Extension
+pub mod Lowest
+pub mod Nodes
+pub mod Split
+pub mod Levels
+pub mod Sorted
+pub mod Formed
+pub mod Examples

@@ -1,0 +1,116 @@
+-- Which levels a plan has, and how a program is split. A node has a level for each sum of its literals that makes a difference to the bound.
+-- Assumes nothing.
+use mathlib.Core.Bool.{Bool, cond, not, _&&_, _||_}
+use mathlib.Core.List.{List, [], _∷_, _++_, map}
+use Prim.Native.Nat.{ℕ, zero, suc, _+_, min}
+use lib.Dec.{leb, ltb, eqb}
+use lib.ListN.{length, take, drop}
+use Rattle.words.specs.Lists.{concat, any, all, filter}
+use Rattle.words.specs.Literals.{variable}
+use Rattle.weights.specs.Weights.{Weighted, mostWeighted}
+use Rattle.aspif.specs.Rules.{Body, plain, weights, InputRule}
+use Rattle.sums.specs.Plans.{Plan, group, joined, Item, whole, divided, split}
+
+-- groups of literals, two sides at a time
+pub data Shape : Type 0 where
+  few : (pairs : List Weighted) → Shape
+  both : (left right : Shape) → Shape
+
+abbrev pub pairsIn : Shape → List Weighted
+pairsIn (few l) = l
+pairsIn (both s t) = pairsIn s ++ pairsIn t
+
+-- each number once
+unfoldable pub once : List ℕ → List ℕ
+once [] = []
+once (x ∷ l) = x ∷ filter (λ y. not (eqb x y)) (once l)
+
+-- a number of each list, added up, and no more than b
+unfoldable pub together : (b : ℕ) → List ℕ → List ℕ → List ℕ
+together b us vs = once (concat (map (λ u. map (λ v. min b (u + v)) vs) us))
+
+-- what the weights of some of the pairs can add up to, and no more than b
+unfoldable pub sumsOf : (b : ℕ) → List Weighted → List ℕ
+sumsOf b [] = 0 ∷ []
+sumsOf b (x ∷ l) = together b (0 ∷ x .weight ∷ []) (sumsOf b l)
+
+unfoldable pub attained : (b : ℕ) → Shape → List ℕ
+attained b (few l) = sumsOf b l
+attained b (both s t) = together b (attained b s) (attained b t)
+
+-- u is above 0 and makes a difference: there is a sum of the other literals with which u reaches the bound, and nothing lower of us does
+abbrev pub isUseful : (b : ℕ) → (others us : List ℕ) → ℕ → Bool
+isUseful b others us u = ltb 0 u && any (λ o. leb b (u + o) && all (λ v. leb u v || ltb (v + o) b) us) others
+
+abbrev pub useful : (b : ℕ) → (others us : List ℕ) → List ℕ
+useful b others us = filter (isUseful b others us) us
+
+-- the plan of a shape, for the bound b and what the literals outside it can add up to
+unfoldable pub levelled : (b : ℕ) → (others : List ℕ) → Shape → Plan
+levelled b others (few l) = group (useful b others (attained b (few l))) l
+levelled b others (both s t) =
+    joined (useful b others (attained b (both s t))) (levelled b (together b others (attained b t)) s) (levelled b (together b others (attained b s)) t)
+
+-- a rule whose sum is split in two: outside each side there is just the other
+abbrev pub dividedBy : InputRule → (b : ℕ) → List Weighted → Shape → Item
+dividedBy r b l (few k) = whole r
+dividedBy r b l (both s t) =
+    divided (r .kind) (r .heads) b l (levelled b (together b (0 ∷ []) (attained b t)) s) (levelled b (together b (0 ∷ []) (attained b s)) t)
+
+-- "at most 12 literals" (document 02, Change 3)
+abbrev pub isShort : List Weighted → Bool
+isShort l = leb (length l) mostWeighted
+
+module _ (shape : List Weighted → Shape) where
+  -- a plain body and a short sum stay as they are
+  abbrev pub planBody : InputRule → Body → Item
+  planBody r (plain ls) = whole r
+  planBody r (weights b l) = cond (isShort l) (whole r) (dividedBy r b l (shape l))
+
+  abbrev pub planned : List InputRule → List Item
+  planned ws = map (λ r. planBody r (r .body)) ws
+
+  abbrev pub splitProgram : List InputRule → List InputRule
+  splitProgram ws = split (planned ws)
+
+-- groups one after another
+abbrev pub chain : Shape → List (List Weighted) → Shape
+chain s [] = s
+chain s (g ∷ gs) = chain (both s (few g)) gs
+
+abbrev pub chained : List (List Weighted) → Shape
+chained [] = few []
+chained (g ∷ gs) = chain (few g) gs
+
+-- groups of k + 1 literals, the last of what is left
+unfoldable pub chunks : (fuel k : ℕ) → List Weighted → List (List Weighted)
+chunks zero k l = []
+chunks (suc f) k [] = []
+chunks (suc f) k (x ∷ l) = (x ∷ take k l) ∷ chunks f k (drop k l)
+
+abbrev pub inGroups : (k : ℕ) → List Weighted → Shape
+inGroups k l = chained (chunks (length l) k l)
+
+-- x put into pairs that ascend by a key: before the first of a larger one
+unfoldable pub insertBy : (Weighted → ℕ) → Weighted → List Weighted → List Weighted
+insertBy key x [] = x ∷ []
+insertBy key x (y ∷ l) = cond (ltb (key x) (key y)) (x ∷ y ∷ l) (y ∷ insertBy key x l)
+
+-- the pairs of the second list put, one after another, into the first
+unfoldable pub insertAllBy : (Weighted → ℕ) → List Weighted → List Weighted → List Weighted
+insertAllBy key acc [] = acc
+insertAllBy key acc (x ∷ l) = insertAllBy key (insertBy key x acc) l
+
+-- the pairs in order by a key, those with the same key as they stood
+abbrev pub sortBy : (Weighted → ℕ) → List Weighted → List Weighted
+sortBy key l = insertAllBy key [] l
+
+abbrev pub byWeight : Weighted → ℕ
+byWeight x = x .weight
+
+abbrev pub byAtom : Weighted → ℕ
+byAtom x = variable (x .literal)
+
+-- groups of k + 1 literals of like weight, the lightest first, and each group ascending by atom: like weights make few different sums
+abbrev pub sortedGroups : (k : ℕ) → List Weighted → Shape
+sortedGroups k l = chained (map (sortBy byAtom) (chunks (length l) k (sortBy byWeight l)))
