@@ -8,15 +8,15 @@
 // has a length how many words or bytes are not 0, and what they are. All are 7 before. Of words that are alike one is written, with how many
 // they are, and no more than 72 such runs; a packet and marks are written likewise, in hexadecimal; a text stands on lines of its own, up to its
 // first zero byte and to 600 bytes.
-mod reading;
-mod saying;
 mod services;
 mod stepping;
 
-use crate::reading::before;
-use crate::reading::head;
-use crate::reading::tail;
 use libc::STDIN_FILENO;
+use notation::reading;
+use notation::reading::before;
+use notation::reading::head;
+use notation::reading::tail;
+use notation::saying;
 
 // What is answered with the lent buffers, and what is left in them.
 fn answer(

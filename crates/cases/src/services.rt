@@ -11,10 +11,10 @@
 //   write     the rule count and the version; the table's words; the proof. The output is the packet
 //   cheapest  the costs; the set; program | proof
 //   splits    the lengths of the ends; the tree; program | the ends' texts, one right after the other
-use crate::reading;
-use crate::reading::head;
-use crate::reading::tail;
 use crate::stepping;
+use notation::reading;
+use notation::reading::head;
+use notation::reading::tail;
 
 // The code of a word that is none of these.
 const UNKNOWN: u32 = 99;

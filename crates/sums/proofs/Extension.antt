@@ -20,14 +20,14 @@ use Rattle.aspif.specs.declared.Kind.{Kind}
 use Rattle.aspif.specs.declared.Kind.the-variants.{Normal, Choice}
 use Rattle.aspif.specs.AnswerSets.{Constraint, Taken, Chosen, Gives, LeastModel, derive, Met, AnswerSet}
 use Rattle.sums.specs.Plans.{Definition}
-use Rattle.sums.specs.Extension.{Holding, Reaches, Says, Closed, withLiterals, Origin, kept, used, defining, Carried, Extends, UpTo, Extended, ExtensionKeeps, ExtensionConserves, ExtensionDetermines}
+use Rattle.sums.specs.Extension.{Holding, SumReaches, Says, Closed, withLiterals, Origin, kept, used, defining, Carried, Extends, UpTo, Extended, ExtensionKeeps, ExtensionConserves, ExtensionDetermines}
 
 -- Sums that are reached
 
-pub moved : {H K : ℤ → Type 0} {l : List Weighted} {b : ℕ} → ((x : Weighted) → x ∈ l → H (x .literal) → K (x .literal)) → Reaches H l b → Reaches K l b
+pub moved : {H K : ℤ → Type 0} {l : List Weighted} {b : ℕ} → ((x : Weighted) → x ∈ l → H (x .literal) → K (x .literal)) → SumReaches H l b → SumReaches K l b
 moved f r = record { part = r .part; of = r .of; hold = λ x i. f x (sub.in-whole i (r .of)) (r .hold x i); enough = r .enough }
 
-pub reordered-reaches : {H : ℤ → Type 0} {l m : List Weighted} {b : ℕ} → Reorder l m → Reaches H l b → Reaches H m b
+pub reordered-reaches : {H : ℤ → Type 0} {l m : List Weighted} {b : ℕ} → Reorder l m → SumReaches H l b → SumReaches H m b
 reordered-reaches o r =
     let t = reorder-sublist (r .of) o in
     let e = reorder-sum (t .2) in
@@ -36,7 +36,7 @@ reordered-reaches o r =
 
 -- a body that holds, and a body that does
 module _ {H : ℤ → Type 0} {l : List Weighted} {b : ℕ} where
-  pub body-reaches : {ls : List ℤ} → ls ∈ bodies b l → ((z : ℤ) → z ∈ ls → H z) → Reaches H l b
+  pub body-reaches : {ls : List ℤ} → ls ∈ bodies b l → ((z : ℤ) → z ∈ ls → H z) → SumReaches H l b
   body-reaches {ls} i h =
       let s = body→ b l i in
       record {
@@ -46,7 +46,7 @@ module _ {H : ℤ → Type 0} {l : List Weighted} {b : ℕ} where
         enough = parts b (s .0) .to (s .2) .0;
       }
 
-  pub reaches-body : Reaches H l b → (ls : List ℤ) × (ls ∈ bodies b l) × ((z : ℤ) → z ∈ ls → H z)
+  pub reaches-body : SumReaches H l b → (ls : List ℤ) × (ls ∈ bodies b l) × ((z : ℤ) → z ∈ ls → H z)
   reaches-body r =
       let e = r .enough in
       let t = trim b 0 (r .part) (omega arith) in

@@ -20,10 +20,10 @@ use Rattle.aspif.specs.Rules.{Body, plain, weights, InputRule, literalsOf, rule
 use Rattle.aspif.proofs.Formed as Aspif
 use Rattle.aspif.proofs.RuleTests.{in-greatest}
 use Rattle.aspif.proofs.Written.{written-read}
-use Rattle.sums.specs.Plans.{Plan, group, joined, size, Definition, own, Share, share, shares, define, ways, Item, whole, root, splitItem, firstNew}
-use Rattle.sums.specs.Levels.{Shape, few, both, pairsIn, levelled, dividedBy, isShort, planBody, planned, splitProgram, sortedGroups}
+use Rattle.sums.specs.Plans.{Plan, group, joined, size, Definition, own, Share, share, shares, define, joinBodies, Item, whole, root, splitItem, firstNew}
+use Rattle.sums.specs.Levels.{SumShape, few, both, pairsIn, levelled, dividedBy, isShort, planBody, planned, splitProgram, sortedGroups}
 use Rattle.sums.specs.Claims.{Shaping, Weighing, Formed, Grouped, SplitFormed, SplitRead}
-use Rattle.sums.proofs.Nodes.{own-says, own-in, way→, RuleOf, summed, paired, on-left, on-right, rule-of}
+use Rattle.sums.proofs.Nodes.{own-says, own-in, join-body→, RuleOf, summed, paired, on-left, on-right, rule-of}
 use Rattle.sums.proofs.Split.{Placed, in-turn, definitions-run}
 use Rattle.sums.proofs.Levels.{levels-within}
 use Rattle.sums.proofs.Sorted.{sorted-groups, sorted-grouped}
@@ -66,9 +66,9 @@ two-pass a b h k = record { count = omega arith; nonzero = each; rises = and-bot
     each z (List·Memᴰ·head e) = subst (λ y. 1 ≤ variable y) (sym e) h
     each z (List·Memᴰ·tail i) = one-passes b (omega arith) .nonzero z i
 
-way-passes : (n : ℕ) (p q : Plan) → 1 ≤ n → (t : ℕ) (ls : List ℤ) → ls ∈ ways t (shares (own n p)) (shares (own (n + size p) q)) → Passing (plain ls)
-way-passes n p q h t ls i =
-    let w = way→ t (shares (own n p)) (shares (own (n + size p) q)) ls i in
+join-body-passes : (n : ℕ) (p q : Plan) → 1 ≤ n → (t : ℕ) (ls : List ℤ) → ls ∈ joinBodies t (shares (own n p)) (shares (own (n + size p) q)) → Passing (plain ls)
+join-body-passes n p q h t ls i =
+    let w = join-body→ t (shares (own n p)) (shares (own (n + size p) q)) ls i in
     subst (λ l. Passing (plain l)) (sym (w .is))
     (go (w .left .said) (w .right .said) (said-by (own n p) (w .left) (w .of-left)) (said-by (own (n + size p) q) (w .right) (w .of-right)))
   where
@@ -102,7 +102,7 @@ abbrev FormedPlan : ℕ → Plan → Type 0
 FormedPlan b (group ts l) = Grouped (few l) × Fine l × ((t : ℕ) → t ∈ ts → t ≤ b)
 FormedPlan b (joined ts p q) = FormedPlan b p × FormedPlan b q
 
-levelled-formed : (b : ℕ) (others : List ℕ) (s : Shape) → Grouped s → Fine (pairsIn s) → FormedPlan b (levelled b others s)
+levelled-formed : (b : ℕ) (others : List ℕ) (s : SumShape) → Grouped s → Fine (pairsIn s) → FormedPlan b (levelled b others s)
 unfolding levelled
 levelled-formed b others (few l) g f = (g, f, λ t i. levels-within b others (few l) t (unfold levelled in i) .1)
 levelled-formed b others (both s t) g f = (
@@ -131,7 +131,7 @@ plan-formed h k f (summed {n = n} {ts = ts} {l = l} d i) =
     defining d (omega arith) (subst (λ l. Passing (weights (d .bound) l)) (sym (o .0)) (weights-pass (d .bound) l (omega arith) (f .0) (f .1)))
 plan-formed h k f (paired {n = n} {ts = ts} {p = p} {q = q} d ls i w) =
     let a = definitions-run n (joined ts p q) .low d (own-in n (joined ts p q) i) in
-    defining d (omega arith) (way-passes n p q h (d .bound) ls w)
+    defining d (omega arith) (join-body-passes n p q h (d .bound) ls w)
 plan-formed h k f (on-left r) = plan-formed h k (f .0) r
 plan-formed h k f (on-right r) = plan-formed (omega arith) k (f .1) r
 
@@ -154,7 +154,7 @@ rebodied w f p =
 shortened : (w : InputRule) → Formed mostLiterals w → Weighing mostWeighted (w .body) → Formed mostWeighted w
 shortened w f x = rebodied w f (record { count = f .bodyFew; nonzero = f .nonzero; rises = f .bodyRise; weighing = x })
 
-divided-formed : (w : InputRule) (b : ℕ) (l : List Weighted) (s : Shape) → Formed mostLiterals w → b ≤ mostWeight → Reorder l (pairsIn s) → Grouped s → Fine l
+divided-formed : (w : InputRule) (b : ℕ) (l : List Weighted) (s : SumShape) → Formed mostLiterals w → b ≤ mostWeight → Reorder l (pairsIn s) → Grouped s → Fine l
     → mostWeighted < length l → (n : ℕ) → 1 ≤ n → (r : InputRule) → r ∈ splitItem n (dividedBy w b l s) → Formed mostWeighted r
 divided-formed w b l (few k) f h o g y c n m r i = absurd (let e = reorder-length o in let a = g .0 in omega arith)
 divided-formed w b l (both s t) f h o g y c n m r (List·Memᴰ·head e) = subst (Formed mostWeighted) (sym e) (rebodied w f (one-passes _ (omega arith)))
@@ -166,7 +166,7 @@ divided-formed w b l (both s t) f h o g y c n m r (List·Memᴰ·tail i) =
     )
     (rule-of n (root b _ _) i)
 
-module _ (shape : List Weighted → Shape) (shaping : Shaping shape) (grouped : (l : List Weighted) → rising (literals l) ≡ true → Grouped (shape l)) where
+module _ (shape : List Weighted → SumShape) (shaping : Shaping shape) (grouped : (l : List Weighted) → rising (literals l) ≡ true → Grouped (shape l)) where
   body-formed : (w : InputRule) (c : Body) → w .body ≡ c → Formed mostLiterals w → (n : ℕ) → 1 ≤ n → (r : InputRule) → r ∈ splitItem n (planBody shape w c) → Formed mostWeighted r
   body-formed w (plain ls) e f n m r i = subst (Formed mostWeighted) (sym (List·Memᴰ·eq-of-singleton i)) (shortened w f (subst (Weighing mostWeighted) (sym e) tt))
   body-formed w (weights b l) e f n m r i = go (isShort l) refl i

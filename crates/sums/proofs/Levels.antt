@@ -1,4 +1,4 @@
--- `LevelsComplete`, `PlannedIs` and what follows for whole programs. Assumes nothing.
+-- `LevelledEnough`, `PlannedIs` and what follows for whole programs. Assumes nothing.
 use mathlib.Core.Path.{_≡_, refl, sym, ap, ap₂, subst, _∙_}
 use mathlib.Core.Logic.{_⊎_, inl, inr, _↔_}
 use mathlib.Core.Bool.{not}
@@ -19,9 +19,9 @@ use Rattle.aspif.specs.AnswerSets.{AnswerSet}
 use Rattle.derivation.specs.Claims.{NoneAsWritten}
 use Rattle.derivation.proofs.AsWritten.{soundness-as-written}
 use Rattle.sums.specs.Plans.{joined, pairsOf, levelsOf, Item, written, allNeeds, program, allDefinitions}
-use Rattle.sums.specs.Levels.{Shape, few, both, pairsIn, once, together, sumsOf, attained, isUseful, useful, levelled, dividedBy, isShort, chain, chained, planBody, planned, splitProgram, chunks}
+use Rattle.sums.specs.Levels.{SumShape, few, both, pairsIn, once, together, sumsOf, attained, isUseful, useful, levelled, dividedBy, isShort, chain, chained, planBody, planned, splitProgram, chunks}
 use Rattle.sums.specs.Extension.{UpTo, Extended}
-use Rattle.sums.specs.Claims.{Way, Complete, CompleteItem, LevelsComplete, LevelsWithin, Shaping, InGroups, PlannedIs, ProgramSound, ProofOfSplit, ProgramKeeps, ProgramConserves, ProgramDetermines, ProgramAtoms}
+use Rattle.sums.specs.Claims.{ReachedByLevels, EnoughLevels, WellPlanned, LevelledEnough, LevelsWithin, Shaping, InGroups, PlannedIs, ProgramSound, ProofOfSplit, ProgramKeeps, ProgramConserves, ProgramDetermines, ProgramAtoms}
 use Rattle.sums.proofs.Lowest.{Lowest, lowest-at}
 use Rattle.sums.proofs.Nodes.{Cut, cut, sum-both}
 use Rattle.sums.proofs.Split.{split-keeps, split-conserves, split-determines, split-sound, split-within}
@@ -67,7 +67,7 @@ sums-in b (without {x = x} {s = s} {l = l} h) =
     let e : min b (0 + min b (sum s)) ≡ min b (sum s) = omega arith in
     subst (λ n. n ∈ together b (0 ∷ x .weight ∷ []) (sumsOf b l)) e (together-in b (0 ∷ x .weight ∷ []) (sumsOf b l) (List·Memᴰ·head refl) (sums-in b h))
 
-attained-in : (b : ℕ) (s : Shape) {t : List Weighted} → t ⊑ pairsIn s → min b (sum t) ∈ attained b s
+attained-in : (b : ℕ) (s : SumShape) {t : List Weighted} → t ⊑ pairsIn s → min b (sum t) ∈ attained b s
 unfolding attained
 attained-in b (few l) h = sums-in b h
 attained-in b (both p q) {t} h = go (cut (pairsIn p) (pairsIn q) h) (λ u o. attained-in b p o) (λ u o. attained-in b q o)
@@ -82,13 +82,13 @@ attained-in b (both p q) {t} h = go (cut (pairsIn p) (pairsIn q) h) (λ u o. att
 
 -- Levels
 
-pub levelled-pairs : (b : ℕ) (others : List ℕ) (s : Shape) → pairsOf (levelled b others s) ≡ pairsIn s
+pub levelled-pairs : (b : ℕ) (others : List ℕ) (s : SumShape) → pairsOf (levelled b others s) ≡ pairsIn s
 unfolding levelled
 levelled-pairs b others (few l) = refl
 levelled-pairs b others (both s t) =
     ap₂ (λ (k l : List Weighted). k ++ l) (levelled-pairs b (together b others (attained b t)) s) (levelled-pairs b (together b others (attained b s)) t)
 
-levelled-levels : (b : ℕ) (others : List ℕ) (s : Shape) → levelsOf (levelled b others s) ≡ useful b others (attained b s)
+levelled-levels : (b : ℕ) (others : List ℕ) (s : SumShape) → levelsOf (levelled b others s) ≡ useful b others (attained b s)
 unfolding levelled
 levelled-levels b others (few l) = refl
 levelled-levels b others (both s t) = refl
@@ -110,7 +110,7 @@ unfolding sumsOf
 sums-low b [] i = let e = List·Memᴰ·eq-of-singleton i in omega arith
 sums-low b (x ∷ l) i = together-low b (0 ∷ x .weight ∷ []) (sumsOf b l) i
 
-attained-low : (b : ℕ) (s : Shape) {u : ℕ} → u ∈ attained b s → u ≤ b
+attained-low : (b : ℕ) (s : SumShape) {u : ℕ} → u ∈ attained b s → u ≤ b
 unfolding attained
 attained-low b (few l) i = sums-low b l i
 attained-low b (both s t) i = together-low b (attained b s) (attained b t) i
@@ -123,14 +123,14 @@ levels-within b others s t i =
 -- The levels are enough
 
 -- the level of a side that is enough beside o, where a is
-record Level (b : ℕ) (others : List ℕ) (s : Shape) (o a : ℕ) : Type 0 where
+record Level (b : ℕ) (others : List ℕ) (s : SumShape) (o a : ℕ) : Type 0 where
   at : ℕ
   came : at ∈ attained b s
   among : at ∈ 0 ∷ levelsOf (levelled b others s)
   lower : at ≤ a
   reaches : b ≤ at + o
 
-level-at : (b : ℕ) (others : List ℕ) (s : Shape) (o a : ℕ) → o ∈ others → a ∈ attained b s → b ≤ a + o → Level b others s o a
+level-at : (b : ℕ) (others : List ℕ) (s : SumShape) (o a : ℕ) → o ∈ others → a ∈ attained b s → b ≤ a + o → Level b others s o a
 level-at b others s o a i j h = go (lowest-at (λ n. n) (λ v. leb b (v + o)) (attained b s) a j (leb-decides b (a + o) .from h))
   where
     go : Lowest (λ n. n) (λ v. leb b (v + o)) (attained b s) → Level b others s o a
@@ -160,7 +160,7 @@ level-at b others s o a i j h = go (lowest-at (λ n. n) (λ v. leb b (v + o)) (a
             (useful-decides b others (attained b s) (d .one) .from (ltb-decides 0 (d .one) .to t, (o, i, (reach, lowest-one))))))
         place (inr t) = let n = not-decides (ltb-decides 0 (d .one)) .to t in let e : d .one ≡ 0 = omega arith in List·Memᴰ·head e
 
-module _ (b : ℕ) (others : List ℕ) (s t : Shape) where
+module _ (b : ℕ) (others : List ℕ) (s t : SumShape) where
   abbrev lefts : List ℕ
   lefts = together b others (attained b t)
 
@@ -168,10 +168,10 @@ module _ (b : ℕ) (others : List ℕ) (s t : Shape) where
   rights = together b others (attained b s)
 
   -- a level of the node that makes a difference beside o is reached by levels of the two sides
-  enough-levels : (n o : ℕ) → o ∈ others → b ≤ n + o → ((v : ℕ) → v ∈ together b (attained b s) (attained b t) → (n ≤ v) ⊎ (v + o < b))
+  reached-by-levels : (n o : ℕ) → o ∈ others → b ≤ n + o → ((v : ℕ) → v ∈ together b (attained b s) (attained b t) → (n ≤ v) ⊎ (v + o < b))
       → (u v : List Weighted) → u ⊑ pairsIn s → v ⊑ pairsIn t → n ≤ sum u + sum v
-      → Way n (levelsOf (levelled b lefts s)) (levelsOf (levelled b rights t)) (sum u) (sum v)
-  enough-levels n o i h f u v p q g = first (level-at b lefts s (min b (o + c)) a (together-in b others (attained b t) i (attained-in b t q)) (attained-in b s p) (omega arith))
+      → ReachedByLevels n (levelsOf (levelled b lefts s)) (levelsOf (levelled b rights t)) (sum u) (sum v)
+  reached-by-levels n o i h f u v p q g = first (level-at b lefts s (min b (o + c)) a (together-in b others (attained b t) i (attained-in b t q)) (attained-in b s p) (omega arith))
     where
       a : ℕ
       a = min b (sum u)
@@ -179,12 +179,12 @@ module _ (b : ℕ) (others : List ℕ) (s t : Shape) where
       c : ℕ
       c = min b (sum v)
 
-      first : Level b lefts s (min b (o + c)) a → Way n (levelsOf (levelled b lefts s)) (levelsOf (levelled b rights t)) (sum u) (sum v)
+      first : Level b lefts s (min b (o + c)) a → ReachedByLevels n (levelsOf (levelled b lefts s)) (levelsOf (levelled b rights t)) (sum u) (sum v)
       first x =
           let r = x .reaches in
           second (level-at b rights t (min b (o + x .at)) c (together-in b others (attained b s) i (x .came)) (attained-in b t q) (omega arith))
         where
-          second : Level b rights t (min b (o + x .at)) c → Way n (levelsOf (levelled b lefts s)) (levelsOf (levelled b rights t)) (sum u) (sum v)
+          second : Level b rights t (min b (o + x .at)) c → ReachedByLevels n (levelsOf (levelled b lefts s)) (levelsOf (levelled b rights t)) (sum u) (sum v)
           second y =
               let k = x .lower in
               let l = y .lower in
@@ -194,38 +194,38 @@ module _ (b : ℕ) (others : List ℕ) (s t : Shape) where
               last (inl m) = omega arith
               last (inr m) = let r = y .reaches in absurd (omega arith)
 
-  joined-complete : (ts : List ℕ) → ((n : ℕ) → n ∈ ts → (o : ℕ) × (o ∈ others) × Differs b o (together b (attained b s) (attained b t)) n)
-      → Complete (levelled b lefts s) → Complete (levelled b rights t) → Complete (joined ts (levelled b lefts s) (levelled b rights t))
-  joined-complete ts f c d = (
+  joined-enough : (ts : List ℕ) → ((n : ℕ) → n ∈ ts → (o : ℕ) × (o ∈ others) × Differs b o (together b (attained b s) (attained b t)) n)
+      → EnoughLevels (levelled b lefts s) → EnoughLevels (levelled b rights t) → EnoughLevels (joined ts (levelled b lefts s) (levelled b rights t))
+  joined-enough ts f c d = (
     c,
     d,
     λ n i u v p q g. let w = f n i in
-        enough-levels n (w .0) (w .1) (w .2 .0) (w .2 .1) u v (subst (λ l. u ⊑ l) (levelled-pairs b lefts s) p) (subst (λ l. v ⊑ l) (levelled-pairs b rights t) q) g,
+        reached-by-levels n (w .0) (w .1) (w .2 .0) (w .2 .1) u v (subst (λ l. u ⊑ l) (levelled-pairs b lefts s) p) (subst (λ l. v ⊑ l) (levelled-pairs b rights t) q) g,
   )
 
-pub levels-complete : LevelsComplete
+pub levelled-enough : LevelledEnough
 unfolding levelled attained
-levels-complete b others (few l) = tt
-levels-complete b others (both s t) =
-    joined-complete b others s t (useful b others (attained b (both s t)))
+levelled-enough b others (few l) = tt
+levelled-enough b others (both s t) =
+    joined-enough b others s t (useful b others (attained b (both s t)))
     (λ n i. let x = keep→ (isUseful b others (attained b (both s t))) (attained b (both s t)) i in
     useful-decides b others (attained b (both s t)) n .to (x .1) .1)
-    (levels-complete b (together b others (attained b t)) s) (levels-complete b (together b others (attained b s)) t)
+    (levelled-enough b (together b others (attained b t)) s) (levelled-enough b (together b others (attained b s)) t)
 
 -- Items
 
 record Covers (r : InputRule) (i : Item) : Type 0 where
   is : written i ≡ r
-  complete : CompleteItem i
+  well-planned : WellPlanned i
 
-divided-covers : (r : InputRule) (b : ℕ) (l : List Weighted) → r .body ≡ weights b l → (s : Shape) → Reorder l (pairsIn s) → Covers r (dividedBy r b l s)
-divided-covers r b l e (few k) o = record { is = refl; complete = tt }
+divided-covers : (r : InputRule) (b : ℕ) (l : List Weighted) → r .body ≡ weights b l → (s : SumShape) → Reorder l (pairsIn s) → Covers r (dividedBy r b l s)
+divided-covers r b l e (few k) o = record { is = refl; well-planned = tt }
 divided-covers r b l e (both s t) o =
     record {
       is = ap (λ c. record { kind = r .kind; heads = r .heads; body = c }) (sym e);
-      complete = (
+      well-planned = (
         subst (Reorder l) (sym (ap₂ (λ (k l : List Weighted). k ++ l) (levelled-pairs b _ s) (levelled-pairs b _ t))) o,
-        joined-complete b (0 ∷ []) s t (b ∷ []) bound-differs (levels-complete b _ s) (levels-complete b _ t),
+        joined-enough b (0 ∷ []) s t (b ∷ []) bound-differs (levelled-enough b _ s) (levelled-enough b _ t),
       );
     }
   where
@@ -236,26 +236,26 @@ divided-covers r b l e (both s t) o =
         pick v (inl t) = inl (leb-decides n v .to t)
         pick v (inr t) = inr (let e = List·Memᴰ·eq-of-singleton i in let m = not-decides (leb-decides n v) .to t in omega arith)
 
-module _ (shape : List Weighted → Shape) (shaping : Shaping shape) where
+module _ (shape : List Weighted → SumShape) (shaping : Shaping shape) where
   body-covers : (r : InputRule) (c : Body) → r .body ≡ c → Covers r (planBody shape r c)
-  body-covers r (plain ls) e = record { is = refl; complete = tt }
+  body-covers r (plain ls) e = record { is = refl; well-planned = tt }
   body-covers r (weights b l) e =
-      by-test (Covers r) (isShort l) (λ t. record { is = refl; complete = tt }) (λ t. divided-covers r b l e (shape l) (shaping l))
+      by-test (Covers r) (isShort l) (λ t. record { is = refl; well-planned = tt }) (λ t. divided-covers r b l e (shape l) (shaping l))
 
-  planned-is : (ws : List InputRule) → program (planned shape ws) ≡ ws
-  planned-is [] = refl
-  planned-is (r ∷ ws) = ap₂ (λ (w : InputRule) (l : List InputRule). w ∷ l) (body-covers r (r .body) refl .is) (planned-is ws)
+  rules-back : (ws : List InputRule) → program (planned shape ws) ≡ ws
+  rules-back [] = refl
+  rules-back (r ∷ ws) = ap₂ (λ (w : InputRule) (l : List InputRule). w ∷ l) (body-covers r (r .body) refl .is) (rules-back ws)
 
-  all-complete : (ws : List InputRule) (i : Item) → i ∈ planned shape ws → CompleteItem i
-  all-complete ws i m =
+  all-well-planned : (ws : List InputRule) (i : Item) → i ∈ planned shape ws → WellPlanned i
+  all-well-planned ws i m =
       let r = Memᴰ·of-map (λ r. planBody shape r (r .body)) ws m in
-      subst CompleteItem (r .2) (body-covers (r .0) (r .0 .body) refl .complete)
+      subst WellPlanned (r .2) (body-covers (r .0) (r .0 .body) refl .well-planned)
 
-pub planned-program : PlannedIs
-planned-program = planned-is
+pub planned-is : PlannedIs
+planned-is = rules-back
 
 pub program-sound : ProgramSound
-program-sound shape g ws h = subst NoneAsWritten (planned-is shape g ws) (split-sound (planned shape ws) (all-complete shape g ws) h)
+program-sound shape g ws h = subst NoneAsWritten (planned-is shape g ws) (split-sound (planned shape ws) (all-well-planned shape g ws) h)
 
 pub proof-of-split : ProofOfSplit
 proof-of-split shape g ws ts z e l = program-sound shape g ws (soundness-as-written (splitProgram shape ws) ts z e l)
@@ -263,20 +263,20 @@ proof-of-split shape g ws ts z e l = program-sound shape g ws (soundness-as-writ
 pub program-keeps : ProgramKeeps
 program-keeps shape g ws M s =
     subst (λ us. AnswerSet (Extended (atoms us) (allDefinitions (planned shape ws)) M M) (expand (splitProgram shape ws))) (planned-is shape g ws)
-    (split-keeps (planned shape ws) (all-complete shape g ws) M (subst (λ us. AnswerSet M (expand us)) (sym (planned-is shape g ws)) s))
+    (split-keeps (planned shape ws) (all-well-planned shape g ws) M (subst (λ us. AnswerSet M (expand us)) (sym (planned-is shape g ws)) s))
 
 pub program-conserves : ProgramConserves
 program-conserves shape g ws K s =
     subst (λ us. AnswerSet (UpTo (atoms us) K) (expand us)) (planned-is shape g ws)
-    (split-conserves (planned shape ws) (all-complete shape g ws) K s)
+    (split-conserves (planned shape ws) (all-well-planned shape g ws) K s)
 
 pub program-determines : ProgramDetermines
 program-determines shape g ws K s =
     subst (λ us. (a : ℕ) → K a ↔ Extended (atoms us) (allDefinitions (planned shape ws)) (UpTo (atoms us) K) (UpTo (atoms us) K) a) (planned-is shape g ws)
-    (split-determines (planned shape ws) (all-complete shape g ws) K s)
+    (split-determines (planned shape ws) (all-well-planned shape g ws) K s)
 
 pub program-atoms : ProgramAtoms
-program-atoms shape g ws = subst (λ us. atoms (splitProgram shape ws) ≤ atoms us + allNeeds (planned shape ws)) (planned-is shape g ws) (split-within (planned shape ws) (all-complete shape g ws))
+program-atoms shape g ws = subst (λ us. atoms (splitProgram shape ws) ≤ atoms us + allNeeds (planned shape ws)) (planned-is shape g ws) (split-within (planned shape ws) (all-well-planned shape g ws))
 
 -- Groups of one size
 
@@ -289,7 +289,7 @@ chunks-are (suc f) k (x ∷ l) h =
     let d = length-drop k l in
     ap (λ (m : List Weighted). x ∷ (take k l ++ m)) (chunks-are f k (drop k l) (omega arith)) ∙ ap (λ (m : List Weighted). x ∷ m) (take-append-drop k l)
 
-chain-pairs : (s : Shape) (gs : List (List Weighted)) → pairsIn (chain s gs) ≡ pairsIn s ++ concat gs
+chain-pairs : (s : SumShape) (gs : List (List Weighted)) → pairsIn (chain s gs) ≡ pairsIn s ++ concat gs
 chain-pairs s [] = sym (append-nil (pairsIn s))
 chain-pairs s (g ∷ gs) = chain-pairs (both s (few g)) gs ∙ append-assoc (pairsIn s) g (concat gs)
 

@@ -20,9 +20,9 @@ use Rattle.derivation.proofs.Sound.{answer-set-without}
 use Rattle.derivation.proofs.AsWritten.{constraints}
 use Rattle.sums.specs.Plans.{Plan, group, joined, pairsOf, size, Definition, numbered, own, definitions, Share, share, shares, Item, whole, divided, written, root, needs, allNeeds, splitItem, inTurn, program, firstNew, split, itemDefinitions, allDefinitions}
 use Rattle.sums.specs.Extension.{Holding, Says, Closed, Origin, kept, used, defining, Carried, Extends, Extended}
-use Rattle.sums.specs.Claims.{CompleteItem, SplitKeeps, SplitConserves, SplitDetermines, SplitSound}
+use Rattle.sums.specs.Claims.{WellPlanned, SplitKeeps, SplitConserves, SplitDetermines, SplitSound}
 use Rattle.sums.proofs.Extension.{extension-keeps, extension-conserves, extension-determines}
-use Rattle.sums.proofs.Nodes.{own-says, own-in, Taking, way→, node-derived, RuleOf, summed, paired, on-left, on-right, rule-of, node-defines}
+use Rattle.sums.proofs.Nodes.{own-says, own-in, Taking, join-body→, node-derived, RuleOf, summed, paired, on-left, on-right, rule-of, node-defines}
 
 -- The numbers of the new atoms
 
@@ -162,7 +162,7 @@ last-in n b p q = own-in n (root b p q) (List·Memᴰ·head refl)
 
 -- The program split is the program with definitions added
 
-module _ (is : List Item) (complete : (i : Item) → i ∈ is → CompleteItem i) where
+module _ (is : List Item) (well-planned : (i : Item) → i ∈ is → WellPlanned i) where
   abbrev N : ℕ
   N = atoms (program is)
 
@@ -193,7 +193,7 @@ module _ (is : List Item) (complete : (i : Item) → i ∈ is → CompleteItem i
       go : (i : Item) (p : Placed (firstNew is) is i) → d ∈ itemDefinitions (p .place) i → variable (x .literal) ≤ N
       go (whole r) p k = elim k [ ]
       go (divided k hs b l p q) m i =
-          let o = complete (divided k hs b l p q) (m .among) .0 in
+          let o = well-planned (divided k hs b l p q) (m .among) .0 in
           let a = top-le (Memᴰ·map (λ (y : Weighted). y .literal) (reorder-in (and-back o) (definition-pairs (m .place) (root b p q) d i x j))) in
           let c = in-greatest ruleTop (Memᴰ·map written (m .among)) in
           omega arith
@@ -205,7 +205,7 @@ module _ (is : List Item) (complete : (i : Item) → i ∈ is → CompleteItem i
       kept (subst (λ v. withBody v ls ∈ P) (sym e) (expand← (Memᴰ·map written (p .among)) (subst (λ v. ls ∈ bodiesOf (v .body)) e j)))
   origin (divided k hs b l p q) m w (List·Memᴰ·head e) ls j =
       used (last-definition (m .place) b p q) (m .defs (last-definition (m .place) b p q) (last-in (m .place) b p q))
-      (List·Memᴰ·eq-of-singleton (subst (λ v. ls ∈ bodiesOf (v .body)) e j)) l (complete (divided k hs b l p q) (m .among) .0)
+      (List·Memᴰ·eq-of-singleton (subst (λ v. ls ∈ bodiesOf (v .body)) e j)) l (well-planned (divided k hs b l p q) (m .among) .0)
       (λ ks i. subst (λ (v : InputRule). withBody v ks ∈ P) (sym e) (expand← {w = written (divided k hs b l p q)} (Memᴰ·map written (m .among)) i))
   origin (divided k hs b l p q) m w (List·Memᴰ·tail i) ls j =
       let d = node-defines (rule-of (m .place) (root b p q) i) ls j in
@@ -225,7 +225,7 @@ module _ (is : List Item) (complete : (i : Item) → i ∈ is → CompleteItem i
         last-definition (m .place) b p q,
         m .defs (last-definition (m .place) b p q) (last-in (m .place) b p q),
         expand← {w = record { kind = k; heads = hs; body = plain (pos (m .place + (size p + size q)) ∷ []) }} (m .rules _ (List·Memᴰ·head refl)) (List·Memᴰ·head refl),
-        (l, complete (divided k hs b l p q) (m .among) .0, j),
+        (l, well-planned (divided k hs b l p q) (m .among) .0, j),
       )
 
   carried : (r : Rule) → r ∈ P → Carried Q D r
@@ -241,7 +241,7 @@ module _ (is : List Item) (complete : (i : Item) → i ∈ is → CompleteItem i
       go : (i : Item) (p : Placed (firstNew is) is i) → d ∈ itemDefinitions (p .place) i → Y (d .atom)
       go (whole r) p k = elim k [ ]
       go (divided k hs b l p q) m i =
-          node-derived (split is) M Y c (m .place) (root b p q) (complete (divided k hs b l p q) (m .among) .1) (λ w j. m .rules w (List·Memᴰ·tail j)) d i s
+          node-derived (split is) M Y c (m .place) (root b p q) (well-planned (divided k hs b l p q) (m .among) .1) (λ w j. m .rules w (List·Memᴰ·tail j)) d i s
 
   pub extends : Extends N P Q D
   extends =
@@ -259,7 +259,7 @@ module _ (is : List Item) (complete : (i : Item) → i ∈ is → CompleteItem i
 
 -- The largest atom
 
-module _ (is : List Item) (complete : (i : Item) → i ∈ is → CompleteItem i) where
+module _ (is : List Item) (well-planned : (i : Item) → i ∈ is → WellPlanned i) where
   abbrev highest : ℕ
   highest = atoms (program is) + allNeeds is
 
@@ -278,12 +278,12 @@ module _ (is : List Item) (complete : (i : Item) → i ∈ is → CompleteItem i
   plan-within (summed {n = n} {ts = ts} {l = l} d k) f =
       let a = new-within d (f d k) in
       let b = top-within highest (literals (d .pairs)) (λ z i. let x = Memᴰ·of-map (λ (x : Weighted). x .literal) (d .pairs) i in
-      let o = pairs-old is complete d (f d k) (x .0) (x .1) in
+      let o = pairs-old is well-planned d (f d k) (x .0) (x .1) in
       subst (λ y. variable y ≤ highest) (x .2) (omega arith)) in
       omega arith
   plan-within (paired {n = n} {ts = ts} {p = p} {q = q} d ls k l) f =
       let a = new-within d (f d (own-in n (joined ts p q) k)) in
-      let b = top-within highest ls (λ z i. each (way→ (d .bound) (shares (own n p)) (shares (own (n + size p) q)) ls l) z i) in
+      let b = top-within highest ls (λ z i. each (join-body→ (d .bound) (shares (own n p)) (shares (own (n + size p) q)) ls l) z i) in
       omega arith
     where
       each : Taking (d .bound) (shares (own n p)) (shares (own (n + size p) q)) ls → (z : ℤ) → z ∈ ls → variable z ≤ highest

@@ -20,7 +20,7 @@ Holding X M (pos v) = X v
 Holding X M (negsuc n) = ¬ M (suc n)
 
 -- the weights of literals that hold add up to the bound or more: some of the literals all hold and weigh enough
-pub record Reaches (H : ℤ → Type 0) (l : List Weighted) (bound : ℕ) : Type 0 where
+pub record SumReaches (H : ℤ → Type 0) (l : List Weighted) (bound : ℕ) : Type 0 where
   pub part : List Weighted
   pub of : part ⊑ l
   pub hold : (x : Weighted) → x ∈ part → H (x .literal)
@@ -28,7 +28,7 @@ pub record Reaches (H : ℤ → Type 0) (l : List Weighted) (bound : ℕ) : Type
 
 -- what a new atom says
 abbrev pub Says : (H : ℤ → Type 0) → Definition → Type 0
-Says H e = Reaches H (e .pairs) (e .bound)
+Says H e = SumReaches H (e .pairs) (e .bound)
 
 -- Y has what the reduct by M gives from it
 abbrev pub Closed : (M Y : ℕ → Type 0) → List Rule → Type 0

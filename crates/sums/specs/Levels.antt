@@ -11,12 +11,12 @@ use Rattle.weights.specs.Weights.{Weighted, mostWeighted}
 use Rattle.aspif.specs.Rules.{Body, plain, weights, InputRule}
 use Rattle.sums.specs.Plans.{Plan, group, joined, Item, whole, divided, split}
 
--- groups of literals, two sides at a time
-pub data Shape : Type 0 where
-  few : (pairs : List Weighted) → Shape
-  both : (left right : Shape) → Shape
+-- the shape of a sum: groups of literals, two sides at a time
+pub data SumShape : Type 0 where
+  few : (pairs : List Weighted) → SumShape
+  both : (left right : SumShape) → SumShape
 
-abbrev pub pairsIn : Shape → List Weighted
+abbrev pub pairsIn : SumShape → List Weighted
 pairsIn (few l) = l
 pairsIn (both s t) = pairsIn s ++ pairsIn t
 
@@ -34,7 +34,7 @@ unfoldable pub sumsOf : (b : ℕ) → List Weighted → List ℕ
 sumsOf b [] = 0 ∷ []
 sumsOf b (x ∷ l) = together b (0 ∷ x .weight ∷ []) (sumsOf b l)
 
-unfoldable pub attained : (b : ℕ) → Shape → List ℕ
+unfoldable pub attained : (b : ℕ) → SumShape → List ℕ
 attained b (few l) = sumsOf b l
 attained b (both s t) = together b (attained b s) (attained b t)
 
@@ -46,13 +46,14 @@ abbrev pub useful : (b : ℕ) → (others us : List ℕ) → List ℕ
 useful b others us = filter (isUseful b others us) us
 
 -- the plan of a shape, for the bound b and what the literals outside it can add up to
-unfoldable pub levelled : (b : ℕ) → (others : List ℕ) → Shape → Plan
+unfoldable pub levelled : (b : ℕ) → (others : List ℕ) → SumShape → Plan
 levelled b others (few l) = group (useful b others (attained b (few l))) l
 levelled b others (both s t) =
     joined (useful b others (attained b (both s t))) (levelled b (together b others (attained b t)) s) (levelled b (together b others (attained b s)) t)
 
--- a rule whose sum is split in two: outside each side there is just the other
-abbrev pub dividedBy : InputRule → (b : ℕ) → List Weighted → Shape → Item
+-- A rule whose sum is split in two: outside each side there is just the other. A shape of one group leaves the rule as
+-- it is, however long its sum: `Grouped` (Claims.antt) is what rules that out.
+abbrev pub dividedBy : InputRule → (b : ℕ) → List Weighted → SumShape → Item
 dividedBy r b l (few k) = whole r
 dividedBy r b l (both s t) =
     divided (r .kind) (r .heads) b l (levelled b (together b (0 ∷ []) (attained b t)) s) (levelled b (together b (0 ∷ []) (attained b s)) t)
@@ -61,7 +62,7 @@ dividedBy r b l (both s t) =
 abbrev pub isShort : List Weighted → Bool
 isShort l = leb (length l) mostWeighted
 
-module _ (shape : List Weighted → Shape) where
+module _ (shape : List Weighted → SumShape) where
   -- a plain body and a short sum stay as they are
   abbrev pub planBody : InputRule → Body → Item
   planBody r (plain ls) = whole r
@@ -74,11 +75,11 @@ module _ (shape : List Weighted → Shape) where
   splitProgram ws = split (planned ws)
 
 -- groups one after another
-abbrev pub chain : Shape → List (List Weighted) → Shape
+abbrev pub chain : SumShape → List (List Weighted) → SumShape
 chain s [] = s
 chain s (g ∷ gs) = chain (both s (few g)) gs
 
-abbrev pub chained : List (List Weighted) → Shape
+abbrev pub chained : List (List Weighted) → SumShape
 chained [] = few []
 chained (g ∷ gs) = chain (few g) gs
 
@@ -88,7 +89,7 @@ chunks zero k l = []
 chunks (suc f) k [] = []
 chunks (suc f) k (x ∷ l) = (x ∷ take k l) ∷ chunks f k (drop k l)
 
-abbrev pub inGroups : (k : ℕ) → List Weighted → Shape
+abbrev pub inGroups : (k : ℕ) → List Weighted → SumShape
 inGroups k l = chained (chunks (length l) k l)
 
 -- x put into pairs that ascend by a key: before the first of a larger one
@@ -112,5 +113,5 @@ abbrev pub byAtom : Weighted → ℕ
 byAtom x = variable (x .literal)
 
 -- groups of k + 1 literals of like weight, the lightest first, and each group ascending by atom: like weights make few different sums
-abbrev pub sortedGroups : (k : ℕ) → List Weighted → Shape
+abbrev pub sortedGroups : (k : ℕ) → List Weighted → SumShape
 sortedGroups k l = chained (map (sortBy byAtom) (chunks (length l) k (sortBy byWeight l)))

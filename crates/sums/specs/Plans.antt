@@ -66,14 +66,14 @@ abbrev pub shares : List Definition → List Share
 shares es = record { level = 0; said = [] } ∷ map share es
 
 -- two shares are enough together, and with a lower one of either side in place of its own they are not
-abbrev pub isWay : (bound : ℕ) → (lefts rights : List Share) → Share → Share → Bool
-isWay b xs ys x y =
+abbrev pub isJustEnough : (bound : ℕ) → (lefts rights : List Share) → Share → Share → Bool
+isJustEnough b xs ys x y =
     leb b (x .level + y .level)
     && (all (λ v. leb (x .level) (v .level) || ltb (v .level + y .level) b) xs && all (λ v. leb (y .level) (v .level) || ltb (x .level + v .level) b) ys)
 
 -- the bodies of a joined node's rules
-unfoldable pub ways : (bound : ℕ) → (lefts rights : List Share) → List (List ℤ)
-ways b xs ys = concat (map (λ x. map (λ y. x .said ++ y .said) (filter (isWay b xs ys x) ys)) xs)
+unfoldable pub joinBodies : (bound : ℕ) → (lefts rights : List Share) → List (List ℤ)
+joinBodies b xs ys = concat (map (λ x. map (λ y. x .said ++ y .said) (filter (isJustEnough b xs ys x) ys)) xs)
 
 -- the rule that gives a new atom from a body
 abbrev pub define : Definition → Body → InputRule
@@ -85,13 +85,13 @@ groupRule e = define e (weights (e .bound) (e .pairs))
 
 -- a joined node's atom has a rule for each two shares that are just enough
 abbrev pub joinRules : List Share → List Share → Definition → List InputRule
-joinRules xs ys e = map (λ ls. define e (plain ls)) (ways (e .bound) xs ys)
+joinRules xs ys e = map (λ ls. define e (plain ls)) (joinBodies (e .bound) xs ys)
 
 -- the rules of a node and of those below it
-unfoldable pub rulesOf : ℕ → Plan → List InputRule
-rulesOf n (group ts l) = map groupRule (own n (group ts l))
-rulesOf n (joined ts p q) =
-    rulesOf n p ++ (rulesOf (n + size p) q ++ concat (map (joinRules (shares (own n p)) (shares (own (n + size p) q))) (own n (joined ts p q))))
+unfoldable pub nodeRules : ℕ → Plan → List InputRule
+nodeRules n (group ts l) = map groupRule (own n (group ts l))
+nodeRules n (joined ts p q) =
+    nodeRules n p ++ (nodeRules (n + size p) q ++ concat (map (joinRules (shares (own n p)) (shares (own (n + size p) q))) (own n (joined ts p q))))
 
 -- A rule as it is to be split: left as it is, or its sum added up, in any order, by a plan whose last node has the bound alone as its
 -- level.
@@ -122,7 +122,7 @@ allNeeds (i ∷ is) = needs i + allNeeds is
 abbrev pub splitItem : ℕ → Item → List InputRule
 splitItem n (whole r) = r ∷ []
 splitItem n (divided k hs b l p q) =
-    record { kind = k; heads = hs; body = plain (pos (n + (size p + size q)) ∷ []) } ∷ rulesOf n (root b p q)
+    record { kind = k; heads = hs; body = plain (pos (n + (size p + size q)) ∷ []) } ∷ nodeRules n (root b p q)
 
 -- what items give one after another, with new atoms from n on
 unfoldable pub inTurn : {A : Type 0} → (ℕ → Item → List A) → ℕ → List Item → List A

@@ -16,8 +16,8 @@ use Rattle.merging.specs.Merge.{merged}
 use Rattle.shapes.specs.Tree.{Shape, end, Parsed, bad, found, treeOf, mostSplits}
 use Rattle.trees.specs.Service.{treeOutcome, mergeTree}
 use Rattle.trees.specs.Claims.{FitsAll}
-use Rattle.trees.specs.Examples.{textC, rulesC, treeC, shapeC, endsC, Worked}
-use Rattle.trees.proofs.Only.{tree-only}
+use Rattle.trees.specs.Examples.{textC, endC, rulesC, treeC, shapeC, endsC, innerC, Worked}
+use Rattle.trees.proofs.Only.{keeps-to-store, goes-past-store, tree-only}
 
 -- the rules that were read and the shape that was found are these
 fits-as : (ws : List InputRule) → readText 21 textC ≡ program ws → (shape : Shape) → treeOf mostSplits [] (atoms ws) treeC ≡ found shape []
@@ -48,6 +48,9 @@ worked = record {
   fits =
       let x = tree-only textC treeC (concat endsC) (map length endsC) (replicate 21 (pos 0)) (replicate 200 (pos 0)) _ _ (replicate 87 0) _ 87 refl in
       fits-as (x .0) (x .1) (x .2 .0) (x .2 .1) (x .2 .3);
+  inner = refl;
+  inner-within = keeps-to-store 36 58 innerC 2 endC endC refl refl refl;
+  inner-past = goes-past-store 35 58 innerC 2 endC endC refl refl refl;
   first-58 = refl;
   first-59 = refl;
   second-57 = refl;

@@ -1,16 +1,16 @@
--- The service writes a proof only where every merge fits, and what it writes is the tree's text. Assumes nothing.
+-- The service writes a proof only where every merge fits, and what it writes is the tree's text with 0 after it. Assumes nothing.
 use mathlib.Core.Path.{_≡_, refl, sym, ap, ap₂, _∙_, subst}
-use mathlib.Core.Logic.{inl, inr}
+use mathlib.Core.Logic.{_⊎_, inl, inr}
 use mathlib.Core.Bool.{Bool, true, false, cond, true≢false}
 use mathlib.Core.List.{List, [], _∷_, _++_}
 use Prim.Native.Nat.{ℕ, _-_}
 use lib.IntN.{pos, negℤ}
-use lib.ListN.{length, drop}
+use lib.ListN.{length, replicate, drop}
 use Rattle.aspif.specs.Rules.{InputRule, expand, atoms}
 use Rattle.aspif.specs.Reading.{readText}
-use Rattle.drupe.specs.Texts.{textOf}
+use Rattle.drupe.specs.Texts.{Step, textOf}
 use Rattle.derivation.specs.States.{isAtom}
-use Rattle.runs.specs.Course.{course, endsEmpty, isAccepted}
+use Rattle.runs.specs.Course.{stopped, course, endsEmpty, isAccepted}
 use Rattle.merging.specs.Claims.{demandingAsWritten}
 use Rattle.splits.specs.Service.{areHalves, mergedSteps, isWritable, MergeLeft}
 use Rattle.splits.specs.Claims.{PastStore}
@@ -21,7 +21,6 @@ use Rattle.splits.proofs.Exactly.{accepted-written, writable-short}
 use Rattle.shapes.specs.Tree.{Shape, end, split, found, treeOf, mostSplits, leaves, ends}
 use Rattle.trees.specs.Service.{Side, fails, gives, onward, firstEnd, mergeOutcome, treeOutcome, mergeTree}
 use Rattle.trees.specs.Claims.{treeText, FitsAll, TreeOnly}
-use Rattle.splits.proofs.Answers.{text-in}
 use Rattle.trees.proofs.OverTrees.{at-split, fits-outcome, IsMerged, judged-tree}
 use Rattle.trees.proofs.OneTree.{below}
 use Rattle.trees.proofs.Subtrees.{Begins, begins}
@@ -70,6 +69,22 @@ parsed-atoms N (split v l r) depth path tree rest e =
           ),
         )
 
+-- A merged text that is accepted keeps to the store, and one that is not goes past it
+
+module _ (s o : ℕ) (ws : List InputRule) (v : ℕ) (F S : List ℕ) (halves : areHalves s ws v F S ≡ true) (w : isWritable o (mergedSteps ws v F S) ≡ true) where
+  abbrev ts : List Step
+  ts = mergedSteps ws v F S
+
+  either : ((¬ (PastStore s ws ts)) × (isAccepted s ws (textOf ts) ≡ true))
+      ⊎ (PastStore s ws ts × ((n : ℕ) × (course (atoms ws) (expand ws) s (textOf ts) ≡ stopped 34 n)))
+  either = let short = writable-short o ts w in merged-ends s ws v F S halves (short .0) (short .1) .1 .1
+
+  pub keeps-to-store : isAccepted s ws (textOf ts) ≡ true → ¬ (PastStore s ws ts)
+  keeps-to-store a = elim either [ inl x ↦ x .0 | inr x ↦ absurd (true≢false (sym a ∙ ap endsEmpty (x .1 .1))) ]
+
+  pub goes-past-store : isAccepted s ws (textOf ts) ≡ false → PastStore s ws ts
+  goes-past-store a = elim either [ inl x ↦ absurd (true≢false (sym (x .1) ∙ a)) | inr x ↦ x .0 ]
+
 -- A tree that gives a text
 
 abbrev textIn : Side → List ℕ
@@ -103,15 +118,7 @@ module _ (s o : ℕ) where
       by : (w : Bool) → isWritable o (mergedSteps ws v F S) ≡ w → (a : Bool) → isAccepted s ws (textOf (mergedSteps ws v F S)) ≡ a
           → cond w (cond a (gives (textOf (mergedSteps ws v F S))) (fails 59)) (fails 58) ≡ gives text
           → (isWritable o (mergedSteps ws v F S) ≡ true) × (¬ (PastStore s ws (mergedSteps ws v F S))) × (text ≡ textOf (mergedSteps ws v F S))
-      by true w true a e =
-          let short = writable-short o (mergedSteps ws v F S) w in (
-            w,
-            elim (merged-ends s ws v F S halves (short .0) (short .1) .1 .1) [
-              | inl x ↦ x .0
-              | inr x ↦ absurd (true≢false (sym a ∙ ap endsEmpty (x .1 .1)))
-            ],
-            sym (ap textIn e),
-          )
+      by true w true a e = (w, keeps-to-store s o ws v F S halves w a, sym (ap textIn e))
       by true w false a e = absurd (failed-text e)
       by false w a p e = absurd (failed-text e)
 
@@ -159,4 +166,6 @@ tree-only text tree texts lengths table store table′ store′ output output′
     let w = accepted-written (length table) (length store) (length output) (J .rules) (p .text) (course (atoms (J .rules)) (expand (J .rules)) (length store) (p .text)) good in
     let a : _≡_ {A = MergeAnswer} (Merged n) (Merged (length (p .text))) = ap (λ (x : MergeLeft). x .answer) (e ∙ J .judging) ∙ w .0 in
     let i : n ≡ length (p .text) = cc in
-    (J .rules, J .read, (p .shape, p .is, p .fits, F .0, text-in (p .text) (length output - length (p .text)) i (ap (λ (x : MergeLeft). x .output) (e ∙ J .judging) ∙ w .1) ∙ F .1))
+    let held = ap (λ (x : MergeLeft). x .output) (e ∙ J .judging) ∙ w .1 in
+    let put = ap₂ (λ (x : List ℕ) (m : ℕ). x ++ replicate (length output - m) 0) (F .1) (sym i) in
+    (J .rules, J .read, (p .shape, p .is, p .fits, F .0, (i ∙ ap length (F .1), held ∙ put)))

@@ -70,14 +70,17 @@ OneTree =
     → Fits (atoms ws) (expand ws) (treeSteps shape texts)
     × (treeText ws shape texts ≡ textOf (mergedTree (atoms ws) (expand ws) (treeSteps shape texts)))
 
--- The service writes a proof only where every merge fits, and what it writes is the tree's text: by its contract, whatever it is lent.
+-- The service writes a proof only where every merge fits, and what it writes is the tree's text, with 0 after it; n is that text's length.
+-- By its contract, whatever it is lent.
 abbrev pub TreeOnly : Type 0
 TreeOnly =
     (text tree texts lengths : List ℕ) (table store table′ store′ : List ℤ) (output output′ : List ℕ) (n : ℕ)
     → MergedTree text tree texts lengths table store table′ store′ output output′ (Merged n)
     → (ws : List InputRule) × (readText (length table) text ≡ program ws)
     × ((shape : Shape) × (treeOf mostSplits [] (atoms ws) tree ≡ found shape []) × (matches shape texts lengths ≡ true)
-    × FitsAll (length store) (length output) ws shape (ends texts lengths) × (take n output′ ≡ treeText ws shape (ends texts lengths)))
+    × FitsAll (length store) (length output) ws shape (ends texts lengths)
+    × ((n ≡ length (treeText ws shape (ends texts lengths)))
+    × (output′ ≡ treeText ws shape (ends texts lengths) ++ replicate (length output - n) 0)))
 
 -- "demand 3 then holds of the undivided program", by the contract, whatever is lent; and "the store is as the check of the proof written
 -- or taken leaves it": the text written, checked with the same lengths, is found inconsistent, and table and store are as that check

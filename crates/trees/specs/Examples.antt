@@ -1,15 +1,20 @@
--- What the service answers on worked cases, by its definition; proofs/Examples.antt computes them.
+-- What the service answers on worked cases, by its definition; proofs/Examples.antt computes them, takes `fits` from `TreeOnly`, and
+-- `inner-within` and `inner-past` from `MergedEnds`.
 -- Assumes nothing.
 use mathlib.Core.Path.{_≡_}
 use mathlib.Core.List.{List, [], _∷_, map}
 use Prim.Native.Nat.{ℕ}
+use lib.IntN.{pos}
 use lib.ListN.{length}
 use Rattle.words.specs.Lists.{concat}
 use Rattle.text.specs.Strings.{lines}
 use Rattle.aspif.specs.Rules.{InputRule, expand, atoms}
 use Rattle.aspif.specs.Reading.{refused, program, readText}
-use Rattle.drupe.specs.Texts.{textOf}
+use Rattle.drupe.specs.Texts.{Step, textOf}
+use Rattle.merging.specs.Claims.{demandingAsWritten}
 use Rattle.merging.specs.Trees.{mergedTree}
+use Rattle.splits.specs.Service.{mergedSteps}
+use Rattle.splits.specs.Claims.{PastStore}
 use Rattle.splits.specs.declared.MergeAnswer.{MergeAnswer}
 use Rattle.splits.specs.declared.MergeAnswer.the-variants.{Merged, Refused}
 use Rattle.shapes.specs.Tree.{Shape, end, split, found, treeOf, mostSplits}
@@ -44,6 +49,13 @@ shapeC = split 1 (split 2 end end) end
 abbrev pub endsC : List (List ℕ)
 endsC = endC ∷ endC ∷ endC ∷ []
 
+-- the rules of its inner split, which are read from no text, and the merged steps of that split's two ends
+abbrev pub innerC : List InputRule
+innerC = demandingAsWritten rulesC (pos 1)
+
+abbrev pub innerSteps : List Step
+innerSteps = mergedSteps innerC 2 endC endC
+
 pub record Worked : Type 0 where
   -- the empty list; too few numbers; an atom twice on a path
   pub none : answerC 24 33 [] [] ≡ Refused 64
@@ -65,6 +77,11 @@ pub record Worked : Type 0 where
   pub bytes : length (treeText rulesC shapeC endsC) ≡ 87
   -- every merge fits, by `TreeOnly`
   pub fits : FitsAll 200 87 rulesC shapeC endsC
+  -- the merge inside, by `MergedEnds`: its lines, and how many words they need
+  pub inner : textOf innerSteps
+      ≡ lines ("b 8 7 0" ∷ "c 8 0" ∷ "b 9 -7 0" ∷ "c 9 0" ∷ "a 2 0" ∷ "c 8 0" ∷ "c 9 0" ∷ "a -2 0" ∷ "a 0" ∷ [])
+  pub inner-within : ¬ (PastStore 36 innerC innerSteps)
+  pub inner-past : PastStore 35 innerC innerSteps
   -- "the demanding side before the other": its 58 or 59 before a bad end on the other side
   pub first-58 : answerC 200 40 (1 ∷ 2 ∷ 0 ∷ 0 ∷ 0 ∷ []) (endC ∷ endC ∷ badC ∷ []) ≡ Refused 58
   pub first-59 : answerC 24 400 (1 ∷ 2 ∷ 0 ∷ 0 ∷ 0 ∷ []) (endC ∷ endC ∷ badC ∷ []) ≡ Refused 59

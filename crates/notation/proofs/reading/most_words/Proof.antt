@@ -1,0 +1,14 @@
+-- `notation::reading::most_words` meets its contract. Assumes nothing.
+use mathlib.Core.Path.{sym}
+use native.Mathlib.Omega.{arith}
+use lib.Seq.{length-take-le}
+use borrow.Author.Needs.{needs}
+use Rattle.notation.proofs.reading.most_words.Statement.{statement}
+use Rattle.notation.proofs.reading.most_words.Tie as tie
+
+pub most-words-spec : {M : Type 1} → statement M
+most-words-spec =
+    tie.close
+    (tie.spec
+    (λ c. (omega arith, sym (length-take-le _ _ (omega arith))))
+    (λ c. (omega arith, sym (length-take-le _ _ (omega arith)))))
