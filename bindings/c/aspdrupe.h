@@ -26,21 +26,21 @@ extern "C" {
 
 /* A thread with a stack of so many bytes has enough for any call but those below, with what the C library takes of a thread's stack for itself.
  * What your own code and its thread-local variables take comes on top. The need does not grow with the texts: the whole check was measured
- * at 523,792 bytes, the services other than it and those below at 64,304 or less (bindings/c/stack.c). Some C libraries give a thread less by default:
+ * at 523,808 bytes, the services other than it and those below at 64,304 or less (bindings/c/stack.c). Some C libraries give a thread less by default:
  * musl 128 KB. */
 #define ASPDRUPE_STACK 524288
 
-/* The same for aspdrupe_merge_halves, which checks the halves over a table of its own beside the one lent: 893,744 bytes were measured. */
+/* The same for aspdrupe_merge_halves, which checks the halves over a table of its own beside the one lent: 893,760 bytes were measured. */
 #define ASPDRUPE_MERGE_STACK 1048576
 
-/* The same for aspdrupe_trim_proof, which tries each step on a copy of the text: 831,104 bytes were measured. */
+/* The same for aspdrupe_trim_proof, which tries each step on a copy of the text: 831,376 bytes were measured. */
 #define ASPDRUPE_TRIM_STACK 1048576
 
-/* The same for aspdrupe_check_cheapest, which checks the proof over a table of its own beside the one lent: 786,432 bytes were measured. */
+/* The same for aspdrupe_check_cheapest, which checks the proof over a table of its own beside the one lent: 786,448 bytes were measured. */
 #define ASPDRUPE_CHEAPEST_STACK 1048576
 
 /* The same for aspdrupe_merge_tree, which keeps the texts of both sides of a split while it merges them, at up to six splits on a path:
- * 2,012,048 bytes were measured. Rust gives a thread as much by default, of which its own code takes a part: give a thread that calls it more. */
+ * 2,012,064 bytes were measured. Rust gives a thread as much by default, of which its own code takes a part: give a thread that calls it more. */
 #define ASPDRUPE_TREE_STACK 2097152
 
 /* The most numbers that an answer has. */
