@@ -14,7 +14,7 @@ use lib.Seq.{sets, sets-eq, drop-append-le, take-append-le}
 use Rattle.words.specs.Limits.{mostLiterals}
 use Rattle.words.specs.Literals.{variable, same}
 use Rattle.words.proofs.Laws.{sets-in, sets-after}
-use Rattle.aspif.specs.Reading.{isAt, isCountAt, plainShape, ranged, few, weighedShape, bodyShape, headShape, shapeOf, isLast, ruleOf}
+use Rattle.aspif.specs.Reading.{isAt, isCountAt, plainShape, ranged, fewWithin, weighedWithin, bodyWithin, headWithin, shapeWithin, isLast, ruleOf}
 use Rattle.aspif.specs.Turns.{rowSize}
 use Rattle.aspif.specs.declared.Kind.{Kind}
 use Rattle.aspif.specs.declared.Kind.the-variants.{Normal, Choice}
@@ -44,7 +44,7 @@ by-agree true x y z e = e refl
 by-agree false x y z e = refl
 
 -- two lists that agree where a row has room, and in what follows a place up to number n, give the same shape
-module _ (a b : List ℤ) (n : ℕ) (f : (i : ℕ) → i < rowSize → getD a i (pos 0) ≡ getD b i (pos 0))
+module _ (most : ℕ) (a b : List ℤ) (n : ℕ) (f : (i : ℕ) → i < rowSize → getD a i (pos 0) ≡ getD b i (pos 0))
     (g : (i m : ℕ) → i + m ≡ n → n ≤ rowSize → take m (drop i a) ≡ take m (drop i b)) where
   at-agree : (i : ℕ) (z : ℤ) → i < rowSize → isAt a n i z ≡ isAt b n i z
   at-agree i z h = rw (f i h)
@@ -56,39 +56,39 @@ module _ (a b : List ℤ) (n : ℕ) (f : (i : ℕ) → i < rowSize → getD a i 
   plain-agree k h l = rw (count-agree (4 + h) (omega arith), f (4 + h) (omega arith))
 
   -- the pairs are looked at only where all of the line stands in the row
-  few-agree : (k : Kind) (h m : ℕ) → h ≤ mostLiterals → 6 + h + 2 * m ≡ n → n ≤ rowSize → few a k h m ≡ few b k h m
+  few-agree : (k : Kind) (h m : ℕ) → h ≤ mostLiterals → 6 + h + 2 * m ≡ n → n ≤ rowSize → fewWithin most a k h m ≡ fewWithin most b k h m
   unfolding ranged
   few-agree k h m l e r = rw (f (4 + h) (omega arith), g (6 + h) (2 * m) e r)
 
-  weighed-agree : (k : Kind) (h : ℕ) → h ≤ mostLiterals → weighedShape a n k h ≡ weighedShape b n k h
+  weighed-agree : (k : Kind) (h : ℕ) → h ≤ mostLiterals → weighedWithin most a n k h ≡ weighedWithin most b n k h
   weighed-agree k h l =
       rw (count-agree (5 + h) (omega arith), f (5 + h) (omega arith))
-      (by-agree (isCountAt b n (5 + h) && eqb (6 + h + 2 * m) n) (few a k h m) (few b k h m) (Wrong 6) on)
+      (by-agree (isCountAt b n (5 + h) && eqb (6 + h + 2 * m) n) (fewWithin most a k h m) (fewWithin most b k h m) (Wrong 6) on)
     where
       m : ℕ
       m = variable (getD b (5 + h) (pos 0))
 
-      on : (isCountAt b n (5 + h) && eqb (6 + h + 2 * m) n) ≡ true → few a k h m ≡ few b k h m
+      on : (isCountAt b n (5 + h) && eqb (6 + h + 2 * m) n) ≡ true → fewWithin most a k h m ≡ fewWithin most b k h m
       on e =
           let p = eqb-true (6 + h + 2 * m) n (and-right (isCountAt b n (5 + h)) (eqb (6 + h + 2 * m) n) e) in
           let q = count-small-at b n (5 + h) (and-left (isCountAt b n (5 + h)) (eqb (6 + h + 2 * m) n) e) in
           few-agree k h m l p (omega (arith, p, q))
 
-  body-agree : (k : Kind) (h : ℕ) → h ≤ mostLiterals → bodyShape a n k h ≡ bodyShape b n k h
+  body-agree : (k : Kind) (h : ℕ) → h ≤ mostLiterals → bodyWithin most a n k h ≡ bodyWithin most b n k h
   body-agree k h l = rw (at-agree (3 + h) (pos 0) (omega arith), at-agree (3 + h) (pos 1) (omega arith), plain-agree k h l, weighed-agree k h l)
 
-  head-agree : (k : Kind) → headShape a n k ≡ headShape b n k
+  head-agree : (k : Kind) → headWithin most a n k ≡ headWithin most b n k
   head-agree k =
       let h = variable (getD b 2 (pos 0)) in
       rw (count-agree 2 (omega arith), f 2 (omega arith))
-      (by-agree (isCountAt b n 2 && leb (3 + h) n) (bodyShape a n k h) (bodyShape b n k h) (Wrong 6)
+      (by-agree (isCountAt b n 2 && leb (3 + h) n) (bodyWithin most a n k h) (bodyWithin most b n k h) (Wrong 6)
       (λ e. body-agree k h (count-small-at b n 2 (and-left (isCountAt b n 2) (leb (3 + h) n) e))))
 
-  pub shape-agree : shapeOf a n ≡ shapeOf b n
-  unfolding shapeOf
+  pub shape-agree : shapeWithin most a n ≡ shapeWithin most b n
+  unfolding shapeWithin
   shape-agree = rw (at-agree 0 (pos 1) (omega arith), at-agree 1 (pos 0) (omega arith), at-agree 1 (pos 1) (omega arith), head-agree Normal, head-agree Choice)
 
-module _ (zs : List ℤ) where
+module _ (most : ℕ) (zs : List ℤ) where
   part-agree : (from m : ℕ) → from + m ≤ length zs → length zs ≤ rowSize → take m (drop from (rowOf zs)) ≡ take m (drop from zs)
   part-agree from m h l =
       let rest = drop (0 + length zs) (replicate rowSize (pos 0)) in
@@ -96,12 +96,12 @@ module _ (zs : List ℤ) where
       rw (e, drop-append-le from zs rest (omega arith)) (take-append-le m (drop from zs) rest (omega (arith, length-drop from zs)))
 
   -- a line of numbers and its row make the same rule
-  rule-agree : ruleOf (rowOf zs) (shapeOf (rowOf zs) (length zs)) ≡ ruleOf zs (shapeOf zs (length zs))
+  rule-agree : ruleOf (rowOf zs) (shapeWithin most (rowOf zs) (length zs)) ≡ ruleOf zs (shapeWithin most zs (length zs))
   rule-agree =
-      rw (shape-agree (rowOf zs) zs (length zs) (row-at zs) (λ i m e l. part-agree i m (omega arith) l))
-      (by (shapeOf zs (length zs)) (shape-counted zs (length zs)))
+      rw (shape-agree most (rowOf zs) zs (length zs) (row-at zs) (λ i m e l. part-agree i m (omega arith) l))
+      (by (shapeWithin most zs (length zs)) (shape-counted most zs (length zs)))
     where
-      by : (s : Shape) → Counted zs (length zs) s → ruleOf (rowOf zs) s ≡ ruleOf zs s
+      by : (s : Shape) → Counted most zs (length zs) s → ruleOf (rowOf zs) s ≡ ruleOf zs s
       by (Wrong k) w = refl
       by (Shaped k h b) w = rw (part-agree 3 h (omega arith) (omega arith), part-agree (5 + h) b (omega arith) (omega arith))
       by (Weighed k h b) w =
@@ -112,5 +112,5 @@ module _ (zs row : List ℤ) (count : ℕ) (long : count ≡ length zs) (is : ro
   pub row-last : (eqb count 1 && same (getD row 0 (pos 0)) (pos 0)) ≡ isLast zs
   row-last = rw (long, is, row-at zs 0 (omega arith))
 
-  pub row-rule : ruleOf row (shapeOf row count) ≡ ruleOf zs (shapeOf zs (length zs))
-  row-rule = rw (long, is) (rule-agree zs)
+  pub row-rule : (most : ℕ) → ruleOf row (shapeWithin most row count) ≡ ruleOf zs (shapeWithin most zs (length zs))
+  row-rule most = rw (long, is) (rule-agree most zs)

@@ -1,8 +1,8 @@
 -- What the rules of a program that is read look like: `read-fits`. Written.antt shows that any rules that look so are read from
 -- some text. Assumes nothing.
-use mathlib.Core.Path.{_≡_, refl, _∙_, ap, subst}
-use mathlib.Core.Bool.{Bool, true, false, cond, not, _&&_, _||_}
-use mathlib.Core.List.{List, [], _∷_, _++_, append-nil, List·Memᴰ·append-cases, List·Memᴰ·eq-of-singleton}
+use mathlib.Core.Path.{_≡_, refl, sym, _∙_, ap, subst}
+use mathlib.Core.Bool.{Bool, true, false, cond, not, _&&_, _||_, true≢false}
+use mathlib.Core.List.{List, [], _∷_, _++_, append-nil, List·Memᴰ·append-cases, List·Memᴰ·eq-of-singleton, Memᴰ·cast}
 use mathlib.Core.Logic.{inl, inr}
 use Prim.Native.Nat.{ℕ, zero, suc, _+_, _*_, _-_, _≤_, _<_}
 use native.Mathlib.Omega.{arith}
@@ -13,46 +13,34 @@ use lib.Signed.{ltZ}
 use lib.ListN.{length, take, drop, getD, length-append, length-drop, length-map}
 use lib.Seq.{length-take-le}
 use Rattle.words.specs.Lists.{_∈_, all}
-use Rattle.words.specs.Literals.{variable, has, rising, ascending}
+use Rattle.words.specs.Literals.{variable, has, ascending}
 use Rattle.words.proofs.Lists.{concat-append, Decides, itself, passed, failed, not-decides, all-decides, or-false-left, or-false-right, by-test, and-left, and-right}
-use Rattle.words.proofs.Literals.{has-decides, ascending→}
+use Rattle.words.proofs.Literals.{has-decides, ascending→, variable-positive}
 use Rattle.words.proofs.Sorting.{length-ascending, rising-ascending}
 use Rattle.text.specs.Line.{Line, broken, numbers, lineOf, outside, anyOutside}
 use Rattle.weights.specs.Weights.{literals, paired, mostWeight, mostWeighted}
 use Rattle.aspif.specs.Rules.{Body, plain, weights, InputRule, literalsOf, suits, isWeight, ruleWords, programWords}
 use Rattle.words.specs.Limits.{largest, mostLiterals, mostRules}
-use Rattle.aspif.specs.Reading.{suited, allWeights, ranged, few, isAt, isCountAt, plainShape, weighedShape, bodyShape, headShape, shapeOf, headsGood, bodyGood, arranged, RuleRead, fails, reads, ruleWith, ruleOf, Turn, refuses, ends, adds, isLast, room, turnOf, linesFrom, Reading, refused, program, header, readLines}
+use Rattle.aspif.specs.Reading.{suited, allWeights, ranged, fewWithin, isAt, isCountAt, plainShape, weighedWithin, bodyWithin, headWithin, shapeWithin, headsGood, bodyGood, arranged, RuleRead, fails, reads, ruleWith, ruleOf, Turn, refuses, ends, adds, isLast, room, turnWithin, linesWithin, Reading, refused, program, header, readLinesWithin, readLines}
+use Rattle.aspif.specs.Claims.{WeighingWithin, FormedWithin, FitsWithin, ReadFits}
 use Rattle.text.specs.Strings.{startsWith}
 use Rattle.aspif.specs.declared.Kind.{Kind}
 use Rattle.aspif.specs.declared.Kind.the-variants.{Normal, Choice}
 use Rattle.aspif.specs.declared.rules.Shape.{Shape}
 use Rattle.aspif.specs.declared.rules.Shape.the-variants.{Wrong, Shaped, Weighed}
 use Rattle.aspif.proofs.Counts.{Counted, shape-counted}
-use Rattle.aspif.proofs.PairWords.{up-to, Light, length-paired, paired-light, literals-arranged, length-arranged, arranged-light}
+use Rattle.aspif.proofs.PairWords.{up-to, length-paired, paired-light, literals-arranged, length-arranged, arranged-light}
 
--- "Bound and weights are 0 to 4,095; at most 12 literals", of a weight body
+-- what `Within` 12 says, for the tables of the documents
+
 abbrev pub Weighing : Body → Type 0
-Weighing (plain ls) = Unit {0}
-Weighing (weights b l) = (length l ≤ mostWeighted) × (b ≤ mostWeight) × Light l
+Weighing = WeighingWithin mostWeighted
 
--- A rule that passes questions 4 to 8, 54 and 55, its heads and its literals ascending
-pub record Formed (r : InputRule) : Type 0 where
-  pub heads-few : length (r .heads) ≤ mostLiterals
-  pub body-few : length (literalsOf (r .body)) ≤ mostLiterals
-  pub headed : suits (r .kind) (length (r .heads)) ≡ true
-  pub positive : all (λ h. ltZ (pos 0) h) (r .heads) ≡ true
-  pub heads-rise : rising (r .heads) ≡ true
-  pub nonzero : has (pos 0) (literalsOf (r .body)) ≡ false
-  pub body-rise : rising (literalsOf (r .body)) ≡ true
-  pub heads-in : anyOutside (r .heads) ≡ false
-  pub body-in : anyOutside (literalsOf (r .body)) ≡ false
-  pub weighing : Weighing (r .body)
+abbrev pub Formed : InputRule → Type 0
+Formed = FormedWithin mostWeighted
 
--- A program that passes questions 9 and 10 too, for a table of `size` words
-pub record FitsTable (size : ℕ) (rs : List InputRule) : Type 0 where
-  pub formed : (r : InputRule) → r ∈ rs → Formed r
-  pub few : length rs ≤ mostRules
-  pub room : length (programWords rs) ≤ size
+abbrev pub FitsTable : (size : ℕ) → List InputRule → Type 0
+FitsTable = FitsWithin mostWeighted
 
 -- Sizes
 
@@ -94,6 +82,9 @@ inside-of zs f = not-true _ (passed _ .to (inside-decides zs .from (λ z i. rw (
 pub no-zero : (zs : List ℤ) → ((z : ℤ) → z ∈ zs → 1 ≤ variable z) → has (pos 0) zs ≡ false
 no-zero zs f = failed _ (not-decides (has-decides (pos 0) zs) .from (λ i. omega (arith, f (pos 0) i)))
 
+pub none-zero : (zs : List ℤ) → has (pos 0) zs ≡ false → (z : ℤ) → z ∈ zs → 1 ≤ variable z
+none-zero zs e z i = variable-positive z (λ p. true≢false (sym (passed _ .to (has-decides (pos 0) zs .from (Memᴰ·cast (sym p) i))) ∙ e))
+
 ascending-in : (zs : List ℤ) → anyOutside zs ≡ false → anyOutside (ascending zs) ≡ false
 ascending-in zs e = inside-of (ascending zs) (λ z i. inside zs e z (ascending→ zs i))
 
@@ -109,49 +100,49 @@ Suits (Weighed k h b) = suits k h ≡ true
 or-wrong : (w : ℕ) (t : Bool) (x : Shape) → (t ≡ true → Suits x) → Suits (cond t x (Wrong w))
 or-wrong w t x f = by-test Suits t f (λ e. tt)
 
-module _ (zs : List ℤ) (n : ℕ) where
-  weighed-suits : (k : Kind) (h : ℕ) → Suits (weighedShape zs n k h)
+module _ (most : ℕ) (zs : List ℤ) (n : ℕ) where
+  weighed-suits : (k : Kind) (h : ℕ) → Suits (weighedWithin most zs n k h)
   weighed-suits k h =
       let b = variable (getD zs (5 + h) (pos 0)) in
-      or-wrong 6 (isCountAt zs n (5 + h) && eqb (6 + h + 2 * b) n) (few zs k h b)
+      or-wrong 6 (isCountAt zs n (5 + h) && eqb (6 + h + 2 * b) n) (fewWithin most zs k h b)
       (λ e.
-      or-wrong 54 (ranged zs h b) (cond (leb b mostWeighted) (suited k h (Weighed k h b)) (Wrong 55))
-      (λ f. or-wrong 55 (leb b mostWeighted) (suited k h (Weighed k h b)) (λ g. or-wrong 7 (suits k h) (Weighed k h b) (λ s. s))))
+      or-wrong 54 (ranged zs h b) (cond (leb b most) (suited k h (Weighed k h b)) (Wrong 55))
+      (λ f. or-wrong 55 (leb b most) (suited k h (Weighed k h b)) (λ g. or-wrong 7 (suits k h) (Weighed k h b) (λ s. s))))
 
   plain-suits : (k : Kind) (h : ℕ) → Suits (plainShape zs n k h)
   plain-suits k h =
       let b = variable (getD zs (4 + h) (pos 0)) in
       or-wrong 6 (isCountAt zs n (4 + h) && eqb (5 + h + b) n) (suited k h (Shaped k h b)) (λ e. or-wrong 7 (suits k h) (Shaped k h b) (λ s. s))
 
-  body-suits : (k : Kind) (h : ℕ) → Suits (bodyShape zs n k h)
+  body-suits : (k : Kind) (h : ℕ) → Suits (bodyWithin most zs n k h)
   body-suits k h =
       by-test Suits (isAt zs n (3 + h) (pos 0)) (λ e. plain-suits k h)
-      (λ e. or-wrong 5 (isAt zs n (3 + h) (pos 1)) (weighedShape zs n k h) (λ f. weighed-suits k h))
+      (λ e. or-wrong 5 (isAt zs n (3 + h) (pos 1)) (weighedWithin most zs n k h) (λ f. weighed-suits k h))
 
-  head-suits : (k : Kind) → Suits (headShape zs n k)
+  head-suits : (k : Kind) → Suits (headWithin most zs n k)
   head-suits k =
       let h = variable (getD zs 2 (pos 0)) in
-      or-wrong 6 (isCountAt zs n 2 && leb (3 + h) n) (bodyShape zs n k h) (λ e. body-suits k h)
+      or-wrong 6 (isCountAt zs n 2 && leb (3 + h) n) (bodyWithin most zs n k h) (λ e. body-suits k h)
 
-  shape-suits : Suits (shapeOf zs n)
-  unfolding shapeOf
+  shape-suits : Suits (shapeWithin most zs n)
+  unfolding shapeWithin
   shape-suits =
       or-wrong 5 (isAt zs n 0 (pos 1)) _
       (λ e.
       by-test Suits (isAt zs n 1 (pos 0)) (λ f. head-suits Normal)
-      (λ f. or-wrong 5 (isAt zs n 1 (pos 1)) (headShape zs n Choice) (λ g. head-suits Choice)))
+      (λ f. or-wrong 5 (isAt zs n 1 (pos 1)) (headWithin most zs n Choice) (λ g. head-suits Choice)))
 
-abbrev ReadFormed : RuleRead → Type 0
-ReadFormed (fails k) = Unit {0}
-ReadFormed (reads r) = Formed r
+abbrev ReadFormed : (most : ℕ) → RuleRead → Type 0
+ReadFormed most (fails k) = Unit {0}
+ReadFormed most (reads r) = FormedWithin most r
 
 -- question 8 of heads and literals that passed the others
-module _ (k : Kind) (hs ls : List ℤ) (body : Body) (lits : literalsOf body ≡ ascending ls) (w : Weighing body) where
+module _ (most : ℕ) (k : Kind) (hs ls : List ℤ) (body : Body) (lits : literalsOf body ≡ ascending ls) (w : WeighingWithin most body) where
   with-formed : length hs ≤ mostLiterals → length ls ≤ mostLiterals → suits k (length hs) ≡ true
-      → anyOutside hs ≡ false → anyOutside ls ≡ false → ReadFormed (ruleWith k hs ls body)
-  with-formed many long s hs-in ls-in = by-test ReadFormed (headsGood hs && bodyGood ls) formed (λ e. tt)
+      → anyOutside hs ≡ false → anyOutside ls ≡ false → ReadFormed most (ruleWith k hs ls body)
+  with-formed many long s hs-in ls-in = by-test (ReadFormed most) (headsGood hs && bodyGood ls) formed (λ e. tt)
     where
-      formed : (headsGood hs && bodyGood ls) ≡ true → Formed (record { kind = k; heads = ascending hs; body = body })
+      formed : (headsGood hs && bodyGood ls) ≡ true → FormedWithin most (record { kind = k; heads = ascending hs; body = body })
       formed e =
           let p = and-left (headsGood hs) (bodyGood ls) e in
           let q = and-right (headsGood hs) (bodyGood ls) e in
@@ -178,16 +169,16 @@ part-length m n zs h = length-take-le m (drop n zs) (omega (arith, length-drop n
 part-in : (m n : ℕ) (zs : List ℤ) → anyOutside zs ≡ false → anyOutside (take m (drop n zs)) ≡ false
 part-in m n zs o = take-in m (drop n zs) (drop-in n zs o)
 
-rule-formed : (zs : List ℤ) → anyOutside zs ≡ false → (x : Shape) → Counted zs (length zs) x → Suits x → ReadFormed (ruleOf zs x)
+rule-formed : (most : ℕ) (zs : List ℤ) → anyOutside zs ≡ false → (x : Shape) → Counted most zs (length zs) x → Suits x → ReadFormed most (ruleOf zs x)
 unfolding ranged
-rule-formed zs o (Wrong k) c s = tt
-rule-formed zs o (Shaped k h b) c s =
+rule-formed most zs o (Wrong k) c s = tt
+rule-formed most zs o (Shaped k h b) c s =
     let hs = take h (drop 3 zs) in
     let ls = take b (drop (5 + h) zs) in
     let many : length hs ≡ h = part-length h 3 zs (omega (arith, c .2)) in
     let long : length ls ≡ b = part-length b (5 + h) zs (omega (arith, c .2)) in
-    with-formed k hs ls (plain (ascending ls)) refl tt (rw many (c .0)) (rw long (c .1)) (rw many s) (part-in h 3 zs o) (part-in b (5 + h) zs o)
-rule-formed zs o (Weighed k h b) c s =
+    with-formed most k hs ls (plain (ascending ls)) refl tt (rw many (c .0)) (rw long (c .1)) (rw many s) (part-in h 3 zs o) (part-in b (5 + h) zs o)
+rule-formed most zs o (Weighed k h b) c s =
     let hs = take h (drop 3 zs) in
     let ws = take (2 * b) (drop (6 + h) zs) in
     let ps = paired ws in
@@ -196,30 +187,30 @@ rule-formed zs o (Weighed k h b) c s =
     let many : length hs ≡ h = part-length h 3 zs (omega (arith, c .2)) in
     let long : length (literals ps) ≡ b =
     omega (arith, length-map ps (λ x. x .literal), length-paired ws light, part-length (2 * b) (6 + h) zs (omega (arith, c .2))) in
-    let few : length (arranged ps) ≤ mostWeighted = omega (arith, length-arranged ps, length-map ps (λ x. x .literal), long, c .1) in
-    with-formed k hs (literals ps) (weights (variable bound) (arranged ps)) (literals-arranged ps)
+    let few : length (arranged ps) ≤ most = omega (arith, length-arranged ps, length-map ps (λ x. x .literal), long, c .1) in
+    with-formed most k hs (literals ps) (weights (variable bound) (arranged ps)) (literals-arranged ps)
     (few, up-to mostWeight bound (and-left (isWeight bound) (allWeights ws) (c .3)) .1, arranged-light ps (paired-light ws light))
-    (rw many (c .0)) (rw long (omega (arith, c .1))) (rw many s) (part-in h 3 zs o) (paired-in ws (part-in (2 * b) (6 + h) zs o))
+    (rw many (c .0)) (rw long (omega (arith, c .1, c .4))) (rw many s) (part-in h 3 zs o) (paired-in ws (part-in (2 * b) (6 + h) zs o))
 
 -- what a turn that adds a rule says of it
-abbrev Added : ℕ → ℕ → Turn → Type 0
-Added rules free (refuses k) = Unit {0}
-Added rules free ends = Unit {0}
-Added rules free (adds r n) = Formed r × (rules < mostRules) × (length (ruleWords r) ≤ free)
+abbrev Added : (most : ℕ) → ℕ → ℕ → Turn → Type 0
+Added most rules free (refuses k) = Unit {0}
+Added most rules free ends = Unit {0}
+Added most rules free (adds r n) = FormedWithin most r × (rules < mostRules) × (length (ruleWords r) ≤ free)
 
-room-added : (rules free : ℕ) (x : RuleRead) (n : ℕ) → ReadFormed x → Added rules free (room rules free x n)
-room-added rules free (fails k) n f = tt
-room-added rules free (reads r) n f =
-    by-test (Added rules free) (ltb rules mostRules)
-    (λ e. by-test (Added rules free) (leb (length (ruleWords r)) free) (λ g. (f, ltb-true _ _ e, leb-true _ _ g)) (λ g. tt)) (λ e. tt)
+room-added : (most rules free : ℕ) (x : RuleRead) (n : ℕ) → ReadFormed most x → Added most rules free (room rules free x n)
+room-added most rules free (fails k) n f = tt
+room-added most rules free (reads r) n f =
+    by-test (Added most rules free) (ltb rules mostRules)
+    (λ e. by-test (Added most rules free) (leb (length (ruleWords r)) free) (λ g. (f, ltb-true _ _ e, leb-true _ _ g)) (λ g. tt)) (λ e. tt)
 
-turn-added : (rules free left : ℕ) (l : Line) → Added rules free (turnOf rules free left l)
-turn-added rules free left broken = tt
-turn-added rules free left (numbers zs n) =
-    by-test (Added rules free) (anyOutside zs) (λ e. tt)
+turn-added : (most rules free left : ℕ) (l : Line) → Added most rules free (turnWithin most rules free left l)
+turn-added most rules free left broken = tt
+turn-added most rules free left (numbers zs n) =
+    by-test (Added most rules free) (anyOutside zs) (λ e. tt)
     (λ o.
-    by-test (Added rules free) (isLast zs) (λ e. by-test (Added rules free) (eqb n left) (λ f. tt) (λ f. tt))
-    (λ e. room-added rules free (ruleOf zs (shapeOf zs (length zs))) n (rule-formed zs o (shapeOf zs (length zs)) (shape-counted zs (length zs)) (shape-suits zs (length zs)))))
+    by-test (Added most rules free) (isLast zs) (λ e. by-test (Added most rules free) (eqb n left) (λ f. tt) (λ f. tt))
+    (λ e. room-added most rules free (ruleOf zs (shapeWithin most zs (length zs))) n (rule-formed most zs o (shapeWithin most zs (length zs)) (shape-counted most zs (length zs)) (shape-suits most zs (length zs)))))
 
 -- Line after line
 
@@ -235,14 +226,14 @@ abbrev pub onward : (ℕ → List InputRule → Reading) → List InputRule → 
 onward on rs line t = elim t [ refuses k ↦ refused k line | ends ↦ program rs | adds r n ↦ on n (rs ++ (r ∷ [])) ]
 
 -- one line of the reading
-pub lines-on : (size turns : ℕ) (s : List ℕ) (line : ℕ) (rs : List InputRule)
-    → linesFrom size (suc turns) s line rs
-    ≡ onward (λ n. linesFrom size turns (drop n s) (line + 1)) rs line (turnOf (length rs) (size - length (programWords rs)) (length s) (lineOf s))
-unfolding linesFrom
-lines-on size turns s line rs = refl
+pub lines-on : (most size turns : ℕ) (s : List ℕ) (line : ℕ) (rs : List InputRule)
+    → linesWithin most size (suc turns) s line rs
+    ≡ onward (λ n. linesWithin most size turns (drop n s) (line + 1)) rs line (turnWithin most (length rs) (size - length (programWords rs)) (length s) (lineOf s))
+unfolding linesWithin
+lines-on most size turns s line rs = refl
 
-module _ (size : ℕ) where
-  fits-more : (rs : List InputRule) (r : InputRule) → FitsTable size rs → Added (length rs) (size - length (programWords rs)) (adds r 0) → FitsTable size (rs ++ (r ∷ []))
+module _ (most size : ℕ) where
+  fits-more : (rs : List InputRule) (r : InputRule) → FitsWithin most size rs → Added most (length rs) (size - length (programWords rs)) (adds r 0) → FitsWithin most size (rs ++ (r ∷ []))
   fits-more rs r f a =
       record {
         formed = λ s i. elim (List·Memᴰ·append-cases rs i) [ inl j ↦ f .formed s j | inr j ↦ rw (List·Memᴰ·eq-of-singleton j) (a .0) ];
@@ -250,24 +241,27 @@ module _ (size : ℕ) where
         room = omega (arith, length-more rs r, a .2, f .room);
       }
 
-  lines-fit : (turns : ℕ) (s : List ℕ) (line : ℕ) (so-far rs : List InputRule) → FitsTable size so-far → linesFrom size turns s line so-far ≡ program rs → FitsTable size rs
-  unfolding linesFrom
+  lines-fit : (turns : ℕ) (s : List ℕ) (line : ℕ) (so-far rs : List InputRule) → FitsWithin most size so-far → linesWithin most size turns s line so-far ≡ program rs → FitsWithin most size rs
+  unfolding linesWithin
   lines-fit zero s line so-far rs f e = absurd (let z : _≡_ {A = ℕ} 0 1 = cc in omega arith)
   lines-fit (suc turns) s line so-far rs f e =
-      by (turnOf (length so-far) (size - length (programWords so-far)) (length s) (lineOf s)) (turn-added _ _ _ (lineOf s)) (λ n ss g. lines-fit turns (drop n s) (line + 1) ss rs g) e
+      by (turnWithin most (length so-far) (size - length (programWords so-far)) (length s) (lineOf s)) (turn-added most _ _ _ (lineOf s)) (λ n ss g. lines-fit turns (drop n s) (line + 1) ss rs g) e
     where
-      by : (t : Turn) → Added (length so-far) (size - length (programWords so-far)) t
-          → ((n : ℕ) (ss : List InputRule) → FitsTable size ss → linesFrom size turns (drop n s) (line + 1) ss ≡ program rs → FitsTable size rs)
-          → onward (λ n. linesFrom size turns (drop n s) (line + 1)) so-far line t ≡ program rs → FitsTable size rs
+      by : (t : Turn) → Added most (length so-far) (size - length (programWords so-far)) t
+          → ((n : ℕ) (ss : List InputRule) → FitsWithin most size ss → linesWithin most size turns (drop n s) (line + 1) ss ≡ program rs → FitsWithin most size rs)
+          → onward (λ n. linesWithin most size turns (drop n s) (line + 1)) so-far line t ≡ program rs → FitsWithin most size rs
       by (refuses k) a g p = absurd (let z : _≡_ {A = ℕ} 0 1 = cc in omega arith)
       by ends a g p = let q : so-far ≡ rs = cc in rw (← q) f
       by (adds r n) a g p = g n (so-far ++ (r ∷ [])) (fits-more so-far r f a) p
 
-  -- a program that is read is formed, and fits
-  pub read-fits : (text : List ℕ) (rs : List InputRule) → readLines size text ≡ program rs → FitsTable size rs
-  unfolding readLines
-  read-fits text rs e = by (startsWith header text) e
-    where
-      by : (b : Bool) → cond b (linesFrom size (suc (length text)) (drop (length header) text) 2 []) (refused 2 1) ≡ program rs → FitsTable size rs
-      by true p = lines-fit (suc (length text)) (drop (length header) text) 2 [] rs (record { formed = λ r i. elim i [ ]; few = omega arith; room = omega arith }) p
-      by false p = absurd (let z : _≡_ {A = ℕ} 0 1 = cc in omega arith)
+pub within-fits : ReadFits
+unfolding readLinesWithin
+within-fits most size text rs e = by (startsWith header text) e
+  where
+    by : (b : Bool) → cond b (linesWithin most size (suc (length text)) (drop (length header) text) 2 []) (refused 2 1) ≡ program rs → FitsWithin most size rs
+    by true p = lines-fit most size (suc (length text)) (drop (length header) text) 2 [] rs (record { formed = λ r i. elim i [ ]; few = omega arith; room = omega arith }) p
+    by false p = absurd (let z : _≡_ {A = ℕ} 0 1 = cc in omega arith)
+
+pub read-fits : (size : ℕ) (text : List ℕ) (rs : List InputRule) → readLines size text ≡ program rs → FitsTable size rs
+unfolding readLines
+read-fits size text rs e = within-fits mostWeighted size text rs e

@@ -17,7 +17,7 @@ use Rattle.text.proofs.Lines.{bounds-of}
 use Rattle.aspif.specs.Rules.{InputRule, ruleTop, atoms, ruleWords, programWords}
 use Rattle.words.proofs.Lists.{concat-append}
 use Rattle.words.specs.Limits.{mostRules}
-use Rattle.aspif.specs.Reading.{RuleRead, fails, reads, Turn, refuses, ends, adds, isLast, shapeOf, ruleOf, room, turnOf, linesFrom, Reading, refused, program, header}
+use Rattle.aspif.specs.Reading.{RuleRead, fails, reads, Turn, refuses, ends, adds, isLast, shapeWithin, ruleOf, room, turnWithin, linesWithin, Reading, refused, program, header}
 use Rattle.aspif.proofs.Formed.{onward, lines-on}
 use Rattle.aspif.specs.Turns.{turnTold, freeAfter, TurnTaken, LinesRead}
 use Rattle.aspif.specs.declared.rules.LineTurn.{LineTurn}
@@ -68,12 +68,12 @@ module _ (rules free left : ℕ) where
       (λ u. ((zs, refl), ltb-true rules mostRules t, leb-true (length (ruleWords r)) free u)) tt)
       tt
 
-  pub turn-room : (l : Line) → Room l (turnOf rules free left l)
-  turn-room broken = tt
-  turn-room (numbers zs n) =
+  pub turn-room : (most : ℕ) (l : Line) → Room l (turnWithin most rules free left l)
+  turn-room most broken = tt
+  turn-room most (numbers zs n) =
       by (numbers zs n) (anyOutside zs) (refuses 4) _ (λ t. tt)
       (by (numbers zs n) (isLast zs) _ _ (λ t. by (numbers zs n) (eqb n left) ends (refuses 11) (λ u. tt) tt)
-      (has-room zs n (ruleOf zs (shapeOf zs (length zs)))))
+      (has-room zs n (ruleOf zs (shapeWithin most zs (length zs)))))
 
 -- One rule more
 
@@ -90,11 +90,11 @@ atoms-more (x ∷ rs) r = ap (λ (n : ℕ). max (ruleTop x) n) (atoms-more rs r)
 
 -- Where the loop stands
 
-pub record Standing (text : List ℕ) (table₀ table : List ℤ) (at line used rules top : ℕ) : Type 0 where
+pub record Standing (limit : ℕ) (text : List ℕ) (table₀ table : List ℤ) (at line used rules top : ℕ) : Type 0 where
   pub so-far : List InputRule
   pub turns : ℕ
   pub enough : length text < at + turns
-  pub reading : linesFrom (length table₀) (suc (length text)) (drop (length header) text) 2 [] ≡ linesFrom (length table₀) turns (drop at text) line so-far
+  pub reading : linesWithin limit (length table₀) (suc (length text)) (drop (length header) text) 2 [] ≡ linesWithin limit (length table₀) turns (drop at text) line so-far
   pub count : rules ≡ length so-far
   pub words : used ≡ length (programWords so-far)
   pub front : take used table ≡ programWords so-far
@@ -105,7 +105,7 @@ pub record Standing (text : List ℕ) (table₀ table : List ℤ) (at line used 
   pub fits : used ≤ length table
   pub long : length table ≡ length table₀
 
-module _ {text : List ℕ} {table₀ table : List ℤ} {at line used rules top : ℕ} (S : Standing text table₀ table at line used rules top) where
+module _ {limit : ℕ} {text : List ℕ} {table₀ table : List ℤ} {at line used rules top : ℕ} (S : Standing limit text table₀ table at line used rules top) where
   abbrev pub rest : List ℕ
   rest = drop at text
 
@@ -113,13 +113,13 @@ module _ {text : List ℕ} {table₀ table : List ℤ} {at line used rules top :
   free = drop used table
 
   abbrev pub turn : Turn
-  turn = turnOf rules (length free) (length rest) (lineOf rest)
+  turn = turnWithin limit rules (length free) (length rest) (lineOf rest)
 
   -- the turn is the definition's
-  turn-is : turn ≡ turnOf (length (S .so-far)) (length table₀ - length (programWords (S .so-far))) (length rest) (lineOf rest)
+  turn-is : turn ≡ turnWithin limit (length (S .so-far)) (length table₀ - length (programWords (S .so-far))) (length rest) (lineOf rest)
   turn-is =
       let f : length free ≡ length table₀ - length (programWords (S .so-far)) = omega (arith, length-drop used table, S .words, S .long) in
-      ap₂ (λ x y. turnOf x y (length rest) (lineOf rest)) (S .count) f
+      ap₂ (λ x y. turnWithin limit x y (length rest) (lineOf rest)) (S .count) f
 
   -- there is a turn left
   turn-left : (t : ℕ) × (S .turns ≡ suc t)
@@ -130,16 +130,16 @@ module _ {text : List ℕ} {table₀ table : List ℤ} {at line used rules top :
       go (suc t) h = (t, refl)
 
   -- one turn of the reading
-  turned : linesFrom (length table₀) (suc (length text)) (drop (length header) text) 2 [] ≡ onward (λ n. linesFrom (length table₀) (turn-left .0) (drop n rest) (line + 1)) (S .so-far) line turn
+  turned : linesWithin limit (length table₀) (suc (length text)) (drop (length header) text) 2 [] ≡ onward (λ n. linesWithin limit (length table₀) (turn-left .0) (drop n rest) (line + 1)) (S .so-far) line turn
   turned =
-      S .reading ∙ ap (λ n. linesFrom (length table₀) n rest line (S .so-far)) (turn-left .1)
-      ∙ lines-on (length table₀) (turn-left .0) rest line (S .so-far)
-      ∙ ap (λ t. onward (λ n. linesFrom (length table₀) (turn-left .0) (drop n rest) (line + 1)) (S .so-far) line t) (sym turn-is)
+      S .reading ∙ ap (λ n. linesWithin limit (length table₀) n rest line (S .so-far)) (turn-left .1)
+      ∙ lines-on limit (length table₀) (turn-left .0) rest line (S .so-far)
+      ∙ ap (λ t. onward (λ n. linesWithin limit (length table₀) (turn-left .0) (drop n rest) (line + 1)) (S .so-far) line t) (sym turn-is)
 
-  stands-refuses : (k : ℕ) → turn ≡ refuses k → linesFrom (length table₀) (suc (length text)) (drop (length header) text) 2 [] ≡ refused k line
+  stands-refuses : (k : ℕ) → turn ≡ refuses k → linesWithin limit (length table₀) (suc (length text)) (drop (length header) text) 2 [] ≡ refused k line
   stands-refuses k e = turned ∙ rw e
 
-  stands-ends : turn ≡ ends → linesFrom (length table₀) (suc (length text)) (drop (length header) text) 2 [] ≡ program (S .so-far)
+  stands-ends : turn ≡ ends → linesWithin limit (length table₀) (suc (length text)) (drop (length header) text) 2 [] ≡ program (S .so-far)
   stands-ends e = turned ∙ rw e
 
   -- a turn that adds no rule leaves the table
@@ -148,7 +148,7 @@ module _ {text : List ℕ} {table₀ table : List ℤ} {at line used rules top :
 
   module _ (r : InputRule) (n : ℕ) (e : turn ≡ adds r n) where
     has : Room rules (length free) (length rest) (lineOf rest) (adds r n)
-    has = subst (Room rules (length free) (length rest) (lineOf rest)) e (turn-room rules (length free) (length rest) (lineOf rest))
+    has = subst (Room rules (length free) (length rest) (lineOf rest)) e (turn-room rules (length free) (length rest) limit (lineOf rest))
 
     added-bytes : (0 < n) × (at + n ≤ length text)
     added-bytes =
@@ -177,7 +177,7 @@ module _ {text : List ℕ} {table₀ table : List ℤ} {at line used rules top :
         ap (take (used + length w)) e ∙ take-at (take used table ++ w) tail (used + length w) l ∙ ap (λ (x : List ℤ). x ++ w) (S .front)
         ∙ sym (words-more (S .so-far) r)
 
-    stands-adds : Standing text table₀ next-table (at + n) (line + 1) (used + length (ruleWords r)) (rules + 1) (max (ruleTop r) top)
+    stands-adds : Standing limit text table₀ next-table (at + n) (line + 1) (used + length (ruleWords r)) (rules + 1) (max (ruleTop r) top)
     stands-adds =
         record {
           so-far = S .so-far ++ (r ∷ []);
@@ -197,13 +197,13 @@ module _ {text : List ℕ} {table₀ table : List ℤ} {at line used rules top :
 
 -- What the loop does with a turn
 
-module _ {text : List ℕ} {table₀ table : List ℤ} {at line used rules top : ℕ} (S : Standing text table₀ table at line used rules top)
+module _ {limit : ℕ} {text : List ℕ} {table₀ table : List ℤ} {at line used rules top : ℕ} (S : Standing limit text table₀ table at line used rules top)
     {ys : List ℤ} {r : LineTurn} (T : TurnTaken (turn S) (free S) ys r) where
   abbrev after : List ℤ
   after = putMid used (length table - used) table ys
 
   abbrev whole : Reading
-  whole = linesFrom (length table₀) (suc (length text)) (drop (length header) text) 2 []
+  whole = linesWithin limit (length table₀) (suc (length text)) (drop (length header) text) 2 []
 
   -- where no rule is added the table is as it was
   same-table : (t : Turn) → turn S ≡ t → freeAfter t (free S) ≡ free S → after ≡ table
@@ -229,7 +229,7 @@ module _ {text : List ℕ} {table₀ table : List ℤ} {at line used rules top :
     pub text-left : at + next ≤ length text
     pub words-left : used + words ≤ length table
     pub rules-left : rules < mostRules
-    pub stands : Standing text table₀ after (at + next) (line + 1) (used + words) (rules + 1) (max most top)
+    pub stands : Standing limit text table₀ after (at + next) (line + 1) (used + words) (rules + 1) (max most top)
 
   pub lines-added : {next words most : ℕ} → r ≡ Adds next words most → Onward next words most
   lines-added {next} {words} {most} e =
@@ -246,7 +246,7 @@ module _ {text : List ℕ} {table₀ table : List ℤ} {at line used rules top :
             stands = rw (size, top-is, y) (stands-adds S x next is);
           }
 
-pub stands-start : (text : List ℕ) (table : List ℤ) → length header ≤ length text → Standing text table table (length header) 2 0 0 0
+pub stands-start : {limit : ℕ} (text : List ℕ) (table : List ℤ) → length header ≤ length text → Standing limit text table table (length header) 2 0 0 0
 stands-start text table h =
     record {
       so-far = [];

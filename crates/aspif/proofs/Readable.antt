@@ -1,9 +1,9 @@
 -- Question 41: the executable test says what the paper says, `table-read`. A rule that sound words hold is one that the reader
 -- forms, and the other way round; the text that is read is written from the rules. Assumes nothing.
 use mathlib.Core.Path.{_≡_, refl, sym, _∙_, ap, ap₂, subst}
-use mathlib.Core.Bool.{Bool, true, false, cond, _||_, true≢false}
+use mathlib.Core.Bool.{Bool, true, false, cond, _||_}
 use mathlib.Core.Option.{some}
-use mathlib.Core.List.{List, [], _∷_, _++_, map, append-assoc, List·Memᴰ·head, List·Memᴰ·tail, Memᴰ·cast}
+use mathlib.Core.List.{List, [], _∷_, _++_, append-assoc, List·Memᴰ·head, List·Memᴰ·tail}
 use Prim.Native.Nat.{ℕ, zero, suc, _+_, _*_, _-_, _≤_, _<_}
 use native.Mathlib.Omega.{arith}
 use borrow.Author.Tests.{le-leb, leb-true}
@@ -13,10 +13,10 @@ use lib.Signed.{ltZ}
 use lib.ListN.{length, take, drop, getD, replicate, length-append, length-drop, length-replicate, length-map, take-append-drop}
 use lib.Seq.{drop-cons, drop-drop, length-take-le, take-append-seam, drop-append-seam}
 use Rattle.words.specs.Limits.{largest, mostLiterals, mostRules}
-use Rattle.words.specs.Lists.{_∈_, all, ascends}
-use Rattle.words.specs.Literals.{variable, same, has}
+use Rattle.words.specs.Lists.{_∈_, all}
+use Rattle.words.specs.Literals.{same}
 use Rattle.words.proofs.Lists.{itself, passed, all-decides, if-true, is-true, and-left, and-right, by-test}
-use Rattle.words.proofs.Literals.{same-decides, has-decides, variable-positive, positive}
+use Rattle.words.proofs.Literals.{same-decides, positive}
 use Rattle.weights.specs.Weights.{literals, paired, mostWeight, mostWeighted}
 use Rattle.weights.proofs.Matching.{paired-words}
 use Rattle.aspif.specs.Reading.{allWeights}
@@ -24,11 +24,11 @@ use Rattle.aspif.specs.Rules.{Body, plain, weights, InputRule, literalsO
 use Rattle.aspif.specs.declared.Kind.{Kind}
 use Rattle.aspif.specs.declared.Kind.the-variants.{Normal, Choice}
 use Rattle.aspif.proofs.PairWords.{up-to, is-up-to, light-decides, words-paired, paired-light, length-pairs, length-paired}
-use Rattle.aspif.proofs.Formed.{Weighing, Formed, FitsTable, inside, inside-of, no-zero, read-fits}
+use Rattle.aspif.proofs.Formed.{Weighing, Formed, FitsTable, inside, inside-of, no-zero, none-zero, read-fits}
 use Rattle.aspif.specs.Text.{programText}
 use Rattle.aspif.proofs.Written.{written-read}
 use Rattle.aspif.specs.Tables.{ReadAs, kindOf, isKind, isWeighted, isHeaded, headsSound, literalsSound, headCount, bodyCount, headStart, bodyLength, sizeAt, headsAt, bodyWordsAt, boundAt, bodyAt, ruleAt, shapeSound, weightsSound, bodySound, soundAt, rulesAt, soundRules, soundTable, rulesOf}
-use Rattle.aspif.specs.Claims.{TableRead}
+use Rattle.aspif.specs.Claims.{FormedWithin, TableRead}
 use Rattle.words.proofs.Ascending.{ascends-rising, rising-ascends, ascends-words}
 use Rattle.aspif.proofs.Cursors.{shaped, shape-of, literals-sound, few-rules, sound-rules, rules-of}
 
@@ -42,13 +42,8 @@ heads-sound r f =
 
 literals-rise : (r : InputRule) → Formed r → literalsSound (literalsOf (r .body)) ≡ true
 literals-rise r f =
-    rising-ascends 0 largest ls (f .body-rise) (λ z i. (variable-positive z (λ p. zero-out p i), inside ls (f .body-in) z i))
-  where
-    ls : List ℤ
-    ls = literalsOf (r .body)
-
-    zero-out : {z : ℤ} → z ≡ pos 0 → z ∈ ls → ⊥
-    zero-out p i = true≢false (sym (passed _ .to (has-decides (pos 0) ls .from (Memᴰ·cast (sym p) i))) ∙ f .nonzero)
+    let ls = literalsOf (r .body) in
+    rising-ascends 0 largest ls (f .body-rise) (λ z i. (none-zero ls (f .nonzero) z i, inside ls (f .body-in) z i))
 
 -- Kinds and counts
 
@@ -147,7 +142,8 @@ module _ (k : Kind) (hs t : List ℤ) where
 pub rule-at : (r : InputRule) (t : List ℤ) → ruleAt (ws r t) ≡ r
 rule-at r t = rw (kind-of-word (r .kind), heads-at r t, held-body (r .kind) (r .heads) t (r .body))
 
-module _ (r : InputRule) (f : Formed r) (t : List ℤ) where
+-- their counts and kinds are such, whatever question 55 was put with
+module _ {most : ℕ} (r : InputRule) (f : FormedWithin most r) (t : List ℤ) where
   words-there : headStart (ws r t) + h r t + bodyLength (ws r t) ≤ length (ws r t)
   words-there =
       let u = bodyWords (r .body) ++ t in
@@ -155,13 +151,16 @@ module _ (r : InputRule) (f : Formed r) (t : List ℤ) where
       let n = length-append (r .heads) u in
       omega (arith, ap length (parts r t), m, n, length-append (bodyWords (r .body)) t, start-is (r .body), size-is (r .body))
 
-  pub sound-words : soundAt (ws r t) ≡ true
-  unfolding soundAt shapeSound sizeAt
-  sound-words =
+  pub shape-words : shapeSound (ws r t) ≡ true
+  unfolding shapeSound sizeAt
+  shape-words =
       let c = is-up-to mostLiterals (h r t) (f .heads-few) in
       let d = is-up-to mostLiterals (length (literalsOf (r .body))) (f .body-few) in
-      rw (c, is-body-kind (r .body), d, is-kind (r .kind), kind-of-word (r .kind), f .headed, le-leb _ _ words-there, heads-at r t, heads-sound r f)
-      (sound-body (r .kind) (r .heads) t (r .body) f)
+      rw (c, is-body-kind (r .body), d, is-kind (r .kind), kind-of-word (r .kind), f .headed, le-leb _ _ words-there)
+
+pub sound-words : (r : InputRule) → Formed r → (t : List ℤ) → soundAt (ws r t) ≡ true
+unfolding soundAt
+sound-words r f t = rw (shape-words r f t, heads-at r t, heads-sound r f) (sound-body (r .kind) (r .heads) t (r .body) f)
 
 module _ (t : List ℤ) (z : all (same (pos 0)) t ≡ true) where
   pub rules-back : (rs : List InputRule) → ((r : InputRule) → r ∈ rs → Formed r) → (soundRules (length rs) (programWords rs ++ t) ≡ true) × (rulesAt (length rs) (programWords rs ++ t) ≡ rs)

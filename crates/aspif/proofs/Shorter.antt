@@ -16,9 +16,9 @@ use Rattle.words.proofs.Sorting.{length-ascending}
 use Rattle.text.specs.Line.{Line, broken, numbers, lineOf, anyOutside}
 use Rattle.text.specs.Strings.{startsWith}
 use Rattle.text.proofs.Lines.{bounds-of}
-use Rattle.weights.specs.Weights.{literals, paired}
+use Rattle.weights.specs.Weights.{literals, paired, mostWeighted}
 use Rattle.aspif.specs.Rules.{Body, plain, weights, InputRule, isWeight, boundWords, bodyWords, ruleWords, programWords}
-use Rattle.aspif.specs.Reading.{allWeights, ranged, shapeOf, headsGood, bodyGood, arranged, RuleRead, fails, reads, ruleWith, ruleOf, Turn, refuses, ends, adds, isLast, room, turnOf, linesFrom, refused, program, header, readLines, readText}
+use Rattle.aspif.specs.Reading.{allWeights, ranged, shapeWithin, headsGood, bodyGood, arranged, RuleRead, fails, reads, ruleWith, ruleOf, Turn, refuses, ends, adds, isLast, room, turnWithin, linesWithin, refused, program, header, readLinesWithin, readTextWithin, readText}
 use Rattle.aspif.specs.declared.Kind.{Kind}
 use Rattle.aspif.specs.declared.rules.Shape.{Shape}
 use Rattle.aspif.specs.declared.rules.Shape.the-variants.{Wrong, Shaped, Weighed}
@@ -41,15 +41,15 @@ with-fewer k hs ls body n h =
     omega (arith, h, length-append (boundWords body) (ascending hs ++ bodyWords body), length-append (ascending hs) (bodyWords body), length-ascending hs))
     (λ e. tt)
 
-rule-fewer : (zs : List ℤ) (x : Shape) → Counted zs (length zs) x → Fewer (length zs) (ruleOf zs x)
+rule-fewer : (most : ℕ) (zs : List ℤ) (x : Shape) → Counted most zs (length zs) x → Fewer (length zs) (ruleOf zs x)
 unfolding ranged
-rule-fewer zs (Wrong k) c = tt
-rule-fewer zs (Shaped k h b) c =
+rule-fewer most zs (Wrong k) c = tt
+rule-fewer most zs (Shaped k h b) c =
     let hs = take h (drop 3 zs) in
     let ls = take b (drop (5 + h) zs) in
     with-fewer k hs ls (plain (ascending ls)) (length zs)
     (omega (arith, c .2, part-length h 3 zs (omega (arith, c .2)), length-ascending ls, part-length b (5 + h) zs (omega (arith, c .2))))
-rule-fewer zs (Weighed k h b) c =
+rule-fewer most zs (Weighed k h b) c =
     let hs = take h (drop 3 zs) in
     let ws = take (2 * b) (drop (6 + h) zs) in
     let ps = paired ws in
@@ -72,10 +72,10 @@ room-shorter rules free left n m (reads r) f h l =
     by-test (Shorter left) (ltb rules mostRules)
     (λ e. by-test (Shorter left) (leb (length (ruleWords r)) free) (λ g. (omega (arith, f, h), l)) (λ g. tt)) (λ e. tt)
 
-turn-shorter : (rules free : ℕ) (s : List ℕ) → Shorter (length s) (turnOf rules free (length s) (lineOf s))
-turn-shorter rules free s = by (lineOf s) refl
+turn-shorter : (most rules free : ℕ) (s : List ℕ) → Shorter (length s) (turnWithin most rules free (length s) (lineOf s))
+turn-shorter most rules free s = by (lineOf s) refl
   where
-    by : (l : Line) → lineOf s ≡ l → Shorter (length s) (turnOf rules free (length s) l)
+    by : (l : Line) → lineOf s ≡ l → Shorter (length s) (turnWithin most rules free (length s) l)
     by broken e = tt
     by (numbers zs n) e =
         let b = bounds-of s zs n e in
@@ -83,23 +83,23 @@ turn-shorter rules free s = by (lineOf s) refl
         (λ o.
         by-test (Shorter (length s)) (isLast zs) (λ f. by-test (Shorter (length s)) (eqb n (length s)) (λ g. tt) (λ g. tt))
         (λ f.
-        room-shorter rules free (length s) n (length zs) (ruleOf zs (shapeOf zs (length zs)))
-        (rule-fewer zs (shapeOf zs (length zs)) (shape-counted zs (length zs))) (b .2) (b .1)))
+        room-shorter rules free (length s) n (length zs) (ruleOf zs (shapeWithin most zs (length zs)))
+        (rule-fewer most zs (shapeWithin most zs (length zs)) (shape-counted most zs (length zs))) (b .2) (b .1)))
 
 -- Line after line
 
-module _ (size : ℕ) where
-  lines-shorter : (turns : ℕ) (s : List ℕ) (line : ℕ) (so-far rs : List InputRule) → linesFrom size turns s line so-far ≡ program rs
+module _ (most size : ℕ) where
+  lines-shorter : (turns : ℕ) (s : List ℕ) (line : ℕ) (so-far rs : List InputRule) → linesWithin most size turns s line so-far ≡ program rs
       → length (programWords rs) ≤ length (programWords so-far) + length s
-  unfolding linesFrom
+  unfolding linesWithin
   lines-shorter zero s line so-far rs e = absurd (let z : _≡_ {A = ℕ} 0 1 = cc in omega arith)
   lines-shorter (suc turns) s line so-far rs e =
-      by (turnOf (length so-far) (size - length (programWords so-far)) (length s) (lineOf s)) (turn-shorter _ _ s)
+      by (turnWithin most (length so-far) (size - length (programWords so-far)) (length s) (lineOf s)) (turn-shorter most _ _ s)
       (λ n ss. lines-shorter turns (drop n s) (line + 1) ss rs) e
     where
       by : (t : Turn) → Shorter (length s) t
-          → ((n : ℕ) (ss : List InputRule) → linesFrom size turns (drop n s) (line + 1) ss ≡ program rs → length (programWords rs) ≤ length (programWords ss) + length (drop n s))
-          → onward (λ n. linesFrom size turns (drop n s) (line + 1)) so-far line t ≡ program rs → length (programWords rs) ≤ length (programWords so-far) + length s
+          → ((n : ℕ) (ss : List InputRule) → linesWithin most size turns (drop n s) (line + 1) ss ≡ program rs → length (programWords rs) ≤ length (programWords ss) + length (drop n s))
+          → onward (λ n. linesWithin most size turns (drop n s) (line + 1)) so-far line t ≡ program rs → length (programWords rs) ≤ length (programWords so-far) + length s
       by (refuses k) a g p = absurd (let z : _≡_ {A = ℕ} 0 1 = cc in omega arith)
       by ends a g p = let q : so-far ≡ rs = cc in rw (← q) (omega arith)
       by (adds r n) a g p =
@@ -108,14 +108,18 @@ module _ (size : ℕ) where
           omega (arith, g n (so-far ++ (r ∷ [])) p, more, length-append (ruleWords r) [], length-drop n s, a)
 
   -- a text that is read has at most 65,535 bytes, and the rules no more words
-  pub read-shorter : (text : List ℕ) (rs : List InputRule) → readText size text ≡ program rs → length (programWords rs) ≤ longest
-  unfolding readText readLines
-  read-shorter text rs e = by (leb (length text) longest) refl e
+  pub within-shorter : (text : List ℕ) (rs : List InputRule) → readTextWithin most size text ≡ program rs → length (programWords rs) ≤ longest
+  unfolding readTextWithin readLinesWithin
+  within-shorter text rs e = by (leb (length text) longest) refl e
     where
-      lines : (b : Bool) → cond b (linesFrom size (suc (length text)) (drop (length header) text) 2 []) (refused 2 1) ≡ program rs → length (programWords rs) ≤ length text
+      lines : (b : Bool) → cond b (linesWithin most size (suc (length text)) (drop (length header) text) 2 []) (refused 2 1) ≡ program rs → length (programWords rs) ≤ length text
       lines true p = omega (arith, lines-shorter (suc (length text)) (drop (length header) text) 2 [] rs p, length-drop (length header) text)
       lines false p = absurd (let z : _≡_ {A = ℕ} 0 1 = cc in omega arith)
 
-      by : (b : Bool) → leb (length text) longest ≡ b → cond b (readLines size text) (refused 1 0) ≡ program rs → length (programWords rs) ≤ longest
+      by : (b : Bool) → leb (length text) longest ≡ b → cond b (readLinesWithin most size text) (refused 1 0) ≡ program rs → length (programWords rs) ≤ longest
       by true l p = omega (arith, leb-true (length text) longest l, lines (startsWith header text) p)
       by false l p = absurd (let z : _≡_ {A = ℕ} 0 1 = cc in omega arith)
+
+pub read-shorter : (size : ℕ) (text : List ℕ) (rs : List InputRule) → readText size text ≡ program rs → length (programWords rs) ≤ longest
+unfolding readText
+read-shorter size text rs e = within-shorter mostWeighted size text rs e

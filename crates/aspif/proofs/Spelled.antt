@@ -22,7 +22,7 @@ use Rattle.text.proofs.Decimals.{rest, lineBytes, line-read, rest-spaced}
 use Rattle.text.proofs.Spelling.{line-spelled}
 use Rattle.weights.specs.Weights.{paired, pairWords, mostWeight, mostWeighted}
 use Rattle.aspif.specs.Rules.{Body, plain, weights, InputRule, literalsOf, suits, isWeight, kindWord, ruleWords, programWords}
-use Rattle.aspif.specs.Reading.{suited, allWeights, ranged, few, isAt, isCountAt, plainShape, weighedShape, bodyShape, headShape, shapeOf, headsGood, bodyGood, arranged, RuleRead, fails, reads, ruleWith, ruleOf, Turn, refuses, ends, adds, isLast, room, turnOf, linesFrom, refused, program, header, readLines, readText}
+use Rattle.aspif.specs.Reading.{suited, allWeights, ranged, fewWithin, isAt, isCountAt, plainShape, weighedWithin, bodyWithin, headWithin, shapeWithin, headsGood, bodyGood, arranged, RuleRead, fails, reads, ruleWith, ruleOf, Turn, refuses, ends, adds, isLast, room, turnWithin, linesWithin, refused, program, header, readLinesWithin, readTextWithin, readText}
 use Rattle.aspif.specs.declared.Kind.{Kind}
 use Rattle.aspif.specs.declared.Kind.the-variants.{Normal, Choice}
 use Rattle.aspif.specs.declared.rules.Shape.{Shape}
@@ -146,36 +146,36 @@ module _ (zs : List ℤ) where
         (plain-spelt k h f b (is-at n (3 + h) (pos 0) a) (is-count n (4 + h) (and-left (isCountAt zs n (4 + h)) _ e))
         (eqb-true (5 + h + b) n (and-right (isCountAt zs n (4 + h)) _ e))))
 
-    weighed-shape : isAt zs n (3 + h) (pos 1) ≡ true → ShapeSpelt (weighedShape zs n k h)
-    weighed-shape a =
+    weighed-shape : (most : ℕ) → isAt zs n (3 + h) (pos 1) ≡ true → ShapeSpelt (weighedWithin most zs n k h)
+    weighed-shape most a =
         let b = variable (getD zs (5 + h) (pos 0)) in
-        or-wrong 6 (isCountAt zs n (5 + h) && eqb (6 + h + 2 * b) n) (few zs k h b)
+        or-wrong 6 (isCountAt zs n (5 + h) && eqb (6 + h + 2 * b) n) (fewWithin most zs k h b)
         (λ e.
-        or-wrong 54 (ranged zs h b) (cond (leb b mostWeighted) (suited k h (Weighed k h b)) (Wrong 55))
+        or-wrong 54 (ranged zs h b) (cond (leb b most) (suited k h (Weighed k h b)) (Wrong 55))
         (λ r.
-        or-wrong 55 (leb b mostWeighted) (suited k h (Weighed k h b))
+        or-wrong 55 (leb b most) (suited k h (Weighed k h b))
         (λ l.
         suited-spelt (Weighed k h b)
         (weighed-spelt k h f b (is-at n (3 + h) (pos 1) a) (is-count n (5 + h) (and-left (isCountAt zs n (5 + h)) _ e))
         (eqb-true (6 + h + 2 * b) n (and-right (isCountAt zs n (5 + h)) _ e)) r))))
 
-    body-shape : ShapeSpelt (bodyShape zs n k h)
-    body-shape =
-        by-test ShapeSpelt (isAt zs n (3 + h) (pos 0)) plain-shape (λ e. or-wrong 5 (isAt zs n (3 + h) (pos 1)) (weighedShape zs n k h) weighed-shape)
+    body-shape : (most : ℕ) → ShapeSpelt (bodyWithin most zs n k h)
+    body-shape most =
+        by-test ShapeSpelt (isAt zs n (3 + h) (pos 0)) plain-shape (λ e. or-wrong 5 (isAt zs n (3 + h) (pos 1)) (weighedWithin most zs n k h) (weighed-shape most))
 
-  head-shape : (k : Kind) → getD zs 0 (pos 0) ≡ pos 1 → getD zs 1 (pos 0) ≡ kindWord k → ShapeSpelt (headShape zs n k)
-  head-shape k a b =
+  head-shape : (most : ℕ) (k : Kind) → getD zs 0 (pos 0) ≡ pos 1 → getD zs 1 (pos 0) ≡ kindWord k → ShapeSpelt (headWithin most zs n k)
+  head-shape most k a b =
       let h = variable (getD zs 2 (pos 0)) in
-      or-wrong 6 (isCountAt zs n 2 && leb (3 + h) n) (bodyShape zs n k h)
-      (λ e. body-shape k h (record { one = a; kind = b; count = is-count n 2 (and-left (isCountAt zs n 2) _ e) }))
+      or-wrong 6 (isCountAt zs n 2 && leb (3 + h) n) (bodyWithin most zs n k h)
+      (λ e. body-shape k h (record { one = a; kind = b; count = is-count n 2 (and-left (isCountAt zs n 2) _ e) }) most)
 
-  pub shape-spelt : Spelt (ruleOf zs (shapeOf zs (length zs)))
-  unfolding shapeOf
-  shape-spelt =
-      or-wrong 5 (isAt zs n 0 (pos 1)) (cond (isAt zs n 1 (pos 0)) (headShape zs n Normal) (cond (isAt zs n 1 (pos 1)) (headShape zs n Choice) (Wrong 5)))
+  pub shape-spelt : (most : ℕ) → Spelt (ruleOf zs (shapeWithin most zs (length zs)))
+  unfolding shapeWithin
+  shape-spelt most =
+      or-wrong 5 (isAt zs n 0 (pos 1)) (cond (isAt zs n 1 (pos 0)) (headWithin most zs n Normal) (cond (isAt zs n 1 (pos 1)) (headWithin most zs n Choice) (Wrong 5)))
       (λ e.
-      by-test ShapeSpelt (isAt zs n 1 (pos 0)) (λ f. head-shape Normal (is-at n 0 (pos 1) e) (is-at n 1 (pos 0) f))
-      (λ g. or-wrong 5 (isAt zs n 1 (pos 1)) (headShape zs n Choice) (λ f. head-shape Choice (is-at n 0 (pos 1) e) (is-at n 1 (pos 1) f))))
+      by-test ShapeSpelt (isAt zs n 1 (pos 0)) (λ f. head-shape most Normal (is-at n 0 (pos 1) e) (is-at n 1 (pos 0) f))
+      (λ g. or-wrong 5 (isAt zs n 1 (pos 1)) (headWithin most zs n Choice) (λ f. head-shape most Choice (is-at n 0 (pos 1) e) (is-at n 1 (pos 1) f))))
 
 -- Lines
 
@@ -234,16 +234,16 @@ ending s zs n e l q =
     let t = line-taken s (pos 0) [] n (e ∙ ap (λ (y : List ℤ). numbers y n) (is-zero zs l)) in
     nothing-after (lineBytes (pos 0) []) (drop n s) s (t .0) (sym q ∙ t .1) ∙ sym last-line
 
-turned : (rules free : ℕ) (s : List ℕ) → Turned s (turnOf rules free (length s) (lineOf s))
-turned rules free s = by (lineOf s) refl
+turned : (most rules free : ℕ) (s : List ℕ) → Turned s (turnWithin most rules free (length s) (lineOf s))
+turned most rules free s = by (lineOf s) refl
   where
-    by : (l : Line) → lineOf s ≡ l → Turned s (turnOf rules free (length s) l)
+    by : (l : Line) → lineOf s ≡ l → Turned s (turnWithin most rules free (length s) l)
     by broken e = tt
     by (numbers zs n) e =
         by-test (Turned s) (anyOutside zs) (λ o. tt)
         (λ o.
         by-test (Turned s) (isLast zs) (λ l. by-test (Turned s) (eqb n (length s)) (λ q. ending s zs n e l (eqb-true n (length s) q)) (λ q. tt))
-        (λ l. room-turned rules free s zs n e (ruleOf zs (shapeOf zs (length zs))) (shape-spelt zs)))
+        (λ l. room-turned rules free s zs n e (ruleOf zs (shapeWithin most zs (length zs))) (shape-spelt zs most)))
 
 -- Line after line
 
@@ -256,15 +256,15 @@ pub record Spelled (s : List ℕ) (before rs : List InputRule) : Type 0 where
 same-program : {rs ss : List InputRule} → program rs ≡ program ss → rs ≡ ss
 same-program e = cc
 
-module _ (size : ℕ) where
-  lines-spelled : (turns : ℕ) (s : List ℕ) (line : ℕ) (before rs : List InputRule) → linesFrom size turns s line before ≡ program rs → Spelled s before rs
-  unfolding linesFrom rulesText
+module _ (most size : ℕ) where
+  lines-spelled : (turns : ℕ) (s : List ℕ) (line : ℕ) (before rs : List InputRule) → linesWithin most size turns s line before ≡ program rs → Spelled s before rs
+  unfolding linesWithin rulesText
   lines-spelled zero s line before rs e = absurd (zero-one (cc))
   lines-spelled (suc turns) s line before rs e =
-      by (turnOf (length before) (size - length (programWords before)) (length s) (lineOf s)) (turned _ _ s) (λ n r. lines-spelled turns (drop n s) (line + 1) (before ++ (r ∷ [])) rs) e
+      by (turnWithin most (length before) (size - length (programWords before)) (length s) (lineOf s)) (turned most _ _ s) (λ n r. lines-spelled turns (drop n s) (line + 1) (before ++ (r ∷ [])) rs) e
     where
-      by : (t : Turn) → Turned s t → ((n : ℕ) (r : InputRule) → linesFrom size turns (drop n s) (line + 1) (before ++ (r ∷ [])) ≡ program rs → Spelled (drop n s) (before ++ (r ∷ [])) rs)
-          → onward (λ n. linesFrom size turns (drop n s) (line + 1)) before line t ≡ program rs → Spelled s before rs
+      by : (t : Turn) → Turned s t → ((n : ℕ) (r : InputRule) → linesWithin most size turns (drop n s) (line + 1) (before ++ (r ∷ [])) ≡ program rs → Spelled (drop n s) (before ++ (r ∷ [])) rs)
+          → onward (λ n. linesWithin most size turns (drop n s) (line + 1)) before line t ≡ program rs → Spelled s before rs
       by (refuses k) p g q = absurd (zero-one (cc))
       by ends p g q = record { ws = []; text = p; rules = sym (same-program q) ∙ sym (append-nil before); once = λ w i. elim i [ ] }
       by (adds x n) p g q =
@@ -290,20 +290,25 @@ pub record ReadSpelled (text : List ℕ) (rs : List InputRule) : Type 0 where
   pub rules : rs ≡ map sortedRule ws
   pub once : (w : InputRule) → w ∈ ws → Once w
 
-pub lines-of : (size : ℕ) (text : List ℕ) (rs : List InputRule) → readLines size text ≡ program rs → ReadSpelled text rs
-unfolding readLines programText
-lines-of size text rs e = by (startsWith header text) refl e
-  where
-    by : (b : Bool) → startsWith header text ≡ b → cond b (linesFrom size (suc (length text)) (drop (length header) text) 2 []) (refused 2 1) ≡ program rs → ReadSpelled text rs
-    by true p q =
-        let l = lines-spelled size (suc (length text)) (drop (length header) text) 2 [] rs q in
-        record { ws = l .ws; is = starts-as header text p ∙ ap (λ (t : List ℕ). header ++ t) (l .text); rules = l .rules; once = l .once }
-    by false p q = absurd (zero-one (cc))
+module _ (most size : ℕ) (text : List ℕ) (rs : List InputRule) where
+  lines-of : readLinesWithin most size text ≡ program rs → ReadSpelled text rs
+  unfolding readLinesWithin programText
+  lines-of e = by (startsWith header text) refl e
+    where
+      by : (b : Bool) → startsWith header text ≡ b → cond b (linesWithin most size (suc (length text)) (drop (length header) text) 2 []) (refused 2 1) ≡ program rs → ReadSpelled text rs
+      by true p q =
+          let l = lines-spelled most size (suc (length text)) (drop (length header) text) 2 [] rs q in
+          record { ws = l .ws; is = starts-as header text p ∙ ap (λ (t : List ℕ). header ++ t) (l .text); rules = l .rules; once = l .once }
+      by false p q = absurd (zero-one (cc))
+
+  pub within-spelled : readTextWithin most size text ≡ program rs → ReadSpelled text rs
+  unfolding readTextWithin
+  within-spelled e = by (leb (length text) longest) e
+    where
+      by : (b : Bool) → cond b (readLinesWithin most size text) (refused 1 0) ≡ program rs → ReadSpelled text rs
+      by true q = lines-of q
+      by false q = absurd (zero-one (cc))
 
 pub read-spelled : (size : ℕ) (text : List ℕ) (rs : List InputRule) → readText size text ≡ program rs → ReadSpelled text rs
 unfolding readText
-read-spelled size text rs e = by (leb (length text) longest) e
-  where
-    by : (b : Bool) → cond b (readLines size text) (refused 1 0) ≡ program rs → ReadSpelled text rs
-    by true q = lines-of size text rs q
-    by false q = absurd (zero-one (cc))
+read-spelled size text rs e = within-spelled mostWeighted size text rs e

@@ -40,10 +40,11 @@ module _ (zs : List ℤ) where
   unfoldable pub ranged : (heads body : ℕ) → Bool
   ranged heads body = isWeight (getD zs (4 + heads) (pos 0)) && allWeights (take (2 * body) (drop (6 + heads) zs))
 
-  -- "more than 12 literals 55", after 54
-  abbrev pub few : Kind → (heads body : ℕ) → Shape
-  few k heads body =
-      cond (ranged heads body) (cond (leb body mostWeighted) (suited k heads (Weighed k heads body)) (Wrong 55)) (Wrong 54)
+-- "more than 12 literals 55", after 54, with `most` in place of 12. Question 55 is all that the number decides. The reader of the documents
+-- puts it with 12, and one that takes longer sums with more: what depends on it is said `Within` a number, and below once more with 12.
+abbrev pub fewWithin : (most : ℕ) → List ℤ → Kind → (heads body : ℕ) → Shape
+fewWithin most zs k heads body =
+    cond (ranged zs heads body) (cond (leb body most) (suited k heads (Weighed k heads body)) (Wrong 55)) (Wrong 54)
 
 module _ (zs : List ℤ) (count : ℕ) where
   -- number i of a line of `count` numbers, from 0, is there and is n
@@ -60,29 +61,31 @@ module _ (zs : List ℤ) (count : ℕ) where
       let body = variable (getD zs (4 + heads) (pos 0)) in
       cond (isCountAt (4 + heads) && eqb (5 + heads + body) count) (suited k heads (Shaped k heads body)) (Wrong 6)
 
+module _ (most : ℕ) (zs : List ℤ) (count : ℕ) where
   -- body kind 1: the bound, the count of literals, and then a literal and a weight for each; "a missing bound or weight is 6"
-  abbrev pub weighedShape : Kind → ℕ → Shape
-  weighedShape k heads =
+  abbrev pub weighedWithin : Kind → ℕ → Shape
+  weighedWithin k heads =
       let body = variable (getD zs (5 + heads) (pos 0)) in
-      cond (isCountAt (5 + heads) && eqb (6 + heads + 2 * body) count) (few zs k heads body) (Wrong 6)
+      cond (isCountAt zs count (5 + heads) && eqb (6 + heads + 2 * body) count) (fewWithin most zs k heads body) (Wrong 6)
 
   -- "once the heads are passed, the body kind present and 0", or 1: "Question 5 then admits body kind 1"
-  abbrev pub bodyShape : Kind → ℕ → Shape
-  bodyShape k heads =
-      cond (isAt (3 + heads) (pos 0)) (plainShape k heads) (cond (isAt (3 + heads) (pos 1)) (weighedShape k heads) (Wrong 5))
+  abbrev pub bodyWithin : Kind → ℕ → Shape
+  bodyWithin k heads =
+      cond (isAt zs count (3 + heads) (pos 0)) (plainShape zs count k heads)
+      (cond (isAt zs count (3 + heads) (pos 1)) (weighedWithin k heads) (Wrong 5))
 
   -- "a bad head count, or one with too few numbers after it, gives 6 before the body kind is looked for"
-  abbrev pub headShape : Kind → Shape
-  headShape k =
+  abbrev pub headWithin : Kind → Shape
+  headWithin k =
       let heads = variable (getD zs 2 (pos 0)) in
-      cond (isCountAt 2 && leb (3 + heads) count) (bodyShape k heads) (Wrong 6)
+      cond (isCountAt zs count 2 && leb (3 + heads) count) (bodyWithin k heads) (Wrong 6)
 
   -- Questions 5, 6, 54, 55 and 7, "reading left to right": "is the statement kind present and 1, the head kind present and 0 or 1".
   -- The shape of a rule line is its head kind, its head count, its body kind and its body count.
-  unfoldable pub shapeOf : Shape
-  shapeOf =
-      cond (isAt 0 (pos 1))
-      (cond (isAt 1 (pos 0)) (headShape Normal) (cond (isAt 1 (pos 1)) (headShape Choice) (Wrong 5))) (Wrong 5)
+  unfoldable pub shapeWithin : Shape
+  shapeWithin =
+      cond (isAt zs count 0 (pos 1))
+      (cond (isAt zs count 1 (pos 0)) (headWithin Normal) (cond (isAt zs count 1 (pos 1)) (headWithin Choice) (Wrong 5))) (Wrong 5)
 
 -- question 8, of the heads: positive and distinct
 abbrev pub headsGood : List ℤ → Bool
@@ -148,21 +151,21 @@ room rules free (reads r) n =
 
 -- Questions 3 to 11, 54 and 55 among them, of the line that a text begins with, of which so many bytes are left. "is there one, ended, of well-formed
 -- numbers? 3. Are all from -4,095 to 4,095?" (8,191 since Change 6) "4. For the line `0` alone: does the text end there? 11."
-abbrev pub turnOf : (rules free left : ℕ) → Line → Turn
-turnOf rules free left broken = refuses 3
-turnOf rules free left (numbers zs n) =
+abbrev pub turnWithin : (most : ℕ) → (rules free left : ℕ) → Line → Turn
+turnWithin most rules free left broken = refuses 3
+turnWithin most rules free left (numbers zs n) =
     cond (anyOutside zs) (refuses 4)
-    (cond (isLast zs) (cond (eqb n left) ends (refuses 11)) (room rules free (ruleOf zs (shapeOf zs (length zs))) n))
+    (cond (isLast zs) (cond (eqb n left) ends (refuses 11)) (room rules free (ruleOf zs (shapeWithin most zs (length zs))) n))
 
 -- The lines from here on, into a table of `size` words: the bytes left, the line's number, the rules so far. Each line takes a
 -- byte at least, so one turn more than there are bytes is enough.
-unfoldable pub linesFrom : (size turns : ℕ) → List ℕ → (line : ℕ) → List InputRule → Reading
-linesFrom size zero s line rs = refused 3 line
-linesFrom size (suc turns) s line rs =
-    elim (turnOf (length rs) (size - length (programWords rs)) (length s) (lineOf s)) [
+unfoldable pub linesWithin : (most size turns : ℕ) → List ℕ → (line : ℕ) → List InputRule → Reading
+linesWithin most size zero s line rs = refused 3 line
+linesWithin most size (suc turns) s line rs =
+    elim (turnWithin most (length rs) (size - length (programWords rs)) (length s) (lineOf s)) [
       | refuses k ↦ refused k line
       | ends ↦ program rs
-      | adds r n ↦ linesFrom size turns (drop n s) (line + 1) (rs ++ (r ∷ []))
+      | adds r n ↦ linesWithin most size turns (drop n s) (line + 1) (rs ++ (r ∷ []))
     ]
 
 -- `asp 1 0 0` and its newline
@@ -170,13 +173,46 @@ abbrev pub header : List ℕ
 header = 97 ∷ 115 ∷ 112 ∷ 32 ∷ 49 ∷ 32 ∷ 48 ∷ 32 ∷ 48 ∷ 10 ∷ []
 
 -- "Is line 1 as said? 2." and the questions after it, with a table of `size` words: all but question 1
-unfoldable pub readLines : ℕ → List ℕ → Reading
-readLines size text =
-    cond (startsWith header text) (linesFrom size (suc (length text)) (drop (length header) text) 2 []) (refused 2 1)
+unfoldable pub readLinesWithin : (most : ℕ) → ℕ → List ℕ → Reading
+readLinesWithin most size text =
+    cond (startsWith header text) (linesWithin most size (suc (length text)) (drop (length header) text) 2 []) (refused 2 1)
 
 -- "Has the text at most 65,535 bytes? No: 1." The whole text is at fault, so the line is 0.
+unfoldable pub readTextWithin : (most : ℕ) → ℕ → List ℕ → Reading
+readTextWithin most size text = cond (leb (length text) longest) (readLinesWithin most size text) (refused 1 0)
+
+-- The reader of the documents: "at most 12 literals"
+
+abbrev pub few : List ℤ → Kind → (heads body : ℕ) → Shape
+few = fewWithin mostWeighted
+
+abbrev pub weighedShape : List ℤ → ℕ → Kind → ℕ → Shape
+weighedShape = weighedWithin mostWeighted
+
+abbrev pub bodyShape : List ℤ → ℕ → Kind → ℕ → Shape
+bodyShape = bodyWithin mostWeighted
+
+abbrev pub headShape : List ℤ → ℕ → Kind → Shape
+headShape = headWithin mostWeighted
+
+unfoldable pub shapeOf : List ℤ → ℕ → Shape
+unfolding shapeWithin
+shapeOf zs count = shapeWithin mostWeighted zs count
+
+abbrev pub turnOf : (rules free left : ℕ) → Line → Turn
+turnOf = turnWithin mostWeighted
+
+unfoldable pub linesFrom : (size turns : ℕ) → List ℕ → (line : ℕ) → List InputRule → Reading
+unfolding linesWithin
+linesFrom size turns s line rs = linesWithin mostWeighted size turns s line rs
+
+unfoldable pub readLines : ℕ → List ℕ → Reading
+unfolding readLinesWithin linesFrom
+readLines size text = readLinesWithin mostWeighted size text
+
 unfoldable pub readText : ℕ → List ℕ → Reading
-readText size text = cond (leb (length text) longest) (readLines size text) (refused 1 0)
+unfolding readTextWithin readLines
+readText size text = readTextWithin mostWeighted size text
 
 -- What the service answers and leaves
 
@@ -190,7 +226,14 @@ abbrev pub tableOf : ℕ → Reading → List ℤ
 tableOf size (refused k line) = replicate size (pos 0)
 tableOf size (program rs) = tableWords size rs
 
--- the public contract: the answer and every word of the table
-pub record ProgramRead (text : List ℕ) (before after : List ℤ) (r : ProgramReading) : Type 0 where
-  pub answer : r ≡ programAnswer (readText (length before) text)
-  pub table : after ≡ tableOf (length before) (readText (length before) text)
+-- the answer and every word of the table
+pub record Told (x : Reading) (before after : List ℤ) (r : ProgramReading) : Type 0 where
+  pub answer : r ≡ programAnswer x
+  pub table : after ≡ tableOf (length before) x
+
+abbrev pub ProgramReadWithin : (most : ℕ) → (text : List ℕ) (before after : List ℤ) (r : ProgramReading) → Type 0
+ProgramReadWithin most text before after r = Told (readTextWithin most (length before) text) before after r
+
+-- the public contract
+abbrev pub ProgramRead : (text : List ℕ) (before after : List ℤ) (r : ProgramReading) → Type 0
+ProgramRead text before after r = Told (readText (length before) text) before after r

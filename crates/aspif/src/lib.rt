@@ -1,5 +1,5 @@
 // Ground programs as ASPIF text, read into a lent table: document 01, 'Program text' and questions 1 to 11, 54 and 55.
-// The public service is `read_program`; what it means is specs/Reading.antt.
+// The public service is `read_program`; what it means is specs/Reading.antt. `read_within` puts question 55 with another number than 12.
 mod lines;
 pub mod rules;
 pub mod tables;
@@ -7,7 +7,7 @@ pub mod tables;
 ghost use mathlib.Core.Path.{_≡_};
 ghost use lib.IntN.{pos};
 ghost use lib.ListN.{length, replicate};
-ghost use Rattle.aspif.specs.Reading.{ProgramRead};
+ghost use Rattle.aspif.specs.Reading.{ProgramReadWithin, ProgramRead};
 ghost use Rattle.aspif.specs.declared.ProgramReading.the-variants.{Refused};
 use lines::Lines;
 
@@ -37,9 +37,10 @@ fn refuse(table: &mut [i32], refusal: ProgramRefusal) -> ProgramReading
     ProgramReading::Refused(refusal)
 }
 
-// Reads a program text into the table, which then holds the rules' words with 0 after them; 0 throughout where it is refused.
-pub fn read_program(text: &[u8], table: &mut [i32]) -> ProgramReading
-    ensures { λ r. ⌜ ProgramRead (now (text .entry)) (now (table .entry)) (now (table .exit)) r ⌝ }
+// Reads a program text with sums of at most so many literals into the table, which then holds the rules' words with 0 after them;
+// 0 throughout where it is refused.
+pub fn read_within(text: &[u8], table: &mut [i32], most: usize) -> ProgramReading
+    ensures { λ r. ⌜ ProgramReadWithin most (now (text .entry)) (now (table .entry)) (now (table .exit)) r ⌝ }
 {
     if words::LONGEST < text.len() {
         return refuse(table, ProgramRefusal { number: 1, line: 0 });
@@ -48,7 +49,7 @@ pub fn read_program(text: &[u8], table: &mut [i32]) -> ProgramReading
         return refuse(table, ProgramRefusal { number: 2, line: 1 });
     }
     let classes = text::classes::CLASSES;
-    let read = lines::read_lines(text, table, &classes);
+    let read = lines::read_lines(text, table, most, &classes);
     match read {
         Lines::Refused(refusal) => refuse(table, refusal),
         Lines::Program { atoms, rules, used } => {
@@ -56,4 +57,11 @@ pub fn read_program(text: &[u8], table: &mut [i32]) -> ProgramReading
             ProgramReading::Read { atoms, rules }
         }
     }
+}
+
+// Reads a program text of the documents: at most 12 literals in a sum.
+pub fn read_program(text: &[u8], table: &mut [i32]) -> ProgramReading
+    ensures { λ r. ⌜ ProgramRead (now (text .entry)) (now (table .entry)) (now (table .exit)) r ⌝ }
+{
+    read_within(text, table, weights::MOST_WEIGHTED)
 }

@@ -9,7 +9,7 @@ ghost use lib.ListN.{length, drop, getD};
 ghost use Rattle.words.specs.Literals.{same};
 ghost use Rattle.text.specs.Classes.{byteClasses};
 ghost use Rattle.text.specs.Line.{lineOf};
-ghost use Rattle.aspif.specs.Reading.{turnOf, linesFrom, header};
+ghost use Rattle.aspif.specs.Reading.{turnWithin, linesWithin, header};
 ghost use Rattle.aspif.specs.Turns.{TurnTaken, LinesRead};
 use crate::ProgramRefusal;
 use crate::rules;
@@ -45,9 +45,15 @@ fn is_last(row: &[i32], count: usize) -> bool
 }
 
 // Questions 3 to 11, 54 and 55 among them, of the line that the rest of the text begins with; a rule then stands at the front of the free words.
-fn read_rule(rest: &[u8], free: &mut [i32], rules: usize, classes: &[u8; 256]) -> LineTurn
+fn read_rule(
+    rest: &[u8],
+    free: &mut [i32],
+    rules: usize,
+    most: usize,
+    classes: &[u8; 256],
+) -> LineTurn
     requires { ⌜ now classes ≡ byteClasses ⌝ }
-    ensures { λ r. ⌜ TurnTaken (turnOf rules (length (now (free .entry))) (length (now (rest .entry)))
+    ensures { λ r. ⌜ TurnTaken (turnWithin most rules (length (now (free .entry))) (length (now (rest .entry)))
         (lineOf (now (rest .entry)))) (now (free .entry)) (now (free .exit)) r ⌝ }
 {
     let mut row = [0i32; ROW];
@@ -69,16 +75,16 @@ fn read_rule(rest: &[u8], free: &mut [i32], rules: usize, classes: &[u8; 256]) -
                 }
                 return LineTurn::Refuses(11);
             }
-            rules::take_rule(free, &mut row, count, next, rules)
+            rules::take_rule(free, &mut row, count, next, rules, most)
         }
     }
 }
 
 // The lines after the first, up to the line `0` or the first that is refused.
-pub fn read_lines(text: &[u8], table: &mut [i32], classes: &[u8; 256]) -> Lines
+pub fn read_lines(text: &[u8], table: &mut [i32], most: usize, classes: &[u8; 256]) -> Lines
     requires { ⌜ length header ≤ length (now text) ⌝ }
     requires { ⌜ now classes ≡ byteClasses ⌝ }
-    ensures { λ r. ⌜ LinesRead (linesFrom (length (now (table .entry))) (suc (length (now (text .entry))))
+    ensures { λ r. ⌜ LinesRead (linesWithin most (length (now (table .entry))) (suc (length (now (text .entry))))
         (drop (length header) (now (text .entry))) 2 []) (now (table .entry)) (now (table .exit)) r ⌝ }
 {
     let mut at = HEADER;
@@ -87,7 +93,7 @@ pub fn read_lines(text: &[u8], table: &mut [i32], classes: &[u8; 256]) -> Lines
     let mut rules = 0;
     let mut atoms = 0;
     loop {
-        let turn = read_rule(&text[at..], &mut table[used..], rules, classes);
+        let turn = read_rule(&text[at..], &mut table[used..], rules, most, classes);
         match turn {
             LineTurn::Refuses(k) => {
                 return Lines::Refused(ProgramRefusal { number: k, line });

@@ -7,16 +7,16 @@ ghost use lib.Dec.{leb};
 ghost use lib.IntN.{pos};
 ghost use lib.ListN.{length, drop};
 ghost use Rattle.words.specs.Literals.{ascending};
-ghost use Rattle.weights.specs.Weights.{literals, paired, pairWords, mostWeighted};
+ghost use Rattle.weights.specs.Weights.{literals, paired, pairWords};
 ghost use Rattle.aspif.specs.Rules.{kindWord, ruleWords};
 ghost use Rattle.words.specs.Limits.{mostLiterals, mostRules};
-ghost use Rattle.aspif.specs.Reading.{isAt, isCountAt, suited, plainShape, allWeights, ranged, few, weighedShape};
-ghost use Rattle.aspif.specs.Reading.{bodyShape, headShape, shapeOf, headsGood, bodyGood, weightIn, reads, ruleOf, room};
+ghost use Rattle.aspif.specs.Reading.{isAt, isCountAt, suited, plainShape, allWeights, ranged, fewWithin, weighedWithin};
+ghost use Rattle.aspif.specs.Reading.{bodyWithin, headWithin, shapeWithin, headsGood, bodyGood, weightIn, reads, ruleOf, room};
 ghost use Rattle.aspif.specs.Turns.{rowSize, rowRule, weighted, rowWeighed, Sorted, TurnTaken};
 ghost use Rattle.aspif.specs.declared.rules.Shape.the-variants.{Weighed};
 use crate::Kind;
 use crate::tables;
-use weights::MOST_WEIGHTED;
+use words::MOST_LITERALS;
 use words::MOST_RULES;
 
 // What a line makes of the reading: it is refused, it ends the text, or a rule is added.
@@ -104,13 +104,13 @@ fn is_ranged(row: &[i32], heads: usize, body: usize) -> bool
     false
 }
 
-// Questions 54, 55 and 7 of a line with a weight body of so many literals.
-fn few_shape(row: &[i32], kind: Kind, heads: usize, body: usize) -> Shape
+// Questions 54, 55 and 7 of a line with a weight body of so many literals, of which 55 takes `most`.
+fn few_shape(row: &[i32], kind: Kind, heads: usize, body: usize, most: usize) -> Shape
     requires { ⌜ (heads ≤ mostLiterals) × (body ≤ mostLiterals) × (6 + heads + 2 * body ≤ length (now row)) ⌝ }
-    ensures { λ r. ⌜ r ≡ few (now (row .entry)) kind heads body ⌝ }
+    ensures { λ r. ⌜ r ≡ fewWithin most (now (row .entry)) kind heads body ⌝ }
 {
     let ranged = is_ranged(row, heads, body);
-    let few = body <= MOST_WEIGHTED;
+    let few = body <= most;
     if !ranged {
         return Shape::Wrong(54);
     }
@@ -121,58 +121,58 @@ fn few_shape(row: &[i32], kind: Kind, heads: usize, body: usize) -> Shape
 }
 
 // The bound and the body count after body kind 1, with a literal and a weight for each after them.
-fn weighed_shape(row: &[i32], count: usize, kind: Kind, heads: usize) -> Shape
+fn weighed_shape(row: &[i32], count: usize, kind: Kind, heads: usize, most: usize) -> Shape
     requires { ⌜ (heads ≤ mostLiterals) × (length (now row) ≡ rowSize) ⌝ }
-    ensures { λ r. ⌜ r ≡ weighedShape (now (row .entry)) count kind heads ⌝ }
+    ensures { λ r. ⌜ r ≡ weighedWithin most (now (row .entry)) count kind heads ⌝ }
 {
     if is_count_at(row, count, 5 + heads) {
         let body = words::variable_of(words::word_at(row, 5 + heads));
         if 6 + heads + 2 * body == count {
-            return few_shape(row, kind, heads, body);
+            return few_shape(row, kind, heads, body, most);
         }
     }
     Shape::Wrong(6)
 }
 
 // The body kind, after the heads, and what goes with it.
-fn body_shape(row: &[i32], count: usize, kind: Kind, heads: usize) -> Shape
+fn body_shape(row: &[i32], count: usize, kind: Kind, heads: usize, most: usize) -> Shape
     requires { ⌜ (heads ≤ mostLiterals) × (length (now row) ≡ rowSize) ⌝ }
-    ensures { λ r. ⌜ r ≡ bodyShape (now (row .entry)) count kind heads ⌝ }
+    ensures { λ r. ⌜ r ≡ bodyWithin most (now (row .entry)) count kind heads ⌝ }
 {
     if is_at(row, count, 3 + heads, 0) {
         return plain_shape(row, count, kind, heads);
     }
     if is_at(row, count, 3 + heads, 1) {
-        return weighed_shape(row, count, kind, heads);
+        return weighed_shape(row, count, kind, heads, most);
     }
     Shape::Wrong(5)
 }
 
 // The head count, with at least so many numbers after it.
-fn head_shape(row: &[i32], count: usize, kind: Kind) -> Shape
+fn head_shape(row: &[i32], count: usize, kind: Kind, most: usize) -> Shape
     requires { ⌜ length (now row) ≡ rowSize ⌝ }
-    ensures { λ r. ⌜ r ≡ headShape (now (row .entry)) count kind ⌝ }
+    ensures { λ r. ⌜ r ≡ headWithin most (now (row .entry)) count kind ⌝ }
 {
     if is_count_at(row, count, 2) {
         let heads = words::variable_of(words::word_at(row, 2));
         if 3 + heads <= count {
-            return body_shape(row, count, kind, heads);
+            return body_shape(row, count, kind, heads, most);
         }
     }
     Shape::Wrong(6)
 }
 
 // Questions 5, 6, 54, 55 and 7 of a line of `count` numbers, of which the row holds the first.
-fn rule_shape(row: &[i32], count: usize) -> Shape
+fn rule_shape(row: &[i32], count: usize, most: usize) -> Shape
     requires { ⌜ length (now row) ≡ rowSize ⌝ }
-    ensures { λ r. ⌜ r ≡ shapeOf (now (row .entry)) count ⌝ }
+    ensures { λ r. ⌜ r ≡ shapeWithin most (now (row .entry)) count ⌝ }
 {
     if is_at(row, count, 0, 1) {
         if is_at(row, count, 1, 0) {
-            return head_shape(row, count, Kind::Normal);
+            return head_shape(row, count, Kind::Normal, most);
         }
         if is_at(row, count, 1, 1) {
-            return head_shape(row, count, Kind::Choice);
+            return head_shape(row, count, Kind::Choice, most);
         }
     }
     Shape::Wrong(5)
@@ -320,7 +320,7 @@ fn weight_in(pairs: &[i32], literal: i32) -> i32
 // The literals, each with its weight in the pairs behind it, at the front of the free words.
 pub fn write_pairs(free: &mut [i32], pairs: &[i32], literals: &[i32])
     requires weights { ⌜ allWeights (now pairs) ≡ true ⌝ }
-    requires sizes { ⌜ (length (now literals) ≤ mostWeighted) × (2 * length (now literals) ≤ length (now free)) ⌝ }
+    requires sizes { ⌜ (length (now literals) ≤ mostLiterals) × (2 * length (now literals) ≤ length (now free)) ⌝ }
     ensures { λ _. ⌜ now (free .exit) ≡ pairWords (weighted (now (pairs .entry)) (now (literals .entry)))
         ++ drop (2 * length (now (literals .entry))) (now (free .entry)) ⌝ }
 {
@@ -345,7 +345,7 @@ fn write_bound(free: &mut [i32], kind: Kind, heads: usize, body: usize, bound: i
 // The words of a rule with a weight body at the front of the free words: its heads, bound and pairs stand in the row as in the line,
 // its literals sorted beside it.
 fn write_weighed(free: &mut [i32], row: &[i32], literals: &[i32], kind: Kind, heads: usize)
-    requires sizes { ⌜ (heads ≤ mostLiterals) × (length (now literals) ≤ mostWeighted)
+    requires sizes { ⌜ (heads ≤ mostLiterals) × (length (now literals) ≤ mostLiterals)
         × (6 + heads + 2 * length (now literals) ≤ length (now row)) × (5 + heads + 2 * length (now literals) ≤ length (now free)) ⌝ }
     requires weights { ⌜ ranged (now row) heads (length (now literals)) ≡ true ⌝ }
     ensures { λ _. ⌜ now (free .exit) ≡ ruleWords (rowWeighed (now (row .entry)) (now (literals .entry)) kind heads)
@@ -370,7 +370,7 @@ fn add_weighed(
     next: usize,
     rules: usize,
 ) -> LineTurn
-    requires sizes { ⌜ (heads ≤ mostLiterals) × (length (now literals) ≤ mostWeighted)
+    requires sizes { ⌜ (heads ≤ mostLiterals) × (length (now literals) ≤ mostLiterals)
         × (6 + heads + 2 * length (now literals) ≤ length (now row)) ⌝ }
     requires weights { ⌜ ranged (now row) heads (length (now literals)) ≡ true ⌝ }
     ensures { λ r. ⌜ TurnTaken (room rules (length (now (free .entry)))
@@ -404,7 +404,7 @@ fn take_pairs(
     next: usize,
     rules: usize,
 ) -> LineTurn
-    requires sizes { ⌜ (heads ≤ mostLiterals) × (length (now literals) ≤ mostWeighted)
+    requires sizes { ⌜ (heads ≤ mostLiterals) × (length (now literals) ≤ mostLiterals)
         × (6 + heads + 2 * length (now literals) ≤ length (now row)) ⌝ }
     requires weights { ⌜ ranged (now row) heads (length (now literals)) ≡ true ⌝ }
     ensures { λ r. ⌜ TurnTaken (room rules (length (now (free .entry)))
@@ -434,12 +434,12 @@ fn take_weighed(
     next: usize,
     rules: usize,
 ) -> LineTurn
-    requires sizes { ⌜ (heads ≤ mostLiterals) × (body ≤ mostWeighted) × (6 + heads + 2 * body ≤ length (now row)) ⌝ }
+    requires sizes { ⌜ (heads ≤ mostLiterals) × (body ≤ mostLiterals) × (6 + heads + 2 * body ≤ length (now row)) ⌝ }
     requires weights { ⌜ ranged (now row) heads body ≡ true ⌝ }
     ensures { λ r. ⌜ TurnTaken (room rules (length (now (free .entry))) (ruleOf (now (row .entry)) (Weighed kind heads body)) next)
         (now (free .entry)) (now (free .exit)) r ⌝ }
 {
-    let mut literals = [0i32; MOST_WEIGHTED];
+    let mut literals = [0i32; MOST_LITERALS];
     take_pairs(free, row, &mut literals[..body], kind, heads, next, rules)
 }
 
@@ -450,12 +450,13 @@ pub fn take_rule(
     count: usize,
     next: usize,
     rules: usize,
+    most: usize,
 ) -> LineTurn
     requires { ⌜ length (now row) ≡ rowSize ⌝ }
     ensures { λ r. ⌜ TurnTaken (room rules (length (now (free .entry)))
-        (ruleOf (now (row .entry)) (shapeOf (now (row .entry)) count)) next) (now (free .entry)) (now (free .exit)) r ⌝ }
+        (ruleOf (now (row .entry)) (shapeWithin most (now (row .entry)) count)) next) (now (free .entry)) (now (free .exit)) r ⌝ }
 {
-    match rule_shape(row, count) {
+    match rule_shape(row, count, most) {
         Shape::Wrong(k) => LineTurn::Refuses(k),
         Shape::Shaped { kind, heads, body } => {
             if sort_parts(row, heads, body) {

@@ -98,6 +98,7 @@ room-numbered rules free (reads r) n p =
     by-test TurnNumbered (ltb rules mostRules) (λ e. by-test TurnNumbered (leb (length (ruleWords r)) free) (λ e. tt) (λ e. omega arith)) (λ e. omega arith)
 
 turn-numbered : (rules free left : ℕ) (l : Line) → TurnNumbered (turnOf rules free left l)
+unfolding shapeOf
 turn-numbered rules free left broken = omega arith
 turn-numbered rules free left (numbers zs n) =
     by-test TurnNumbered (anyOutside zs) (λ e. omega arith) (λ e. by-test TurnNumbered (isLast zs)

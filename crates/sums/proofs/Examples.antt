@@ -8,16 +8,15 @@ use lib.IntN.{ℤ, pos, negsuc}
 use lib.ListN.{length}
 use Rattle.words.specs.Lists.{_∈_}
 use Rattle.words.specs.Limits.{mostLiterals}
-use Rattle.words.specs.Literals.{variable}
 use Rattle.words.proofs.Lists.{leb-decides, all-decides}
-use Rattle.weights.specs.Weights.{Weighted, literals, mostWeight}
+use Rattle.weights.specs.Weights.{Weighted, mostWeight}
 use Rattle.aspif.specs.Rules.{Body, plain, weights, InputRule, atoms}
 use Rattle.aspif.specs.Text.{programText}
 use Rattle.aspif.specs.Reading.{program, readLines}
 use Rattle.aspif.specs.declared.Kind.the-variants.{Normal}
 use Rattle.sums.specs.Plans.{split, inTurn, nodeRules, joinBodies}
 use Rattle.sums.specs.Levels.{few, both, once, together, sumsOf, attained, levelled, dividedBy, splitProgram, chunks, inGroups, insertBy, insertAllBy, sortedGroups}
-use Rattle.sums.specs.Claims.{Formed}
+use Rattle.aspif.specs.Claims.{FormedWithin}
 use Rattle.sums.proofs.Formed.{split-read}
 
 abbrev w : ℤ → ℕ → Weighted
@@ -58,17 +57,19 @@ unfolding inTurn nodeRules joinBodies once together sumsOf attained levelled chu
 named = refl
 
 -- it is as a reader would leave it, were sums of 64 literals taken, and the reader that takes 12 reads the text of the split program
-formed : (r : InputRule) → r ∈ thirteen → Formed mostLiterals r
+formed : (r : InputRule) → r ∈ thirteen → FormedWithin mostLiterals r
 formed r i =
-    subst (Formed mostLiterals) (sym (List·Memᴰ·eq-of-singleton i))
+    subst (FormedWithin mostLiterals) (sym (List·Memᴰ·eq-of-singleton i))
     (record {
-      headsFew = omega arith;
+      heads-few = omega arith;
+      body-few = omega arith;
       headed = refl;
       positive = refl;
-      headsRise = refl;
-      bodyFew = omega arith;
-      nonzero = all-decides (λ z. leb-decides 1 (variable z)) (literals units) .to tt;
-      bodyRise = refl;
+      heads-rise = refl;
+      nonzero = refl;
+      body-rise = refl;
+      heads-in = refl;
+      body-in = refl;
       weighing = (omega arith, omega arith, all-decides (λ x. leb-decides (x .weight) mostWeight) units .to tt);
     })
 

@@ -17,12 +17,13 @@ use Rattle.weights.specs.Weights.{Weighted, literals, mostWeight, mostWeighted}
 use Rattle.weights.specs.Claims.{Reorder}
 use Rattle.weights.proofs.Reordered.{and-back, reorder-in, reorder-length}
 use Rattle.aspif.specs.Rules.{Body, plain, weights, InputRule, literalsOf, ruleTop}
-use Rattle.aspif.proofs.Formed as Aspif
+use Rattle.aspif.specs.Claims.{WeighingWithin, FormedWithin}
+use Rattle.aspif.proofs.Formed.{inside-of, no-zero, none-zero}
 use Rattle.aspif.proofs.RuleTests.{in-greatest}
 use Rattle.aspif.proofs.Written.{written-read}
 use Rattle.sums.specs.Plans.{Plan, group, joined, size, Definition, own, Share, share, shares, define, joinBodies, Item, whole, root, splitItem, firstNew}
 use Rattle.sums.specs.Levels.{SumShape, few, both, pairsIn, levelled, dividedBy, isShort, planBody, planned, splitProgram, sortedGroups}
-use Rattle.sums.specs.Claims.{Shaping, Weighing, Formed, Grouped, SplitFormed, SplitRead}
+use Rattle.sums.specs.Claims.{Shaping, Grouped, SplitFormed, SplitRead}
 use Rattle.sums.proofs.Nodes.{own-says, own-in, join-body→, RuleOf, summed, paired, on-left, on-right, rule-of}
 use Rattle.sums.proofs.Split.{Placed, in-turn, definitions-run}
 use Rattle.sums.proofs.Levels.{levels-within}
@@ -39,7 +40,7 @@ pub record Passing (c : Body) : Type 0 where
   pub count : length (literalsOf c) ≤ mostLiterals
   pub nonzero : (z : ℤ) → z ∈ literalsOf c → 1 ≤ variable z
   pub rises : rising (literalsOf c) ≡ true
-  pub weighing : Weighing mostWeighted c
+  pub weighing : WeighingWithin mostWeighted c
 
 weights-pass : (b : ℕ) (l : List Weighted) → b ≤ mostWeight → Grouped (few l) → Fine l → Passing (weights b l)
 weights-pass b l h g f =
@@ -110,20 +111,26 @@ levelled-formed b others (both s t) g f = (
   levelled-formed b _ t (g .1) (λ x i. f x (Memᴰ·append-right (pairsIn s) i)),
 )
 
-defining : (d : Definition) {c : Body} → 1 ≤ d .atom → Passing c → Formed mostWeighted (define d c)
-defining d h p =
+-- a rule of the split program passes, unless an atom of it is too large
+abbrev Forms : InputRule → Type 0
+Forms r = ruleTop r ≤ largest → FormedWithin mostWeighted r
+
+defining : (d : Definition) {c : Body} → 1 ≤ d .atom → Passing c → Forms (define d c)
+defining d {c} h p t =
     record {
-      headsFew = omega arith;
+      heads-few = omega arith;
+      body-few = p .count;
       headed = refl;
       positive = and-both (lt-ltb 0 (d .atom) h) refl;
-      headsRise = refl;
-      bodyFew = p .count;
-      nonzero = p .nonzero;
-      bodyRise = p .rises;
+      heads-rise = refl;
+      nonzero = no-zero (literalsOf c) (p .nonzero);
+      body-rise = p .rises;
+      heads-in = inside-of (pos (d .atom) ∷ []) (λ z i. let a = top-le i in omega arith);
+      body-in = inside-of (literalsOf c) (λ z i. let a = top-le i in omega arith);
       weighing = p .weighing;
     }
 
-plan-formed : {n b : ℕ} {p : Plan} {r : InputRule} → 1 ≤ n → b ≤ mostWeight → FormedPlan b p → RuleOf n p r → Formed mostWeighted r
+plan-formed : {n b : ℕ} {p : Plan} {r : InputRule} → 1 ≤ n → b ≤ mostWeight → FormedPlan b p → RuleOf n p r → Forms r
 plan-formed h k f (summed {n = n} {ts = ts} {l = l} d i) =
     let o = own-says n (group ts l) i in
     let a = definitions-run n (group ts l) .low d (own-in n (group ts l) i) in
@@ -138,26 +145,28 @@ plan-formed h k f (on-right r) = plan-formed (omega arith) k (f .1) r
 -- Rules of a program
 
 -- a rule with another body
-rebodied : {most : ℕ} (w : InputRule) {c : Body} → Formed most w → Passing c → Formed mostWeighted (record { kind = w .kind; heads = w .heads; body = c })
-rebodied w f p =
+rebodied : (w : InputRule) {c : Body} → FormedWithin mostLiterals w → Passing c → Forms (record { kind = w .kind; heads = w .heads; body = c })
+rebodied w {c} f p t =
     record {
-      headsFew = f .headsFew;
+      heads-few = f .heads-few;
+      body-few = p .count;
       headed = f .headed;
       positive = f .positive;
-      headsRise = f .headsRise;
-      bodyFew = p .count;
-      nonzero = p .nonzero;
-      bodyRise = p .rises;
+      heads-rise = f .heads-rise;
+      nonzero = no-zero (literalsOf c) (p .nonzero);
+      body-rise = p .rises;
+      heads-in = f .heads-in;
+      body-in = inside-of (literalsOf c) (λ z i. let a = top-le i in omega arith);
       weighing = p .weighing;
     }
 
-shortened : (w : InputRule) → Formed mostLiterals w → Weighing mostWeighted (w .body) → Formed mostWeighted w
-shortened w f x = rebodied w f (record { count = f .bodyFew; nonzero = f .nonzero; rises = f .bodyRise; weighing = x })
+shortened : (w : InputRule) → FormedWithin mostLiterals w → WeighingWithin mostWeighted (w .body) → Forms w
+shortened w f x = rebodied w f (record { count = f .body-few; nonzero = none-zero (literalsOf (w .body)) (f .nonzero); rises = f .body-rise; weighing = x })
 
-divided-formed : (w : InputRule) (b : ℕ) (l : List Weighted) (s : SumShape) → Formed mostLiterals w → b ≤ mostWeight → Reorder l (pairsIn s) → Grouped s → Fine l
-    → mostWeighted < length l → (n : ℕ) → 1 ≤ n → (r : InputRule) → r ∈ splitItem n (dividedBy w b l s) → Formed mostWeighted r
+divided-formed : (w : InputRule) (b : ℕ) (l : List Weighted) (s : SumShape) → FormedWithin mostLiterals w → b ≤ mostWeight → Reorder l (pairsIn s) → Grouped s → Fine l
+    → mostWeighted < length l → (n : ℕ) → 1 ≤ n → (r : InputRule) → r ∈ splitItem n (dividedBy w b l s) → Forms r
 divided-formed w b l (few k) f h o g y c n m r i = absurd (let e = reorder-length o in let a = g .0 in omega arith)
-divided-formed w b l (both s t) f h o g y c n m r (List·Memᴰ·head e) = subst (Formed mostWeighted) (sym e) (rebodied w f (one-passes _ (omega arith)))
+divided-formed w b l (both s t) f h o g y c n m r (List·Memᴰ·head e) = subst Forms (sym e) (rebodied w f (one-passes _ (omega arith)))
 divided-formed w b l (both s t) f h o g y c n m r (List·Memᴰ·tail i) =
     let fine : Fine (pairsIn s ++ pairsIn t) = λ x j. y x (reorder-in (and-back o) j) in
     plan-formed m h (
@@ -167,62 +176,42 @@ divided-formed w b l (both s t) f h o g y c n m r (List·Memᴰ·tail i) =
     (rule-of n (root b _ _) i)
 
 module _ (shape : List Weighted → SumShape) (shaping : Shaping shape) (grouped : (l : List Weighted) → rising (literals l) ≡ true → Grouped (shape l)) where
-  body-formed : (w : InputRule) (c : Body) → w .body ≡ c → Formed mostLiterals w → (n : ℕ) → 1 ≤ n → (r : InputRule) → r ∈ splitItem n (planBody shape w c) → Formed mostWeighted r
-  body-formed w (plain ls) e f n m r i = subst (Formed mostWeighted) (sym (List·Memᴰ·eq-of-singleton i)) (shortened w f (subst (Weighing mostWeighted) (sym e) tt))
+  body-formed : (w : InputRule) (c : Body) → w .body ≡ c → FormedWithin mostLiterals w → (n : ℕ) → 1 ≤ n → (r : InputRule) → r ∈ splitItem n (planBody shape w c) → Forms r
+  body-formed w (plain ls) e f n m r i = subst Forms (sym (List·Memᴰ·eq-of-singleton i)) (shortened w f (subst (WeighingWithin mostWeighted) (sym e) tt))
   body-formed w (weights b l) e f n m r i = go (isShort l) refl i
     where
-      light : Weighing mostLiterals (weights b l)
-      light = subst (Weighing mostLiterals) e (f .weighing)
+      light : WeighingWithin mostLiterals (weights b l)
+      light = subst (WeighingWithin mostLiterals) e (f .weighing)
 
       rises : rising (literals l) ≡ true
-      rises = sym (ap (λ v. rising (literalsOf v)) e) ∙ f .bodyRise
+      rises = sym (ap (λ v. rising (literalsOf v)) e) ∙ f .body-rise
 
       fine : Fine l
-      fine x j = (f .nonzero (x .literal) (subst (λ v. x .literal ∈ literalsOf v) (sym e) (Memᴰ·map (λ (x : Weighted). x .literal) j)), light .2 x j)
+      fine x j = (none-zero (literalsOf (w .body)) (f .nonzero) (x .literal) (subst (λ v. x .literal ∈ literalsOf v) (sym e) (Memᴰ·map (λ (x : Weighted). x .literal) j)), light .2 x j)
 
-      go : (t : Bool) → isShort l ≡ t → r ∈ splitItem n (cond t (whole w) (dividedBy w b l (shape l))) → Formed mostWeighted r
+      go : (t : Bool) → isShort l ≡ t → r ∈ splitItem n (cond t (whole w) (dividedBy w b l (shape l))) → Forms r
       go true p j =
-          subst (Formed mostWeighted) (sym (List·Memᴰ·eq-of-singleton j))
-          (shortened w f (subst (Weighing mostWeighted) (sym e) (leb-true (length l) mostWeighted p, light .1, light .2)))
+          subst Forms (sym (List·Memᴰ·eq-of-singleton j))
+          (shortened w f (subst (WeighingWithin mostWeighted) (sym e) (leb-true (length l) mostWeighted p, light .1, light .2)))
       go false p j = divided-formed w b l (shape l) f (light .1) (shaping l) (grouped l rises) fine (leb-false (length l) mostWeighted p) n m r j
 
 pub split-formed : SplitFormed
-split-formed shape shaping grouped ws f r i = go (in-turn splitItem (firstNew (planned shape ws)) (planned shape ws) i)
+split-formed shape shaping grouped ws f low r i = go (in-turn splitItem (firstNew (planned shape ws)) (planned shape ws) i)
   where
-    go : (j : Item) × (p : Placed (firstNew (planned shape ws)) (planned shape ws) j) × (r ∈ splitItem (p .place) j) → Formed mostWeighted r
+    go : (j : Item) × (p : Placed (firstNew (planned shape ws)) (planned shape ws) j) × (r ∈ splitItem (p .place) j) → FormedWithin mostWeighted r
     go (j, p, k) =
         let x = Memᴰ·of-map (λ w. planBody shape w (w .body)) ws (p .among) in
         let h = p .later in
         body-formed shape shaping grouped (x .0) (x .0 .body) refl (f (x .0) (x .1)) (p .place) (omega arith) r (subst (λ v. r ∈ splitItem (p .place) v) (sym (x .2)) k)
+        (let t = in-greatest ruleTop i in omega arith)
 
 -- The reader
-
-passing-weights : (c : Body) → Weighing mostWeighted c → Aspif.Weighing c
-passing-weights (plain ls) w = tt
-passing-weights (weights b l) w = w
-
-as-read : (r : InputRule) → ruleTop r ≤ largest → Formed mostWeighted r → Aspif.Formed r
-as-read r h f =
-    let ls = literalsOf (r .body) in
-    record {
-      heads-few = f .headsFew;
-      body-few = f .bodyFew;
-      headed = f .headed;
-      positive = f .positive;
-      heads-rise = f .headsRise;
-      nonzero = Aspif.no-zero ls (f .nonzero);
-      body-rise = f .bodyRise;
-      heads-in = Aspif.inside-of (r .heads) (λ z i. let a = top-le i in omega arith);
-      body-in = Aspif.inside-of ls (λ z i. let a = top-le i in omega arith);
-      weighing = passing-weights (r .body) (f .weighing);
-    }
 
 pub split-read : SplitRead
 split-read k h ws f room low rules words =
     written-read room (splitProgram (sortedGroups k) ws)
     (record {
-      formed = λ r i. let t = in-greatest ruleTop i in
-          as-read r (omega arith) (split-formed (sortedGroups k) (sorted-groups k) (λ l e. sorted-grouped k h l e) ws f r i);
+      formed = split-formed (sortedGroups k) (sorted-groups k) (λ l e. sorted-grouped k h l e) ws f low;
       few = rules;
       room = words;
     })

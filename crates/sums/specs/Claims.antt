@@ -5,18 +5,17 @@ use mathlib.Core.Logic.{_↔_}
 use mathlib.Core.Bool.{true}
 use mathlib.Core.List.{List, _∷_, _++_}
 use Prim.Native.Nat.{ℕ, _+_, _≤_, _<_}
-use lib.IntN.{ℤ, pos}
-use lib.Signed.{ltZ}
 use lib.ListN.{length}
-use Rattle.words.specs.Lists.{_∈_, all}
+use Rattle.words.specs.Lists.{_∈_}
 use Rattle.words.specs.Limits.{largest, mostLiterals, mostRules}
-use Rattle.words.specs.Literals.{variable, rising}
-use Rattle.weights.specs.Weights.{Weighted, sum, literals, mostWeight, mostWeighted}
+use Rattle.words.specs.Literals.{rising}
+use Rattle.weights.specs.Weights.{Weighted, sum, literals, mostWeighted}
 use Rattle.weights.specs.Claims.{_⊑_, Reorder}
-use Rattle.aspif.specs.Rules.{Body, plain, weights, InputRule, literalsOf, suits, expand, atoms, programWords}
+use Rattle.aspif.specs.Rules.{InputRule, expand, atoms, programWords}
 use Rattle.aspif.specs.Text.{programText}
 use Rattle.aspif.specs.Reading.{readLines}
 use Rattle.aspif.specs.Reading as Reading
+use Rattle.aspif.specs.Claims.{FormedWithin}
 use Rattle.aspif.specs.AnswerSets.{AnswerSet}
 use Rattle.drupe.specs.Texts.{Step}
 use Rattle.derivation.specs.States.{State, start}
@@ -121,23 +120,6 @@ ProofOfSplit =
 abbrev pub LevelsWithin : Type 0
 LevelsWithin = (b : ℕ) (others : List ℕ) (s : SumShape) (t : ℕ) → t ∈ levelsOf (levelled b others s) → (0 < t) × (t ≤ b)
 
--- "Bound and weights are 0 to 4,095; at most 12 literals", with another number in place of 12
-abbrev pub Weighing : (most : ℕ) → Body → Type 0
-Weighing most (plain ls) = Unit {0}
-Weighing most (weights b l) = (length l ≤ most) × (b ≤ mostWeight) × ((x : Weighted) → x ∈ l → x .weight ≤ mostWeight)
-
--- A rule that passes questions 4 to 8, 54 and 55 of the reader, heads and literals ascending, were 55 put with `most` literals and nothing
--- asked of how large a number is
-pub record Formed (most : ℕ) (r : InputRule) : Type 0 where
-  pub headsFew : length (r .heads) ≤ mostLiterals
-  pub headed : suits (r .kind) (length (r .heads)) ≡ true
-  pub positive : all (λ h. ltZ (pos 0) h) (r .heads) ≡ true
-  pub headsRise : rising (r .heads) ≡ true
-  pub bodyFew : length (literalsOf (r .body)) ≤ mostLiterals
-  pub nonzero : (z : ℤ) → z ∈ literalsOf (r .body) → 1 ≤ variable z
-  pub bodyRise : rising (literalsOf (r .body)) ≡ true
-  pub weighing : Weighing most (r .body)
-
 -- groups of at most 12 literals that ascend by atom
 abbrev pub Grouped : SumShape → Type 0
 Grouped (few l) = (length l ≤ mostWeighted) × (rising (literals l) ≡ true)
@@ -146,12 +128,13 @@ Grouped (both s t) = Grouped s × Grouped t
 abbrev pub SortedGrouped : Type 0
 SortedGrouped = (k : ℕ) → k < mostWeighted → (l : List Weighted) → rising (literals l) ≡ true → Grouped (sortedGroups k l)
 
--- where the rules pass with sums of any length up to the 64 literals of a body, those of the split program pass with at most 12
+-- where the rules pass with sums of any length up to the 64 literals of a body, those of the split program pass with at most 12, unless an atom
+-- is too large
 abbrev pub SplitFormed : Type 0
 SplitFormed =
     (shape : List Weighted → SumShape) → Shaping shape → ((l : List Weighted) → rising (literals l) ≡ true → Grouped (shape l))
-    → (ws : List InputRule) → ((r : InputRule) → r ∈ ws → Formed mostLiterals r)
-    → (r : InputRule) → r ∈ splitProgram shape ws → Formed mostWeighted r
+    → (ws : List InputRule) → ((r : InputRule) → r ∈ ws → FormedWithin mostLiterals r)
+    → atoms (splitProgram shape ws) ≤ largest → (r : InputRule) → r ∈ splitProgram shape ws → FormedWithin mostWeighted r
 
 -- no atom is above those of the program and as many new ones as the plans have levels
 abbrev pub ProgramAtoms : Type 0
@@ -162,7 +145,7 @@ ProgramAtoms =
 -- claimed of how many it has. Question 1, of the length of the text, is not put by `readLines`.
 abbrev pub SplitRead : Type 0
 SplitRead =
-    (k : ℕ) → k < mostWeighted → (ws : List InputRule) → ((r : InputRule) → r ∈ ws → Formed mostLiterals r) → (size : ℕ)
+    (k : ℕ) → k < mostWeighted → (ws : List InputRule) → ((r : InputRule) → r ∈ ws → FormedWithin mostLiterals r) → (size : ℕ)
     → atoms (splitProgram (sortedGroups k) ws) ≤ largest → length (splitProgram (sortedGroups k) ws) ≤ mostRules
     → length (programWords (splitProgram (sortedGroups k) ws)) ≤ size
     → readLines size (programText (splitProgram (sortedGroups k) ws)) ≡ Reading.program (splitProgram (sortedGroups k) ws)

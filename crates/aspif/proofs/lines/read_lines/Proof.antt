@@ -9,10 +9,10 @@ use Rattle.aspif.proofs.lines.read_lines.Statement.{statement}
 use Rattle.aspif.proofs.lines.read_lines.Tie as tie
 
 abbrev Inv-loop : tie.InvT-loop
-Inv-loop text table₀ classes at₀ line₀ used₀ rules₀ atoms₀ table at line used rules atoms = Standing text table₀ table at line used rules atoms
+Inv-loop text table₀ most classes at₀ line₀ used₀ rules₀ atoms₀ table at line used rules atoms = Standing most text table₀ table at line used rules atoms
 
 abbrev μ-loop : tie.MeasureT-loop
-μ-loop text table₀ classes at₀ line₀ used₀ rules₀ atoms₀ table at line used rules atoms = length text - at
+μ-loop text table₀ most classes at₀ line₀ used₀ rules₀ atoms₀ table at line used rules atoms = length text - at
 
 -- the turn that a call took, of the text and the words that are left
 taken : (c : tie.After-read-rule Inv-loop μ-loop)

@@ -64,7 +64,7 @@ returns-5 c =
     let d = e .before in
     let r = d .before .before in
     let f = found (r .before .before) in
-    rw (f .is, inside r, last d ∙ e .if2 .left) (rw (row-rule (f .list) _ _ (f .long) (row r)) at (c .before .before .take-rule .ensures))
+    rw (f .is, inside r, last d ∙ e .if2 .left) (rw (row-rule (f .list) _ _ (f .long) (row r) (r .before .before .before .before .before .before .before .before .args .most)) at (c .before .before .take-rule .ensures))
 
 pub read-rule-spec : {M : Type 1} → statement M
 read-rule-spec =

@@ -1,7 +1,7 @@
 use mathlib.Core.Path.{_≡_, refl, sym, subst, _∙_}
 use Rattle.aspif.proofs.Rows.{sorted-reads, sorted-fails}
 use native.Mathlib.Omega.{arith}
-use Rattle.aspif.specs.Reading.{shapeOf}
+use Rattle.aspif.specs.Reading.{shapeWithin}
 use Rattle.aspif.specs.declared.rules.Shape.the-variants.{Shaped, Weighed}
 use Rattle.aspif.proofs.Counts.{Counted, shape-counted}
 use borrow.Author.Needs.{needs}
@@ -11,24 +11,24 @@ use Rattle.aspif.proofs.rules.take_rule.Tie as tie
 -- the shape of the line, and its counts
 module _ (c : tie.After-kind) where
   shape : (let a = c .before .before .before .before .args in let g = c .kind .given .0 in
-      shapeOf (a .row .now) (a .count) ≡ Shaped (g .0) (g .1 .0) (g .1 .1 .0))
+      shapeWithin (a .most) (a .row .now) (a .count) ≡ Shaped (g .0) (g .1 .0) (g .1 .1 .0))
   shape = sym (c .before .before .rule-shape .ensures) ∙ c .kind .given .1
 
   counted : (let a = c .before .before .before .before .args in let g = c .kind .given .0 in
-      Counted (a .row .now) (a .count) (Shaped (g .0) (g .1 .0) (g .1 .1 .0)))
-  counted = let a = c .before .before .before .before .args in subst (Counted (a .row .now) (a .count)) shape (shape-counted (a .row .now) (a .count))
+      Counted (a .most) (a .row .now) (a .count) (Shaped (g .0) (g .1 .0) (g .1 .1 .0)))
+  counted = let a = c .before .before .before .before .args in subst (Counted (a .most) (a .row .now) (a .count)) shape (shape-counted (a .most) (a .row .now) (a .count))
 
 -- and of one with a weight body
 module _ (c : tie.After-kind2) where
   shape₂ : (let a = c .before .before .before .before .args in let g = c .kind2 .given .0 in
-      shapeOf (a .row .now) (a .count) ≡ Weighed (g .0) (g .1 .0) (g .1 .1 .0))
+      shapeWithin (a .most) (a .row .now) (a .count) ≡ Weighed (g .0) (g .1 .0) (g .1 .1 .0))
   shape₂ = sym (c .before .before .rule-shape .ensures) ∙ c .kind2 .given .1
 
   counted₂ : (let a = c .before .before .before .before .args in let g = c .kind2 .given .0 in
-      Counted (a .row .now) (a .count) (Weighed (g .0) (g .1 .0) (g .1 .1 .0)))
+      Counted (a .most) (a .row .now) (a .count) (Weighed (g .0) (g .1 .0) (g .1 .1 .0)))
   counted₂ =
       let a = c .before .before .before .before .args in
-      subst (Counted (a .row .now) (a .count)) shape₂ (shape-counted (a .row .now) (a .count))
+      subst (Counted (a .most) (a .row .now) (a .count)) shape₂ (shape-counted (a .most) (a .row .now) (a .count))
 
 sort-parts-requires : tie.Need-sort-parts-requires
 sort-parts-requires c κs =
@@ -56,7 +56,7 @@ take-weighed-requires c κs =
     let d = c .before .before .before in
     let k = counted₂ d in
     let p = d .before .before .before .before .pre in
-    ((k .0, k .1, omega (arith, k, p)), k .3)
+    ((k .0, k .4, omega (arith, k, p)), k .3)
 
 returns-2 : tie.Need-returns-2
 returns-2 c =

@@ -4,7 +4,7 @@ use native.Mathlib.Omega.{arith}
 use lib.IntN.{pos}
 use lib.ListN.{length, take, replicate}
 use lib.Seq.{length-take-le}
-use Rattle.weights.specs.Weights.{mostWeighted}
+use Rattle.words.specs.Limits.{mostLiterals}
 use Rattle.aspif.specs.Reading.{ranged, ruleOf, room}
 use Rattle.aspif.specs.Turns.{TurnTaken}
 use Rattle.aspif.specs.declared.rules.Shape.the-variants.{Weighed}
@@ -13,8 +13,8 @@ use Rattle.aspif.proofs.rules.take_weighed.Statement.{statement}
 use Rattle.aspif.proofs.rules.take_weighed.Tie as tie
 
 -- the row lent for the literals has as many places
-many : (c : tie.Start) → length (take (c .args .body) (replicate mostWeighted (pos 0))) ≡ c .args .body
-many c = length-take-le (c .args .body) (replicate mostWeighted (pos 0)) (c .pre .0 .1)
+many : (c : tie.Start) → length (take (c .args .body) (replicate mostLiterals (pos 0))) ≡ c .args .body
+many c = length-take-le (c .args .body) (replicate mostLiterals (pos 0)) (c .pre .0 .1)
 
 slice-aggregate-take-pairs : tie.Need-slice-aggregate-take-pairs
 slice-aggregate-take-pairs c = sym (many (c .before .before .before))
