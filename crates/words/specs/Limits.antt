@@ -14,6 +14,10 @@ entries = suc largest
 abbrev pub longest : ℕ
 longest = 65535
 
+-- what a signed word holds; the longest proof text of the long check
+abbrev pub widest : ℕ
+widest = 2147483647
+
 -- "At most 1,024 rules."
 abbrev pub mostRules : ℕ
 mostRules = 1024
