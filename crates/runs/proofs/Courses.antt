@@ -15,7 +15,7 @@ use Rattle.drupe.proofs.Lines.{passed-line}
 use Rattle.derivation.specs.States.{State, start}
 use Rattle.derivation.specs.Steps.{Outcome, refused, next, step}
 use Rattle.nogoods.specs.Store.{Stored, live, wordsFor}
-use Rattle.nogoods.specs.Index.{Blank, indexSize}
+use Rattle.nogoods.specs.Index.{BlankIndex}
 use Rattle.nogoods.proofs.Live.{live-few}
 use Rattle.steps.specs.After.{storedAfter}
 use Rattle.runs.specs.Course.{Course, stopped, course}
@@ -49,13 +49,13 @@ module _ (N : ℕ) (ws : List InputRule) (size : ℕ) (text : List ℕ) where
     pub long : length store ≡ size
 
   pub going-start : {c : CheckingState} {store : List ℤ} {index known names : List ℕ} {bodies : List ℤ} → Starts c → Tracks N ws known names bodies [] [] → store ≡ replicate (length store) (pos 0) → length store ≡ size
-      → length index ≡ indexSize → Blank index → Going store index known names bodies (c .used) (c .at) (c .steps)
-  going-start {store = store} {index = index} S T e l n b =
+      → BlankIndex index → Going store index known names bodies (c .used) (c .at) (c .steps)
+  going-start {store = store} {index = index} S T e l b =
       record {
         z = start;
         tracks = T;
         stored = [];
-        keeps = S .holds store index e n b;
+        keeps = S .holds store index e b;
         onward = λ c. rw (S .at, S .steps) (λ r. r);
         within = omega (arith, S .at);
         count = omega (arith, S .steps);

@@ -13,7 +13,7 @@ ghost use Rattle.aspif.specs.Tables.{rulesAt};
 ghost use Rattle.drupe.specs.Lines.{lineAt};
 ghost use Rattle.derivation.specs.States.{State};
 ghost use Rattle.nogoods.specs.Store.{Stored};
-ghost use Rattle.nogoods.specs.Index.{Keeps};
+ghost use Rattle.nogoods.specs.Index.{Keeps, BlankIndex};
 ghost use Rattle.marks.specs.Marks.{Marks, upTo};
 ghost use Rattle.heads.specs.Heads.{nameWords, Indexed};
 ghost use Rattle.loops.specs.Relevance.{Relevant};
@@ -28,7 +28,6 @@ use heads::INDEX_WORDS;
 use heads::NAME_WORDS;
 use loops::relevance;
 use names::by_name;
-use nogoods::INDEX;
 use steps::outcomes::Stepped;
 use steps::states::CheckingState;
 use weights::MOST_WEIGHTED;
@@ -85,7 +84,7 @@ fn turn_at(
     bodies: &mut [i16],
     store: &mut [i32],
     used: usize,
-    index: &mut [u16; INDEX],
+    index: &mut [u32],
     origin: usize,
     assignment: &mut [u8; ENTRIES],
 ) -> ProofTurn
@@ -148,6 +147,7 @@ fn through(state: CheckingState) -> Run
 }
 
 // All lines of a proof text: "At the start there are no nogoods and no names, and the atoms alone are known." The first refusal ends them.
+// The index beside the store is lent, of any length, which decides time alone; its cells before the search's are 0.
 fn run_lines(
     proof: &[u8],
     table: &[i32],
@@ -159,6 +159,7 @@ fn run_lines(
     names: &mut [u16],
     bodies: &mut [i16],
     store: &mut [i32],
+    index: &mut [u32],
 ) -> Run
     requires program { ⌜ ((ws : List InputRule) × Program (now table) rules atoms ws) × (rules ≤ mostHeld) ⌝ }
     requires index { ⌜ Indexed (now lookup) (now table) rules ⌝ }
@@ -167,6 +168,7 @@ fn run_lines(
     requires bodies { ⌜ NoBodies (rulesAt rules (now table)) (now bodies) ⌝ }
     requires short { ⌜ length (now proof) ≤ longest ⌝ }
     requires empty { ⌜ now store ≡ replicate (length (now store)) (pos 0) ⌝ }
+    requires cells { ⌜ BlankIndex (now index) ⌝ }
     ensures { λ r. ⌜ ((ws : List InputRule) → Program (now (table .entry)) rules atoms ws
         → (let c = course atoms (expand ws) (length (now (store .entry))) (now (proof .entry)) in
         Ran (now (store .exit)) c r × Ended atoms ws (now (known .exit)) (now (names .exit)) (now (bodies .exit)) c)) ⌝ }
@@ -174,7 +176,6 @@ fn run_lines(
     let classes = text::classes::CLASSES;
     let mut numbers = [0; CheckingState::NUMBERS];
     let mut sorted = [0; CheckingState::NUMBERS];
-    let mut index = [0u16; INDEX];
     let mut assignment = [0u8; CheckingState::LARGEST + 1];
     let mut state = CheckingState::start();
     loop {
@@ -195,7 +196,7 @@ fn run_lines(
             bodies,
             store,
             state.used,
-            &mut index,
+            index,
             step,
             &mut assignment,
         ) {
@@ -220,12 +221,14 @@ fn run_weighted(
     names: &mut [u16],
     bodies: &mut [i16],
     store: &mut [i32],
+    index: &mut [u32],
 ) -> Run
     requires program { ⌜ ((ws : List InputRule) × Program (now table) rules atoms ws) × (rules ≤ mostHeld) ⌝ }
     requires start { ⌜ Marks (now known) (upTo atoms) × (now names ≡ replicate nameWords 0) ⌝ }
     requires bodies { ⌜ NoBodies (rulesAt rules (now table)) (now bodies) ⌝ }
     requires short { ⌜ length (now proof) ≤ longest ⌝ }
     requires empty { ⌜ now store ≡ replicate (length (now store)) (pos 0) ⌝ }
+    requires cells { ⌜ BlankIndex (now index) ⌝ }
     ensures { λ r. ⌜ ((ws : List InputRule) → Program (now (table .entry)) rules atoms ws
         → (let c = course atoms (expand ws) (length (now (store .entry))) (now (proof .entry)) in
         Ran (now (store .exit)) c r × Ended atoms ws (now (known .exit)) (now (names .exit)) (now (bodies .exit)) c)) ⌝ }
@@ -244,6 +247,7 @@ fn run_weighted(
         names,
         bodies,
         store,
+        index,
     )
 }
 
@@ -257,12 +261,14 @@ fn run_plain(
     names: &mut [u16],
     bodies: &mut [i16],
     store: &mut [i32],
+    index: &mut [u32],
 ) -> Run
     requires program { ⌜ ((ws : List InputRule) × Program (now table) rules atoms ws) × (rules ≤ mostHeld) ⌝ }
     requires start { ⌜ Marks (now known) (upTo atoms) × (now names ≡ replicate nameWords 0) ⌝ }
     requires plain { ⌜ allPlain (rulesAt rules (now table)) ≡ true ⌝ }
     requires short { ⌜ length (now proof) ≤ longest ⌝ }
     requires empty { ⌜ now store ≡ replicate (length (now store)) (pos 0) ⌝ }
+    requires cells { ⌜ BlankIndex (now index) ⌝ }
     ensures { λ r. ⌜ ((ws : List InputRule) → Program (now (table .entry)) rules atoms ws
         → (let c = course atoms (expand ws) (length (now (store .entry))) (now (proof .entry)) in
         Ran (now (store .exit)) c r × Ended atoms ws (now (known .exit)) (now (names .exit)) (now (bodies .exit)) c)) ⌝ }
@@ -280,6 +286,7 @@ fn run_plain(
         names,
         bodies,
         store,
+        index,
     )
 }
 
@@ -294,20 +301,42 @@ pub fn run_half(
     names: &mut [u16],
     bodies: &mut [i16],
     store: &mut [i32],
+    index: &mut [u32],
 ) -> Run
     requires program { ⌜ ((ws : List InputRule) × Program (now table) rules atoms ws) × (rules ≤ mostHeld) ⌝ }
     requires start { ⌜ Marks (now known) (upTo atoms) × (now names ≡ replicate nameWords 0) ⌝ }
     requires bodies { ⌜ NoBodies (rulesAt rules (now table)) (now bodies) ⌝ }
     requires short { ⌜ length (now proof) ≤ longest ⌝ }
     requires empty { ⌜ now store ≡ replicate (length (now store)) (pos 0) ⌝ }
+    requires cells { ⌜ BlankIndex (now index) ⌝ }
     ensures { λ r. ⌜ ((ws : List InputRule) → Program (now (table .entry)) rules atoms ws
         → (let c = course atoms (expand ws) (length (now (store .entry))) (now (proof .entry)) in
         Ran (now (store .exit)) c r × Ended atoms ws (now (known .exit)) (now (names .exit)) (now (bodies .exit)) c)) ⌝ }
 {
     if tables::all_plain(table, rules) {
-        return run_plain(proof, table, rules, atoms, known, names, bodies, store);
+        return run_plain(
+            proof,
+            table,
+            rules,
+            atoms,
+            known,
+            names,
+            bodies,
+            store,
+            index,
+        );
     }
-    run_weighted(proof, table, rules, atoms, known, names, bodies, store)
+    run_weighted(
+        proof,
+        table,
+        rules,
+        atoms,
+        known,
+        names,
+        bodies,
+        store,
+        index,
+    )
 }
 
 // The same with the records of the bodies by name, which are large and stand in a frame of their own.
@@ -319,23 +348,43 @@ fn run_recorded(
     known: &mut [u8],
     names: &mut [u16],
     store: &mut [i32],
+    index: &mut [u32],
 ) -> Run
     requires program { ⌜ ((ws : List InputRule) × Program (now table) rules atoms ws) × (rules ≤ mostHeld) ⌝ }
     requires start { ⌜ Marks (now known) (upTo atoms) × (now names ≡ replicate nameWords 0) ⌝ }
     requires short { ⌜ length (now proof) ≤ longest ⌝ }
     requires empty { ⌜ now store ≡ replicate (length (now store)) (pos 0) ⌝ }
+    requires cells { ⌜ BlankIndex (now index) ⌝ }
     ensures { λ r. ⌜ ((ws : List InputRule) → Program (now (table .entry)) rules atoms ws
         → Ran (now (store .exit)) (course atoms (expand ws) (length (now (store .entry))) (now (proof .entry))) r) ⌝ }
 {
     let mut bodies = [0i16; by_name::BODY_WORDS];
-    run_weighted(proof, table, rules, atoms, known, names, &mut bodies, store)
+    run_weighted(
+        proof,
+        table,
+        rules,
+        atoms,
+        known,
+        names,
+        &mut bodies,
+        store,
+        index,
+    )
 }
 
 // All lines of a proof text, from an empty store.
-pub fn run_proof(proof: &[u8], table: &[i32], rules: usize, atoms: usize, store: &mut [i32]) -> Run
+pub fn run_proof(
+    proof: &[u8],
+    table: &[i32],
+    rules: usize,
+    atoms: usize,
+    store: &mut [i32],
+    index: &mut [u32],
+) -> Run
     requires program { ⌜ ((ws : List InputRule) × Program (now table) rules atoms ws) × (rules ≤ mostHeld) ⌝ }
     requires short { ⌜ length (now proof) ≤ longest ⌝ }
     requires empty { ⌜ now store ≡ replicate (length (now store)) (pos 0) ⌝ }
+    requires cells { ⌜ BlankIndex (now index) ⌝ }
     ensures { λ r. ⌜ ((ws : List InputRule) → Program (now (table .entry)) rules atoms ws
         → Ran (now (store .exit)) (course atoms (expand ws) (length (now (store .entry))) (now (proof .entry))) r) ⌝ }
 {
@@ -352,7 +401,17 @@ pub fn run_proof(proof: &[u8], table: &[i32], rules: usize, atoms: usize, store:
             &mut names,
             &mut none,
             store,
+            index,
         );
     }
-    run_recorded(proof, table, rules, atoms, &mut known, &mut names, store)
+    run_recorded(
+        proof,
+        table,
+        rules,
+        atoms,
+        &mut known,
+        &mut names,
+        store,
+        index,
+    )
 }

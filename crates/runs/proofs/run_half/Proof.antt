@@ -5,12 +5,12 @@ use Rattle.runs.proofs.run_half.Tie as tie
 
 run-plain-requires : tie.Need-run-plain-requires
 run-plain-requires c κs =
-    let d = c .before .before .before .before in
-    let p = d .before .before .before .before .before .pre in
+    let d = c .before .before .before .before .before in
+    let p = d .before .before .before .before .before .before .pre in
     (p .0, (p .1 .0, (sym (d .before .all-plain .ensures) ∙ d .if1 .taken, p .1 .1 .1)))
 
 run-weighted-requires : tie.Need-run-weighted-requires
-run-weighted-requires c κs = c .before .before .before .before .before .before .before .before .before .pre
+run-weighted-requires c κs = c .before .before .before .before .before .before .before .before .before .before .before .pre
 
 pub run-half-spec : {M : Type 1} → statement M
 run-half-spec =
@@ -22,10 +22,12 @@ run-half-spec =
     (λ c. search needs)
     (λ c. search needs)
     (λ c. search needs)
-    (λ c. c .before .before .before .before .before .before .run-plain .ensures)
+    (λ c. search needs)
+    (λ c. c .before .before .before .before .before .before .before .before .run-plain .ensures)
     run-weighted-requires
     (λ c. search needs)
     (λ c. search needs)
     (λ c. search needs)
     (λ c. search needs)
-    (λ c. c .before .before .before .before .before .before .run-weighted .ensures))
+    (λ c. search needs)
+    (λ c. c .before .before .before .before .before .before .before .before .run-weighted .ensures))

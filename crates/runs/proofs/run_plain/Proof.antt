@@ -7,8 +7,8 @@ use Rattle.runs.proofs.run_plain.Tie as tie
 
 run-lines-requires : tie.Need-run-lines-requires
 run-lines-requires c κs =
-    let f = c .before .before .before .before .before .before .before in
-    let p = f .before .before .before .before .before .pre in
+    let f = c .before .before .before .before .before .before .before .before in
+    let p = f .before .before .before .before .before .before .pre in
     (p .0, (f .fill .ensures, (relevant-plain _ _ (p .1 .1 .0), (p .1 .0, (λ w. absurd (true≢false (sym (p .1 .1 .0) ∙ w)), p .1 .1 .1)))))
 
 pub run-plain-spec : {M : Type 1} → statement M
@@ -24,4 +24,5 @@ run-plain-spec =
     (λ c. search needs)
     (λ c. search needs)
     (λ c. search needs)
-    (λ c. c .before .before .before .before .before .before .run-lines .ensures))
+    (λ c. search needs)
+    (λ c. c .before .before .before .before .before .before .before .before .run-lines .ensures))

@@ -6,8 +6,8 @@ use Rattle.runs.proofs.run_weighted.Tie as tie
 
 run-lines-requires : tie.Need-run-lines-requires
 run-lines-requires c κs =
-    let f = c .before .before .before .before .before .before .before in
-    let p = f .before .before .before .before .before .pre in
+    let f = c .before .before .before .before .before .before .before .before in
+    let p = f .before .before .before .before .before .before .pre in
     (p .0, (λ e. absurd (true≢false (sym e)), (f .fill .ensures, p .1)))
 
 pub run-weighted-spec : {M : Type 1} → statement M
@@ -23,4 +23,5 @@ run-weighted-spec =
     (λ c. search needs)
     (λ c. search needs)
     (λ c. search needs)
-    (λ c. c .before .before .before .before .before .before .run-lines .ensures))
+    (λ c. search needs)
+    (λ c. c .before .before .before .before .before .before .before .before .run-lines .ensures))
