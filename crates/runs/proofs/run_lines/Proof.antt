@@ -114,19 +114,19 @@ enum-told c = search needs
 returns : tie.Need-returns Inv-loop μ-loop
 returns c =
     let t = c .before .before .before .before .before .before .before .before .before .before .before .before .before in
-    λ Q q. rw (same t q, c .through .ensures) (going-ends _ _ _ _ (start t .pre .1 .1 .1 .1 .1 .0) (G t) (store′ t) (index′ t) (known′ t) (names′ t) (bodies′ t) (search needs) (c .before .enum-told .given .1) (turned t))
+    λ limit h Q q. rw (same t q, c .through .ensures) (going-ends _ _ _ _ (G t) (store′ t) (index′ t) (known′ t) (names′ t) (bodies′ t) (search needs) (c .before .enum-told .given .1) (turned t) limit h)
 
 returns-2 : tie.Need-returns-2 Inv-loop μ-loop
 returns-2 c =
     let t = c .before .before .before .before .before .before .before .before .before .before .before .before .before in
-    λ Q q. rw (same t q) (going-fails _ _ _ _ (start t .pre .1 .1 .1 .1 .1 .0) (G t) (store′ t) (index′ t) (known′ t) (names′ t) (bodies′ t) (search needs) _ (c .before .number .given .1) (turned t))
+    λ limit h Q q. rw (same t q) (going-fails _ _ _ _ (G t) (store′ t) (index′ t) (known′ t) (names′ t) (bodies′ t) (search needs) _ (c .before .number .given .1) (turned t) limit h)
 
 onward : (c : tie.After-known-told2 Inv-loop μ-loop)
     → (let t = c .before .before .before .before .before .before .before .before .before .before .before .before .before in let g = c .before .next .given .0 in
     Going (start t .args .atoms) (ws t) (length (start t .args .store .now)) (start t .args .proof .now) (store′ t) (index′ t) (known′ t) (names′ t) (bodies′ t) (g .1 .0) (g .0) (l t .loop .state .steps + 1) × (l t .loop .state .at < g .0))
 onward c =
     let t = c .before .before .before .before .before .before .before .before .before .before .before .before .before in
-    going-on _ _ _ _ (start t .pre .1 .1 .1 .1 .1 .0) (G t) (store′ t) (index′ t) (known′ t) (names′ t) (bodies′ t) (search needs) _ _ (c .before .next .given .1) (turned t)
+    going-on _ _ _ _ (G t) (store′ t) (index′ t) (known′ t) (names′ t) (bodies′ t) (search needs) _ _ (c .before .next .given .1) (turned t)
 
 loop-less : tie.Need-loop-less Inv-loop μ-loop
 loop-less c = let o = onward c in omega (arith, o .0 .within, o .1)

@@ -16,4 +16,4 @@ run-recorded-spec =
     (λ c. search needs)
     (λ c. search needs)
     (λ c. search needs)
-    (λ c ws p. c .before .before .before .before .before .before .before .before .run-weighted .ensures ws p .0))
+    (λ c limit h ws p. c .before .before .before .before .before .before .before .before .run-weighted .ensures limit h ws p .0))
