@@ -6,7 +6,9 @@
 //! the argument says how many others there are to be. With `--slow` the inputs that were made to be slow are run once in place of the others.
 //! With `--beside OTHER`, and a number where it is not to be 31, this program and OTHER, a build of it over another library, are run in turn;
 //! each does a `--round`. With `--growth`, and OTHER where there is one, both run refutations of growing size, each in a `--growth-round`; the
-//! picture goes to docs/growth.svg. With `--fallbacks` it counts, on a copy of the library in plain Rust, the steps that the search left to sweeps.
+//! picture goes to docs/growth.svg. With `--long` the check for proofs of any length is run on proofs of 0.1 to 16 megabytes, 5 times each or as a
+//! number behind it says, with COMMAND, which is `aspdrupe`, also on those that it finds of the weeks of examples/plans; the picture goes to
+//! docs/length.svg. With `--fallbacks` it counts, on a copy of the library in plain Rust, the steps that the search left to sweeps.
 
 #![forbid(unsafe_code)]
 
@@ -15,6 +17,7 @@ mod cases;
 mod costs;
 mod fallbacks;
 mod growth;
+mod long;
 mod measure;
 mod merging;
 mod packets;
@@ -30,6 +33,7 @@ use measure::Measured;
 use std::process::ExitCode;
 
 const REPETITIONS: usize = 31;
+const LONG_REPETITIONS: usize = 5;
 
 fn main() -> ExitCode {
     let words: Vec<String> = std::env::args().skip(1).collect();
@@ -44,6 +48,9 @@ fn main() -> ExitCode {
         ["--growth"] => Some(growth::run(None, REPETITIONS)),
         ["--growth", other] => Some(growth::run(Some(other), REPETITIONS)),
         ["--growth", other, count] => repetitions(count).map(|count| growth::run(Some(other), count)),
+        ["--long"] => Some(long::run(None, LONG_REPETITIONS)),
+        ["--long", command] => Some(long::run(Some(command), LONG_REPETITIONS)),
+        ["--long", command, count] => repetitions(count).map(|count| long::run(Some(command), count)),
         ["--beside", other] => Some(beside::run(other, REPETITIONS)),
         ["--beside", other, count] => repetitions(count).map(|count| beside::run(other, count)),
         [count] => repetitions(count).map(run_all),
@@ -51,7 +58,7 @@ fn main() -> ExitCode {
     };
     let Some(failed) = failed else {
         eprintln!(
-            "usage: bench [--once | --slow | --fallbacks | REPETITIONS | --beside OTHER [REPETITIONS] | --growth [OTHER [REPETITIONS]]]"
+            "usage: bench [--once | --slow | --fallbacks | REPETITIONS | --beside OTHER [REPETITIONS] | --growth [OTHER [REPETITIONS]] | --long [COMMAND [REPETITIONS]]]"
         );
         eprintln!("       bench --round | --growth-round");
         return ExitCode::from(2);
@@ -95,8 +102,10 @@ fn run_all(repetitions: usize) -> usize {
     trimmed.iter().for_each(report::trimming);
     report::certified(certified.as_ref());
     report::reading(read.as_ref());
-    println!("{} passed, {failed} failed", inputs.len() + others.len() - failed);
-    failed
+    report::long_heading(1);
+    let (long, differing) = long::once();
+    println!("{} passed, {} failed", inputs.len() + others.len() + long - failed - differing, failed + differing);
+    failed + differing
 }
 
 /// Reports every input; on how many the checkers differ.

@@ -57,11 +57,21 @@ struct Run {
 /// Goes so many times through all inputs and runs both checkers on each, so that a busy moment of the machine touches all alike.
 pub fn measure(inputs: &[Input], repetitions: usize) -> Vec<Measured> {
     let mut buffers = Buffers::new();
+    measure_by(inputs, repetitions, |input| buffers.verified(input), unverified)
+}
+
+/// The same by two checkers that are told.
+pub fn measure_by(
+    inputs: &[Input],
+    repetitions: usize,
+    mut verified_by: impl FnMut(&Input) -> Answer,
+    mut unverified_by: impl FnMut(&Input) -> Answer,
+) -> Vec<Measured> {
     let mut runs: Vec<Vec<Run>> = inputs.iter().map(|_| Vec::with_capacity(repetitions)).collect();
     for _ in 0..repetitions {
         for (input, runs) in inputs.iter().zip(&mut runs) {
-            let verified = timed(|| buffers.verified(input));
-            let unverified = timed(|| unverified(input));
+            let verified = timed(|| verified_by(input));
+            let unverified = timed(|| unverified_by(input));
             runs.push(Run { verified, unverified });
         }
     }

@@ -1,4 +1,4 @@
-//! A plain picture, as SVG text: lines of microseconds a step over live nogoods. Its colours follow the reader's light or dark page; where
+//! A plain picture, as SVG text: lines of a time over a size, like microseconds a step over live nogoods. Its colours follow the reader's light or dark page; where
 //! that is not known they are those of a light one.
 
 /// A line of the picture: its class in the style, its label in the legend, and its points from left to right.
@@ -28,23 +28,34 @@ text { fill: #e6edf3 } .paper { fill: #0d1117 } .grid { stroke: #30363d } .axis 
 }
 ";
 
-/// An axis: the distance of its marks, and where the last one is.
-struct Axis {
-    step: f64,
+/// What is written about the picture, over it and below it.
+pub struct Labels {
+    pub about: &'static str,
+    pub title: &'static str,
+    pub across: &'static str,
+}
+
+/// An axis: its marks with their numbers, and where the last one is.
+pub struct Axis {
+    marks: Vec<(f64, String)>,
     end: f64,
 }
 
 impl Axis {
     /// From 0 past the largest number, with about eight marks or fewer at round numbers.
-    fn to(largest: f64) -> Axis {
+    pub fn to(largest: f64) -> Axis {
         let rough = (largest / 8.0).max(1e-3);
         let power = 10f64.powf(rough.log10().floor());
         let step = [1.0, 2.0, 5.0, 10.0].map(|times| times * power).into_iter().find(|step| *step >= rough).unwrap_or(rough);
-        Axis { step, end: step * (largest / step).ceil().max(1.0) }
+        let end = step * (largest / step).ceil().max(1.0);
+        let marks = (0..=(end / step).round() as usize).map(|count| count as f64 * step);
+        Axis { marks: marks.map(|mark| (mark, number(mark))).collect(), end }
     }
 
-    fn marks(&self) -> impl Iterator<Item = f64> + '_ {
-        (0..=(self.end / self.step).round() as usize).map(|count| count as f64 * self.step)
+    /// From one power of ten to another, with a mark at each. A point's place is its power less the first.
+    pub fn powers(from: i32, to: i32) -> Axis {
+        let marks = (from..=to).map(|power| (f64::from(power - from), power_text(power)));
+        Axis { marks: marks.collect(), end: f64::from(to - from) }
     }
 }
 
@@ -55,12 +66,6 @@ struct Frame {
 }
 
 impl Frame {
-    fn around(series: &[Series]) -> Frame {
-        let points = || series.iter().flat_map(|series| &series.points);
-        let across = Axis::to(points().map(|point| point.0).fold(0.0, f64::max));
-        Frame { across, up: Axis::to(points().map(|point| point.1).fold(0.0, f64::max)) }
-    }
-
     fn x(&self, number: f64) -> f64 {
         LEFT + number / self.across.end * (RIGHT - LEFT)
     }
@@ -70,17 +75,30 @@ impl Frame {
     }
 }
 
-/// The text of the picture. A line without points is left out.
+/// The text of the picture of microseconds a step. A line without points is left out.
 pub fn draw(series: &[Series]) -> String {
-    let frame = Frame::around(series);
+    let points = || series.iter().flat_map(|series| &series.points);
+    let across = Axis::to(points().map(|point| point.0).fold(0.0, f64::max));
+    let labels = Labels {
+        about: "Time a step against live nogoods",
+        title: "Microseconds a step",
+        across: "live nogoods at the end of the refutation",
+    };
+    draw_in(series, &labels, across, Axis::to(points().map(|point| point.1).fold(0.0, f64::max)))
+}
+
+/// The text of a picture with these axes.
+pub fn draw_in(series: &[Series], labels: &Labels, across: Axis, up: Axis) -> String {
+    let frame = Frame { across, up };
     let shown = || series.iter().filter(|series| !series.points.is_empty());
     let mut text = format!(
         "<svg xmlns=\"http://www.w3.org/2000/svg\" viewBox=\"0 0 {WIDTH} {HEIGHT}\" width=\"{WIDTH}\" height=\"{HEIGHT}\" role=\"img\">\n\
-         <title>Time a step against live nogoods</title>\n<style>\n{STYLE}</style>\n\
-         <rect class=\"paper\" width=\"{WIDTH}\" height=\"{HEIGHT}\" rx=\"8\"/>\n"
+         <title>{}</title>\n<style>\n{STYLE}</style>\n\
+         <rect class=\"paper\" width=\"{WIDTH}\" height=\"{HEIGHT}\" rx=\"8\"/>\n",
+        labels.about
     );
-    text += &label(LEFT, 30.0, "title", "Microseconds a step");
-    text += &axes(&frame);
+    text += &label(LEFT, 30.0, "title", labels.title);
+    text += &axes(&frame, labels.across);
     // the grid is not to run through the legend
     text += &format!(
         "<rect class=\"paper\" x=\"{}\" y=\"{}\" width=\"190\" height=\"{}\"/>\n",
@@ -96,19 +114,19 @@ pub fn draw(series: &[Series]) -> String {
 }
 
 /// Both axes with their marks and numbers, and the grid across.
-fn axes(frame: &Frame) -> String {
+fn axes(frame: &Frame, across: &str) -> String {
     let mut text = String::new();
-    for mark in frame.up.marks() {
-        let y = frame.y(mark);
-        text += &stroke(if mark == 0.0 { "axis" } else { "grid" }, [(LEFT, y), (RIGHT, y)]);
-        text += &label(LEFT - 10.0, y + 4.5, "up", &number(mark));
+    for (mark, told) in &frame.up.marks {
+        let y = frame.y(*mark);
+        text += &stroke(if *mark == 0.0 { "axis" } else { "grid" }, [(LEFT, y), (RIGHT, y)]);
+        text += &label(LEFT - 10.0, y + 4.5, "up", told);
     }
-    for mark in frame.across.marks() {
-        let x = frame.x(mark);
+    for (mark, told) in &frame.across.marks {
+        let x = frame.x(*mark);
         text += &stroke("axis", [(x, BOTTOM), (x, BOTTOM + 6.0)]);
-        text += &label(x, BOTTOM + 22.0, "across", &number(mark));
+        text += &label(x, BOTTOM + 22.0, "across", told);
     }
-    text + &label((LEFT + RIGHT) / 2.0, BOTTOM + 46.0, "across", "live nogoods at the end of the refutation")
+    text + &label((LEFT + RIGHT) / 2.0, BOTTOM + 46.0, "across", across)
 }
 
 /// A line with a dot at each point.
@@ -150,13 +168,23 @@ fn number(number: f64) -> String {
     }
 }
 
+/// A power of ten, small ones as a decimal fraction.
+fn power_text(power: i32) -> String {
+    match power {
+        0.. => number(10f64.powi(power)),
+        _ => format!("0.{}1", "0".repeat(power.unsigned_abs() as usize - 1)),
+    }
+}
+
 #[cfg(test)]
 mod tests {
     use super::*;
 
     #[test]
     fn round_marks() {
-        let marks = |largest| Axis::to(largest).marks().map(number).collect::<Vec<_>>().join(" ");
+        let told = |axis: Axis| axis.marks.into_iter().map(|(_, told)| told).collect::<Vec<_>>().join(" ");
+        let marks = |largest| told(Axis::to(largest));
+        assert_eq!(told(Axis::powers(-2, 4)), "0.01 0.1 1 10 100 1,000 10,000");
         assert_eq!(marks(2_408.0), "0 500 1,000 1,500 2,000 2,500");
         assert_eq!(marks(13.4), "0 2 4 6 8 10 12 14");
         assert_eq!(marks(2.3), "0 0.5 1 1.5 2 2.5");

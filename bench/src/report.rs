@@ -227,6 +227,45 @@ pub fn growth(row: &Row) {
     println!("{:<12} {:>6} {:>6} {before:>9} {:>9.2} {:>11.2}", row.name, row.steps, row.live, row.after, row.unverified);
 }
 
+pub fn long_heading(repetitions: usize) {
+    println!("The long check, {repetitions} times on each input; times are the least.");
+    println!(
+        "{:<20} {:>9} {:>8} {:>8} {:>8} {:>11} {:>13} {:>6} {:>12} {:>9} {:>11}",
+        "input", "proof", "steps", "live", "words", "verified ms", "unverified ms", "ratio", "to reach", "ns a byte", "unverified"
+    );
+}
+
+pub fn long_row(input: &Input, measured: &Measured) {
+    let (verified, unverified) = (measured.verified_times.least, measured.unverified_times.least);
+    let (steps, live) = counts_of(&measured.verified).map_or((0, 0), |counts| (counts.steps, counts.nogoods));
+    let bytes = input.texts.proof.len();
+    let each = |time: Duration| time.as_secs_f64() * 1e9 / bytes as f64;
+    println!(
+        "{:<20} {bytes:>9} {steps:>8} {live:>8} {:>8} {:>11.2} {:>13.2} {:>6.2} {:>12} {:>9.1} {:>11.1}",
+        input.name,
+        input.store,
+        milliseconds(verified),
+        milliseconds(unverified),
+        milliseconds(verified) / milliseconds(unverified),
+        goal_of(input),
+        each(verified),
+        each(unverified),
+    );
+}
+
+/// The line on noise that is refused at its first line.
+pub fn noise(bytes: usize, good: bool, times: &Times) {
+    if good {
+        println!(
+            "noise of {bytes} bytes: refused at its first line in {:.3} ms (least {:.3})",
+            milliseconds(times.median),
+            milliseconds(times.least)
+        );
+    } else {
+        println!("FAILED: noise is not refused at its first line");
+    }
+}
+
 /// The counts of a proof that was gone through.
 pub fn counts_of(answer: &Answer) -> Option<&Counts> {
     match answer {

@@ -1,6 +1,7 @@
-/* The twelve services of the proof checker for C: the program reader, the set test, the proof-line reader, the whole check over two texts,
- * the writer and the reader of packets, their moves from one version to the other, the merge of two halves' proofs, the trimming of a
- * proof, the certificate of a cheapest answer set, and the merge of the proofs at the ends of a tree of splits. The functions are in target/staticlib/libexports.a, which `rt staticlib exports` writes, for x86-64 Linux.
+/* The thirteen services of the proof checker for C: the program reader, the set test, the proof-line reader, the whole check over two texts,
+ * the same for proofs of any length, the writer and the reader of packets, their moves from one version to the other, the merge of two halves'
+ * proofs, the trimming of a proof, the certificate of a cheapest answer set, and the merge of the proofs at the ends of a tree of splits. The
+ * functions are in target/staticlib/libexports.a, which `rt staticlib exports` writes, for x86-64 Linux.
  *
  * Each function is proved to meet its contract (crates/exports/src/lib.rt and crates/exports/specs/) on every input: no text, no
  * number and no length is asked to be good. What the caller must see to is what C cannot say:
@@ -26,25 +27,28 @@ extern "C" {
 
 /* A thread with a stack of so many bytes has enough for any call but those below, with what the C library takes of a thread's stack for itself.
  * What your own code and its thread-local variables take comes on top. The need does not grow with the texts: the whole check was measured
- * at 523,808 bytes, the services other than it and those below at 64,304 or less (bindings/c/stack.c). Some C libraries give a thread less by default:
+ * at 725,216 bytes, the services other than it and those below at 64,304 or less (bindings/c/stack.c). Some C libraries give a thread less by default:
  * musl 128 KB. */
-#define ASPDRUPE_STACK 524288
+#define ASPDRUPE_STACK 786432
 
-/* The same for aspdrupe_merge_halves, which checks the halves over a table of its own beside the one lent: 893,760 bytes were measured. */
-#define ASPDRUPE_MERGE_STACK 1048576
+/* The same for aspdrupe_merge_halves, which checks the halves over a table of its own beside the one lent: 1,095,104 bytes were measured. */
+#define ASPDRUPE_MERGE_STACK 1179648
 
-/* The same for aspdrupe_trim_proof, which tries each step on a copy of the text: 831,376 bytes were measured. */
-#define ASPDRUPE_TRIM_STACK 1048576
+/* The same for aspdrupe_trim_proof, which tries each step on a copy of the text: 1,262,672 bytes were measured. */
+#define ASPDRUPE_TRIM_STACK 1310720
 
-/* The same for aspdrupe_check_cheapest, which checks the proof over a table of its own beside the one lent: 786,448 bytes were measured. */
+/* The same for aspdrupe_check_cheapest, which checks the proof over a table of its own beside the one lent: 987,808 bytes were measured. */
 #define ASPDRUPE_CHEAPEST_STACK 1048576
 
 /* The same for aspdrupe_merge_tree, which keeps the texts of both sides of a split while it merges them, at up to six splits on a path:
- * 2,012,064 bytes were measured. Rust gives a thread as much by default, of which its own code takes a part: give a thread that calls it more. */
-#define ASPDRUPE_TREE_STACK 2097152
+ * 2,213,792 bytes were measured. Rust gives a thread less by default: give a thread that calls it more. */
+#define ASPDRUPE_TREE_STACK 2359296
 
 /* The most numbers that an answer has. */
 #define ASPDRUPE_ANSWER 4
+
+/* The words of memory in which the index of aspdrupe_check_long reaches a store of so many words. */
+#define ASPDRUPE_MEMORY(store_len) (49287 + ((store_len) + 7) / 8 * 25)
 
 /* The marks that the set test asks for. */
 #define ASPDRUPE_MARKS 8192
@@ -57,7 +61,7 @@ extern "C" {
 #define ASPDRUPE_DIFFERS 1
 #define ASPDRUPE_BROKEN 2
 
-/* What aspdrupe_check_texts returns. */
+/* What aspdrupe_check_texts and aspdrupe_check_long return. */
 #define ASPDRUPE_INCONSISTENT 0
 #define ASPDRUPE_OPEN 1
 #define ASPDRUPE_REFUSED_PROGRAM 2
@@ -106,6 +110,16 @@ uint32_t aspdrupe_read_line(const uint8_t *text, size_t text_len, uint64_t posit
  * Line and step are counted from 1, and are 0 where the whole text is at fault. After a refusal table and store are 0 throughout. */
 uint32_t aspdrupe_check_texts(const uint8_t *program, size_t program_len, const uint8_t *proof, size_t proof_len, int32_t *table,
                               size_t table_len, int32_t *store, size_t store_len, uint64_t *answer, size_t answer_len);
+
+/* Checks a proof text of up to 2,147,483,647 bytes against a program text. Returns what aspdrupe_check_texts returns, with the same numbers, and
+ * leaves the same words in table and store, save that question 21 is put with 2,147,483,647 bytes in place of 65,535.
+ * The memory is working memory: words of any number, 0 too, whatever they hold. It is 0 throughout afterwards. How long it is decides how long
+ * the check takes and nothing else: with ASPDRUPE_MEMORY(store_len) words an index reaches the whole store; past what it reaches, additions and
+ * deletions go over the store. A store that holds all nogoods of a proof has no more words than this: for each line of n numbers 2 + n for
+ * `a`, `c` and `s`, 2 + n + 4 * (n - 1) for `b` and `e`, and for `l` 3 and as many as there are `b` lines before it. */
+uint32_t aspdrupe_check_long(const uint8_t *program, size_t program_len, const uint8_t *proof, size_t proof_len, int32_t *table,
+                             size_t table_len, int32_t *store, size_t store_len, uint32_t *memory, size_t memory_len, uint64_t *answer,
+                             size_t answer_len);
 
 /* Writes a packet of a version, 1 or 2: a table, as aspdrupe_read_program leaves it with that number of rules, and a proof text, in one
  * sequence of bytes with one form for each such pair. The proof is not checked against the program. Version 1 holds the rules' words without

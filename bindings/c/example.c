@@ -1,6 +1,7 @@
-/* Checks a proof file against a program file, and prints the verdict with its numbers. Where neither is refused, it then writes the program's
- * table and the proof as a packet of version 2, reads that back, and prints how many bytes it has, and of how many rules and bytes of proof;
- * and moves it down to version 1, and prints how many bytes that has, or that it is refused: a program with weights does not go down, 61.
+/* Checks a proof file against a program file, and prints the verdict with its numbers. Where neither is refused, it then sees that the check for
+ * proofs of any length says the same and leaves the same, writes the program's table and the proof as a packet of version 2, reads that back,
+ * and prints how many bytes it has, and of how many rules and bytes of proof; and moves it down to version 1, and prints how many bytes that
+ * has, or that it is refused: a program with weights does not go down, 61.
  *
  * Build and run, from the repository's root:
  *   rt staticlib exports
@@ -25,7 +26,8 @@
 #define PACKET (13 + 4 * WORDS + TEXT)
 
 static uint8_t program[TEXT], proof[TEXT], packet[PACKET], moved[PACKET], packet_back[PACKET], proof_back[TEXT];
-static int32_t table[WORDS], store[WORDS], table_back[WORDS];
+static int32_t table[WORDS], store[WORDS], table_back[WORDS], store_back[WORDS];
+static uint32_t memory[ASPDRUPE_MEMORY(WORDS)];
 
 /* The front of a file, and how many bytes; 1 where it is read. */
 static int read_file(const char *path, uint8_t *text, size_t *size) {
@@ -72,6 +74,15 @@ static int pack(uint64_t rules, size_t proof_size) {
            memcmp(proof, proof_back, proof_size) == 0 && go_down((size_t)written[0]);
 }
 
+/* The same check for proofs of any length: 1 where it returns the code, the numbers and the words that the other did. */
+static int check_again(size_t program_size, size_t proof_size, uint32_t code, const uint64_t *said) {
+    uint64_t again[ASPDRUPE_ANSWER];
+    return aspdrupe_check_long(program, program_size, proof, proof_size, table_back, WORDS, store_back, WORDS, memory,
+                               ASPDRUPE_MEMORY(WORDS), again, ASPDRUPE_ANSWER) == code &&
+           memcmp(again, said, sizeof again) == 0 && memcmp(table_back, table, sizeof table) == 0 &&
+           memcmp(store_back, store, sizeof store) == 0;
+}
+
 int main(int argc, char **argv) {
     size_t program_size, proof_size;
     uint64_t answer[ASPDRUPE_ANSWER] = {0};
@@ -83,10 +94,10 @@ int main(int argc, char **argv) {
     switch (aspdrupe_check_texts(program, program_size, proof, proof_size, table, WORDS, store, WORDS, answer, ASPDRUPE_ANSWER)) {
     case ASPDRUPE_INCONSISTENT:
         printf("inconsistent %" PRIu64 " %" PRIu64 " %" PRIu64 " %" PRIu64 "\n", answer[0], answer[1], answer[2], answer[3]);
-        return !pack(answer[1], proof_size);
+        return !check_again(program_size, proof_size, ASPDRUPE_INCONSISTENT, answer) || !pack(answer[1], proof_size);
     case ASPDRUPE_OPEN:
         printf("open %" PRIu64 " %" PRIu64 " %" PRIu64 " %" PRIu64 "\n", answer[0], answer[1], answer[2], answer[3]);
-        return !pack(answer[1], proof_size);
+        return !check_again(program_size, proof_size, ASPDRUPE_OPEN, answer) || !pack(answer[1], proof_size);
     case ASPDRUPE_REFUSED_PROGRAM:
         printf("refused program %" PRIu64 " %" PRIu64 "\n", answer[0], answer[1]);
         break;

@@ -38,6 +38,11 @@
 #define WEIGHTED 12
 #define PACKET (13 + 4 * WORDS + TEXT)
 
+/* Behind the chain's steps for the long check: so many deletions that take nothing away. */
+#define IDLE 20000
+#define IDLE_STEP "d 2 0\n"
+#define LONG (TEXT + IDLE * (sizeof IDLE_STEP - 1))
+
 struct text {
     uint8_t bytes[TEXT + 1];
     size_t size;
@@ -69,6 +74,8 @@ static void put_range(struct text *text, int first, int last) {
 static struct text newlines, long_line, one_rule, chain, wide_rules, wide_steps, big_rules, full_rules, full_steps;
 static struct text weight_rules, weight_steps, many_weights;
 static int32_t weight_table[WORDS];
+static uint8_t long_steps[LONG];
+static size_t long_size;
 
 /* One rule, and a chain of definitions of which the last name is refuted only at the chain's far end. */
 static void make_chain(void) {
@@ -77,6 +84,12 @@ static void make_chain(void) {
     for (int name = 3; name <= 2002; name++) put(&chain, "e %d %d 0\n", name, name - 1);
     for (int i = 0; i < 100; i++) put(&chain, "a 2002 0\nd 2002 0\n");
     put(&chain, "a 1 0\na 0\n");
+    memcpy(long_steps, chain.bytes, chain.size);
+    long_size = chain.size;
+    for (int i = 0; i < IDLE; i++) {
+        memcpy(long_steps + long_size, IDLE_STEP, sizeof IDLE_STEP - 1);
+        long_size += sizeof IDLE_STEP - 1;
+    }
 }
 
 /* Rules with as many heads and literals as there may be, of which 65 atoms are a loop, and steps with as many numbers. */
@@ -377,6 +390,13 @@ static uint32_t check(const struct text *program, const struct text *proof) {
                                 ASPDRUPE_ANSWER);
 }
 
+static uint32_t memory[ASPDRUPE_MEMORY(WORDS)];
+
+static uint32_t long_check(const struct text *program, const uint8_t *proof, size_t proof_size, size_t memory_size) {
+    return aspdrupe_check_long(program->bytes, program->size, proof, proof_size, table, WORDS, store, WORDS, memory, memory_size, answer,
+                               ASPDRUPE_ANSWER);
+}
+
 static uint32_t write_packet(const struct packet *packet, const struct text *proof, size_t size) {
     return aspdrupe_write_packet(packet->version, packet->table, WORDS, packet->rules, proof->bytes, proof->size, bytes, size, answer,
                                  ASPDRUPE_ANSWER);
@@ -430,6 +450,13 @@ static uint32_t check_full(void) { return check(&full_rules, &full_steps); }
 static uint32_t check_weights(void) { return check(&weight_rules, &weight_steps); }
 static uint32_t check_long(void) { return check(&one_rule, &long_line); }
 static uint32_t check_newlines(void) { return check(&newlines, &newlines); }
+static uint32_t long_chain(void) { return long_check(&one_rule, long_steps, long_size, ASPDRUPE_MEMORY(WORDS)); }
+static uint32_t long_swept(void) { return long_check(&one_rule, chain.bytes, chain.size, 0); }
+static uint32_t long_wide(void) { return long_check(&wide_rules, wide_steps.bytes, wide_steps.size, ASPDRUPE_MEMORY(WORDS)); }
+static uint32_t long_full(void) { return long_check(&full_rules, full_steps.bytes, full_steps.size, ASPDRUPE_MEMORY(WORDS)); }
+static uint32_t long_weights(void) { return long_check(&weight_rules, weight_steps.bytes, weight_steps.size, ASPDRUPE_MEMORY(WORDS)); }
+static uint32_t long_line_long(void) { return long_check(&one_rule, long_line.bytes, long_line.size, ASPDRUPE_MEMORY(WORDS)); }
+static uint32_t long_newlines(void) { return long_check(&newlines, newlines.bytes, newlines.size, ASPDRUPE_MEMORY(WORDS)); }
 static uint32_t write_full(void) { return write_packet(&full_packet, full_packet.proof, PACKET); }
 static uint32_t write_wide(void) { return write_packet(&wide_packet, wide_packet.proof, PACKET); }
 static uint32_t write_long(void) { return write_packet(&full_packet, &long_line, PACKET); }
@@ -577,6 +604,13 @@ static const struct call calls[] = {
     {"check_texts: rules with 12 weights", check_weights, ASPDRUPE_OPEN, {13, WEIGHT_RULES, 16, 149}},
     {"check_texts: a line of 65,530 bytes", check_long, ASPDRUPE_REFUSED_PROOF, {23, 1, 0, 0}},
     {"check_texts: newlines", check_newlines, ASPDRUPE_REFUSED_PROGRAM, {2, 1, 0, 0}},
+    {"check_long: a chain of definitions, 160,000 bytes", long_chain, ASPDRUPE_INCONSISTENT, {1, 1, 2205 + IDLE, 4006}},
+    {"check_long: a chain of definitions, no memory", long_swept, ASPDRUPE_INCONSISTENT, {1, 1, 2205, 4006}},
+    {"check_long: lines of 65 numbers", long_wide, ASPDRUPE_OPEN, {128, 3, 8, 134}},
+    {"check_long: full texts and table", long_full, ASPDRUPE_OPEN, {8, RULES, 7178, 12}},
+    {"check_long: rules with 12 weights", long_weights, ASPDRUPE_OPEN, {13, WEIGHT_RULES, 16, 149}},
+    {"check_long: a line of 65,530 bytes", long_line_long, ASPDRUPE_REFUSED_PROOF, {23, 1, 0, 0}},
+    {"check_long: newlines", long_newlines, ASPDRUPE_REFUSED_PROGRAM, {2, 1, 0, 0}},
     {"write_packet: full table and text", write_full, 0, {106331, 0, 0, 0}},
     {"write_packet: steps of 65 numbers", write_wide, 0, {1503, 0, 0, 0}},
     {"write_packet: rules with weights", write_weights_old, 53, {0, 0, 0, 0}},

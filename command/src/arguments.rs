@@ -3,6 +3,7 @@
 use std::ffi::{OsStr, OsString};
 use std::iter::Peekable;
 use std::path::{Path, PathBuf};
+use std::time::Duration;
 
 use crate::files;
 use crate::outcome::{Failure, Outcome};
@@ -41,8 +42,11 @@ pub struct Words {
     lists: Vec<(&'static str, Vec<OsString>)>,
 }
 
-/// The words of a table or a store that may be asked for: 64 MB.
-const MOST_WORDS: usize = 1 << 24;
+/// The words of a table or a store that may be asked for: 4 GB.
+const MOST_WORDS: usize = 1 << 30;
+
+/// The seconds that may be asked for.
+const MOST_SECONDS: usize = 1_000_000;
 
 /// The words of the table and of the store that the program `verdict` has.
 pub const ROOM: usize = 16_384;
@@ -83,13 +87,26 @@ impl Words {
         self.value(option).map(PathBuf::from)
     }
 
-    /// The words of `--table` or `--store`.
+    /// The words of `--table` or `--store`, those of `verdict` where none are told.
     pub fn room(&self, option: &str) -> Result<usize, Failure> {
-        let Some(value) = self.value(option) else { return Ok(ROOM) };
-        let words = value.to_str().and_then(|text| text.parse().ok()).filter(|words| *words <= MOST_WORDS);
-        words.ok_or_else(|| {
-            Failure::misuse(format!("{option} takes a number of words up to {MOST_WORDS}, not `{}`", value.to_string_lossy()))
-        })
+        self.room_told(option).map(|words| words.unwrap_or(ROOM))
+    }
+
+    /// The words of `--table` or `--store` that are told.
+    pub fn room_told(&self, option: &str) -> Result<Option<usize>, Failure> {
+        self.number(option, MOST_WORDS, "words")
+    }
+
+    /// The seconds of an option.
+    pub fn seconds(&self, option: &str) -> Result<Option<Duration>, Failure> {
+        Ok(self.number(option, MOST_SECONDS, "seconds")?.map(|seconds| Duration::from_secs(seconds as u64)))
+    }
+
+    fn number(&self, option: &str, most: usize, of: &str) -> Result<Option<usize>, Failure> {
+        let Some(value) = self.value(option) else { return Ok(None) };
+        let number = value.to_str().and_then(|text| text.parse().ok()).filter(|number| *number <= most);
+        let wrong = || Failure::misuse(format!("{option} takes a number of {of} up to {most}, not `{}`", value.to_string_lossy()));
+        number.ok_or_else(wrong).map(Some)
     }
 
     fn value(&self, option: &str) -> Option<&OsStr> {
@@ -245,7 +262,7 @@ mod tests {
         ] {
             assert!(given(line).unwrap_err().contains(part), "{line}");
         }
-        for value in ["-1", "x", "16777217", "99999999999999999999"] {
+        for value in ["-1", "x", "1073741825", "99999999999999999999"] {
             assert!(given(&format!("a --store {value}")).unwrap().room("--store").is_err(), "{value}");
         }
     }

@@ -2,8 +2,9 @@
 
 use aspdrupe::{Cheapest, CheapestQuestion};
 
+use crate::arguments::ROOM;
 use crate::arguments::{Subcommand, Words};
-use crate::files::{self, TEXT_LIMIT};
+use crate::files::{self, PROOF_LIMIT, TEXT_LIMIT};
 use crate::json::Json;
 use crate::library::{self, Program};
 use crate::names::Names;
@@ -24,7 +25,8 @@ which a set breaks that costs C or more. Where C is 0 no proof is read, and PROO
     refused program NUMBER LINE
     refused cheapest NUMBER      for 63 what the set test or the check of the proof says is on the standard error
 -o OUT.aspif writes the restricted program where the set is an answer set and C is 1 to 4095, whatever becomes of the proof: `aspdrupe prove
-OUT.aspif -o PROOF` finds the proof or an answer set that costs less.
+OUT.aspif -o PROOF` finds the proof or an answer set that costs less. A PROOF beyond 65,535 bytes certifies nothing here; what the check for
+proofs of any length says of it is told.
 --table N and --store N are the words for rules and nogoods, 16384 each where nothing is said, as in `verdict`.",
     options: &["-o", "--table", "--store"],
     lists: &["--set", "--costs"],
@@ -45,13 +47,13 @@ struct Question<'a> {
     costs: Vec<(i16, i16)>,
     proof: Option<Vec<u8>>,
     table: usize,
-    store: usize,
+    store: Option<usize>,
 }
 
 fn run(words: &Words) -> Result<Outcome, Failure> {
-    let (table, store) = (words.room("--table")?, words.room("--store")?);
+    let (table, store) = (words.room("--table")?, words.room_told("--store")?);
     let ground = source::load(words.path(0)?, as_it_is)?;
-    let proof = words.path(1).ok().map(|path| files::read(path, TEXT_LIMIT)).transpose()?;
+    let proof = words.path(1).ok().map(|path| files::read(path, PROOF_LIMIT)).transpose()?;
     let program = match library::read_program(&ground.text, table)? {
         Ok(program) => program,
         Err(refusal) => return source::refused(refusal, &ground, words.path(0)?),
@@ -88,7 +90,7 @@ impl Question<'_> {
     fn put(&self) -> Result<Cheapest, Failure> {
         let costs: Vec<i16> = self.costs.iter().flat_map(|(literal, cost)| [*literal, *cost]).collect();
         let proof = self.proof.as_deref().unwrap_or(b"");
-        let (mut table, mut store) = (library::lent(self.table)?, library::lent(self.store)?);
+        let (mut table, mut store) = (library::lent(self.table)?, library::lent(self.store.unwrap_or(ROOM))?);
         Ok(aspdrupe::check_cheapest(&self.ground.text, self.set, &costs, proof, &mut table, &mut store)?)
     }
 
@@ -145,7 +147,10 @@ impl Question<'_> {
             let why = "no PROOF is given: -o OUT.aspif writes that program, and `aspdrupe prove OUT.aspif -o PROOF` finds a proof or a cheaper set";
             return Ok(told.for_reason(String::from(why)));
         };
-        Ok(match constrained::check(&self.ground.text, &[restriction.line()], proof, self.store)? {
+        if proof.len() > TEXT_LIMIT {
+            told.words.push(format!("a proof that is to certify has at most {TEXT_LIMIT} bytes, and this one has {}", proof.len()));
+        }
+        Ok(match constrained::check_long(&self.ground.text, &[restriction.line()], proof, self.store)? {
             Ok(check) => told.explained_by("check", "the check of the proof for them", check),
             Err(question) => {
                 let why = "what is wrong with the proof cannot be told: with the constraint the program has too many bytes or rules for a check of its own";

@@ -1,8 +1,9 @@
 //! `aspdrupe check`: the verdict on a program and a proof.
 
 use crate::arguments::{Subcommand, Words};
-use crate::files::{self, TEXT_LIMIT};
+use crate::files::{self, PROOF_LIMIT, TEXT_LIMIT};
 use crate::outcome::{Failure, Outcome};
+use crate::progress::Progress;
 use crate::{explain, library};
 
 pub const SUBCOMMAND: Subcommand = Subcommand {
@@ -14,7 +15,9 @@ pub const SUBCOMMAND: Subcommand = Subcommand {
     open N R S K
     refused program NUMBER LINE
     refused proof NUMBER STEP
---table N and --store N are the words for rules and nogoods, 16384 each where nothing is said, as in `verdict`.",
+A proof beyond 65,535 bytes goes to the check for proofs of any length; `verdict`, and a service of document 01, would refuse it with 21.
+--table N and --store N are the words for rules and nogoods; where nothing is said 16384 each, as in `verdict`, and for a proof beyond 65,535 bytes
+as long a store as it needs.",
     options: &["--table", "--store"],
     lists: &[],
     inputs: &[0, 1],
@@ -23,9 +26,11 @@ pub const SUBCOMMAND: Subcommand = Subcommand {
 };
 
 fn run(words: &Words) -> Result<Outcome, Failure> {
-    let (table, store) = (words.room("--table")?, words.room("--store")?);
+    let (table, store) = (words.room("--table")?, words.room_told("--store")?);
     let program = files::read(words.path(0)?, TEXT_LIMIT)?;
-    let proof = files::read(words.path(1)?, TEXT_LIMIT)?;
-    let verdict = library::check_texts(&program, &proof, table, store)?;
-    Ok(explain::verdict(verdict, (&program, &proof), table))
+    let proof = files::read(words.path(1)?, PROOF_LIMIT)?;
+    let progress = Progress::start();
+    progress.checking(proof.len());
+    let checked = library::check(&program, &proof, table, store)?;
+    Ok(explain::checked(&checked, (&program, &proof), table))
 }

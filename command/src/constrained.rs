@@ -3,8 +3,9 @@
 
 use aspdrupe::{ProgramQuestion, Verdict};
 
+use crate::explain;
+use crate::library::{self, Checked};
 use crate::outcome::{Failure, Outcome};
-use crate::{explain, library};
 
 /// The text with the constraints' lines behind the rules. The program is one that was read, and so ends with the line `0`.
 pub fn text(program: &[u8], constraints: &[String]) -> Vec<u8> {
@@ -17,10 +18,26 @@ pub fn text(program: &[u8], constraints: &[String]) -> Vec<u8> {
 /// library puts in.
 pub fn check(program: &[u8], constraints: &[String], proof: &[u8], store: usize) -> Result<Result<Outcome, ProgramQuestion>, Failure> {
     let text = text(program, constraints);
-    Ok(match library::check_texts(&text, proof, library::EVERY_TABLE, store)? {
+    let verdict = library::check_texts(&text, proof, library::EVERY_TABLE, store)?;
+    Ok(told(&Checked { verdict, long: None }, (&text, proof)))
+}
+
+/// The same, where a proof beyond a text's limit goes to the check for proofs of any length.
+pub fn check_long(
+    program: &[u8],
+    constraints: &[String],
+    proof: &[u8],
+    store: Option<usize>,
+) -> Result<Result<Outcome, ProgramQuestion>, Failure> {
+    let text = text(program, constraints);
+    Ok(told(&library::check(&text, proof, library::EVERY_TABLE, store)?, (&text, proof)))
+}
+
+fn told(checked: &Checked, texts: (&[u8], &[u8])) -> Result<Outcome, ProgramQuestion> {
+    match checked.verdict {
         Verdict::RefusedProgram(refusal) => Err(refusal.question),
-        verdict => Ok(explain::verdict(verdict, (&text, proof), library::EVERY_TABLE)),
-    })
+        _ => Ok(explain::checked(checked, texts, library::EVERY_TABLE)),
+    }
 }
 
 #[cfg(test)]

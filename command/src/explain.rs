@@ -3,6 +3,7 @@
 use aspdrupe::{Counts, ProgramRefusal, ProofRefusal, Verdict};
 
 use crate::json::Json;
+use crate::library::Checked;
 use crate::outcome::{Outcome, Status};
 use crate::statements::Ground;
 use crate::{library, locate, quote};
@@ -82,6 +83,21 @@ pub fn verdict(verdict: Verdict, texts: (&[u8], &[u8]), table: usize) -> Outcome
     };
     let fields = [vec![("verdict", Json::text(word))], count_fields(counts)].concat();
     Outcome { status, line: verdict.to_string(), words: vec![String::from(words)], fields }
+}
+
+/// The same of the check that the proof's length asks for. What only the long one takes is said.
+pub fn checked(checked: &Checked, texts: (&[u8], &[u8]), table: usize) -> Outcome {
+    let mut outcome = verdict(checked.verdict, texts, table);
+    let Some(bytes) = checked.long else {
+        return outcome;
+    };
+    outcome.fields.push(("service", Json::text("check_long")));
+    if !matches!(checked.verdict, Verdict::RefusedProgram(_)) {
+        outcome.words.push(format!(
+            "the proof has {bytes} bytes and went to the check for proofs of any length: `verdict`, and a service of document 01, would refuse it with 21"
+        ));
+    }
+    outcome
 }
 
 fn count_fields(counts: Counts) -> Vec<(&'static str, Json)> {

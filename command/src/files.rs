@@ -8,8 +8,9 @@ use std::path::{Path, PathBuf};
 use crate::interrupt;
 use crate::outcome::Failure;
 
-/// The most bytes of a text that the library takes.
+/// The most bytes of a text that the library takes, and of a proof that its long check does.
 pub const TEXT_LIMIT: usize = 65_535;
+pub const PROOF_LIMIT: usize = 2_147_483_647;
 
 /// The file's bytes; of a longer file the first so many and one more, so that its length can be refused.
 pub fn read(path: &Path, limit: usize) -> Result<Vec<u8>, Failure> {

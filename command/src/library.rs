@@ -2,6 +2,8 @@
 
 use aspdrupe::{ProgramReading, ProgramRefusal, SetAnswer, Verdict, MARKS};
 
+use crate::arguments::ROOM;
+use crate::files::TEXT_LIMIT;
 use crate::outcome::Failure;
 
 /// Words of a table that hold the rules of every program: none has more words than its text has bytes.
@@ -37,6 +39,32 @@ pub fn test_set(program: &Program, set: &[u16]) -> Result<(SetAnswer, Vec<bool>)
 pub fn check_texts(program: &[u8], proof: &[u8], table: usize, store: usize) -> Result<Verdict, Failure> {
     let (mut table, mut store) = (lent(table)?, lent(store)?);
     Ok(aspdrupe::check_texts(program, proof, &mut table, &mut store)?)
+}
+
+/// What the check says that a proof of such a length goes to.
+pub struct Checked {
+    pub verdict: Verdict,
+    /// The bytes of a proof that is beyond a text's limit and went to the long check.
+    pub long: Option<usize>,
+}
+
+/// The whole check, or where the proof is beyond a text's limit the long one, with a table of so many words. The store has as many words as are
+/// told; where none are, those of `verdict`, and for the long check as many as the proof can need.
+pub fn check(program: &[u8], proof: &[u8], table: usize, store: Option<usize>) -> Result<Checked, Failure> {
+    if proof.len() <= TEXT_LIMIT {
+        return Ok(Checked { verdict: check_texts(program, proof, table, store.unwrap_or(ROOM))?, long: None });
+    }
+    let mut table = lent(table)?;
+    let verdict = match store {
+        None => aspdrupe::check_long_in(program, proof, &mut table)?,
+        Some(words) => {
+            let mut store = lent(words)?;
+            // Without it the check says the same, only later.
+            let mut memory = lent(aspdrupe::memory_for(words)).unwrap_or_default();
+            aspdrupe::check_long_with(program, proof, &mut table, &mut store, &mut memory)?
+        }
+    };
+    Ok(Checked { verdict, long: Some(proof.len()) })
 }
 
 /// So many words, or a reason why there are none.

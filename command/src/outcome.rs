@@ -66,6 +66,15 @@ impl Failure {
     }
 }
 
+impl From<aspdrupe::LongFailure> for Failure {
+    fn from(failure: aspdrupe::LongFailure) -> Failure {
+        match failure {
+            aspdrupe::LongFailure::Memory(_) => Failure::misuse(failure.to_string()),
+            aspdrupe::LongFailure::Unknown(unknown) => Failure::from(unknown),
+        }
+    }
+}
+
 impl From<aspdrupe::UnknownAnswer> for Failure {
     fn from(unknown: aspdrupe::UnknownAnswer) -> Failure {
         Failure::misuse(format!("this command and its library do not belong together: {unknown}"))

@@ -27,6 +27,12 @@ struct Counts {
     part: AtomicUsize,
     learned: AtomicUsize,
     loops: AtomicUsize,
+    /// How many of how many clauses were gone through to shorten a proof, and how often all of them were before.
+    done: AtomicUsize,
+    of: AtomicUsize,
+    rounds: AtomicUsize,
+    /// The bytes of the proof that is checked.
+    bytes: AtomicUsize,
 }
 
 /// Tells about it after 1, 2, 4 seconds and so on, until it is dropped.
@@ -49,11 +55,31 @@ impl Progress {
                 say(&format!("{:.0} s: {}", wait.as_secs_f64(), told.text()));
             }
         });
-        Progress { counts, end: Some(end), teller: Some(teller) }
+        let progress = Progress { counts, end: Some(end), teller: Some(teller) };
+        progress.begin(Part::Grounding);
+        progress
     }
 
     pub fn begin(&self, part: Part) {
         self.counts.part.store(part as usize, Ordering::Relaxed);
+    }
+
+    /// So many of so many clauses are gone through; fewer than before begin a round.
+    pub fn gone_through(&self, done: usize, of: usize) {
+        if done < self.counts.done.swap(done, Ordering::Relaxed) {
+            self.counts.rounds.fetch_add(1, Ordering::Relaxed);
+        }
+        self.counts.of.store(of, Ordering::Relaxed);
+    }
+
+    /// A proof of so many bytes is checked.
+    pub fn checking(&self, bytes: usize) {
+        self.counts.bytes.store(bytes, Ordering::Relaxed);
+        self.begin(Part::Checking);
+    }
+
+    pub fn learned_so_far(&self) -> usize {
+        self.counts.learned.load(Ordering::Relaxed)
     }
 
     pub fn learned(&self, clauses: usize) {
@@ -69,11 +95,17 @@ impl Counts {
     fn text(&self) -> String {
         let part = self.part.load(Ordering::Relaxed);
         let what = TOLD.get(part).copied().unwrap_or("");
-        if part == Part::Grounding as usize || part == Part::Trimming as usize {
-            return String::from(what);
+        let [learned, loops, done, of, rounds, bytes] =
+            [&self.learned, &self.loops, &self.done, &self.of, &self.rounds, &self.bytes].map(|count| count.load(Ordering::Relaxed));
+        if part == Part::Solving as usize {
+            format!("{what}; {learned} clauses learned, {loops} loops found")
+        } else if part == Part::Shortening as usize && of > 0 {
+            format!("{what}; {done} of {of} clauses gone through, round {}", rounds + 1)
+        } else if part == Part::Checking as usize && bytes > 0 {
+            format!("{what}; a proof of {bytes} bytes")
+        } else {
+            String::from(what)
         }
-        let (learned, loops) = (self.learned.load(Ordering::Relaxed), self.loops.load(Ordering::Relaxed));
-        format!("{what}; {learned} clauses learned, {loops} loops found")
     }
 }
 
@@ -92,10 +124,19 @@ mod tests {
     fn what_is_told() {
         let progress = Progress::start();
         assert_eq!(progress.counts.text(), "grounding");
-        progress.begin(Part::Shortening);
+        progress.begin(Part::Solving);
         progress.learned(7);
         progress.loops(2);
-        assert_eq!(progress.counts.text(), "shortening the proof; 7 clauses learned, 2 loops found");
+        assert_eq!(progress.counts.text(), "solving; 7 clauses learned, 2 loops found");
+        progress.begin(Part::Shortening);
+        assert_eq!(progress.counts.text(), "shortening the proof");
+        progress.gone_through(64, 700);
+        assert_eq!(progress.counts.text(), "shortening the proof; 64 of 700 clauses gone through, round 1");
+        progress.gone_through(640, 700);
+        progress.gone_through(30, 500);
+        assert_eq!(progress.counts.text(), "shortening the proof; 30 of 500 clauses gone through, round 2");
+        progress.checking(99_000);
+        assert_eq!(progress.counts.text(), "checking; a proof of 99000 bytes");
         progress.begin(Part::Trimming);
         assert_eq!(progress.counts.text(), "trimming");
     }

@@ -515,7 +515,7 @@ fn noise_and_limits() {
     room.file("many", format!("asp 1 0 0\n{rules}0\n"));
     for (words, status, line) in [
         (&["check", "noise", "noise"][..], 20, "refused program 1 0\n"),
-        (&["check", "p", "noise"], 20, "refused proof 21 0\n"),
+        (&["check", "p", "noise"], 20, "refused proof 22 1\n"),
         (&["check", "noise", "p"], 20, "refused program 1 0\n"),
         (&["test", "many"], 20, "refused program 9 1026\n"),
         (&["prove", "many"], 20, "refused program 9 1026\n"),
@@ -738,22 +738,73 @@ fn rows(count: usize) -> String {
     format!("asp 1 0 0\n{all}{first}{others}1 0 0 0 {WIDTH} {}\n0\n", row(count).join(" "))
 }
 
-// A proof beyond a limit is the library's refusal, as README and the help say.
+/// What is said of a proof that only the long check takes.
+const LONG: &str = "`verdict`, and a service of document 01, would refuse it with 21";
+
+// A proof beyond a text goes to the long check, and one beyond the store is the library's refusal, as README and the help say.
 #[test]
 fn proofs_beyond_the_limits() {
     let room = Room::of("limits");
     room.file("p.aspif", rows(33));
     room.file("none.aspif", NONE);
     room.tool("cadical", "echo 0; exit 20");
-    let (status, out, said) = room.run(&["prove", "p.aspif", "--table", "65536", "--store", "300000", "-o", "d"]);
-    assert_eq!((status, out.as_str()), (20, "refused proof 21 0\n"), "{said}");
+    let line = "inconsistent 680 715 1363 15263\n";
+    let (status, out, said) = room.run(&["prove", "p.aspif", "--table", "65536", "-o", "d"]);
+    assert_eq!((status, out.as_str()), (0, line), "{said}");
+    assert!(said.contains(LONG), "{said}");
+    let (status, out, said) = room.run(&["check", "p.aspif", "d", "--table", "65536"]);
+    assert_eq!((status, out.as_str()), (0, line), "{said}");
+    assert!(said.contains(LONG), "{said}");
+    let (_, json, _) = room.run(&["check", "p.aspif", "d", "--table", "65536", "--json"]);
+    assert!(json.contains("\"verdict\": \"inconsistent\"") && json.contains("\"service\": \"check_long\""), "{json}");
+    for command in ["check", "prove"] {
+        let words =
+            [&[command, "p.aspif"][..], if command == "check" { &["d"] } else { &[] }, &["--table", "65536", "--store", "9"]].concat();
+        let (status, out, said) = room.run(&words);
+        assert!(status == 20 && out.starts_with("refused proof 34 "), "{out} {said}");
+    }
+    fs::remove_file(room.0.join("d")).unwrap();
     room.tool("cadical", "echo '-1 0'; echo 0; exit 20");
     let (status, out, _) = room.run(&["prove", "none.aspif", "--store", "6", "-o", "d"]);
     assert_eq!((status, out.as_str()), (20, "refused proof 34 1\n"));
     assert_eq!(room.files(), ["none.aspif", "p.aspif"]);
-    assert!(room.run(&["prove", "--help"]).1.contains("refused proof 21 0 "));
     let readme = fs::read_to_string(concat!(env!("CARGO_MANIFEST_DIR"), "/../README.md")).unwrap();
-    assert!(readme.contains("beyond 65,535 bytes (21) or the store (34)"));
+    assert!(readme.contains("A proof beyond 65,535 bytes goes to the long check") && readme.contains("beyond the store (34)"));
+}
+
+// The rest of the texts' questions is put to a long proof too, and a proof that is to certify stays within a text.
+#[test]
+fn long_proofs_that_do_not_do() {
+    let room = Room::of("long");
+    room.file("p", NONE);
+    let idle = "d 1 0\n".repeat(11_000);
+    for (name, end, status, line) in [
+        ("open", "", 10, "open 1 1 11000 0\n"),
+        ("bad", "a 1 0\n", 20, "refused proof 33 11001\n"),
+        ("cut", "a 1", 20, "refused proof 22 11001\n"),
+    ] {
+        room.file(name, format!("{idle}{end}"));
+        let (ended, out, said) = room.run(&["check", "p", name]);
+        assert_eq!((ended, out.as_str()), (status, line), "{said}");
+        assert!(said.contains(LONG), "{said}");
+    }
+    room.file("choice.aspif", "asp 1 0 0\n1 1 2 1 2 0 0\n1 0 0 0 2 -1 -2\n0\n");
+    room.file("below", format!("{idle}b 3 1 0\nc 3 0\nb 4 2 0\nc 4 0\nb 5 -1 -2 0\nc 5 0\na 0\n"));
+    let (status, out, said) = room.run(&["cheapest", "choice.aspif", "below", "--set", "1", "--costs", "1=3", "2=5"]);
+    assert_eq!((status, out.as_str()), (20, "refused cheapest 63\n"));
+    assert!(said.contains("at most 65535 bytes, and this one has") && said.contains("says: inconsistent 2 3 11007 11"), "{said}");
+}
+
+#[test]
+fn a_search_that_is_stopped() {
+    let room = Room::of("stopped");
+    room.file("p.aspif", NONE);
+    room.tool("cadical", "case \"$*\" in *'-t 3'*) echo '-1 0'; exit 0;; esac; exit 1");
+    let (status, out, said) = room.run(&["prove", "p.aspif", "--time", "3"]);
+    assert_eq!((status, out.as_str()), (10, "undecided\n"), "{said}");
+    assert!(said.contains("stopped after the 3 seconds of --time, with 1 clauses learned"), "{said}");
+    assert_misuse(room.run(&["prove", "p.aspif", "--time", "soon"]), "--time takes a number of seconds");
+    assert_misuse(room.run(&["prove", "p.aspif"]), "cadical ended without an answer");
 }
 
 #[test]

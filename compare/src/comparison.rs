@@ -9,9 +9,12 @@ use crate::binary::Binary;
 use crate::brute;
 use crate::reference::check::{check, verdict_line, Counts, Verdict};
 use crate::reference::program::{read, table_words, InputRule};
-use crate::reference::{filled, lines, models, LINE_LIMIT};
+use crate::reference::{filled, lines, models, LINE_LIMIT, TEXT_LIMIT};
 use crate::shrink::{cut, shrunk};
 use crate::tally::Tally;
+
+/// One in so many texts goes to the check for proofs of any length too, which has to say the same of them.
+const LONG_TOO: usize = 16;
 
 /// How many failures are told in full.
 const TOLD: u64 = 20;
@@ -67,6 +70,9 @@ impl Comparison {
         let answered = aspdrupe::check_texts(&pair.program, &pair.proof, &mut table, &mut store);
         let good = says(&answered, &expected.verdict) && table == expected.table && store == expected.store;
         self.settle(good, || told_check(pair, table_room, store_room));
+        if pair.proof.len() <= TEXT_LIMIT && (pair.proof.len() + store_room).is_multiple_of(LONG_TOO) {
+            self.same_of_long(pair, &expected);
+        }
         self.tally.verdict("check_texts", &expected.verdict);
         self.tally.store(expected.dead_left, expected.closed_up);
         if matches!(answered, Ok(aspdrupe::Verdict::Inconsistent(_))) {
@@ -204,7 +210,7 @@ pub fn difference<T: PartialEq + std::fmt::Display>(found: &[T], expected: &[T])
 }
 
 /// Whether the library's verdict is the reference's, and is displayed as the line that `verdict` must print.
-fn says(answered: &Result<aspdrupe::Verdict, aspdrupe::UnknownAnswer>, expected: &Verdict) -> bool {
+pub fn says(answered: &Result<aspdrupe::Verdict, aspdrupe::UnknownAnswer>, expected: &Verdict) -> bool {
     answered.is_ok_and(|verdict| in_reference_form(&verdict) == *expected && verdict.to_string() == verdict_line(expected))
 }
 

@@ -8,6 +8,7 @@ use crate::cases::refutations::{go_on, refute, Author, Found};
 use crate::cases::{self, bytes, changes, deep, deletions, fixed, guided, limits, loops, noise, weights};
 use crate::comparison::Comparison;
 use crate::costs;
+use crate::long;
 use crate::merges;
 use crate::one_rate;
 use crate::packets;
@@ -48,6 +49,9 @@ pub fn families() -> Vec<Family> {
         family("tables", 300, run_tables),
         family("lines", 200, run_lines),
         listed("hard", 7, run_hard),
+        listed("long-refused", 1, long::run_refused),
+        listed("long-filled", cases::long::COUNT, long::run_filled),
+        family("long-shifted", 5, long::run_shifted),
         listed("packets", packets::worked_cases(), packets::run_worked),
         listed("packet-bytes", cases::packets::small_packets().len(), packets::run_bytes),
         listed("packet-limits", 1, packets::run_limits),

@@ -16,6 +16,7 @@ mod cases;
 mod comparison;
 mod costs;
 mod families;
+mod long;
 mod merges;
 mod one_rate;
 mod packets;

@@ -3,6 +3,7 @@
 use std::collections::BTreeMap;
 
 use crate::costs;
+use crate::long;
 use crate::one_rate;
 use crate::packets;
 use crate::reference::check::{verdict_line, Verdict};
@@ -80,6 +81,9 @@ fn wanted(with_binary: bool) -> Vec<String> {
         wanted.extend(PROGRAM_QUESTIONS.map(|number| format!("{service}: refused program {number:02}")));
         wanted.extend((21..=34).chain([56]).map(|number| format!("{service}: refused proof {number}")));
     }
+    wanted.extend(long::WANTED.map(|what| format!("check_long: {what}")));
+    wanted.extend(PROGRAM_QUESTIONS.map(|number| format!("check_long: refused program {number:02}")));
+    wanted.extend((21..=34).chain([56]).map(|number| format!("check_long: refused proof {number}")));
     wanted.extend([DEAD_LEFT, CLOSED_UP, BOTH].map(|what| format!("check_texts: {what}")));
     wanted.push(String::from("read_program: read"));
     wanted.extend(PROGRAM_QUESTIONS.map(|number| format!("read_program: refused {number:02}")));

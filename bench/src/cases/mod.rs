@@ -3,6 +3,7 @@
 mod chain;
 mod completion;
 mod deletions;
+mod long;
 mod pigeons;
 mod refutations;
 mod searched;
@@ -107,4 +108,14 @@ pub fn certificate() -> Certificate {
 /// Refutations of growing size.
 pub fn growing() -> Vec<Input> {
     searched::growing()
+}
+
+/// Proofs of up to so many megabytes, made here.
+pub fn long(megabytes: f64) -> Vec<Input> {
+    long::inputs(megabytes)
+}
+
+/// Proofs of plans, found by the command at a path: of the lengths that they come to.
+pub fn long_plans(command: &str) -> Result<Vec<Input>, String> {
+    long::plans(command)
 }

@@ -14,16 +14,28 @@ struct Search {
     most: usize,
     atoms: i32,
     random: Random,
+    deletions: Deletions,
+}
+
+/// Which nogoods of halves are deleted once that of the whole is there.
+#[derive(Clone, Copy, PartialEq, Eq)]
+enum Deletions {
+    /// Each or not, as a coin falls.
+    Some,
+    All,
 }
 
 /// A proof of at most so many lines that ends in the empty nogood; nothing where there is none to be found.
 pub fn refute(rules: &[Rule], most: usize, seed: u64) -> Option<Vec<Line>> {
-    let lines = completion(rules);
-    let largest = lines.iter().flat_map(|line| &line.numbers).map(|n| n.unsigned_abs()).max()?;
-    let mut nogoods = Nogoods::over(largest as usize);
-    lines.iter().for_each(|line| enter(&mut nogoods, line));
-    let mut search = Search { nogoods, lines, most, atoms: largest_atom(rules), random: Random::from_seed(seed) };
+    let mut search = Search::of(rules, most, seed, Deletions::Some)?;
     search.node(&mut Vec::new()).then_some(search.lines)
+}
+
+/// The first lines of a proof, about so many or all of them. It deletes all that it needs no more.
+pub fn first_lines(rules: &[Rule], most: usize, seed: u64) -> Vec<Line> {
+    let Some(mut search) = Search::of(rules, most, seed, Deletions::All) else { return Vec::new() };
+    search.node(&mut Vec::new());
+    search.lines
 }
 
 fn codes_of(literals: &[i32]) -> Vec<u32> {
@@ -46,6 +58,15 @@ fn enter(nogoods: &mut Nogoods, line: &Line) {
 }
 
 impl Search {
+    /// The search at its start, behind the completion.
+    fn of(rules: &[Rule], most: usize, seed: u64, deletions: Deletions) -> Option<Search> {
+        let lines = completion(rules);
+        let largest = lines.iter().flat_map(|line| &line.numbers).map(|n| n.unsigned_abs()).max()?;
+        let mut nogoods = Nogoods::over(largest as usize);
+        lines.iter().for_each(|line| enter(&mut nogoods, line));
+        Some(Search { nogoods, lines, most, atoms: largest_atom(rules), random: Random::from_seed(seed), deletions })
+    }
+
     /// Refutes the decisions; whether that succeeds.
     fn node(&mut self, decisions: &mut Vec<i32>) -> bool {
         if let Some(truths) = self.nogoods.closure(&codes_of(decisions)) {
@@ -73,10 +94,10 @@ impl Search {
         (0..self.atoms).map(|i| (start + i) % self.atoms + 1).find(is_open)
     }
 
-    /// Deletes each half's nogood or leaves it, as the coin falls.
+    /// Deletes each half's nogood or leaves it.
     fn clear_halves(&mut self, decisions: &mut Vec<i32>, atom: i32) {
         for literal in [atom, -atom] {
-            if self.random.below(2) == 0 {
+            if self.deletions == Deletions::All || self.random.below(2) == 0 {
                 decisions.push(literal);
                 self.write(b'd', decisions);
                 decisions.pop();

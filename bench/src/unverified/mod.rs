@@ -13,19 +13,29 @@ mod weights;
 use aspdrupe::{Counts, ProgramRefusal, ProofRefusal, UnknownAnswer, Verdict};
 use steps::Checking;
 
-/// The longest text, in bytes.
+/// The longest text, in bytes, and the longest proof for the check of any length.
 const LONGEST: usize = 65_535;
+const LONGEST_PROOF: usize = 2_147_483_647;
 
 /// The largest variable.
 const LARGEST: usize = 8_191;
 
 /// The verdict on a proof text against a program text, for a table and a store of so many words.
 pub fn check(program: &[u8], proof: &[u8], table_words: usize, store_words: usize) -> Result<Verdict, UnknownAnswer> {
+    check_within(program, proof, table_words, store_words, LONGEST)
+}
+
+/// The same for a proof text of any length.
+pub fn check_long(program: &[u8], proof: &[u8], table_words: usize, store_words: usize) -> Result<Verdict, UnknownAnswer> {
+    check_within(program, proof, table_words, store_words, LONGEST_PROOF)
+}
+
+fn check_within(program: &[u8], proof: &[u8], table_words: usize, store_words: usize, longest: usize) -> Result<Verdict, UnknownAnswer> {
     let rules = match program::read(program, table_words) {
         Ok(rules) => rules,
         Err((number, line)) => return refused_program(number, line),
     };
-    if proof.len() > LONGEST {
+    if proof.len() > longest {
         return refused_proof(21, 0);
     }
     let (atoms, count) = (rules.atoms, rules.count);
@@ -193,6 +203,9 @@ mod tests {
     #[test]
     fn texts_that_are_too_long() {
         assert_eq!(line(&"1 0 0 0 0\n".repeat(7_000), "", 99, 99), "refused program 1 0");
-        assert_eq!(line(RULE, &"d 0\n".repeat(17_000), 99, 99), "refused proof 21 0");
+        let proof = "d 0\n".repeat(17_000);
+        assert_eq!(line(RULE, &proof, 99, 99), "refused proof 21 0");
+        let program = format!("asp 1 0 0\n{RULE}0\n");
+        assert_eq!(check_long(program.as_bytes(), proof.as_bytes(), 99, 99).unwrap().to_string(), "open 1 1 17000 0");
     }
 }

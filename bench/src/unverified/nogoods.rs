@@ -17,8 +17,9 @@ pub const NOGOOD_WORDS: usize = 2;
 /// As the reason of a literal: it is assumed.
 const ASSUMED: u32 = u32::MAX;
 
-/// So many lists of nogoods by hash; a power of two.
+/// So many lists of nogoods by hash at first, and so many nogoods for each before there are twice as many lists.
 const LISTS: usize = 2_048;
+const MOST_EACH: usize = 4;
 
 /// The code of a literal.
 pub fn code_of(literal: i32) -> u32 {
@@ -278,9 +279,13 @@ impl Nogoods {
         self.words.push(codes.len() as u32);
         self.words.extend_from_slice(codes);
         let hash = hashing::of_set(codes);
-        self.lists[hash as usize % LISTS].push(Hashed { hash, nogood });
+        let list = self.list_of(hash);
+        self.lists[list].push(Hashed { hash, nogood });
         self.newest = nogood;
         self.live += 1;
+        if self.live > MOST_EACH * self.lists.len() {
+            self.lengthen();
+        }
         self.live_words += NOGOOD_WORDS + codes.len();
         match codes.len() {
             0 => self.empty += 1,
@@ -344,9 +349,23 @@ impl Nogoods {
             self.asked[code as usize] = self.deletions;
         }
         let hash = hashing::of_set(codes);
-        let list = &self.lists[hash as usize % LISTS];
-        let place = list.iter().position(|entry| entry.hash == hash && self.is_asked(entry.nogood, codes.len()))?;
-        Some(self.lists[hash as usize % LISTS].remove(place).nogood)
+        let list = self.list_of(hash);
+        let place = self.lists[list].iter().position(|entry| entry.hash == hash && self.is_asked(entry.nogood, codes.len()))?;
+        Some(self.lists[list].remove(place).nogood)
+    }
+
+    fn list_of(&self, hash: u32) -> usize {
+        hash as usize % self.lists.len()
+    }
+
+    /// Twice as many lists, in each the oldest first as before.
+    fn lengthen(&mut self) {
+        let old = std::mem::take(&mut self.lists);
+        self.lists = vec![Vec::new(); 2 * old.len()];
+        for entry in old.into_iter().flatten() {
+            let list = self.list_of(entry.hash);
+            self.lists[list].push(entry);
+        }
     }
 
     /// The nogood has so many literals, and all are asked for.

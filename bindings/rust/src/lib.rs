@@ -1,8 +1,8 @@
-//! The twelve services of the proof checker for Rust: the program reader, the set test, the proof-line reader, the whole check over two
-//! texts, the writer and the reader of packets, their moves from one version to the other, the merge of two halves' proofs, the trimming
-//! of a proof, the certificate of a cheapest answer set, and the merge of the proofs at the ends of a tree of splits. The work is done by
-//! functions that are proved to meet their contracts on every input (`crates/exports`); here they are declared and wrapped, and their codes
-//! become enums. No input panics.
+//! The thirteen services of the proof checker for Rust: the program reader, the set test, the proof-line reader, the whole check over two
+//! texts, the same for proofs of any length, the writer and the reader of packets, their moves from one version to the other, the merge of
+//! two halves' proofs, the trimming of a proof, the certificate of a cheapest answer set, and the merge of the proofs at the ends of a tree of
+//! splits. The work is done by functions that are proved to meet their contracts on every input (`crates/exports`); here they are declared and
+//! wrapped, and their codes become enums. No input panics.
 //!
 //! Each function answers an [`UnknownAnswer`] where the library returns what its contract does not allow, which a library of the
 //! same version never does.
@@ -24,6 +24,7 @@ compile_error!("the static library that this crate links is for x86-64");
 
 mod answers;
 mod codes;
+mod long;
 mod questions;
 mod raw;
 
@@ -31,6 +32,7 @@ pub use answers::{
     Cheapest, Counts, LineAnswer, Merging, PacketReading, PacketWriting, ProgramReading, ProgramRefusal, ProofRefusal, SetAnswer, Trimming,
     Verdict, Version,
 };
+pub use long::{check_long, check_long_in, check_long_with, memory_for, store_for, LongFailure};
 pub use questions::{
     CheapestQuestion, Letter, MergeQuestion, PacketQuestion, ProgramQuestion, ProofQuestion, SetQuestion, TrimQuestion, UnknownAnswer,
 };
@@ -43,19 +45,19 @@ pub const MARKS: usize = 8192;
 
 /// The bytes of stack with which a thread has enough for any call but [`merge_halves`], [`trim_proof`], [`check_cheapest`] and
 /// [`merge_tree`], as `std::thread::Builder::stack_size` takes them. What your own code takes comes on top.
-pub const STACK: usize = 524_288;
+pub const STACK: usize = 786_432;
 
 /// The same for [`merge_halves`].
-pub const MERGE_STACK: usize = 1_048_576;
+pub const MERGE_STACK: usize = 1_179_648;
 
 /// The same for [`trim_proof`].
-pub const TRIM_STACK: usize = 1_048_576;
+pub const TRIM_STACK: usize = 1_310_720;
 
 /// The same for [`check_cheapest`].
 pub const CHEAPEST_STACK: usize = 1_048_576;
 
-/// The same for [`merge_tree`]. Where nothing is said a thread has no more than that for everything.
-pub const TREE_STACK: usize = 2_097_152;
+/// The same for [`merge_tree`]. Where nothing is said a thread has less.
+pub const TREE_STACK: usize = 2_359_296;
 
 // Each call below hands over what its slices point to, with their lengths. A slice is valid for its length, an empty one has a
 // pointer that is aligned and not null, and Rust lets no other argument overlap one that is written: nothing more is asked.

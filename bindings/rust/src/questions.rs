@@ -113,8 +113,8 @@ questions! {
 questions! {
     /// A question put to a proof text. A refusal names the first that is answered no; 56 is asked right after 31.
     ProofQuestion, "question put to a proof text" {
-        Length = 21, "Has the text at most 65,535 bytes?",
-            "a shorter proof";
+        Length = 21, "Has the text at most 65,535 bytes, for the long check 2,147,483,647?",
+            "a shorter proof, or up to 2,147,483,647 bytes the long check";
         Shape = 22, "Is the line a letter, a space, numbers, a closing `0` and a newline?",
             "the line's shape";
         Sizes = 23, "Are all numbers from -8,191 to 8,191, and at most 65 of them?",

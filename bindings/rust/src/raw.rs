@@ -41,6 +41,20 @@ extern "C" {
         answer: *mut u64,
         answer_len: usize,
     ) -> u32;
+    pub fn aspdrupe_check_long(
+        program: *const u8,
+        program_len: usize,
+        proof: *const u8,
+        proof_len: usize,
+        table: *mut i32,
+        table_len: usize,
+        store: *mut i32,
+        store_len: usize,
+        memory: *mut u32,
+        memory_len: usize,
+        answer: *mut u64,
+        answer_len: usize,
+    ) -> u32;
     pub fn aspdrupe_write_packet(
         version: u64,
         table: *const i32,
@@ -177,6 +191,34 @@ mod tests {
             let mut left = [1, 1, 5, 6, 9, 9];
             left[size.min(4)..].fill(9);
             assert_eq!((code, answer), (0, left));
+        }
+    }
+
+    #[test]
+    fn counts_of_the_long_check_that_do_not_fit() {
+        for size in 0..6 {
+            let mut answer = [9u64; 6];
+            let (mut table, mut store, mut memory) = ([7; 6], [7; 21], [7; 3]);
+            // SAFETY: as above.
+            let code = unsafe {
+                aspdrupe_check_long(
+                    PROGRAM.as_ptr(),
+                    PROGRAM.len(),
+                    PROOF.as_ptr(),
+                    PROOF.len(),
+                    table.as_mut_ptr(),
+                    table.len(),
+                    store.as_mut_ptr(),
+                    store.len(),
+                    memory.as_mut_ptr(),
+                    memory.len(),
+                    answer.as_mut_ptr(),
+                    size,
+                )
+            };
+            let mut left = [1, 1, 5, 6, 9, 9];
+            left[size.min(4)..].fill(9);
+            assert_eq!((code, answer, memory), (0, left, [0; 3]));
         }
     }
 

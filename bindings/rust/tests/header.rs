@@ -23,7 +23,7 @@ fn same_constants() {
 }
 
 /// Every service that needs no more stack than a check, once. The inputs that go deepest are those of bindings/c/stack.c.
-fn call_all() -> [String; 8] {
+fn call_all() -> [String; 9] {
     let program = b"asp 1 0 0\n1 0 1 1 0 1 2\n1 0 1 2 0 1 1\n1 0 0 0 1 -1\n0\n";
     let proof = b"b 3 -1 0\nb 4 2 0\ns 1 4 0\nc 3 0\nl 1 2 0\na 0\n";
     let (mut table, mut store) = ([0; 20], [0; 32]);
@@ -31,6 +31,7 @@ fn call_all() -> [String; 8] {
     let set = test_set(&table, 3, &[], &mut [0; MARKS]);
     let line = read_line(proof, 0).map(|(line, _)| line);
     let verdict = check_texts(program, proof, &mut table, &mut store);
+    let long = check_long(program, proof).unwrap().to_string();
     let (mut packet, mut moved) = ([0; 99], [0; 111]);
     let written = write_packet(Version::One, &table, 3, proof, &mut packet);
     let back = read_packet(Version::One, &packet, &mut table, &mut [0; 43]);
@@ -38,7 +39,16 @@ fn call_all() -> [String; 8] {
     let down = packet_down(&moved, &mut packet);
     let verdict = verdict.unwrap().to_string();
     let [written, up, down] = [written, up, down].map(|answer| format!("{answer:?}"));
-    [format!("{read:?}"), format!("{set:?}"), format!("{line:?}"), verdict, written, format!("{back:?}"), up, down]
+    [format!("{read:?}"), format!("{set:?}"), format!("{line:?}"), verdict, long, written, format!("{back:?}"), up, down]
+}
+
+// The header's macro is written out here.
+#[test]
+fn same_memory() {
+    assert!(HEADER.contains("#define ASPDRUPE_MEMORY(store_len) (49287 + ((store_len) + 7) / 8 * 25)"));
+    for words in [0, 1, 7, 8, 9, 16_384, 1_000_003] {
+        assert_eq!(memory_for(words), 49_287 + words.div_ceil(8) * 25, "{words}");
+    }
 }
 
 #[test]
@@ -48,6 +58,7 @@ fn stack_of_a_thread() {
         "Ok(Read { atoms: 2, rules: 3 })",
         "Ok(Broken(3))",
         "Ok(Line { letter: Body, count: 2, next: 9 })",
+        "inconsistent 2 3 6 8",
         "inconsistent 2 3 6 8",
         "Ok(Written(99))",
         "Ok(Read { rules: 3, bytes: 43 })",

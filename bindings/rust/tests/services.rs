@@ -1,4 +1,4 @@
-//! The twelve services on document 01's starred examples, on rules with weights, and on buffers that are too small or empty.
+//! The thirteen services on document 01's starred examples, on rules with weights, and on buffers that are too small or empty.
 
 use aspdrupe::*;
 
@@ -79,6 +79,57 @@ fn verdicts_as_enums() {
     assert_eq!(check_texts(PROGRAM, b"a 1 0\n", &mut table, &mut store), Ok(Verdict::RefusedProof(refusal)));
     let refusal = ProgramRefusal { question: ProgramQuestion::Header, line: 1 };
     assert_eq!(check_texts(b"", PROOF, &mut table, &mut store), Ok(Verdict::RefusedProgram(refusal)));
+}
+
+/// What the long check says and leaves, with a memory of so many words, which it must leave 0 throughout.
+fn checked_long(proof: &[u8], table: usize, store: usize, memory: usize) -> (String, Vec<i32>, Vec<i32>) {
+    let (mut table, mut store, mut memory) = (vec![7; table], vec![7; store], vec![7; memory]);
+    let verdict = check_long_with(PROGRAM, proof, &mut table, &mut store, &mut memory).unwrap();
+    assert!(memory.iter().all(|word| *word == 0));
+    (verdict.to_string(), table, store)
+}
+
+#[test]
+fn the_long_check_says_the_same() {
+    let deleted = [PROOF, b"d 0\n"].concat();
+    for proof in [PROOF, &deleted, b"", b"a 1 0\n", b"b 2 -1\n"] {
+        for (table, store) in [(6, 21), (6, 20), (5, 21), (0, 0), (9, 40)] {
+            for memory in [0, 1, 9, memory_for(0), memory_for(store)] {
+                let long = checked_long(proof, table, store, memory);
+                assert_eq!(long, checked(PROGRAM, proof, table, store), "{proof:?} {table} {store} {memory}");
+            }
+        }
+    }
+}
+
+#[test]
+fn proofs_beyond_a_text() {
+    // 65,536 bytes and more: six for each step that takes nothing away
+    let idle = b"d 1 0\n".repeat(10_923);
+    let proof = [&idle[..], PROOF].concat();
+    assert_eq!(checked(PROGRAM, &proof, 6, 21).0, "refused proof 21 0");
+    let mut words = STORE;
+    [0, 4, 8, 12, 16, 19].iter().for_each(|place| words[*place] += 10_923);
+    for memory in [0, memory_for(21)] {
+        assert_eq!(checked_long(&proof, 6, 21, memory), (line("inconsistent 1 1 10928 6"), RULES.to_vec(), words.to_vec()));
+        assert_eq!(checked_long(&proof, 6, 20, memory).0, "refused proof 34 10928");
+    }
+    assert_eq!(check_long(PROGRAM, &proof).unwrap().to_string(), "inconsistent 1 1 10928 6");
+    assert_eq!(check_long(b"", &proof).unwrap().to_string(), "refused program 2 1");
+    let refused = [&idle[..], b"a 1 0\n"].concat();
+    assert_eq!(check_long(PROGRAM, &refused).unwrap().to_string(), "refused proof 33 10924");
+}
+
+// Neither is read further than to its first line: pages of zeros that nobody reads take no memory.
+#[test]
+fn proofs_of_two_gigabytes() {
+    let zeros = vec![0; 1 << 31];
+    let (mut table, mut store) = ([7; 6], [7; 21]);
+    for (bytes, line) in [(1 << 31, "refused proof 21 0"), ((1 << 31) - 1, "refused proof 22 1")] {
+        let verdict = check_long_with(PROGRAM, &zeros[..bytes], &mut table, &mut store, &mut []).unwrap();
+        assert_eq!((verdict.to_string(), table, store), (line.into(), [0; 6], [0; 21]));
+        assert_eq!(check_long(PROGRAM, &zeros[..bytes]).unwrap().to_string(), line);
+    }
 }
 
 #[test]

@@ -1,6 +1,7 @@
 //! `aspdrupe prove`: the whole way, from a plan to an answer set that the set test passes or to a proof that the whole check accepts. What is
 //! written here only looks for them: the library decides.
 
+mod clauses;
 mod completion;
 mod loops;
 mod propagation;
@@ -15,9 +16,9 @@ use std::time::{Duration, Instant};
 use aspdrupe::{ProofQuestion, SetAnswer, Verdict};
 
 use crate::arguments::{Subcommand, Words};
-use crate::files::{self, TEXT_LIMIT};
+use crate::files;
 use crate::json::Json;
-use crate::library::{self, Program};
+use crate::library::{self, Checked, Program};
 use crate::names::Names;
 use crate::outcome::{Failure, Outcome, Status};
 use crate::progress::{Part, Progress};
@@ -30,27 +31,28 @@ use write::Proof;
 
 pub const SUBCOMMAND: Subcommand = Subcommand {
     name: "prove",
-    form: "PLAN.lp|PROGRAM.aspif [-o PROOF.drupe] [--table N] [--store N]",
+    form: "PLAN.lp|PROGRAM.aspif [-o PROOF.drupe] [--table N] [--store N] [--time SECONDS]",
     about: "Finds an answer set or a proof that there is none, and has the library test the one or check the other.",
     more: "A file that ends in `.lp` is a plan, one in `.aspif` a ground program, and of others one that begins with `asp 1 ` is ground.
 A plan is grounded with gringo (package gringo); cadical (package cadical) solves the completion. Prints
     answer set: ATOM..       the set test says yes to it; by name where there are names
     inconsistent N R S K     the check's verdict on the proof, which -o writes
-    undecided                no proof that the format has lines and names for was found; the reason is on the standard error
-    refused proof 21 0       the shortest proof found is beyond 65,535 bytes
+    undecided                neither was found; the reason is on the standard error
     refused proof 34 STEP    the proof found needs a longer store
     refused program NUMBER LINE
---table N and --store N are the words for rules and nogoods, 16384 each where nothing is said, as in `verdict`.
+A proof beyond 65,535 bytes goes to the check for proofs of any length; `verdict`, and a service of document 01, would refuse it with 21.
+--table N and --store N are the words for rules and nogoods; where nothing is said 16384 each, as in `verdict`, and for a proof beyond 65,535 bytes
+as long a store as it needs. --time N has cadical stop after about so many seconds. Shortening a proof takes as long as solving did, or a second.
 Status 0 for an answer set and for 'inconsistent', 10 for 'undecided', 20 for a refusal.",
-    options: &["-o", "--table", "--store"],
+    options: &["-o", "--table", "--store", "--time"],
     lists: &[],
     inputs: &[0],
     operands: (1, 1),
     run,
 };
 
-/// Why a search was stopped.
-const TOO_LONG: &str = "cadical has learned far more clauses than a proof has room for, and was stopped; try constraints that break symmetries, or a smaller plan";
+/// What to try where a search was stopped.
+const TRY: &str = "try constraints that break symmetries, or a smaller plan";
 
 /// How long the parts took.
 #[derive(Default)]
@@ -78,7 +80,8 @@ enum Answer {
 }
 
 fn run(words: &Words) -> Result<Outcome, Failure> {
-    let (table, store) = (words.room("--table")?, words.room("--store")?);
+    let (table, store) = (words.room("--table")?, words.room_told("--store")?);
+    let limit = words.seconds("--time")?;
     let mut times = Times::default();
     let progress = Progress::start();
     let ground = timed(&mut times.grounding, || source::load(words.path(0)?, as_it_is))?;
@@ -88,14 +91,14 @@ fn run(words: &Words) -> Result<Outcome, Failure> {
     };
     progress.begin(Part::Solving);
     let mut completion = Completion::of(&rules(&program), program.atoms);
-    let answer = search(&program, &mut completion, store, &progress, &mut times)?;
+    let answer = search(&program, &mut completion, (store, limit), &progress, &mut times)?;
     let mut outcome = match answer {
         Answer::Set(set) => answer_set(&set, &ground.names),
         Answer::Undecided(why) => undecided(why),
         Answer::Refutation(proof) => {
-            progress.begin(Part::Checking);
-            let verdict = timed(&mut times.checking, || library::check_texts(&ground.text, proof.text.as_bytes(), table, store))?;
-            let mut outcome = refutation(verdict, &proof, (&ground.text, table), words.output("-o").as_deref())?;
+            progress.checking(proof.text.len());
+            let checked = timed(&mut times.checking, || library::check(&ground.text, proof.text.as_bytes(), table, store))?;
+            let mut outcome = refutation(&checked, &proof, (&ground.text, table), words.output("-o").as_deref())?;
             if outcome.status == Status::Good {
                 outcome.words.extend(proved(&ground, words.path(0)?));
             }
@@ -120,10 +123,20 @@ fn timed<T>(time: &mut Duration, work: impl FnOnce() -> T) -> T {
     done
 }
 
-/// Solves, and adds the loops that a model rests on without reason, until the model is an answer set or there is none.
-fn search(program: &Program, completion: &mut Completion, store: usize, progress: &Progress, times: &mut Times) -> Result<Answer, Failure> {
+/// Solves, and adds the loops that a model rests on without reason, until the model is an answer set or there is none, or the time told is over.
+fn search(
+    program: &Program,
+    completion: &mut Completion,
+    (store, limit): (Option<usize>, Option<Duration>),
+    progress: &Progress,
+    times: &mut Times,
+) -> Result<Answer, Failure> {
     loop {
-        let found = timed(&mut times.solving, || solver::solve(completion.variables(), completion.clauses(), &[], progress))?;
+        let left = limit.map(|limit| limit.saturating_sub(times.solving));
+        if left.is_some_and(|left| left.is_zero()) {
+            return Ok(late(limit, progress));
+        }
+        let found = timed(&mut times.solving, || solver::solve(completion.variables(), completion.clauses(), &[], left, progress))?;
         match found {
             Found::Model(model) => {
                 let set: Vec<u16> = model.iter().filter(|atom| **atom <= completion.atoms).map(|atom| *atom as u16).collect();
@@ -135,13 +148,26 @@ fn search(program: &Program, completion: &mut Completion, store: usize, progress
                 }
                 progress.loops(completion.loop_count());
             }
-            Found::TooLong => return Ok(Answer::Undecided(String::from(TOO_LONG))),
-            Found::Refutation(learned) => {
-                let written = shortest::shortest(completion, learned, store, progress, times)?;
+            Found::Late => return Ok(late(limit, progress)),
+            Found::TooLong => {
+                let why = "cadical has learned more clauses than a proof of 2,147,483,647 bytes has room for, and was stopped";
+                return Ok(Answer::Undecided(format!("{why}; {TRY}")));
+            }
+            Found::Refutation(log) => {
+                let written = shortest::shortest(completion, &log, store, progress, times)?;
                 return Ok(written.map_or_else(Answer::Undecided, Answer::Refutation));
             }
         }
     }
+}
+
+/// The time told is over.
+fn late(limit: Option<Duration>, progress: &Progress) -> Answer {
+    let seconds = limit.unwrap_or_default().as_secs();
+    let learned = progress.learned_so_far();
+    Answer::Undecided(format!(
+        "cadical was stopped after the {seconds} seconds of --time, with {learned} clauses learned; a longer time, or {TRY}"
+    ))
 }
 
 fn add_loops(completion: &mut Completion, set: &[u16], least_model: &[bool]) -> Result<(), Failure> {
@@ -171,20 +197,22 @@ fn undecided(why: String) -> Outcome {
 }
 
 /// The verdict on the proof, which is written where it is good. A proof that is too large is no fault of the user's: what to try is said.
-fn refutation(verdict: Verdict, proof: &Proof, program: (&[u8], usize), output: Option<&Path>) -> Result<Outcome, Failure> {
-    let mut outcome = explain::verdict(verdict, (program.0, proof.text.as_bytes()), program.1);
-    match verdict {
+fn refutation(checked: &Checked, proof: &Proof, program: (&[u8], usize), output: Option<&Path>) -> Result<Outcome, Failure> {
+    let mut outcome = explain::checked(checked, (program.0, proof.text.as_bytes()), program.1);
+    match checked.verdict {
         Verdict::Inconsistent(_) => {
             if let Some(path) = output {
                 files::write(path, proof.text.as_bytes())?;
             }
-            outcome.words.push(format!("the proof has {} lines, {} bytes and needs a store of {} words", proof.lines, proof.text.len(), proof.words));
+            outcome.words.push(format!(
+                "the proof has {} lines, {} bytes and needs a store of {} words",
+                proof.lines,
+                proof.text.len(),
+                proof.words
+            ));
         }
         Verdict::RefusedProof(refusal) => match refusal.question {
-            ProofQuestion::Length => outcome.words.push(format!(
-                "the shortest proof found has {} bytes, and {TEXT_LIMIT} are the limit; try constraints that break symmetries, or a smaller plan",
-                proof.text.len()
-            )),
+            ProofQuestion::Length => outcome.words.push(format!("the proof found has {} bytes; {TRY}", proof.text.len())),
             ProofQuestion::Store => outcome.words.push(format!("the store is too small for the proof found; try --store {}", proof.words)),
             _ => {}
         },

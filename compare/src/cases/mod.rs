@@ -10,6 +10,7 @@ pub mod fixed;
 pub mod guided;
 pub mod halves;
 pub mod limits;
+pub mod long;
 pub mod loops;
 pub mod merges;
 pub mod moves;

@@ -1,10 +1,10 @@
 //! The whole check over two texts: its verdict, the words it leaves in table and store, and the line that `verdict` prints.
 
 use super::filled;
-use super::lines::{read_line, Answer};
+use super::lines::{line_from, Answer};
 use super::program::{read, table_words, Program};
 use super::steps::{step, State};
-use super::TEXT_LIMIT;
+use super::{LONG_LIMIT, TEXT_LIMIT};
 
 #[derive(Clone, Copy, Debug, PartialEq, Eq)]
 pub struct Counts {
@@ -33,7 +33,16 @@ pub struct Ending {
 
 /// The whole check, lent a table and a store of so many words.
 pub fn check(program_text: &[u8], proof_text: &[u8], table_room: usize, store_room: usize) -> Ending {
-    match course(program_text, proof_text, table_room, store_room) {
+    check_within(program_text, proof_text, table_room, store_room, TEXT_LIMIT)
+}
+
+/// The check for proofs of any length: the same, "save that question 21 is put with 2,147,483,647 bytes".
+pub fn check_long(program_text: &[u8], proof_text: &[u8], table_room: usize, store_room: usize) -> Ending {
+    check_within(program_text, proof_text, table_room, store_room, LONG_LIMIT)
+}
+
+fn check_within(program_text: &[u8], proof_text: &[u8], table_room: usize, store_room: usize, limit: usize) -> Ending {
+    match course(program_text, proof_text, table_room, store_room, limit) {
         Ok((program, Ran { state, closed_up })) => Ending {
             verdict: judged(&program, &state),
             table: filled(table_words(&program.rules), table_room),
@@ -51,16 +60,21 @@ pub struct Ran {
     pub closed_up: bool,
 }
 
-fn course(program_text: &[u8], proof_text: &[u8], table_room: usize, store_room: usize) -> Result<(Program, Ran), Verdict> {
-    let program = read(program_text, table_room).map_err(|(number, line)| Verdict::RefusedProgram { number, line })?;
-    let ran = run(&program, proof_text, store_room).map_err(|(number, step)| Verdict::RefusedProof { number, step })?;
+fn course(program: &[u8], proof: &[u8], table_room: usize, store_room: usize, limit: usize) -> Result<(Program, Ran), Verdict> {
+    let program = read(program, table_room).map_err(|(number, line)| Verdict::RefusedProgram { number, line })?;
+    let ran = run_within(&program, proof, store_room, limit).map_err(|(number, step)| Verdict::RefusedProof { number, step })?;
     Ok((program, ran))
+}
+
+/// The steps of a proof within a text's limit.
+pub fn run(program: &Program, text: &[u8], store_room: usize) -> Result<Ran, (u8, usize)> {
+    run_within(program, text, store_room, TEXT_LIMIT)
 }
 
 /// All steps of the proof: the state after the last, or a refusal's number and step. The store is closed up for a step that "would not fit
 /// otherwise", all of its nogoods taken together; since none of these is dead, it is the same to filter once they stand at the end.
-pub fn run(program: &Program, text: &[u8], store_room: usize) -> Result<Ran, (u8, usize)> {
-    if text.len() > TEXT_LIMIT {
+fn run_within(program: &Program, text: &[u8], store_room: usize, limit: usize) -> Result<Ran, (u8, usize)> {
+    if text.len() > limit {
         return Err((21, 0));
     }
     let mut state = State::start(program);
@@ -68,7 +82,7 @@ pub fn run(program: &Program, text: &[u8], store_room: usize) -> Result<Ran, (u8
     let mut position = 0;
     loop {
         let place = state.steps + 1;
-        match read_line(text, position) {
+        match line_from(text, position) {
             Answer::End => return Ok(Ran { state, closed_up }),
             Answer::Refused(number) => return Err((number, place)),
             Answer::Line(line) => {
@@ -92,7 +106,7 @@ pub fn store_lengths(program: &Program, text: &[u8]) -> (usize, usize) {
     let mut state = State::start(program);
     let mut position = 0;
     let mut least = 0;
-    while let Answer::Line(line) = read_line(text, position) {
+    while let Answer::Line(line) = line_from(text, position) {
         if step(program, &mut state, &line).is_err() {
             break;
         }
@@ -147,6 +161,15 @@ mod tests {
         assert_eq!(left(11).verdict, Verdict::RefusedProof { number: 34, step: 5 });
         assert!(left(15).dead_left && !left(15).closed_up && !left(14).dead_left && left(14).closed_up);
         assert_eq!(store_lengths(&read(fact, 5).unwrap(), proof), (12, 15));
+    }
+
+    #[test]
+    fn beyond_a_text() {
+        let proof = [&b"d 0\n".repeat(16_384)[..], PROOF].concat();
+        assert_eq!(check(PROGRAM, &proof, 6, 21).verdict, Verdict::RefusedProof { number: 21, step: 0 });
+        let ending = check_long(PROGRAM, &proof, 6, 21);
+        assert_eq!(verdict_line(&ending.verdict), "inconsistent 1 1 16389 6");
+        assert_eq!(ending.store[..4], [16_385, 2, -1, -2]);
     }
 
     #[test]

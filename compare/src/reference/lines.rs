@@ -23,6 +23,11 @@ pub fn read_line(text: &[u8], position: usize) -> Answer {
     if text.len() > TEXT_LIMIT {
         return Answer::Refused(21);
     }
+    line_from(text, position)
+}
+
+/// The same where 21 is not asked.
+pub fn line_from(text: &[u8], position: usize) -> Answer {
     if position == text.len() {
         return Answer::End;
     }

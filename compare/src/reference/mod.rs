@@ -67,6 +67,8 @@ pub const PACKET_LARGEST: i32 = 4_095;
 pub const WEIGHT_LARGEST: i32 = 4_095;
 /// The most bytes that a text may have.
 pub const TEXT_LIMIT: usize = 65_535;
+/// The most bytes that a proof may have which the check for proofs of any length is given.
+pub const LONG_LIMIT: usize = 2_147_483_647;
 /// The most heads of a choice rule and the most literals of a body.
 pub const PART_LIMIT: i32 = 64;
 /// The most numbers of a proof line, the closing 0 aside.

@@ -4,6 +4,7 @@
 //   read      the version; the packet in hexadecimal. The output is the proof
 //   up, down  the packet in hexadecimal. The output is the packet of the other version
 //   verdict   program | proof
+//   memory    the words of memory, 60,000 at most; program | proof: the long check
 //   halves    the atom; program | the first half's proof | the second's
 //   trim      program | proof, which stands at the front of the output, with zeros after it
 //   next      the proof, which one `ProofReader` reads step by step
@@ -16,8 +17,13 @@ use notation::reading;
 use notation::reading::head;
 use notation::reading::tail;
 
-// The code of a word that is none of these.
+// The code of a word that is none of these, and of a long check that leaves a word in its memory.
 const UNKNOWN: u32 = 99;
+
+const LEFT: u32 = 98;
+
+// The most words of memory.
+const MEMORY: usize = 60000;
 
 // Whether the output of the line's service is a text.
 pub fn is_text(line: &[u8]) -> bool {
@@ -38,6 +44,36 @@ fn trim_proof(
     words::zero_bytes(output);
     reading::push_all(output, 0, proof);
     exports::aspdrupe_trim_proof(program, output, table, store, answer)
+}
+
+// The long check; the code, or that of a memory that is not 0 afterwards.
+fn check_clear(
+    program: &[u8],
+    proof: &[u8],
+    memory: &mut [u32],
+    table: &mut [i32],
+    store: &mut [i32],
+    answer: &mut [u64],
+) -> u32 {
+    let code = exports::aspdrupe_check_long(program, proof, table, store, memory, answer);
+    if reading::is_clear(memory) {
+        return code;
+    }
+    LEFT
+}
+
+// The long check with so many words of memory, which are 7 before.
+fn check_long(
+    program: &[u8],
+    proof: &[u8],
+    words: u64,
+    table: &mut [i32],
+    store: &mut [i32],
+    answer: &mut [u64],
+) -> u32 {
+    let mut memory = [7u32; MEMORY];
+    let n = reading::most_cells(words, &memory);
+    check_clear(program, proof, &mut memory[..n], table, store, answer)
 }
 
 // The services of a packet.
@@ -62,7 +98,7 @@ fn serve_packet(
 // The services of a program and of proofs.
 fn serve_texts(
     service: u8,
-    atom: u64,
+    number: u64,
     texts: &[u8],
     table: &mut [i32],
     store: &mut [i32],
@@ -72,6 +108,7 @@ fn serve_texts(
     let program = head(texts, b'|');
     let proof = tail(texts, b'|');
     match service {
+        b'm' => check_long(program, proof, number, table, store, answer),
         b'v' => exports::aspdrupe_check_texts(program, proof, table, store, answer),
         b't' => trim_proof(program, proof, table, store, output, answer),
         _ => {
@@ -79,7 +116,7 @@ fn serve_texts(
             let second = tail(proof, b'|');
             exports::aspdrupe_merge_halves(
                 program,
-                atom,
+                number,
                 first,
                 second,
                 table,
@@ -182,7 +219,15 @@ pub fn serve(
         b'l' => exports::aspdrupe_read_line(texts, number, table, answer),
         b'n' => stepping::read_steps(texts),
         b'r' | b'u' | b'd' => serve_packet(service, version, texts, table, output, answer),
-        b'v' | b'h' | b't' => serve_texts(service, number, texts, table, store, output, answer),
+        b'v' | b'm' | b'h' | b't' => serve_texts(
+            service,
+            number,
+            texts,
+            table,
+            store,
+            output,
+            answer,
+        ),
         _ => serve_lists(line, number, version, texts, table, store, output, answer),
     }
 }

@@ -6,15 +6,15 @@ use Rattle.weights.specs.Weights.{sublists, minimalSets, bodies}
 use Rattle.aspif.specs.Rules.{bodiesOf, expandRule, expand}
 use Rattle.aspif.specs.Reading.{allWeights, ranged, shapeOf, arranged, readLines, readText, linesFrom}
 use Rattle.answer_set.specs.SetTest.{giveHead, giveRule, least, verdictOf}
-use Rattle.drupe.specs.Texts.{stepsAt, stepsOf}
+use Rattle.drupe.specs.Texts.{stepsAt, stepsWithin}
 use Rattle.nogoods.specs.Store.{live, closed, killed}
-use Rattle.runs.specs.Course.{course}
-use Rattle.checker.specs.Check.{check}
+use Rattle.runs.specs.Course.{courseWithin}
+use Rattle.checker.specs.Check.{checkWithin}
 use Rattle.cheapest.specs.Service.{cheapest}
 use Rattle.cheapest.specs.Examples.{Worked}
 
 pub worked : Worked
-unfolding cheapest check course live closed killed stepsOf stepsAt readText readLines linesFrom shapeOf ranged allWeights arranged lineOf insert insertAll expand expandRule bodiesOf bodies minimalSets sublists verdictOf least giveRule giveHead
+unfolding cheapest checkWithin courseWithin live closed killed stepsWithin stepsAt readText readLines linesFrom shapeOf ranged allWeights arranged lineOf insert insertAll expand expandRule bodiesOf bodies minimalSets sublists verdictOf least giveRule giveHead
 worked = record {
   good = refl;
   other-order = refl;

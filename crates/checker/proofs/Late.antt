@@ -16,7 +16,7 @@ use Rattle.words.proofs.Lists.{concat-append}
 use Rattle.text.specs.declared.Letter.{Letter}
 use Rattle.text.specs.declared.Letter.the-variants.{Addition, Body, Completion, Deletion, Extension, Loop, Support}
 use Rattle.aspif.specs.Rules.{Rule, expand, atoms}
-use Rattle.drupe.specs.Texts.{Step, StepsRead, steps, refused, stepsOf}
+use Rattle.drupe.specs.Texts.{Step, StepsRead, steps, refused, stepsWithin}
 use Rattle.derivation.specs.States.{State, start}
 use Rattle.derivation.specs.Steps.{Outcome, next, step}
 use Rattle.derivation.specs.Steps as Steps
@@ -25,7 +25,7 @@ use Rattle.nogoods.specs.Store.{originWord, storedWords, wordsOf, storeWords}
 use Rattle.nogoods.proofs.Live.{by-answer, closed-nil, closed-append, closed-added, closed-kept, closed-killed, live-closed}
 use Rattle.nogoods.proofs.Live.{target-alive, killed-nil, killed-here, killed-on}
 use Rattle.steps.specs.After.{newIn, storedAfter, withAdded}
-use Rattle.runs.specs.Course.{Course, stopped, through, thenStopped, fitting}
+use Rattle.runs.specs.Course.{Course, stopped, through, thenStopped, fitting, courseWithin}
 use Rattle.runs.specs.Course.{runSteps, runRead, course}
 use Rattle.checker.specs.Check.{judged}
 use Rattle.checker.specs.Claims.{promptAfter, promptSteps, promptRead, SameLive, SameCourse, OneWord, ClosedLate}
@@ -103,10 +103,10 @@ pub same-live : SameLive
 same-live N P size ts n z stored e = sym (from-start N P size ts) ∙ ap closedCourse e
 
 pub same-course : SameCourse
-unfolding course
-same-course t size ws proof =
-    same (runRead (atoms ws) (expand ws) size 0 start [] (stepsOf proof))
-    ∙ ap (λ (c : Course). judged t size ws c .verdict) (same-read (atoms ws) (expand ws) size (stepsOf proof))
+unfolding courseWithin
+same-course limit t size ws proof =
+    same (runRead (atoms ws) (expand ws) size 0 start [] (stepsWithin limit proof))
+    ∙ ap (λ (c : Course). judged t size ws c .verdict) (same-read (atoms ws) (expand ws) size (stepsWithin limit proof))
   where
     -- the verdict does not read what is stored
     same : (c : Course) → judged t size ws c .verdict ≡ judged t size ws (closedCourse c) .verdict

@@ -15,15 +15,15 @@ use Rattle.words.specs.Literals.{ascending}
 use Rattle.text.specs.declared.Letter.{Letter}
 use Rattle.text.specs.declared.Letter.the-variants.{Addition, Body, Completion, Deletion, Extension, Loop, Support}
 use Rattle.aspif.specs.Rules.{Rule, expand, atoms}
-use Rattle.drupe.specs.Texts.{Step, StepsRead, steps, refused, stepsOf}
+use Rattle.drupe.specs.Texts.{Step, StepsRead, steps, refused, stepsWithin}
 use Rattle.derivation.specs.States.{State, start}
 use Rattle.derivation.specs.Steps.{next, step}
 use Rattle.nogoods.specs.Store.{Stored, recordOf, addedIn, closed, live, killed, isTarget, wordsOf, storeWords}
 use Rattle.nogoods.proofs.Live.{live-nil, by-answer}
 use Rattle.nogoods.proofs.Live.{closed-nil, closed-cons, closed-past, closed-from, killed-nil, killed-here, killed-on}
 use Rattle.steps.specs.After.{newIn, withAdded, storedAfter}
-use Rattle.runs.specs.Course.{Course, stopped, through, thenStopped, runSteps, runRead, course}
-use Rattle.checker.specs.Check.{saying, judged, check, Checked}
+use Rattle.runs.specs.Course.{Course, stopped, through, thenStopped, runSteps, runRead, courseWithin}
+use Rattle.checker.specs.Check.{saying, judged, checkWithin, Checked}
 use Rattle.checker.specs.Claims.{LiveStored, Bounded, OriginsBounded, Rising, OriginsRise, OriginsService}
 use Rattle.checker.specs.declared.Counts.{Counts}
 use Rattle.checker.specs.declared.Verdict.the-variants.{Inconsistent, Open}
@@ -55,10 +55,10 @@ live-stored N P size ts n z stored e =
     0 n start z [] stored ts live-nil e
 
 -- also after the steps of a text
-pub course-live : (N : ℕ) (P : List Rule) (size : ℕ) (text : List ℕ) {n : ℕ} {z : State} {stored : List Stored}
-    → course N P size text ≡ through n z stored → live stored ≡ z .live
-unfolding course
-course-live N P size text {n} {z} {stored} e = by (stepsOf text) e
+pub course-live : (limit N : ℕ) (P : List Rule) (size : ℕ) (text : List ℕ) {n : ℕ} {z : State} {stored : List Stored}
+    → courseWithin limit N P size text ≡ through n z stored → live stored ≡ z .live
+unfolding courseWithin
+course-live limit N P size text {n} {z} {stored} e = by (stepsWithin limit text) e
   where
     unread : (k m : ℕ) (c : Course) → thenStopped k m c ≡ through n z stored → live stored ≡ z .live
     unread k m (stopped j i) e = absurd (zero-one (cc))
@@ -168,17 +168,17 @@ pub origins-rise : OriginsRise
 origins-rise N P size ts n z stored e = origins N P size ts n z stored e .rising
 
 -- the store that is left, where the steps went through
-left : (text proof : List ℕ) (t s : ℕ) (b : Bool) (c : Counts) → check text proof t s .verdict ≡ saying b c
-    → (stored : List Stored) × (check text proof t s .store ≡ storeWords s stored) × (length (live stored) ≡ c .nogoods)
+left : (limit : ℕ) (text proof : List ℕ) (t s : ℕ) (b : Bool) (c : Counts) → checkWithin limit text proof t s .verdict ≡ saying b c
+    → (stored : List Stored) × (checkWithin limit text proof t s .store ≡ storeWords s stored) × (length (live stored) ≡ c .nogoods)
     × Bounded (c .steps) stored × Rising 1 stored
-unfolding check
-left text proof t s b c e =
-    let r = said text proof t s b c e in
+unfolding checkWithin
+left limit text proof t s b c e =
+    let r = said limit text proof t s b c e in
     let ws = r .0 in
     let E = r .2 in
     let k = E .6 in
-    let words : check text proof t s .store ≡ storeWords s (E .2) =
-    rw (r .1) (ap (λ (o : Course). judged t s ws o .store) (ended-course proof t s ws b c E)) in
+    let words : checkWithin limit text proof t s .store ≡ storeWords s (E .2) =
+    rw (r .1) (ap (λ (o : Course). judged t s ws o .store) (ended-course limit proof t s ws b c E)) in
     let same = live-stored (atoms ws) (expand ws) s (E .0) (length (E .0)) (E .1) (E .2) (E .4) in
     let o = origins (atoms ws) (expand ws) s (E .0) (length (E .0)) (E .1) (E .2) (E .4) in (
       E .2,
@@ -189,9 +189,9 @@ left text proof t s b c e =
     )
 
 pub origins-service : OriginsService
-origins-service text proof table store table′ store′ r e c v =
+origins-service limit text proof table store table′ store′ r e c v =
     let w = which v in
-    let found = left text proof (length table) (length store) (w .0) c (sym (ap (λ (x : Checked). x .verdict) e) ∙ w .1) in
+    let found = left limit text proof (length table) (length store) (w .0) c (sym (ap (λ (x : Checked). x .verdict) e) ∙ w .1) in
     (found .0, ap (λ (x : Checked). x .store) e ∙ found .1, found .2, found .3, found .4)
   where
     which : (r ≡ Inconsistent c) ⊎ (r ≡ Open c) → (b : Bool) × (r ≡ saying b c)

@@ -2,10 +2,9 @@
 -- Assumes nothing.
 use mathlib.Core.Path.{_≡_, refl, sym, _∙_, ap, ap₂}
 use mathlib.Core.Bool.{Bool, true, false, cond}
-use mathlib.Core.List.{List}
+use mathlib.Core.List.{List, []}
 use Prim.Native.Nat.{ℕ, _≤_, _<_}
 use native.Mathlib.Omega.{arith}
-use borrow.Author.Tests.{lt-ltb}
 use lib.Dec.{leb}
 use lib.IntN.{ℤ, pos}
 use lib.ListN.{length, replicate}
@@ -21,13 +20,13 @@ use Rattle.aspif.specs.declared.ProgramRefusal.{ProgramRefusal}
 use Rattle.aspif.specs.Tables.{rulesAt}
 use Rattle.aspif.proofs.Cursors.{few-rules, sound-rules, atoms-small, rules-of}
 use Rattle.aspif.proofs.Readable.{table-read}
-use Rattle.drupe.specs.Texts.{stepsOf}
-use Rattle.derivation.specs.States.{State}
+use Rattle.drupe.proofs.Texts.{long-steps}
+use Rattle.derivation.specs.States.{State, start}
 use Rattle.derivation.specs.Steps.{emptyLive}
 use Rattle.nogoods.specs.Store.{Stored, live, storeWords}
 use Rattle.nogoods.specs.Keeps.{Holds}
-use Rattle.runs.specs.Course.{Course, stopped, through, course, endsEmpty}
-use Rattle.checker.specs.Check.{saying, countsOf, isInconsistent, Checked, judged, judgedReading, check}
+use Rattle.runs.specs.Course.{Course, stopped, through, runRead, courseWithin, endsEmpty}
+use Rattle.checker.specs.Check.{saying, countsOf, isInconsistent, Checked, judged, judgedReading, checkWithin}
 use Rattle.steps.specs.Held.{Program}
 use Rattle.runs.specs.Held.{Ran}
 use Rattle.runs.specs.declared.ProofRefusal.{ProofRefusal}
@@ -38,9 +37,9 @@ use Rattle.runs.specs.declared.Run.the-variants.{Stopped, Through}
 
 -- The proof's lines
 
-pub too-long : (N : ℕ) (P : List Rule) (size : ℕ) (text : List ℕ) → longest < length text → course N P size text ≡ stopped 21 0
-unfolding course stepsOf
-too-long N P size text h = rw (lt-ltb longest (length text) h)
+pub too-long : (limit N : ℕ) (P : List Rule) (size : ℕ) (text : List ℕ) → limit < length text → courseWithin limit N P size text ≡ stopped 21 0
+unfolding courseWithin
+too-long limit N P size text h = ap (runRead N P size 0 start []) (long-steps limit text h)
 
 module _ (store : List ℤ) where
   pub ran-stopped : (o : Course) {r : Run} (x : ProofRefusal) → Ran store o r → r ≡ Stopped x → o ≡ stopped (x .number) (x .step)
@@ -83,8 +82,9 @@ pub verdict-empty : (t s : ℕ) (P : List InputRule) (o : Course) {v : Verdict} 
 verdict-empty t s P o e = ap (λ (x : Checked). isInconsistent (x .verdict)) e ∙ said-empty t s P o
 
 -- the verdict of a course, with the lengths that the caller knows
-pub judged-lengths : (P : List InputRule) (proof : List ℕ) {t t′ s s′ : ℕ} → t ≡ t′ → s ≡ s′ → judged t s P (course (atoms P) (expand P) s proof) ≡ judged t′ s′ P (course (atoms P) (expand P) s′ proof)
-judged-lengths P proof a b = ap₂ (λ t s. judged t s P (course (atoms P) (expand P) s proof)) a b
+pub judged-lengths : (limit : ℕ) (P : List InputRule) (proof : List ℕ) {t t′ s s′ : ℕ} → t ≡ t′ → s ≡ s′
+    → judged t s P (courseWithin limit (atoms P) (expand P) s proof) ≡ judged t′ s′ P (courseWithin limit (atoms P) (expand P) s′ proof)
+judged-lengths limit P proof a b = ap₂ (λ t s. judged t s P (courseWithin limit (atoms P) (expand P) s proof)) a b
 
 -- The program
 
@@ -108,11 +108,11 @@ unread t text answer {table} words f g same x e = by (readText t text) (sym answ
     by (program P) e w = absurd (zero-one (cc))
 
 module _ (t s : ℕ) (text proof : List ℕ) {r : ProgramReading} (answer : r ≡ programAnswer (readText t text)) {table : List ℤ} (words : table ≡ tableOf t (readText t text)) where
-  pub program-refused : (x : ProgramRefusal) {store : List ℤ} → r ≡ Refused x → store ≡ replicate s (pos 0)
-      → record { verdict = RefusedProgram x; table = table; store = store } ≡ check text proof t s
-  unfolding check
-  program-refused x {store} e z =
-      unread t text answer words (judgedReading t s proof) (λ y l. record { verdict = RefusedProgram y; table = l; store = store }) (λ k n. rw z refl) x e
+  pub program-refused : (limit : ℕ) (x : ProgramRefusal) {store : List ℤ} → r ≡ Refused x → store ≡ replicate s (pos 0)
+      → record { verdict = RefusedProgram x; table = table; store = store } ≡ checkWithin limit text proof t s
+  unfolding checkWithin
+  program-refused limit x {store} e z =
+      unread t text answer words (judgedReading limit t s proof) (λ y l. record { verdict = RefusedProgram y; table = l; store = store }) (λ k n. rw z refl) x e
 
   -- a program that was read, and what the table then holds
   pub record ReadProgram (N R : ℕ) : Type 0 where
@@ -129,9 +129,10 @@ module _ (t s : ℕ) (text proof : List ℕ) {r : ProgramReading} (answer : r �
       by (Reading.refused k n) q e w = absurd (zero-one (cc))
       by (program P) q e w = record { P = P; read = q; top = cc; count = cc; rules = w }
 
-  pub check-read : {N R : ℕ} (p : ReadProgram N R) → check text proof t s ≡ judged t s (p .P) (course (atoms (p .P)) (expand (p .P)) s proof)
-  unfolding check
-  check-read p = rw (p .read)
+  pub check-read : (limit : ℕ) {N R : ℕ} (p : ReadProgram N R)
+      → checkWithin limit text proof t s ≡ judged t s (p .P) (courseWithin limit (atoms (p .P)) (expand (p .P)) s proof)
+  unfolding checkWithin
+  check-read limit p = rw (p .read)
 
   -- the rules can be found in the table again
   pub held : {N R : ℕ} (p : ReadProgram N R) → length table ≡ t → Program table R N (p .P) × (R ≤ mostRules) × (table ≡ tableWords (length table) (p .P))

@@ -1,5 +1,5 @@
 -- What the whole check says, as statements; proofs/Whole.antt, proofs/Origins.antt and proofs/Late.antt prove them: demand 2 of the
--- notice, demand 3, part two, what is said of origins, also of the function `check_texts` by its contract, and that marking first and
+-- notice, demand 3, part two, what is said of origins, also of the functions `check_texts` and `check_long` by their contracts, and that marking first and
 -- closing up later changes no live nogood. That the steps are what the proof's lines come to one by one is `StepByStep` of `runs`.
 -- Assumes nothing.
 use mathlib.Core.Path.{_≡_}
@@ -11,12 +11,11 @@ use lib.IntN.{ℤ, pos, negℤ}
 use lib.ListN.{length, take, getD, set}
 use Rattle.words.specs.Lists.{_∈_, dropFirst}
 use Rattle.words.specs.Literals.{sameList, ascending}
-use Rattle.words.specs.Limits.{longest}
 use Rattle.text.specs.declared.Letter.{Letter}
 use Rattle.text.specs.declared.Letter.the-variants.{Addition, Body, Completion, Deletion, Extension, Loop, Support}
 use Rattle.aspif.specs.Rules.{Rule, InputRule, expand, atoms}
 use Rattle.aspif.specs.Reading.{program, readText}
-use Rattle.drupe.specs.Texts.{Step, StepsRead, textOf, steps, stepsOf}
+use Rattle.drupe.specs.Texts.{Step, StepsRead, textOf, steps, stepsWithin}
 use Rattle.drupe.specs.Texts as Texts
 use Rattle.derivation.specs.States.{State, start}
 use Rattle.derivation.specs.Steps.{next, step, emptyLive}
@@ -24,66 +23,74 @@ use Rattle.derivation.specs.Steps as Steps
 use Rattle.derivation.specs.Claims.{NoneAsWritten}
 use Rattle.nogoods.specs.Store.{Stored, closed, live, wordsOf, storeWords}
 use Rattle.steps.specs.After.{newIn, storedAfter}
-use Rattle.runs.specs.Course.{Course, stopped, through, thenStopped, fitting, runSteps, course}
-use Rattle.checker.specs.Check.{countsOf, judged, check, CheckedTexts}
+use Rattle.runs.specs.Course.{Course, stopped, through, thenStopped, fitting, runSteps, courseWithin}
+use Rattle.checker.specs.Check.{countsOf, judged, checkWithin, CheckedWithin}
 use Rattle.checker.specs.declared.Counts.{Counts}
 use Rattle.checker.specs.declared.Verdict.{Verdict}
 use Rattle.checker.specs.declared.Verdict.the-variants.{Inconsistent, Open}
 
 -- The proof text's steps are ts, they run through, and after the last the empty nogood is live, or is not; the counts are those of
 -- the program, the steps and the live nogoods.
-abbrev pub Ended : List InputRule → (size : ℕ) → (proof : List ℕ) → (empty : Bool) → Counts → Type 0
-Ended ws size proof empty c =
-    (ts : List Step) × (z : State) × (stored : List Stored) × (stepsOf proof ≡ steps ts)
+abbrev pub Ended : (limit : ℕ) → List InputRule → (size : ℕ) → (proof : List ℕ) → (empty : Bool) → Counts → Type 0
+Ended limit ws size proof empty c =
+    (ts : List Step) × (z : State) × (stored : List Stored) × (stepsWithin limit proof ≡ steps ts)
     × (runSteps (atoms ws) (expand ws) size 0 start [] ts ≡ through (length ts) z stored)
     × (emptyLive z ≡ empty) × (c ≡ countsOf (atoms ws) (length ws) (length ts) z)
 
 -- What `Ended` says, in the words of a writer: the proof is the text of the steps ts, and no reader is spoken of. That each step passes
 -- 22 to 25 need not be said, since a step that is accepted does.
-abbrev pub Written : List InputRule → (size : ℕ) → (proof : List ℕ) → (empty : Bool) → Counts → Type 0
-Written ws size proof empty c =
-    (ts : List Step) × (z : State) × (stored : List Stored) × (proof ≡ textOf ts) × (length proof ≤ longest)
+abbrev pub Written : (limit : ℕ) → List InputRule → (size : ℕ) → (proof : List ℕ) → (empty : Bool) → Counts → Type 0
+Written limit ws size proof empty c =
+    (ts : List Step) × (z : State) × (stored : List Stored) × (proof ≡ textOf ts) × (length proof ≤ limit)
     × (runSteps (atoms ws) (expand ws) size 0 start [] ts ≡ through (length ts) z stored)
     × (emptyLive z ≡ empty) × (c ≡ countsOf (atoms ws) (length ws) (length ts) z)
 
 abbrev pub EndedWritten : Type 0
 EndedWritten =
-    (ws : List InputRule) (size : ℕ) (proof : List ℕ) (empty : Bool) (c : Counts)
-    → Ended ws size proof empty c ↔ Written ws size proof empty c
+    (limit : ℕ) (ws : List InputRule) (size : ℕ) (proof : List ℕ) (empty : Bool) (c : Counts)
+    → Ended limit ws size proof empty c ↔ Written limit ws size proof empty c
 
 -- "Once the program is read, the verdict is "inconsistent" exactly when the steps form an ASP-DRUPE proof under document 01 that
 -- fits the lent store, and "open" exactly when every step is good but the empty nogood does not stand after the last."
 abbrev pub VerdictExact : Type 0
 VerdictExact =
-    (text proof : List ℕ) (t s : ℕ) (ws : List InputRule) → readText t text ≡ program ws → (c : Counts)
-    → ((check text proof t s .verdict ≡ Inconsistent c) ↔ Ended ws s proof true c)
-    × ((check text proof t s .verdict ≡ Open c) ↔ Ended ws s proof false c)
+    (limit : ℕ) (text proof : List ℕ) (t s : ℕ) (ws : List InputRule) → readText t text ≡ program ws → (c : Counts)
+    → ((checkWithin limit text proof t s .verdict ≡ Inconsistent c) ↔ Ended limit ws s proof true c)
+    × ((checkWithin limit text proof t s .verdict ≡ Open c) ↔ Ended limit ws s proof false c)
 
 -- "So wherever the whole check says "inconsistent", whatever the two texts, the table and the store it was lent, the same is
 -- true of the program it read": "no set of atoms is an answer set of that program. Nor is any set an answer set of that program
 -- with any list of further constraints appended, over old atoms or new." The program is as written, and so are the constraints.
 abbrev pub SoundWhole : Type 1
 SoundWhole =
-    (text proof : List ℕ) (t s : ℕ) (c : Counts)
-    → check text proof t s .verdict ≡ Inconsistent c
+    (limit : ℕ) (text proof : List ℕ) (t s : ℕ) (c : Counts)
+    → checkWithin limit text proof t s .verdict ≡ Inconsistent c
     → (ws : List InputRule) × (readText t text ≡ program ws) × NoneAsWritten ws
 
--- Demand 2 of the function `check_texts`, by its contract, whatever the two texts, the table and the store that it is lent: once the
+-- Demand 2 of the functions `check_texts` and `check_long`, by their contracts, whatever the texts, the table and the store that are lent: once the
 -- program is read, it answers "inconsistent" exactly when the steps form such a proof, and "open" exactly when every step is good but
 -- the empty nogood does not stand after the last.
 abbrev pub ServiceExact : Type 0
 ServiceExact =
-    (text proof : List ℕ) (table store table′ store′ : List ℤ) (r : Verdict) → CheckedTexts text proof table store table′ store′ r
+    (limit : ℕ) (text proof : List ℕ) (table store table′ store′ : List ℤ) (r : Verdict)
+    → CheckedWithin limit text proof table store table′ store′ r
     → (ws : List InputRule) → readText (length table) text ≡ program ws → (c : Counts)
-    → ((r ≡ Inconsistent c) ↔ Ended ws (length store) proof true c) × ((r ≡ Open c) ↔ Ended ws (length store) proof false c)
+    → ((r ≡ Inconsistent c) ↔ Ended limit ws (length store) proof true c) × ((r ≡ Open c) ↔ Ended limit ws (length store) proof false c)
 
--- Demand 3 of the function `check_texts`, by its contract, whatever the two texts, the table and the store that it is lent: where it
--- answers "inconsistent", no set is an answer set of the program that it read, nor of that program with any further constraints.
+-- Demand 3 of the functions `check_texts` and `check_long`, by their contracts, whatever the texts, the table and the store that are lent:
+-- where "inconsistent" is answered, no set is an answer set of the program that it read, nor of that program with any further constraints.
 abbrev pub ServiceSound : Type 1
 ServiceSound =
-    (text proof : List ℕ) (table store table′ store′ : List ℤ) (c : Counts)
-    → CheckedTexts text proof table store table′ store′ (Inconsistent c)
+    (limit : ℕ) (text proof : List ℕ) (table store table′ store′ : List ℤ) (c : Counts)
+    → CheckedWithin limit text proof table store table′ store′ (Inconsistent c)
     → (ws : List InputRule) × (readText (length table) text ≡ program ws) × NoneAsWritten ws
+
+-- A proof within two limits gets the same answer and leaves the same words under both: on proof texts of at most 65,535 bytes
+-- `check_texts` and `check_long` say the same.
+abbrev pub SameWithin : Type 0
+SameWithin =
+    (limit other : ℕ) (text proof : List ℕ) (t s : ℕ) → length proof ≤ limit → length proof ≤ other
+    → checkWithin limit text proof t s ≡ checkWithin other text proof t s
 
 -- Origins. N is the program's largest atom, here and below.
 
@@ -113,11 +120,12 @@ Rising m (e ∷ stored) = (m ≤ e .origin) × Rising (e .origin) stored
 abbrev pub OriginsRise : Type 0
 OriginsRise = AfterSteps (λ n z stored. Rising 1 stored)
 
--- The store that the function `check_texts` leaves, by its contract, where it answers "inconsistent" or "open": the words of stored
+-- The store that `check_texts` and `check_long` leave, by their contracts, where the answer is "inconsistent" or "open": the words of stored
 -- nogoods, of which as many are live as it tells, with origins that rise from 1 to no more than the steps that it tells.
 abbrev pub OriginsService : Type 0
 OriginsService =
-    (text proof : List ℕ) (table store table′ store′ : List ℤ) (r : Verdict) → CheckedTexts text proof table store table′ store′ r
+    (limit : ℕ) (text proof : List ℕ) (table store table′ store′ : List ℤ) (r : Verdict)
+    → CheckedWithin limit text proof table store table′ store′ r
     → (c : Counts) → (r ≡ Inconsistent c) ⊎ (r ≡ Open c)
     → (stored : List Stored) × (store′ ≡ storeWords (length store) stored) × (length (live stored) ≡ c .nogoods)
     × Bounded (c .steps) stored × Rising 1 stored
@@ -161,9 +169,9 @@ SameLive =
 -- Verdict, counts and refusals are those of the earlier store. "Question 34 still counts live words only."
 abbrev pub SameCourse : Type 0
 SameCourse =
-    (t size : ℕ) (ws : List InputRule) (proof : List ℕ)
-    → judged t size ws (course (atoms ws) (expand ws) size proof) .verdict
-    ≡ judged t size ws (promptRead (atoms ws) (expand ws) size (stepsOf proof)) .verdict
+    (limit t size : ℕ) (ws : List InputRule) (proof : List ℕ)
+    → judged t size ws (courseWithin limit (atoms ws) (expand ws) size proof) .verdict
+    ≡ judged t size ws (promptRead (atoms ws) (expand ws) size (stepsWithin limit proof)) .verdict
 
 -- j is the place of an origin word of what is stored
 abbrev pub OriginPlace : List Stored → (j : ℕ) → Type 0

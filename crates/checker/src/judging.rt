@@ -4,14 +4,15 @@ ghost use mathlib.Core.List.{List};
 ghost use lib.IntN.{pos};
 ghost use Prim.Native.Nat.{ℕ, _≤_};
 ghost use lib.ListN.{length, replicate};
-ghost use Rattle.words.specs.Limits.{mostHeld};
+ghost use Rattle.words.specs.Limits.{longest, widest, mostHeld};
 ghost use Rattle.words.specs.Lists.{any};
 ghost use Rattle.aspif.specs.Rules.{Rule, InputRule, isEmpty, tableWords};
 ghost use Rattle.aspif.specs.Reading.{program};
 ghost use Rattle.derivation.specs.States.{isAtom};
 ghost use Rattle.nogoods.specs.Store.{Stored, live};
+ghost use Rattle.nogoods.specs.Index.{BlankIndex};
 ghost use Rattle.nogoods.specs.Keeps.{Holds};
-ghost use Rattle.runs.specs.Course.{Course, course, endsEmpty, isAccepted};
+ghost use Rattle.runs.specs.Course.{Course, courseWithin, endsEmpty, isAccepted};
 ghost use Rattle.checker.specs.Check.{isInconsistent, saying, judgedReading};
 ghost use Rattle.steps.specs.Held.{Program};
 ghost use Rattle.runs.specs.Held.{Ran};
@@ -54,8 +55,8 @@ fn conclude(store: &[i32], used: usize, atoms: usize, rules: usize, steps: usize
 // The lines that came to this end with the empty nogood live.
 pub fn ends_empty(run: Run, store: &[i32]) -> bool
     requires { ⌜ ((c : Course) × Ran (now store) c run) ⌝ }
-    ensures { λ r. ⌜ ((N : ℕ) (P : List Rule) (size : ℕ) (text : List ℕ) → Ran (now (store .entry)) (course N P size text) run
-        → r ≡ endsEmpty (course N P size text)) ⌝ }
+    ensures { λ r. ⌜ ((limit N : ℕ) (P : List Rule) (size : ℕ) (text : List ℕ) → Ran (now (store .entry)) (courseWithin limit N P size text) run
+        → r ≡ endsEmpty (courseWithin limit N P size text)) ⌝ }
 {
     match run {
         Run::Stopped(_) => false,
@@ -105,7 +106,44 @@ pub fn is_atom(atoms: usize, v: usize) -> bool
     (1 <= v) & (v <= atoms)
 }
 
-// The proof against a program that was read into the table. The store is 0 throughout.
+// The proof against a program that was read into the table, where question 21 is put with so many bytes as the most. The store is 0
+// throughout, and the index beside it is lent.
+pub fn check_within(
+    limit: usize,
+    proof: &[u8],
+    table: &mut [i32],
+    atoms: usize,
+    rules: usize,
+    store: &mut [i32],
+    index: &mut [u32],
+) -> Verdict
+    requires limit { ⌜ limit ≤ widest ⌝ }
+    requires program { ⌜ ((ws : List InputRule) × Program (now table) rules atoms ws) × (rules ≤ mostHeld) ⌝ }
+    requires empty { ⌜ now store ≡ replicate (length (now store)) (pos 0) ⌝ }
+    requires cells { ⌜ BlankIndex (now index) ⌝ }
+    ensures { λ r. ⌜ ((ws : List InputRule) → Program (now (table .entry)) rules atoms ws
+        → now (table .entry) ≡ tableWords (length (now (table .entry))) ws
+        → record { verdict = r; table = now (table .exit); store = now (store .exit) }
+        ≡ judgedReading limit (length (now (table .entry))) (length (now (store .entry))) (now (proof .entry)) (program ws)) ⌝ }
+{
+    if limit < proof.len() {
+        return refuse(
+            table,
+            store,
+            ProofRefusal {
+                number: 21,
+                step: 0,
+            },
+        );
+    }
+    let run = runs::run_long(proof, table, rules, atoms, store, index);
+    match run {
+        Run::Stopped(refusal) => refuse(table, store, refusal),
+        Run::Through { steps, used } => conclude(store, used, atoms, rules, steps),
+    }
+}
+
+// The same by document 01's limit, with nothing lent for the index.
 pub fn check_proof(
     proof: &[u8],
     table: &mut [i32],
@@ -118,21 +156,8 @@ pub fn check_proof(
     ensures { λ r. ⌜ ((ws : List InputRule) → Program (now (table .entry)) rules atoms ws
         → now (table .entry) ≡ tableWords (length (now (table .entry))) ws
         → record { verdict = r; table = now (table .exit); store = now (store .exit) }
-        ≡ judgedReading (length (now (table .entry))) (length (now (store .entry))) (now (proof .entry)) (program ws)) ⌝ }
+        ≡ judgedReading longest (length (now (table .entry))) (length (now (store .entry))) (now (proof .entry)) (program ws)) ⌝ }
 {
-    if words::LONGEST < proof.len() {
-        return refuse(
-            table,
-            store,
-            ProofRefusal {
-                number: 21,
-                step: 0,
-            },
-        );
-    }
-    let run = runs::run_proof(proof, table, rules, atoms, store);
-    match run {
-        Run::Stopped(refusal) => refuse(table, store, refusal),
-        Run::Through { steps, used } => conclude(store, used, atoms, rules, steps),
-    }
+    let mut none = [0u32; 1];
+    check_within(words::LONGEST, proof, table, atoms, rules, store, &mut none)
 }

@@ -1,9 +1,9 @@
-// The whole check over two texts: document 01, from 'The proof's seven letters' on. The public service is `check_texts`; what it
-// means is specs/Check.antt. The line that says a verdict is written by `report`.
+// The whole check over two texts: document 01, from 'The proof's seven letters' on. The public services are `check_texts`, and
+// `check_long` for longer proofs; what they mean is specs/Check.antt. The line that says a verdict is written by `report`.
 pub mod judging;
 pub mod report;
 
-ghost use Rattle.checker.specs.Check.{CheckedTexts};
+ghost use Rattle.checker.specs.Check.{CheckedTexts, CheckedLong};
 use aspif::ProgramReading;
 use aspif::ProgramRefusal;
 use runs::ProofRefusal;
@@ -42,5 +42,38 @@ pub fn check_texts(program: &[u8], proof: &[u8], table: &mut [i32], store: &mut 
             rules,
             store,
         ),
+    }
+}
+
+// The same for a proof text of up to 2,147,483,647 bytes. The memory is for the index beside the store: of any length, which decides time
+// and no answer, and 0 throughout afterwards.
+pub fn check_long(
+    program: &[u8],
+    proof: &[u8],
+    table: &mut [i32],
+    store: &mut [i32],
+    memory: &mut [u32],
+) -> Verdict
+    ensures { λ r. ⌜ CheckedLong (now (program .entry)) (now (proof .entry)) (now (table .entry)) (now (store .entry))
+        (now (table .exit)) (now (store .exit)) (now (memory .entry)) (now (memory .exit)) r ⌝ }
+{
+    words::zero_all(store);
+    words::zero_cells(memory);
+    let read = aspif::read_program(program, table);
+    match read {
+        ProgramReading::Refused(refusal) => Verdict::RefusedProgram(refusal),
+        ProgramReading::Read { atoms, rules } => {
+            let verdict = judging::check_within(
+                words::WIDEST,
+                proof,
+                table,
+                atoms,
+                rules,
+                store,
+                memory,
+            );
+            words::zero_cells(memory);
+            verdict
+        }
     }
 }

@@ -21,7 +21,7 @@ use Rattle.text.proofs.Lines.{bounds-of}
 use Rattle.text.specs.declared.Letter.{Letter}
 use Rattle.text.specs.declared.Class.{Class}
 use Rattle.text.specs.declared.Class.the-variants.{Newline, Space, Minus, Digit, Step, Other}
-use Rattle.drupe.specs.Lines.{signsOf, isPositive, signed, lineRefusal, allPassed, LineAt, end, refused, line, refusedOr, lineAsked, ofNumbers, isSpace, afterLetter, afterFirst, lineFrom, lineAt, lineAnswer, numbersOf, AnswerBounds, ProofLineRead}
+use Rattle.drupe.specs.Lines.{signsOf, isPositive, signed, lineRefusal, allPassed, LineAt, end, refused, line, refusedOr, lineAsked, ofNumbers, isSpace, afterLetter, afterFirst, lineFrom, lineAt, lineRead, lineAnswer, numbersOf, AnswerBounds, ProofLineRead}
 use Rattle.drupe.specs.declared.Signs.{Signs}
 use Rattle.drupe.specs.declared.LineAnswer.{LineAnswer}
 use Rattle.drupe.specs.declared.LineReading.{LineReading}
@@ -121,20 +121,23 @@ line-first from (b ∷ s) k h e = rw e
 -- The position
 
 module _ (s : List ℕ) (at : ℕ) where
-  pub at-long : longest < length s → lineAt s at ≡ refused 21
-  at-long h = rw (lt-ltb longest (length s) h)
+  pub at-end : at ≡ length s → lineAt s at ≡ end
+  at-end e = rw (eq-eqb at (length s) e)
 
-  module _ (h : length s ≤ longest) where
-    pub at-end : at ≡ length s → lineAt s at ≡ end
-    at-end e = rw (le-ltb longest (length s) h, eq-eqb at (length s) e)
+  pub at-line : (at ≡ length s → ⊥) → lineAt s at ≡ lineFrom at (drop at s)
+  at-line k = rw (ne-eqb at (length s) k)
 
-    pub at-line : (at ≡ length s → ⊥) → lineAt s at ≡ lineFrom at (drop at s)
-    at-line k = rw (le-ltb longest (length s) h, ne-eqb at (length s) k)
+  pub at-past : length s < at → lineAt s at ≡ refused 22
+  at-past l =
+      let e : drop at s ≡ [] = drop-of-length-le s {i = at} (omega arith) in
+      rw (ne-eqb at (length s) (λ k. omega arith), e)
 
-    pub at-past : length s < at → lineAt s at ≡ refused 22
-    at-past l =
-        let e : drop at s ≡ [] = drop-of-length-le s {i = at} (omega arith) in
-        rw (le-ltb longest (length s) h, ne-eqb at (length s) (λ k. omega arith), e)
+  -- question 21
+  pub read-long : longest < length s → lineRead s at ≡ refused 21
+  read-long h = rw (lt-ltb longest (length s) h)
+
+  pub read-short : length s ≤ longest → lineRead s at ≡ lineAt s at
+  read-short h = rw (le-ltb longest (length s) h)
 
 -- An answered line
 
@@ -183,12 +186,11 @@ module _ (at n : ℕ) where
   line-passed (b ∷ s) e = first-passed (classOf b) (at + 1) s (omega arith) (omega arith)
 
 pub passed : (s : List ℕ) (at : ℕ) → Passed at (length s) (lineAt s at)
-passed s at = by (ltb longest (length s)) (eqb at (length s))
+passed s at = by (eqb at (length s))
   where
-    by : (t u : Bool) → Passed at (length s) (cond t (refused 21) (cond u end (lineFrom at (drop at s))))
-    by true u = tt
-    by false true = tt
-    by false false = line-passed at (length s) (drop at s) (length-drop at s)
+    by : (u : Bool) → Passed at (length s) (cond u end (lineFrom at (drop at s)))
+    by true = tt
+    by false = line-passed at (length s) (drop at s) (length-drop at s)
 
 pub passed-line : (s : List ℕ) (at : ℕ) {x : Letter} {zs : List ℤ} {next : ℕ} → lineAt s at ≡ line x zs next
     → (at < next) × (next ≤ length s) × (lineRefusal x zs ≡ none) × (has (pos 0) zs ≡ false)
@@ -210,5 +212,15 @@ within at n (line x zs next) p = (p .0, p .1, few x zs (p .2))
 pub answer-within : (s : List ℕ) (at : ℕ) {r : LineAnswer} → r ≡ lineAnswer (lineAt s at) → AnswerBounds at (length s) r
 answer-within s at e = subst (AnswerBounds at (length s)) (sym e) (within at (length s) (lineAt s at) (passed s at))
 
-pub reads-of : {s : List ℕ} {at : ℕ} {r : LineReading} → r .answer ≡ lineAnswer (lineAt s at) → r .numbers ≡ numbersOf (lineAt s at) → ProofLineRead s at r
-reads-of {s} {at} e n = record { answer = e; numbers = n; within = answer-within s at e }
+-- what `read_line` says of a text that passes 21, and of one that does not
+pub reads-of : {s : List ℕ} {at : ℕ} {r : LineReading} → length s ≤ longest → r .answer ≡ lineAnswer (lineAt s at) → r .numbers ≡ numbersOf (lineAt s at)
+    → ProofLineRead s at r
+reads-of {s} {at} h e n =
+    let q = sym (read-short s at h) in
+    record { answer = e ∙ ap lineAnswer q; numbers = n ∙ ap numbersOf q; within = answer-within s at e }
+
+pub reads-long : {s : List ℕ} {at : ℕ} {r : LineReading} → longest < length s → r .answer ≡ lineAnswer (refused 21) → r .numbers ≡ numbersOf (refused 21)
+    → ProofLineRead s at r
+reads-long {s} {at} h e n =
+    let q = sym (read-long s at h) in
+    record { answer = e ∙ ap lineAnswer q; numbers = n ∙ ap numbersOf q; within = subst (AnswerBounds at (length s)) (sym e) tt }

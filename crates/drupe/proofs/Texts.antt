@@ -12,7 +12,6 @@ use lib.Dec.{ltb, eqb}
 use lib.IntN.{ℤ, pos}
 use lib.ListN.{length, take, drop, length-append, length-drop, drop-of-length-le}
 use lib.Seq.{take-append-seam, drop-append-seam, drop-drop}
-use Rattle.words.specs.Limits.{longest}
 use Rattle.words.specs.Lists.{_∈_}
 use Rattle.words.specs.Literals.{same, has}
 use Rattle.words.proofs.Lists.{zero-one, if-true, same-test, and-right, or-false-left, or-false-right}
@@ -28,7 +27,7 @@ use Rattle.text.specs.declared.Class.{Class}
 use Rattle.text.specs.declared.Class.the-variants as Class
 use Rattle.drupe.specs.Lines.{lineRefusal, LineAt, end, line, refusedOr, ofNumbers, isSpace, afterLetter, afterFirst, lineFrom, lineAt}
 use Rattle.drupe.specs.Lines as Lines
-use Rattle.drupe.specs.Texts.{Step, stepText, textOf, StepsRead, steps, refused, after, stepsAt, stepsOf, LinePasses, Spelled, ReadBack, StepsExact, Stops, RefusedExact}
+use Rattle.drupe.specs.Texts.{Step, stepText, textOf, StepsRead, steps, refused, after, stepsAt, stepsWithin, LinePasses, Spelled, ReadBack, StepsExact, Stops, RefusedExact, SameWithin}
 use Rattle.drupe.proofs.Lines.{at-end, at-line, passed-line}
 
 -- The closing 0
@@ -168,20 +167,18 @@ same-line e = cc
 
 module _ (text : List ℕ) (at : ℕ) where
   end-is : lineAt text at ≡ end → at ≡ length text
-  end-is e = by (ltb longest (length text)) (eqb at (length text)) refl e
+  end-is e = by (eqb at (length text)) refl e
     where
-      by : (t u : Bool) → eqb at (length text) ≡ u → cond t (Lines.refused 21) (cond u end (lineFrom at (drop at text))) ≡ end → at ≡ length text
-      by true u q e = absurd (zero-one (cc))
-      by false true q e = eqb-true at (length text) q
-      by false false q e = absurd (subst (Spelt (drop at text)) e (line-spelt at (drop at text)))
+      by : (u : Bool) → eqb at (length text) ≡ u → cond u end (lineFrom at (drop at text)) ≡ end → at ≡ length text
+      by true q e = eqb-true at (length text) q
+      by false q e = absurd (subst (Spelt (drop at text)) e (line-spelt at (drop at text)))
 
   line-is : {x : Letter} {zs : List ℤ} {next : ℕ} → lineAt text at ≡ line x zs next → lineFrom at (drop at text) ≡ line x zs next
-  line-is {x} {zs} {next} e = by (ltb longest (length text)) (eqb at (length text)) e
+  line-is {x} {zs} {next} e = by (eqb at (length text)) e
     where
-      by : (t u : Bool) → cond t (Lines.refused 21) (cond u end (lineFrom at (drop at text))) ≡ line x zs next → lineFrom at (drop at text) ≡ line x zs next
-      by true u e = absurd (zero-one (cc))
-      by false true e = absurd (zero-one (cc))
-      by false false e = e
+      by : (u : Bool) → cond u end (lineFrom at (drop at text)) ≡ line x zs next → lineFrom at (drop at text) ≡ line x zs next
+      by true e = absurd (zero-one (cc))
+      by false e = e
 
   dropped : (s r : List ℕ) (n : ℕ) → n ≡ at + length s → drop at text ≡ s ++ r → drop n text ≡ r
   dropped s r n e q = rw e (sym (drop-drop (length s) at text) ∙ ap (drop (length s)) q ∙ drop-append-seam s r)
@@ -230,6 +227,10 @@ behind-refused (t ∷ ts) us k n = ap (after t) (behind-refused ts us k n)
 
 -- All of them
 
+-- the steps of a text to which question 21 is not put
+abbrev pub allSteps : List ℕ → StepsRead
+allSteps text = stepsAt text (suc (length text)) 0 0
+
 module _ (text : List ℕ) where
   -- what is left of the text is the text of the steps, up to the end or to a line that is refused
   abbrev Stepped : ℕ → ℕ → StepsRead → Type 0
@@ -266,136 +267,144 @@ module _ (text : List ℕ) where
           let q = at-spelled text at e in
           on (record { letter = x; numbers = zs }) next (stepsAt text turns next (n + 1)) (u .2, u .3) (q .0) (q .1) (f next (u .1) (u .0))
 
-  module _ (short : length text ≤ longest) where
-    -- past the text of steps that pass, with enough turns left
-    pub record Past (at n at′ n′ : ℕ) (ts : List Step) (turns : ℕ) : Type 0 where
-      pub left : ℕ
-      pub enough : length text < left + at′
-      pub within : at′ ≤ length text
-      pub reads : stepsAt text turns at n ≡ behind ts (stepsAt text left at′ n′)
+  -- past the text of steps that pass, with enough turns left
+  pub record Past (at n at′ n′ : ℕ) (ts : List Step) (turns : ℕ) : Type 0 where
+    pub left : ℕ
+    pub enough : length text < left + at′
+    pub within : at′ ≤ length text
+    pub reads : stepsAt text turns at n ≡ behind ts (stepsAt text left at′ n′)
 
-    past : (ts : List Step) (turns at n : ℕ) (left : List ℕ) → AllPass ts → drop at text ≡ textOf ts ++ left → at ≤ length text → length text < turns + at
-        → Past at n (at + length (textOf ts)) (n + length ts) ts turns
-    unfolding stepsAt textOf
-    past [] turns at n left p e h l =
-        let a : at + 0 ≡ at = omega arith in
-        let b : n + 0 ≡ n = omega arith in
-        rw (a, b) (record { left = turns; enough = l; within = h; reads = refl })
-    past (t ∷ ts) zero at n left p e h l = absurd (omega arith)
-    past (t ∷ ts) (suc turns) at n left p e h l =
-        let m = length-drop at text in
-        let s = append-assoc (stepText t) (textOf ts) left in
-        let k = ap length (e ∙ s) in
-        let a = length-append (stepText t) (textOf ts ++ left) in
-        let b = some-byte t in
-        let q = at-line text at short (λ q. omega arith) ∙ ap (lineFrom at) (e ∙ s) ∙ line-back (t .letter) (t .numbers) (p t (List·Memᴰ·head refl)) at (textOf ts ++ left) in
-        let d = dropped text at (stepText t) (textOf ts ++ left) (at + length (stepText t)) refl (e ∙ s) in
-        let r = past ts turns (at + length (stepText t)) (n + 1) left (λ u i. p u (List·Memᴰ·tail i)) d (omega arith) (omega arith) in
-        let w : at + length (stepText t) + length (textOf ts) ≡ at + length (stepText t ++ textOf ts) = omega (arith, length-append (stepText t) (textOf ts)) in
-        let v : n + 1 + length ts ≡ n + suc (length ts) = omega arith in
-        let f : stepsAt text (suc turns) at n ≡ after t (stepsAt text turns (at + length (stepText t)) (n + 1)) = rw (q, stepsAt) in
-        rw (sym w, sym v) (record { left = r .left; enough = r .enough; within = r .within; reads = f ∙ ap (after t) (r .reads) })
+  past : (ts : List Step) (turns at n : ℕ) (left : List ℕ) → AllPass ts → drop at text ≡ textOf ts ++ left → at ≤ length text → length text < turns + at
+      → Past at n (at + length (textOf ts)) (n + length ts) ts turns
+  unfolding stepsAt textOf
+  past [] turns at n left p e h l =
+      let a : at + 0 ≡ at = omega arith in
+      let b : n + 0 ≡ n = omega arith in
+      rw (a, b) (record { left = turns; enough = l; within = h; reads = refl })
+  past (t ∷ ts) zero at n left p e h l = absurd (omega arith)
+  past (t ∷ ts) (suc turns) at n left p e h l =
+      let m = length-drop at text in
+      let s = append-assoc (stepText t) (textOf ts) left in
+      let k = ap length (e ∙ s) in
+      let a = length-append (stepText t) (textOf ts ++ left) in
+      let b = some-byte t in
+      let q = at-line text at (λ q. omega arith) ∙ ap (lineFrom at) (e ∙ s) ∙ line-back (t .letter) (t .numbers) (p t (List·Memᴰ·head refl)) at (textOf ts ++ left) in
+      let d = dropped text at (stepText t) (textOf ts ++ left) (at + length (stepText t)) refl (e ∙ s) in
+      let r = past ts turns (at + length (stepText t)) (n + 1) left (λ u i. p u (List·Memᴰ·tail i)) d (omega arith) (omega arith) in
+      let w : at + length (stepText t) + length (textOf ts) ≡ at + length (stepText t ++ textOf ts) = omega (arith, length-append (stepText t) (textOf ts)) in
+      let v : n + 1 + length ts ≡ n + suc (length ts) = omega arith in
+      let f : stepsAt text (suc turns) at n ≡ after t (stepsAt text turns (at + length (stepText t)) (n + 1)) = rw (q, stepsAt) in
+      rw (sym w, sym v) (record { left = r .left; enough = r .enough; within = r .within; reads = f ∙ ap (after t) (r .reads) })
 
-    -- The whole text, which begins with the text of steps that pass; the position after them
-    module _ (ts : List Step) (p : AllPass ts) (left : List ℕ) (e : text ≡ textOf ts ++ left) where
-      whole : Past 0 0 (length (textOf ts)) (length ts) ts (suc (length text))
-      whole =
-          let a : 0 + length (textOf ts) ≡ length (textOf ts) = omega arith in
-          let b : 0 + length ts ≡ length ts = omega arith in
-          rw (a, b) at (past ts (suc (length text)) 0 0 left p e (omega arith) (omega arith))
+  -- The whole text, which begins with the text of steps that pass; the position after them
+  module _ (ts : List Step) (p : AllPass ts) (left : List ℕ) (e : text ≡ textOf ts ++ left) where
+    whole : Past 0 0 (length (textOf ts)) (length ts) ts (suc (length text))
+    whole =
+        let a : 0 + length (textOf ts) ≡ length (textOf ts) = omega arith in
+        let b : 0 + length ts ≡ length ts = omega arith in
+        rw (a, b) at (past ts (suc (length text)) 0 0 left p e (omega arith) (omega arith))
 
-      -- with a turn that is left
-      turn : (o : StepsRead) → ((turns : ℕ) → stepsAt text (suc turns) (length (textOf ts)) (length ts) ≡ o) → stepsOf text ≡ behind ts o
-      unfolding stepsOf
-      turn o f = rw (le-ltb longest (length text) short) (whole .reads ∙ ap (behind ts) (by (whole .left) (whole .enough)))
-        where
-          by : (turns : ℕ) → length text < turns + length (textOf ts) → stepsAt text turns (length (textOf ts)) (length ts) ≡ o
-          by zero l = absurd (let h = whole .within in omega arith)
-          by (suc turns) l = f turns
+    -- with a turn that is left
+    turn : (o : StepsRead) → ((turns : ℕ) → stepsAt text (suc turns) (length (textOf ts)) (length ts) ≡ o) → allSteps text ≡ behind ts o
+    turn o f = whole .reads ∙ ap (behind ts) (by (whole .left) (whole .enough))
+      where
+        by : (turns : ℕ) → length text < turns + length (textOf ts) → stepsAt text turns (length (textOf ts)) (length ts) ≡ o
+        by zero l = absurd (let h = whole .within in omega arith)
+        by (suc turns) l = f turns
 
-      pub whole-end : lineAt text (length (textOf ts)) ≡ end → stepsOf text ≡ steps ts
-      unfolding stepsAt
-      whole-end q = turn (steps []) (λ turns. rw (q, stepsAt)) ∙ behind-steps ts [] ∙ ap steps (append-nil ts)
+    pub whole-end : lineAt text (length (textOf ts)) ≡ end → allSteps text ≡ steps ts
+    unfolding stepsAt
+    whole-end q = turn (steps []) (λ turns. rw (q, stepsAt)) ∙ behind-steps ts [] ∙ ap steps (append-nil ts)
 
-      pub whole-refused : (k : ℕ) → lineAt text (length (textOf ts)) ≡ Lines.refused k → stepsOf text ≡ refused ts k (length ts + 1)
-      unfolding stepsAt
-      whole-refused k q =
-          turn (refused [] k (length ts + 1)) (λ turns. rw (q, stepsAt)) ∙ behind-refused ts [] k (length ts + 1) ∙ ap (λ (l : List Step). refused l k (length ts + 1)) (append-nil ts)
+    pub whole-refused : (k : ℕ) → lineAt text (length (textOf ts)) ≡ Lines.refused k → allSteps text ≡ refused ts k (length ts + 1)
+    unfolding stepsAt
+    whole-refused k q =
+        turn (refused [] k (length ts + 1)) (λ turns. rw (q, stepsAt)) ∙ behind-refused ts [] k (length ts + 1) ∙ ap (λ (l : List Step). refused l k (length ts + 1)) (append-nil ts)
 
--- what a text that is short enough comes to
-short-read : (text : List ℕ) (o : StepsRead) → stepsOf text ≡ o → length text ≤ longest → Stepped text 0 0 o
-unfolding stepsOf
-short-read text o e h = subst (Stepped text 0 0) (rw (le-ltb longest (length text) h) at e) (stepped text (suc (length text)) 0 0 (omega arith) (omega arith))
+-- Question 21
 
-long-read : (text : List ℕ) → longest < length text → stepsOf text ≡ refused [] 21 0
-unfolding stepsOf
-long-read text h = rw (lt-ltb longest (length text) h)
+module _ (limit : ℕ) (text : List ℕ) where
+  pub short-steps : length text ≤ limit → stepsWithin limit text ≡ allSteps text
+  unfolding stepsWithin
+  short-steps h = rw (le-ltb limit (length text) h)
+
+  pub long-steps : limit < length text → stepsWithin limit text ≡ refused [] 21 0
+  unfolding stepsWithin
+  long-steps h = rw (lt-ltb limit (length text) h)
+
+  -- what a text that is short enough comes to
+  short-read : (o : StepsRead) → stepsWithin limit text ≡ o → length text ≤ limit → Stepped text 0 0 o
+  short-read o e h = subst (Stepped text 0 0) (sym (short-steps h) ∙ e) (stepped text (suc (length text)) 0 0 (omega arith) (omega arith))
+
+pub same-within : SameWithin
+same-within text limit other h k = short-steps limit text h ∙ sym (short-steps other text k)
 
 pub steps-exact : StepsExact
-steps-exact text ts = (to, from)
+steps-exact limit text ts = (to, from)
   where
     Read : Type 0
-    Read = (text ≡ textOf ts) × (length text ≤ longest) × AllPass ts
+    Read = (text ≡ textOf ts) × (length text ≤ limit) × AllPass ts
 
-    to : stepsOf text ≡ steps ts → Read
-    to e = by (ltb longest (length text)) refl
+    to : stepsWithin limit text ≡ steps ts → Read
+    to e = by (ltb limit (length text)) refl
       where
-        by : (b : Bool) → ltb longest (length text) ≡ b → Read
-        by true q = absurd (let f = sym (long-read text (ltb-true longest (length text) q)) ∙ e in zero-one (cc))
-        by false q = let h = ltb-false longest (length text) q in let r = short-read text (steps ts) e h in (r .0, h, r .1)
+        by : (b : Bool) → ltb limit (length text) ≡ b → Read
+        by true q = absurd (let f = sym (long-steps limit text (ltb-true limit (length text) q)) ∙ e in zero-one (cc))
+        by false q = let h = ltb-false limit (length text) q in let r = short-read limit text (steps ts) e h in (r .0, h, r .1)
 
-    from : Read → stepsOf text ≡ steps ts
-    from r = whole-end text (r .1) ts (r .2) [] (r .0 ∙ sym (append-nil (textOf ts))) (at-end text (length (textOf ts)) (r .1) (ap length (sym (r .0))))
+    from : Read → stepsWithin limit text ≡ steps ts
+    from r =
+        short-steps limit text (r .1)
+        ∙ whole-end text ts (r .2) [] (r .0 ∙ sym (append-nil (textOf ts))) (at-end text (length (textOf ts)) (ap length (sym (r .0))))
 
 pub refused-exact : RefusedExact
-refused-exact text before k n = (to, from)
+refused-exact limit text before k n = (to, from)
   where
     Long : Type 0
-    Long = (longest < length text) × ((before ≡ []) × ((k ≡ 21) × (n ≡ 0)))
+    Long = (limit < length text) × ((before ≡ []) × ((k ≡ 21) × (n ≡ 0)))
 
     Short : Type 0
-    Short = (length text ≤ longest) × ((n ≡ length before + 1) × Stops text before k)
+    Short = (length text ≤ limit) × ((n ≡ length before + 1) × Stops text before k)
 
     same : refused [] 21 0 ≡ refused before k n → (before ≡ []) × ((k ≡ 21) × (n ≡ 0))
     same e = (cc, (cc, cc))
 
-    to : stepsOf text ≡ refused before k n → Long ⊎ Short
-    to e = by (ltb longest (length text)) refl
+    to : stepsWithin limit text ≡ refused before k n → Long ⊎ Short
+    to e = by (ltb limit (length text)) refl
       where
-        by : (b : Bool) → ltb longest (length text) ≡ b → Long ⊎ Short
-        by true q = let h = ltb-true longest (length text) q in inl (h, same (sym (long-read text h) ∙ e))
+        by : (b : Bool) → ltb limit (length text) ≡ b → Long ⊎ Short
+        by true q = let h = ltb-true limit (length text) q in inl (h, same (sym (long-steps limit text h) ∙ e))
         by false q =
-            let h = ltb-false longest (length text) q in
-            let r = short-read text (refused before k n) e h in
+            let h = ltb-false limit (length text) q in
+            let r = short-read limit text (refused before k n) e h in
             let g = r .1 .1 in
             let a : 0 + length (textOf before) ≡ length (textOf before) = omega arith in
             inr (h, (omega (arith, g .1 .1), (r .0, (r .1 .0, (g .0, rw a at (g .1 .0))))))
 
-    from : Long ⊎ Short → stepsOf text ≡ refused before k n
-    from (inl l) = long-read text (l .0) ∙ rw (l .1 .0, l .1 .1 .0, l .1 .1 .1)
+    from : Long ⊎ Short → stepsWithin limit text ≡ refused before k n
+    from (inl l) = long-steps limit text (l .0) ∙ rw (l .1 .0, l .1 .1 .0, l .1 .1 .1)
     from (inr s) =
         let r = s .1 .1 in
-        whole-refused text (s .0) before (r .0) (r .1 .0) (r .1 .1 .0) k (r .1 .1 .1) ∙ ap (refused before k) (sym (s .1 .0))
+        short-steps limit text (s .0) ∙ whole-refused text before (r .0) (r .1 .0) (r .1 .1 .0) k (r .1 .1 .1) ∙ ap (refused before k) (sym (s .1 .0))
 
 pub spelled : Spelled
-spelled text ts e = steps-exact text ts .0 e .0
+spelled limit text ts e = steps-exact limit text ts .0 e .0
 
 pub read-back : ReadBack
-read-back ts p h = steps-exact (textOf ts) ts .1 (refl, h, p)
+read-back limit ts p h = steps-exact limit (textOf ts) ts .1 (refl, h, p)
 
 -- A loop that reads a text line by line
 
 -- After n steps it stands at a position; those that it has read pass, and their text is what it has passed.
 pub record Walked (text : List ℕ) (at n : ℕ) (before : List Step) : Type 0 where
-  pub short : length text ≤ longest
   pub passes : AllPass before
   pub place : at ≡ length (textOf before)
   pub spelled : text ≡ textOf before ++ drop at text
   pub count : n ≡ length before
 
-pub walked-start : {text : List ℕ} → length text ≤ longest → Walked text 0 0 []
+pub walked-start : {text : List ℕ} → Walked text 0 0 []
 unfolding textOf
-walked-start h = record { short = h; passes = λ t m. elim m [ ]; place = refl; spelled = refl; count = refl }
+walked-start = record { passes = λ t m. elim m [ ]; place = refl; spelled = refl; count = refl }
 
 module _ {text : List ℕ} {at n : ℕ} {before : List Step} (w : Walked text at n before) where
   pub walked-on : {x : Letter} {zs : List ℤ} {next : ℕ} → lineAt text at ≡ line x zs next → Walked text next (n + 1) (before ++ (record { letter = x; numbers = zs } ∷ []))
@@ -406,16 +415,15 @@ module _ {text : List ℕ} {at n : ℕ} {before : List Step} (w : Walked text at
       let q = at-spelled text at e in
       let one : textOf (before ++ (t ∷ [])) ≡ textOf before ++ stepText t = text-append before (t ∷ []) ∙ ap (λ (l : List ℕ). textOf before ++ l) (append-nil (stepText t)) in
       record {
-        short = w .short;
         passes = pass-append before (t ∷ []) (w .passes) (pass-one (u .2, u .3) (λ v m. elim m [ ]));
         place = rw one (omega (arith, q .1, w .place, length-append (textOf before) (stepText t)));
         spelled = rw one (w .spelled ∙ ap (λ (l : List ℕ). textOf before ++ l) (q .0) ∙ sym (append-assoc (textOf before) (stepText t) (drop next text)));
         count = omega (arith, w .count, length-append before (t ∷ []));
       }
 
-  pub walked-end : lineAt text at ≡ end → stepsOf text ≡ steps before
-  walked-end e = whole-end text (w .short) before (w .passes) (drop at text) (w .spelled) (rw (w .place) at e)
+  pub walked-end : lineAt text at ≡ end → allSteps text ≡ steps before
+  walked-end e = whole-end text before (w .passes) (drop at text) (w .spelled) (rw (w .place) at e)
 
-  pub walked-refused : (k : ℕ) → lineAt text at ≡ Lines.refused k → stepsOf text ≡ refused before k (n + 1)
+  pub walked-refused : (k : ℕ) → lineAt text at ≡ Lines.refused k → allSteps text ≡ refused before k (n + 1)
   walked-refused k e =
-      whole-refused text (w .short) before (w .passes) (drop at text) (w .spelled) k (rw (w .place) at e) ∙ ap (λ m. refused before k (m + 1)) (sym (w .count))
+      whole-refused text before (w .passes) (drop at text) (w .spelled) k (rw (w .place) at e) ∙ ap (λ m. refused before k (m + 1)) (sym (w .count))

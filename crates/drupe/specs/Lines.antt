@@ -115,11 +115,14 @@ abbrev pub lineFrom : ℕ → List ℕ → LineAt
 lineFrom from [] = refused 22
 lineFrom from (b ∷ s) = afterFirst (classOf b) (from + 1) s
 
--- "At a position equal to the text's length it answers "end" once 21 is passed; a position past the length is 22."
+-- What stands at a position of a text, however long the text is: "At a position equal to the text's length it answers "end" ..; a
+-- position past the length is 22."
 abbrev pub lineAt : List ℕ → ℕ → LineAt
-lineAt text at =
-    cond (ltb longest (length text)) (refused 21)
-    (cond (eqb at (length text)) end (lineFrom at (drop at text)))
+lineAt text at = cond (eqb at (length text)) end (lineFrom at (drop at text))
+
+-- "puts questions 21 to 25 to the line that starts there": "At most 65,535 bytes? 21.", then what stands at the position
+abbrev pub lineRead : List ℕ → ℕ → LineAt
+lineRead text at = cond (ltb longest (length text)) (refused 21) (lineAt text at)
 
 -- What `read_line` answers
 
@@ -142,8 +145,8 @@ AnswerBounds at n (Refused k) = Unit {0}
 AnswerBounds at n (Answered x count next) = (at < next) × (next ≤ n) × (count ≤ mostNumbers)
 
 pub record ProofLineRead (s : List ℕ) (at : ℕ) (r : LineReading) : Type 0 where
-  pub answer : r .answer ≡ lineAnswer (lineAt s at)
-  pub numbers : r .numbers ≡ numbersOf (lineAt s at)
+  pub answer : r .answer ≡ lineAnswer (lineRead s at)
+  pub numbers : r .numbers ≡ numbersOf (lineRead s at)
   pub within : AnswerBounds at (length s) (r .answer)
 
 -- where a reader stands that was at a position and answered: after a line's newline, else where it was

@@ -58,11 +58,15 @@ stepsAt text (suc turns) at n =
       | line x zs next ↦ after (record { letter = x; numbers = zs }) (stepsAt text turns next (n + 1))
     ]
 
--- "At most 65,535 bytes? 21." The whole text is at fault, so the step is 0.
-unfoldable pub stepsOf : List ℕ → StepsRead
-stepsOf text = cond (ltb longest (length text)) (refused [] 21 0) (stepsAt text (suc (length text)) 0 0)
+-- Question 21 with so many bytes as the most, then the steps. The whole text is at fault, so the step is 0.
+unfoldable pub stepsWithin : (limit : ℕ) → List ℕ → StepsRead
+stepsWithin limit text = cond (ltb limit (length text)) (refused [] 21 0) (stepsAt text (suc (length text)) 0 0)
 
--- Claims
+-- "At most 65,535 bytes? 21."
+abbrev pub stepsOf : List ℕ → StepsRead
+stepsOf text = stepsWithin longest text
+
+-- Claims, over every limit
 
 -- a step passes questions 22 to 25
 abbrev pub LinePasses : Step → Type 0
@@ -70,17 +74,19 @@ LinePasses t = (lineRefusal (t .letter) (t .numbers) ≡ none) × (has (pos 0) (
 
 -- one spelling: a proof text that passes 21 to 25 is the text of its steps
 abbrev pub Spelled : Type 0
-Spelled = (text : List ℕ) (ts : List Step) → stepsOf text ≡ steps ts → text ≡ textOf ts
+Spelled = (limit : ℕ) (text : List ℕ) (ts : List Step) → stepsWithin limit text ≡ steps ts → text ≡ textOf ts
 
 -- steps that pass 22 to 25 are read back from their text, where it is short enough
 abbrev pub ReadBack : Type 0
-ReadBack = (ts : List Step) → ((t : Step) → t ∈ ts → LinePasses t) → length (textOf ts) ≤ longest → stepsOf (textOf ts) ≡ steps ts
+ReadBack =
+    (limit : ℕ) (ts : List Step) → ((t : Step) → t ∈ ts → LinePasses t) → length (textOf ts) ≤ limit
+    → stepsWithin limit (textOf ts) ≡ steps ts
 
 -- both, with what a text that is read passes: no turns and no positions are left
 abbrev pub StepsExact : Type 0
 StepsExact =
-    (text : List ℕ) (ts : List Step)
-    → (stepsOf text ≡ steps ts) ↔ ((text ≡ textOf ts) × (length text ≤ longest) × ((t : Step) → t ∈ ts → LinePasses t))
+    (limit : ℕ) (text : List ℕ) (ts : List Step)
+    → (stepsWithin limit text ≡ steps ts) ↔ ((text ≡ textOf ts) × (length text ≤ limit) × ((t : Step) → t ∈ ts → LinePasses t))
 
 -- the text goes on after the text of steps that pass with a line that is refused with k
 abbrev pub Stops : List ℕ → List Step → ℕ → Type 0
@@ -92,7 +98,12 @@ Stops text before k =
 -- answered no
 abbrev pub RefusedExact : Type 0
 RefusedExact =
-    (text : List ℕ) (before : List Step) (k n : ℕ)
-    → (stepsOf text ≡ refused before k n)
-    ↔ (((longest < length text) × ((before ≡ []) × ((k ≡ 21) × (n ≡ 0))))
-    ⊎ ((length text ≤ longest) × ((n ≡ length before + 1) × Stops text before k)))
+    (limit : ℕ) (text : List ℕ) (before : List Step) (k n : ℕ)
+    → (stepsWithin limit text ≡ refused before k n)
+    ↔ (((limit < length text) × ((before ≡ []) × ((k ≡ 21) × (n ≡ 0))))
+    ⊎ ((length text ≤ limit) × ((n ≡ length before + 1) × Stops text before k)))
+
+-- a text that is not too long for either of two limits has the same steps under both
+abbrev pub SameWithin : Type 0
+SameWithin =
+    (text : List ℕ) (limit other : ℕ) → length text ≤ limit → length text ≤ other → stepsWithin limit text ≡ stepsWithin other text

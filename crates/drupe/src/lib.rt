@@ -12,7 +12,7 @@ ghost use mathlib.Core.Bool.{false};
 ghost use Prim.Native.Nat.{_+_, _<_, _≤_};
 ghost use lib.IntN.{pos};
 ghost use lib.ListN.{length, replicate};
-ghost use Rattle.words.specs.Limits.{longest, mostNumbers};
+ghost use Rattle.words.specs.Limits.{largestSize, mostNumbers};
 ghost use Rattle.text.specs.Bytes.{classOf};
 ghost use Rattle.text.specs.Classes.{byteClasses};
 ghost use Rattle.text.specs.Line.{anyOutside, lineOf};
@@ -161,7 +161,7 @@ fn read_numbers(
     numbers: &mut [i32],
     sorted: &mut [i32],
 ) -> LineAnswer
-    requires { ⌜ from + length (now text) ≤ longest ⌝ }
+    requires { ⌜ from + length (now text) ≤ largestSize ⌝ }
     requires { ⌜ now classes ≡ byteClasses ⌝ }
     requires rows { ⌜ (length (now numbers) ≡ mostNumbers) × (length (now sorted) ≡ mostNumbers) ⌝ }
     ensures { λ r. ⌜ LineInto (ofNumbers letter from (lineOf (now (text .entry)))) (now (numbers .entry)) (now (numbers .exit))
@@ -220,7 +220,7 @@ fn read_space(
     numbers: &mut [i32],
     sorted: &mut [i32],
 ) -> LineAnswer
-    requires { ⌜ from + length (now text) ≤ longest ⌝ }
+    requires { ⌜ from + length (now text) ≤ largestSize ⌝ }
     requires { ⌜ now classes ≡ byteClasses ⌝ }
     requires rows { ⌜ (length (now numbers) ≡ mostNumbers) × (length (now sorted) ≡ mostNumbers) ⌝ }
     ensures { λ r. ⌜ LineInto (afterLetter letter from (now (text .entry))) (now (numbers .entry)) (now (numbers .exit))
@@ -243,7 +243,7 @@ fn read_letter(
     numbers: &mut [i32],
     sorted: &mut [i32],
 ) -> LineAnswer
-    requires { ⌜ from + length (now text) ≤ longest ⌝ }
+    requires { ⌜ from + length (now text) ≤ largestSize ⌝ }
     requires { ⌜ now classes ≡ byteClasses ⌝ }
     requires rows { ⌜ (length (now numbers) ≡ mostNumbers) × (length (now sorted) ≡ mostNumbers) ⌝ }
     ensures { λ r. ⌜ LineInto (lineFrom from (now (text .entry))) (now (numbers .entry)) (now (numbers .exit))
@@ -265,8 +265,8 @@ fn read_letter(
     }
 }
 
-// The line of the text that begins at the position, its numbers at the front of one row, and ascending at the front of the other. The rows
-// need not be cleared, and whoever reads line after line makes the table of classes once. Only the reader calls it.
+// The line of the text that begins at the position, its numbers at the front of one row, and ascending at the front of the other. Question
+// 21 is not put: whoever calls it puts it, with a limit of its own. The rows need not be cleared, and whoever reads line after line makes the table of classes once. Only the reader calls it.
 fn read_into(
     text: &[u8],
     position: usize,
@@ -278,9 +278,6 @@ fn read_into(
     requires rows { ⌜ (length (now numbers) ≡ mostNumbers) × (length (now sorted) ≡ mostNumbers) ⌝ }
     ensures { λ r. ⌜ ReadInto (now (text .entry)) position (now (numbers .entry)) (now (numbers .exit)) (now (sorted .exit)) r ⌝ }
 {
-    if words::LONGEST < text.len() {
-        return LineAnswer::Refused(21);
-    }
     if position == text.len() {
         return LineAnswer::End;
     }
@@ -294,6 +291,9 @@ fn read_into(
 pub fn read_line(text: &[u8], position: usize) -> LineReading
     ensures { λ r. ⌜ ProofLineRead (now (text .entry)) position r ⌝ }
 {
+    if words::LONGEST < text.len() {
+        return unread(LineAnswer::Refused(21));
+    }
     let classes = text::classes::CLASSES;
     let mut numbers = [0; MOST_NUMBERS];
     let mut sorted = [0; MOST_NUMBERS];

@@ -1,4 +1,4 @@
--- What the twelve functions for C return and leave: an answer told by its code and numbers. Of the program reader, of the whole check,
+-- What the thirteen functions for C return and leave: an answer told by its code and numbers. Of the program reader, of the whole check,
 -- of the merges, of trimming and of the cheapest answer set it is the one for which the service's own contract holds, which is an
 -- equation; of the others it is said outright. A primed name is what a lent slice holds afterwards; `answer` is the buffer for the
 -- numbers.
@@ -12,9 +12,9 @@ use lib.Seq.{sets}
 use Rattle.aspif.specs.Reading.{ProgramRead}
 use Rattle.aspif.specs.declared.ProgramReading.{ProgramReading}
 use Rattle.answer_set.specs.SetTest.{asked, setAnswer, marksOf}
-use Rattle.drupe.specs.Lines.{lineAt, lineAnswer, numbersOf}
+use Rattle.drupe.specs.Lines.{lineRead, lineAnswer, numbersOf}
 use Rattle.packets.specs.Packets.{versionOf, readingOf, readingAnswer, tableLeft, textLeft, PacketWritten, writingOf, writingAnswer, packetLeft}
-use Rattle.checker.specs.Check.{CheckedTexts}
+use Rattle.checker.specs.Check.{CheckedTexts, CheckedLong}
 use Rattle.checker.specs.declared.Verdict.{Verdict}
 use Rattle.splits.specs.Service.{MergedHalves}
 use Rattle.splits.specs.declared.MergeAnswer.{MergeAnswer}
@@ -39,8 +39,8 @@ pub record SetService (table : List ℤ) (rules : ℕ) (set marks marks′ answe
 -- What stands at the position, and the array of 65 numbers at the front of the lent ones, as many as fit. No answer is free, so
 -- all is said outright.
 pub record LineService (text : List ℕ) (position : ℕ) (numbers numbers′ : List ℤ) (answer answer′ : List ℕ) (result : ℕ) : Type 0 where
-  pub copied : numbers′ ≡ sets numbers 0 (numbersOf (lineAt text position))
-  pub told : Told (lineCode (lineAnswer (lineAt text position))) (lineNumbers (lineAnswer (lineAt text position))) answer answer′ result
+  pub copied : numbers′ ≡ sets numbers 0 (numbersOf (lineRead text position))
+  pub told : Told (lineCode (lineAnswer (lineRead text position))) (lineNumbers (lineAnswer (lineRead text position))) answer answer′ result
 
 -- The packet's bytes and 0 after them; all is said outright, as no answer is free.
 pub record WriteService (version : ℕ) (table : List ℤ) (rules : ℕ) (proof packet packet′ answer answer′ : List ℕ) (result : ℕ) : Type 0 where
@@ -63,6 +63,12 @@ pub record MoveService (move : List ℕ → ℕ → PacketWritten) (packet outpu
 pub record CheckService (program proof : List ℕ) (table store table′ store′ : List ℤ) (answer answer′ : List ℕ) (result : ℕ) : Type 0 where
   pub verdict : Verdict
   pub checked : CheckedTexts program proof table store table′ store′ verdict
+  pub told : Told (verdictCode verdict) (verdictNumbers verdict) answer answer′ result
+
+-- the same of the long check, and every word of its memory
+pub record LongService (program proof : List ℕ) (table store table′ store′ : List ℤ) (memory memory′ answer answer′ : List ℕ) (result : ℕ) : Type 0 where
+  pub verdict : Verdict
+  pub checked : CheckedLong program proof table store table′ store′ memory memory′ verdict
   pub told : Told (verdictCode verdict) (verdictNumbers verdict) answer answer′ result
 
 -- the answer of the merge, every word of the table and of the store, and every byte of the output

@@ -1,10 +1,10 @@
-// The twelve services for programs in C and Rust, on numbers and slices. An answer's case is the code that is returned, and its
+// The thirteen services for programs in C and Rust, on numbers and slices. An answer's case is the code that is returned, and its
 // numbers are put at the front of the lent `answer`, as many as fit; what the codes and numbers are is specs/Codes.antt, and what
 // each function returns and leaves is specs/Services.antt. bindings/c/aspdrupe.h declares the functions for C.
 mod answers;
 
 ghost use Rattle.packets.specs.Packets.{up, down};
-ghost use Rattle.exports.specs.Services.{ProgramService, SetService, LineService, WriteService, ReadService, MoveService, CheckService, MergeService, TrimService, CheapestService, TreeService};
+ghost use Rattle.exports.specs.Services.{ProgramService, SetService, LineService, WriteService, ReadService, MoveService, CheckService, LongService, MergeService, TrimService, CheapestService, TreeService};
 
 // Reads a program text into the table.
 #[no_mangle]
@@ -117,6 +117,24 @@ pub extern "C" fn aspdrupe_check_texts(
         (now (table .exit)) (now (store .exit)) (now (answer .entry)) (now (answer .exit)) r ⌝ }
 {
     let verdict = checker::check_texts(program, proof, table, store);
+    answers::tell_verdict(verdict, answer)
+}
+
+// Checks a proof text of any length up to 2,147,483,647 bytes against a program text. The memory decides time and no answer, and is 0
+// throughout afterwards.
+#[no_mangle]
+pub extern "C" fn aspdrupe_check_long(
+    program: &[u8],
+    proof: &[u8],
+    table: &mut [i32],
+    store: &mut [i32],
+    memory: &mut [u32],
+    answer: &mut [u64],
+) -> u32
+    ensures { λ r. ⌜ LongService (now (program .entry)) (now (proof .entry)) (now (table .entry)) (now (store .entry))
+        (now (table .exit)) (now (store .exit)) (now (memory .entry)) (now (memory .exit)) (now (answer .entry)) (now (answer .exit)) r ⌝ }
+{
+    let verdict = checker::check_long(program, proof, table, store, memory);
     answers::tell_verdict(verdict, answer)
 }
 

@@ -4,7 +4,8 @@ use mathlib.Core.Path.{_≡_, refl, sym, ap, ap₂, subst, _∙_}
 use mathlib.Core.Logic.{_⊎_, inl, inr}
 use mathlib.Core.Bool.{Bool, true, false, cond, true≢false}
 use mathlib.Core.List.{List, [], _∷_, _++_, append-assoc, append-nil, List·Memᴰ·head, List·Memᴰ·tail, Memᴰ·append-right}
-use Prim.Native.Nat.{ℕ, zero, suc, _+_, _-_, _≤_, _<_}
+use Prim.Native.Nat.{ℕ, zero, suc, _+_, _*_, _-_, _≤_, _<_}
+use native.Mathlib.Nat.{mod-lt}
 use native.Mathlib.Omega.{arith}
 use lib.IntN.{ℤ}
 use lib.ListN.{length, take, drop, getD, set, length-append, length-set, length-drop, replicate}
@@ -12,7 +13,7 @@ use lib.Seq.{getD-set-same, getD-set-other, getD-take}
 use borrow.Rule.Slice.PartMut.{putMid}
 use Rattle.words.specs.Lists.{_∈_}
 use Rattle.words.specs.Descending.{Descends, Leads, Changed}
-use Rattle.words.proofs.Descending.{fewer, same-places, same-entries, entered, unlinked-first, unlinked-next, changed, unchanged}
+use Rattle.words.proofs.Descending.{below?, fewer, same-places, same-entries, entered, unlinked-first, unlinked-next, changed, unchanged}
 use Rattle.words.proofs.Laws.{padded}
 use Rattle.words.proofs.Lists.{if-true, concat-append}
 use Rattle.words.proofs.Literals.{sameList-decides}
@@ -23,7 +24,7 @@ use Rattle.nogoods.specs.Store.{Stored, deadOf, isTarget, killed, stored
 use Rattle.nogoods.specs.Keeps.{Holds}
 use Rattle.nogoods.specs.Records.{Encodes, endAt, nogoodAt, storedAt}
 use Rattle.nogoods.specs.Finds.{foundAt, Skips}
-use Rattle.nogoods.specs.Index.{keys, reach, coveredAt, provedCells, indexSize, mixed, hashFrom, bucketOf, beforeOf, Placed, Start, Member, Covers, Keeps, linkedIn, Entered, Unlinked, Blank, Target, Spotted, Marked}
+use Rattle.nogoods.specs.Index.{fixedCells, cellsPerChain, mostScale, scaleOf, startOf, Roomy, reach, coveredAt, provedCells, hashFrom, keyOf, bucketOf, beforeOf, Placed, Start, Member, Covers, Keeps, linkedIn, Entered, Unlinked, Blank, BlankIndex, Target, Spotted, Marked}
 use Rattle.nogoods.specs.declared.store.Found.the-variants.{At, Nothing}
 use Rattle.nogoods.specs.declared.chains.Spot.{Spot}
 use Rattle.nogoods.specs.declared.chains.Spot.the-variants.{Here}
@@ -140,76 +141,113 @@ module _ {store : List ℤ} {used : ℕ} {stored : List Stored} (H : Holds store
   pub read : (x : ℕ) (e : Stored) → Placed 0 stored x e → (storedAt store x ≡ e) × (endAt store x ≤ used)
   read = reads store 0 used stored segment (H .origins)
 
+-- The scale
+
+pub scale-most : (n : ℕ) → scaleOf n ≤ mostScale
+unfolding scaleOf
+scale-most n = omega arith
+
+-- all cells that a scale stands for are there
+pub scale-room : (n : ℕ) → 0 < scaleOf n → cellsPerChain * scaleOf n + fixedCells ≤ n
+unfolding scaleOf
+scale-room n h = omega arith
+
+-- an index whose scale is not 0 has the cells before the search's
+pub roomy : (index : List ℕ) (sc : ℕ) → sc ≡ scaleOf (length index) → 0 < sc → Roomy sc index
+roomy index sc e h = rw e (omega (arith, scale-room (length index) (rw e at h)), scale-most (length index))
+
+pub start-within : (n : ℕ) → startOf n ≤ n
+unfolding startOf
+start-within n = omega arith
+
+-- the cells before the search's that there are
+start-cells : (n j : ℕ) → j < provedCells (scaleOf n) → j < n → j < startOf n
+unfolding startOf
+start-cells n j h k = omega arith
+
 -- Keys
 
-mixed-below : (h : ℕ) (z : ℤ) → mixed h z < keys
-unfolding mixed
-mixed-below h z = omega arith
-
-pub hash-below : (h : ℕ) (l : List ℤ) → h < keys → hashFrom h l < keys
-unfolding hashFrom
-hash-below h [] k = k
-hash-below h (z ∷ l) k = hash-below (mixed h z) l (mixed-below h z)
+pub key-below : (sc : ℕ) (l : List ℤ) → 0 < sc → keyOf sc l < sc
+unfolding keyOf
+key-below sc l h = mod-lt (hashFrom 0 l) h
 
 -- Cells that are as they were
 
--- the cells before the search's
-abbrev pub Same : List ℕ → List ℕ → Type 0
-Same index index′ = (j : ℕ) → j < provedCells → getD index′ j 0 ≡ getD index j 0
+-- past the end
+pub outside : (l : List ℕ) (j : ℕ) → length l ≤ j → getD l j 0 ≡ 0
+outside [] j h = refl
+outside (x ∷ l) zero h = absurd (omega arith)
+outside (x ∷ l) (suc j) h = outside l j (omega arith)
 
-module _ {index index′ : List ℕ} (same : Same index index′) where
-  pub covers-same : {r : ℕ} {stored : List Stored} → Covers index r stored → Covers index′ r stored
+-- all cells before the search's, where those that there are are so
+pub all-cells : (index : List ℕ) (sc : ℕ) → sc ≡ scaleOf (length index) → ((j : ℕ) → j < startOf (length index) → getD index j 0 ≡ 0) → Blank sc index
+all-cells index sc e f j h = elim (below? j (length index)) [
+  | inl k ↦ f j (start-cells (length index) j (rw e at h) k)
+  | inr k ↦ outside index j k
+]
+
+-- the cells before the search's
+abbrev pub Same : ℕ → List ℕ → List ℕ → Type 0
+Same sc index index′ = (j : ℕ) → j < provedCells sc → getD index′ j 0 ≡ getD index j 0
+
+module _ {sc : ℕ} {index index′ : List ℕ} (same : Same sc index index′) where
+  pub covers-same : {r : ℕ} {stored : List Stored} → Covers sc index r stored → Covers sc index′ r stored
   covers-same C = record {
     front = C .front;
     back = C .back;
     parts = C .parts;
     extent = C .extent;
     near = C .near;
-    marks = λ x h m. C .marks x h (rw (same (keys + x) (omega arith)) at m);
-    chains = same-entries (C .chains) (λ k h. same k (omega arith)) (λ x h. ap (λ (n : ℕ). n - 1) (same (keys + x) (omega arith)));
+    marks = λ x h m. C .marks x h (rw (same (sc + x) (omega arith)) at m);
+    chains = same-entries (C .chains) (λ k h. same k (omega arith)) (λ x h. ap (λ (n : ℕ). n - 1) (same (sc + x) (omega arith)));
   }
 
-  pub keeps-same : {store : List ℤ} {used : ℕ} {stored : List Stored} → length index′ ≡ length index → Keeps store index used stored → Keeps store index′ used stored
-  keeps-same {stored = stored} n K = record {
-    holds = K .holds;
-    size = n ∙ K .size;
-    covers = subst (λ (r : ℕ). Covers index′ r stored) (sym (same coveredAt (omega arith))) (covers-same (K .covers));
-  }
+pub keeps-same : {store : List ℤ} {index index′ : List ℕ} {used : ℕ} {stored : List Stored} (K : Keeps store index used stored) → length index′ ≡ length index
+    → Same (K .scale) index index′ → Keeps store index′ used stored
+keeps-same {index′ = index′} {stored = stored} K n same = record {
+  holds = K .holds;
+  scale = K .scale;
+  size = K .size ∙ ap scaleOf (sym n);
+  covers = subst (λ (r : ℕ). Covers (K .scale) index′ r stored) (sym (same (coveredAt (K .scale)) (omega arith))) (covers-same same (K .covers));
+}
 
 -- the search writes its own cells
-module _ (index ys : List ℕ) (n : length index ≡ indexSize) (kept : length ys ≡ length (take (length index - provedCells) (drop provedCells index))) where
-  part-size : length ys ≡ length index - provedCells
-  part-size = kept ∙ ap length (tail-of provedCells index) ∙ length-drop provedCells index
+module _ (a : ℕ) (index ys : List ℕ) (n : a ≤ length index) (kept : length ys ≡ length (take (length index - a) (drop a index))) where
+  part-size : length ys ≡ length index - a
+  part-size = kept ∙ ap length (tail-of a index) ∙ length-drop a index
 
-  pub same-part : Same index (putMid provedCells (length index - provedCells) index ys)
+  pub same-part : (j : ℕ) → j < a → getD (putMid a (length index - a) index ys) j 0 ≡ getD index j 0
   same-part j h =
-      let t = before-put provedCells (length index - provedCells) index ys (omega arith) part-size provedCells (omega arith) in
-      sym (getD-take provedCells (putMid provedCells (length index - provedCells) index ys) j 0 h) ∙ ap (λ (l : List ℕ). getD l j 0) t ∙ getD-take provedCells index j 0 h
+      let t = before-put a (length index - a) index ys (omega arith) part-size a (omega arith) in
+      sym (getD-take a (putMid a (length index - a) index ys) j 0 h) ∙ ap (λ (l : List ℕ). getD l j 0) t ∙ getD-take a index j 0 h
 
-  pub length-part : length (putMid provedCells (length index - provedCells) index ys) ≡ length index
-  length-part = length-put provedCells (length index - provedCells) index ys (omega arith) part-size
+  pub length-part : length (putMid a (length index - a) index ys) ≡ length index
+  length-part = length-put a (length index - a) index ys (omega arith) part-size
 
-  pub keeps-part : {store : List ℤ} {used : ℕ} {stored : List Stored} → Keeps store index used stored
-      → Keeps store (putMid provedCells (length index - provedCells) index ys) used stored
-  keeps-part K = keeps-same same-part length-part K
+  pub keeps-part : {store : List ℤ} {used : ℕ} {stored : List Stored} → a ≡ startOf (length index) → Keeps store index used stored
+      → Keeps store (putMid a (length index - a) index ys) used stored
+  keeps-part e K = keeps-same K length-part (λ j h. elim (below? j (length index)) [
+    | inl k ↦ same-part j (rw e (start-cells (length index) j (rw (K .size) at h) k))
+    | inr k ↦ outside (putMid a (length index - a) index ys) j (omega (arith, length-part)) ∙ sym (outside index j k)
+  ])
 
 -- a store among the chains' first entries
-key-changed : (index : List ℕ) (h v : ℕ) → h < length index → Changed keys (bucketOf index) (bucketOf (set index h v)) h v
-key-changed index h v b k c = elim (equal? k h) [
+key-changed : (sc : ℕ) (index : List ℕ) (h v : ℕ) → h < length index → Changed sc (bucketOf index) (bucketOf (set index h v)) h v
+key-changed sc index h v b k c = elim (equal? k h) [
   | inl e ↦ inl (e, rw e (getD-set-same index h v 0 b))
   | inr d ↦ inr (d, getD-set-other index h k v 0 d)
 ]
 
 -- An index of zeros, and more that is stored
 
-covers-none : {index : List ℕ} → Blank index → (r : ℕ) → r ≡ 0 → (stored : List Stored) → Covers index r stored
-covers-none {index} b r z stored = record {
+covers-none : {sc : ℕ} {index : List ℕ} → Blank sc index → (r : ℕ) → r ≡ 0 → (stored : List Stored) → Covers sc index r stored
+covers-none {sc} {index} b r z stored = record {
   front = [];
   back = stored;
   parts = refl;
   extent = z;
   near = omega arith;
-  marks = λ x h m. absurd (omega (arith, b (keys + x) (omega arith)));
+  marks = λ x h m. absurd (omega (arith, b (sc + x) (omega arith)));
   chains = record {
     member = λ x k (e, p, h, a). absurd p;
     within = λ x k (e, p, h). absurd p;
@@ -221,14 +259,22 @@ covers-none {index} b r z stored = record {
 }
 
 -- so that they go with any store
-pub keeps-blank : {store : List ℤ} {index : List ℕ} {used : ℕ} {stored : List Stored} → Holds store used stored → length index ≡ indexSize → Blank index
+pub keeps-blank : {store : List ℤ} {index : List ℕ} {used : ℕ} {stored : List Stored} → Holds store used stored → BlankIndex index
     → Keeps store index used stored
-keeps-blank {stored = stored} H n b = record { holds = H; size = n; covers = covers-none b _ (b coveredAt (omega arith)) stored }
+keeps-blank {index = index} {stored = stored} H b = record {
+  holds = H;
+  scale = scaleOf (length index);
+  size = refl;
+  covers = covers-none b _ (b (coveredAt (scaleOf (length index))) (omega arith)) stored;
+}
 
-pub blank-zeros : (n : ℕ) → Blank (replicate n 0)
-blank-zeros n j h = padded 0 [] n j
+blank-zeros : (sc n : ℕ) → Blank sc (replicate n 0)
+blank-zeros sc n j h = padded 0 [] n j
 
-pub covers-more : {index : List ℕ} {r : ℕ} {stored : List Stored} (new : List Stored) → Covers index r stored → Covers index r (stored ++ new)
+pub blank-index : (n : ℕ) → BlankIndex (replicate n 0)
+blank-index n = blank-zeros _ n
+
+pub covers-more : {sc : ℕ} {index : List ℕ} {r : ℕ} {stored : List Stored} (new : List Stored) → Covers sc index r stored → Covers sc index r (stored ++ new)
 covers-more new C = record {
   front = C .front;
   back = C .back ++ new;
@@ -241,56 +287,56 @@ covers-more new C = record {
 
 -- One record more is entered
 
-module _ (index index′ : List ℕ) (x h end : ℕ) (n : length index ≡ indexSize) (xb : x < reach) (hb : h < keys) (E : Entered index index′ x h end) where
+module _ (sc : ℕ) (index index′ : List ℕ) (x h end : ℕ) (n : provedCells sc ≤ length index) (xb : x < reach sc) (hb : h < sc) (E : Entered sc index index′ x h end) where
   abbrev once : List ℕ
-  once = set index (keys + x) (suc (getD index h 0))
+  once = set index (sc + x) (suc (getD index h 0))
 
   abbrev twice : List ℕ
-  twice = linkedIn index x h
+  twice = linkedIn sc index x h
 
-  pub entered-key : Changed keys (bucketOf index) (bucketOf index′) h (suc x)
+  pub entered-key : Changed sc (bucketOf index) (bucketOf index′) h (suc x)
   entered-key k b =
-      let e : getD index′ k 0 ≡ getD twice k 0 = E k (omega arith) ∙ getD-set-other twice coveredAt k end 0 (λ q. omega arith) in
+      let e : getD index′ k 0 ≡ getD twice k 0 = E k (omega arith) ∙ getD-set-other twice (coveredAt sc) k end 0 (λ q. omega arith) in
       elim (equal? k h) [
         | inl q ↦ inl (q, e ∙ rw q (getD-set-same once h (suc x) 0 (simp length-set (omega arith))))
-        | inr d ↦ inr (d, e ∙ getD-set-other once h k (suc x) 0 d ∙ getD-set-other index (keys + x) k (suc (getD index h 0)) 0 (λ q. omega arith))
+        | inr d ↦ inr (d, e ∙ getD-set-other once h k (suc x) 0 d ∙ getD-set-other index (sc + x) k (suc (getD index h 0)) 0 (λ q. omega arith))
       ]
 
-  entered-cell : Changed reach (λ j. getD index (keys + j) 0) (λ j. getD index′ (keys + j) 0) x (suc (getD index h 0))
+  entered-cell : Changed (reach sc) (λ j. getD index (sc + j) 0) (λ j. getD index′ (sc + j) 0) x (suc (getD index h 0))
   entered-cell j b =
-      let e : getD index′ (keys + j) 0 ≡ getD once (keys + j) 0 =
-      E (keys + j) (omega arith) ∙ getD-set-other twice coveredAt (keys + j) end 0 (λ q. omega arith) ∙ getD-set-other once h (keys + j) (suc x) 0 (λ q. omega arith) in
+      let e : getD index′ (sc + j) 0 ≡ getD once (sc + j) 0 =
+      E (sc + j) (omega arith) ∙ getD-set-other twice (coveredAt sc) (sc + j) end 0 (λ q. omega arith) ∙ getD-set-other once h (sc + j) (suc x) 0 (λ q. omega arith) in
       elim (equal? j x) [
-        | inl q ↦ inl (q, e ∙ rw q (getD-set-same index (keys + x) (suc (getD index h 0)) 0 (omega arith)))
-        | inr d ↦ inr (d, e ∙ getD-set-other index (keys + x) (keys + j) (suc (getD index h 0)) 0 (λ q. d (omega arith)))
+        | inl q ↦ inl (q, e ∙ rw q (getD-set-same index (sc + x) (suc (getD index h 0)) 0 (omega arith)))
+        | inr d ↦ inr (d, e ∙ getD-set-other index (sc + x) (sc + j) (suc (getD index h 0)) 0 (λ q. d (omega arith)))
       ]
 
-  pub entered-before : Changed reach (beforeOf index) (beforeOf index′) x (bucketOf index h)
+  pub entered-before : Changed (reach sc) (beforeOf sc index) (beforeOf sc index′) x (bucketOf index h)
   entered-before j b = elim (entered-cell j b) [
     | inl q ↦ inl (q .0, omega (arith, q .1))
     | inr q ↦ inr (q .0, ap (λ (m : ℕ). m - 1) (q .1))
   ]
 
-  pub entered-extent : getD index′ coveredAt 0 ≡ end
-  entered-extent = E coveredAt (omega arith) ∙ getD-set-same twice coveredAt end 0 (simp length-set (omega arith))
+  pub entered-extent : getD index′ (coveredAt sc) 0 ≡ end
+  entered-extent = E (coveredAt sc) (omega arith) ∙ getD-set-same twice (coveredAt sc) end 0 (simp length-set (omega arith))
 
 -- the front with one record more
-module _ (front : List Stored) (e : Stored) (x : ℕ) (is : x ≡ length (wordsOf front)) where
+module _ (sc : ℕ) (front : List Stored) (e : Stored) (x : ℕ) (is : x ≡ length (wordsOf front)) where
   abbrev more : List Stored
   more = front ++ (e ∷ [])
 
   abbrev key : ℕ
-  key = hashFrom 0 (e .literals)
+  key = keyOf sc (e .literals)
 
   case : (y : ℕ) (f : Stored) → Placed 0 more y f → Placed 0 front y f ⊎ ((y ≡ x) × (e ≡ f))
   case y f p = elim (placed-append 0 front e y f p) [ inl q ↦ inl q | inr q ↦ inr (omega (arith, q .0), q .1) ]
 
-  keyed : (f : Stored) (k : ℕ) → e ≡ f → hashFrom 0 (f .literals) ≡ k → k ≡ key
-  keyed f k q h = sym h ∙ sym (ap (λ (g : Stored). hashFrom 0 (g .literals)) q)
+  keyed : (f : Stored) (k : ℕ) → e ≡ f → keyOf sc (f .literals) ≡ k → k ≡ key
+  keyed f k q h = sym h ∙ sym (ap (λ (g : Stored). keyOf sc (g .literals)) q)
 
-  more-chains : (index index′ : List ℕ) → Changed keys (bucketOf index) (bucketOf index′) key (suc x) → Changed reach (beforeOf index) (beforeOf index′) x (bucketOf index key) → x < reach
-      → Descends keys reach (Member front) (Start front) (bucketOf index) (beforeOf index)
-      → Descends keys reach (Member more) (Start more) (bucketOf index′) (beforeOf index′)
+  more-chains : (index index′ : List ℕ) → Changed sc (bucketOf index) (bucketOf index′) key (suc x) → Changed (reach sc) (beforeOf sc index) (beforeOf sc index′) x (bucketOf index key) → x < reach sc
+      → Descends sc (reach sc) (Member sc front) (Start sc front) (bucketOf index) (beforeOf sc index)
+      → Descends sc (reach sc) (Member sc more) (Start sc more) (bucketOf index′) (beforeOf sc index′)
   more-chains index index′ a b xb D =
       entered D x key
       (λ y k t. omega (arith, above 0 front y (t .0) (t .1) .1))
@@ -299,7 +345,7 @@ module _ (front : List Stored) (e : Stored) (x : ℕ) (is : x ≡ length (wordsO
       (e, placed-new 0 front e x (omega arith), refl)
       (λ y k (f, p, h). elim (case y f p) [ inl q ↦ inl (f, q, h) | inr q ↦ inr (q .0, keyed f k (q .1) h) ])
       xb
-      (hash-below 0 (e .literals) (omega arith))
+      (key-below sc (e .literals) (omega arith))
       a
       b
 
@@ -307,7 +353,7 @@ module _ (front : List Stored) (e : Stored) (x : ℕ) (is : x ≡ length (wordsO
   more-size = omega (arith, ap length (concat-append storedWords front (e ∷ [])), length-append (wordsOf front) (wordsOf (e ∷ [])), words-size e [])
 
 -- the records from r on
-module _ {store : List ℤ} {used : ℕ} {stored : List Stored} (H : Holds store used stored) {index : List ℕ} {r : ℕ} (C : Covers index r stored) where
+module _ {store : List ℤ} {used : ℕ} {stored : List Stored} (H : Holds store used stored) {sc : ℕ} {index : List ℕ} {r : ℕ} (C : Covers sc index r stored) where
   split : Holds store used (C .front ++ C .back)
   split = rw (C .parts) at H
 
@@ -326,54 +372,56 @@ module _ {store : List ℤ} {used : ℕ} {stored : List Stored} (H : Holds store
   pub next-at : r < used → AtRecord store r used (C .back)
   next-at h = at-record behind originated h
 
-  pub covers-next : (index′ : List ℕ) → length index ≡ indexSize → r < used → endAt store r ≤ reach → Entered index index′ r (hashFrom 0 (nogoodAt store r)) (endAt store r)
-      → Covers index′ (endAt store r) stored
+  pub covers-next : (index′ : List ℕ) → provedCells sc ≤ length index → r < used → endAt store r ≤ reach sc → Entered sc index index′ r (keyOf sc (nogoodAt store r)) (endAt store r)
+      → Covers sc index′ (endAt store r) stored
   covers-next index′ n h b E =
       let t = next-at h in
       let e = storedAt store r in
-      let k = hash-below 0 (nogoodAt store r) (omega arith) in
-      let xb : r < reach = omega arith in
+      let k = key-below sc (nogoodAt store r) (omega arith) in
+      let xb : r < reach sc = omega arith in
       record {
         front = C .front ++ (e ∷ []);
         back = t .others;
         parts = C .parts ∙ ap (λ (l : List Stored). C .front ++ l) (t .is) ∙ sym (append-assoc (C .front) (e ∷ []) (t .others));
-        extent = t .size ∙ sym (more-size (C .front) e r (C .extent));
+        extent = t .size ∙ sym (more-size sc (C .front) e r (C .extent));
         near = b;
-        marks = λ x l m. elim (entered-cell index index′ r (hashFrom 0 (nogoodAt store r)) (endAt store r) n xb k E x l) [
+        marks = λ x l m. elim (entered-cell sc index index′ r (keyOf sc (nogoodAt store r)) (endAt store r) n xb k E x l) [
           | inl q ↦ (e, placed-new 0 (C .front) e x (omega (arith, C .extent, q .0)))
           | inr q ↦ let u = C .marks x l (rw (q .1) at m) in (u .0, placed-left 0 (C .front) (e ∷ []) x (u .0) (u .1))
         ];
-        chains = more-chains (C .front) e r (C .extent) index index′ (entered-key index index′ r (hashFrom 0 (nogoodAt store r)) (endAt store r) n xb k E)
-            (entered-before index index′ r (hashFrom 0 (nogoodAt store r)) (endAt store r) n xb k E) xb (C .chains);
+        chains = more-chains sc (C .front) e r (C .extent) index index′ (entered-key sc index index′ r (keyOf sc (nogoodAt store r)) (endAt store r) n xb k E)
+            (entered-before sc index index′ r (keyOf sc (nogoodAt store r)) (endAt store r) n xb k E) xb (C .chains);
       }
 
 -- what a chain starts with is small
-pub entry-small : {index : List ℕ} {r : ℕ} {stored : List Stored} (C : Covers index r stored) (k v : ℕ) → ((q : ℕ) → v ≡ suc q → Start (C .front) q k) → v ≤ reach
+pub entry-small : {sc : ℕ} {index : List ℕ} {r : ℕ} {stored : List Stored} (C : Covers sc index r stored) (k v : ℕ) → ((q : ℕ) → v ≡ suc q → Start sc (C .front) q k) → v ≤ reach sc
 entry-small C k zero f = omega arith
 entry-small C k (suc q) f = omega (arith, C .chains .within q k (f q refl))
 
 module _ {store : List ℤ} {index : List ℕ} {used : ℕ} {stored : List Stored} (K : Keeps store index used stored) where
   -- chains start with small entries
-  pub keeps-small : (k : ℕ) → k < keys → getD index k 0 ≤ reach
+  pub keeps-small : (k : ℕ) → k < K .scale → getD index k 0 ≤ reach (K .scale)
   keeps-small k b = entry-small (K .covers) k (getD index k 0) (λ q e. K .covers .chains .first k q b e)
 
-  module _ (r : ℕ) (is : r ≡ getD index coveredAt 0) (h : r < used) where
-    abbrev from-r : Covers index r stored
-    from-r = subst (λ (n : ℕ). Covers index n stored) (sym is) (K .covers)
+  module _ (r : ℕ) (is : r ≡ getD index (coveredAt (K .scale)) 0) (h : r < used) where
+    abbrev from-r : Covers (K .scale) index r stored
+    from-r = subst (λ (n : ℕ). Covers (K .scale) index n stored) (sym is) (K .covers)
 
     pub keeps-room : endAt store r ≤ length store
     keeps-room = omega (arith, next-at (K .holds) from-r h .room, K .holds .fits)
 
-    pub keeps-next : (index′ : List ℕ) → length index′ ≡ length index → endAt store r ≤ reach
-        → Entered index index′ r (hashFrom 0 (nogoodAt store r)) (endAt store r) → Keeps store index′ used stored × (endAt store r ≡ getD index′ coveredAt 0)
+    pub keeps-next : (index′ : List ℕ) → length index′ ≡ length index → endAt store r ≤ reach (K .scale)
+        → Entered (K .scale) index index′ r (keyOf (K .scale) (nogoodAt store r)) (endAt store r) → Keeps store index′ used stored × (endAt store r ≡ getD index′ (coveredAt (K .scale)) 0)
     keeps-next index′ n b E =
-        let xb : r < reach = omega arith in
-        let e : getD index′ coveredAt 0 ≡ endAt store r =
-        entered-extent index index′ r (hashFrom 0 (nogoodAt store r)) (endAt store r) (K .size) xb (hash-below 0 (nogoodAt store r) (omega arith)) E in (
+        let xb : r < reach (K .scale) = omega arith in
+        let room = roomy index (K .scale) (K .size) (omega arith) .0 in
+        let e : getD index′ (coveredAt (K .scale)) 0 ≡ endAt store r =
+        entered-extent (K .scale) index index′ r (keyOf (K .scale) (nogoodAt store r)) (endAt store r) room xb (key-below (K .scale) (nogoodAt store r) (omega arith)) E in (
           record {
             holds = K .holds;
-            size = n ∙ K .size;
-            covers = subst (λ (m : ℕ). Covers index′ m stored) (sym e) (covers-next (K .holds) from-r index′ (K .size) h b E);
+            scale = K .scale;
+            size = K .size ∙ ap scaleOf (sym n);
+            covers = subst (λ (m : ℕ). Covers (K .scale) index′ m stored) (sym e) (covers-next (K .holds) from-r index′ room h b E);
           },
           sym e,
         )
@@ -381,7 +429,7 @@ module _ {store : List ℤ} {index : List ℕ} {used : ℕ} {stored : List Store
 -- Marks
 
 -- a mark is at a record of the used words
-pub marked : {store : List ℤ} {index : List ℕ} {used : ℕ} {stored : List Stored} → Keeps store index used stored → Marked (take used store) index
+pub marked : {store : List ℤ} {index : List ℕ} {used : ℕ} {stored : List Stored} (K : Keeps store index used stored) → Marked (K .scale) (take used store) index
 marked {store} {index} {used} {stored} K x h m other E =
     let C = K .covers in
     let t = C .marks x h m in
@@ -397,18 +445,18 @@ module _ {store : List ℤ} {index : List ℕ} {used : ℕ} {stored : List Store
   abbrev pub front : List Stored
   front = K .covers .front
 
-  pub start-room : (x k : ℕ) → Start front x k → (endAt store x ≤ length store) × (x < reach)
+  pub start-room : (x k : ℕ) → Start (K .scale) front x k → (endAt store x ≤ length store) × (x < reach (K .scale))
   start-room x k t = (omega (arith, front-read (K .holds) (K .covers) x (t .0) (t .1) .1, K .holds .fits), K .covers .chains .within x k (t .0, t .1, t .2) .0)
 
   -- the test at a place of the chain
-  pub is-wanted : (L : List ℤ) (x k : ℕ) → Start front x k → isTarget L (storedAt store x) ≡ true → Target front L x
+  pub is-wanted : (L : List ℤ) (x k : ℕ) → Start (K .scale) front x k → isTarget L (storedAt store x) ≡ true → Target front L x
   is-wanted L x k t e = (t .0, t .1, sym (ap (isTarget L) (front-read (K .holds) (K .covers) x (t .0) (t .1) .0)) ∙ e)
 
   pub not-wanted : (L : List ℤ) (x : ℕ) → isTarget L (storedAt store x) ≡ false → ¬ Target front L x
   not-wanted L x e (f, p, w) = true≢false (sym w ∙ sym (ap (isTarget L) (front-read (K .holds) (K .covers) x f p .0)) ∙ e)
 
-pub target-member : (es : List Stored) (L : List ℤ) (x : ℕ) → Target es L x → Member es x (hashFrom 0 L)
-target-member es L x (e, p, w) = let a = target-alive L e w in (e, p, ap (hashFrom 0) (if-true (sameList-decides (e .literals) L) (a .1)), a .0)
+pub target-member : (sc : ℕ) (es : List Stored) (L : List ℤ) (x : ℕ) → Target es L x → Member sc es x (keyOf sc L)
+target-member sc es L x (e, p, w) = let a = target-alive L e w in (e, p, ap (keyOf sc) (if-true (sameList-decides (e .literals) L) (a .1)), a .0)
 
 -- The oldest with the literals
 
@@ -545,28 +593,28 @@ module _ (L : List ℤ) where
       (λ q. ap (λ (l : List Stored). length (wordsOf l)) (killed-on L g es q) ∙ words-size g (killed L es)
       ∙ ap (λ (n : ℕ). recordSize (g .literals) + n) (killed-size es) ∙ sym (words-size g es))
 
-  killed-chains : (es : List Stored) {bucket before : ℕ → ℕ} → Descends keys reach (Member es) (Start es) bucket before
-      → Descends keys reach (Member (killed L es)) (Start (killed L es)) bucket before
-  killed-chains es D = same-places (fewer D members) starts← starts→
+  killed-chains : (sc : ℕ) (es : List Stored) {bucket before : ℕ → ℕ} → Descends sc (reach sc) (Member sc es) (Start sc es) bucket before
+      → Descends sc (reach sc) (Member sc (killed L es)) (Start sc (killed L es)) bucket before
+  killed-chains sc es D = same-places (fewer D members) starts← starts→
     where
-      members : (x k : ℕ) → Member (killed L es) x k → Member es x k
-      members x k (f, p, h, a) = let t = killed→ 0 es x f p in (t .0, t .1, ap (hashFrom 0) (t .2) ∙ h, t .3 a)
+      members : (x k : ℕ) → Member sc (killed L es) x k → Member sc es x k
+      members x k (f, p, h, a) = let t = killed→ 0 es x f p in (t .0, t .1, ap (keyOf sc) (t .2) ∙ h, t .3 a)
 
-      starts← : (x k : ℕ) → Start es x k → Start (killed L es) x k
-      starts← x k (e, p, h) = let t = killed← 0 es x e p in (t .0, t .1, ap (hashFrom 0) (t .2) ∙ h)
+      starts← : (x k : ℕ) → Start sc es x k → Start sc (killed L es) x k
+      starts← x k (e, p, h) = let t = killed← 0 es x e p in (t .0, t .1, ap (keyOf sc) (t .2) ∙ h)
 
-      starts→ : (x k : ℕ) → Start (killed L es) x k → Start es x k
-      starts→ x k (f, p, h) = let t = killed→ 0 es x f p in (t .0, t .1, ap (hashFrom 0) (t .2) ∙ h)
+      starts→ : (x k : ℕ) → Start sc (killed L es) x k → Start sc es x k
+      starts→ x k (f, p, h) = let t = killed→ 0 es x f p in (t .0, t .1, ap (keyOf sc) (t .2) ∙ h)
 
-  killed-gone : (es : List Stored) (x : ℕ) → foundAt 0 L es ≡ At x → (k : ℕ) → ¬ Member (killed L es) x k
-  killed-gone es x h k (f, p, e, a) = dead-now 0 x es h f p a
+  killed-gone : (sc : ℕ) (es : List Stored) (x : ℕ) → foundAt 0 L es ≡ At x → (k : ℕ) → ¬ Member sc (killed L es) x k
+  killed-gone sc es x h k (f, p, e, a) = dead-now 0 x es h f p a
 
   module _ {store : List ℤ} {index : List ℕ} {used : ℕ} {stored : List Stored} (K : Keeps store index used stored) where
-    abbrev C : Covers index (getD index coveredAt 0) stored
+    abbrev C : Covers (K .scale) index (getD index (coveredAt (K .scale)) 0) stored
     C = K .covers
 
     -- none in front
-    pub covers-far : ((y : ℕ) → ¬ Target (C .front) L y) → Covers index (getD index coveredAt 0) (killed L stored)
+    pub covers-far : ((y : ℕ) → ¬ Target (C .front) L y) → Covers (K .scale) index (getD index (coveredAt (K .scale)) 0) (killed L stored)
     covers-far f = record {
       front = C .front;
       back = killed L (C .back);
@@ -577,102 +625,112 @@ module _ (L : List ℤ) where
       chains = C .chains;
     }
 
-    pub skips : (from : ℕ) → from ≡ getD index coveredAt 0 → ((y : ℕ) → ¬ Target (C .front) L y) → Skips from L stored
-    skips from e f = record { older = C .front; newer = C .back; is = C .parts; size = e ∙ C .extent; none = none-from 0 (C .front) f }
+    pub skips : (from : ℕ) → from ≡ getD index (coveredAt (scaleOf (length index))) 0 → ((y : ℕ) → ¬ Target (C .front) L y) → Skips from L stored
+    skips from e f = record {
+      older = C .front;
+      newer = C .back;
+      is = C .parts;
+      size = e ∙ ap (λ (k : ℕ). getD index (coveredAt k) 0) (sym (K .size)) ∙ C .extent;
+      none = none-from 0 (C .front) f;
+    }
 
     -- one in front
-    module _ (x over : ℕ) (t : Spotted (C .front) L index (Here x over)) where
+    module _ (x over : ℕ) (t : Spotted (K .scale) (C .front) L index (Here x over)) where
       in-front : foundAt 0 L (C .front) ≡ At x
       in-front = oldest-from 0 (C .front) x (t .0) (t .1)
 
       pub near-found : foundAt 0 L stored ≡ At x
       near-found = ap (foundAt 0 L) (C .parts) ∙ found-left 0 x (C .front) (C .back) in-front
 
-      pub near-start : Start (C .front) x (hashFrom 0 L)
-      near-start = let m = target-member (C .front) L x (t .0) in (m .0, m .1, m .2)
+      pub near-start : Start (K .scale) (C .front) x (keyOf (K .scale) L)
+      near-start = let m = target-member (K .scale) (C .front) L x (t .0) in (m .0, m .1, m .2)
 
-      pub near-over : over ≤ reach
+      pub near-over : over ≤ reach (K .scale)
       near-over = by over (t .2)
         where
-          by : (o : ℕ) → Leads (Start (C .front)) (bucketOf index) (beforeOf index) (hashFrom 0 L) o x → o ≤ reach
+          by : (o : ℕ) → Leads (Start (K .scale) (C .front)) (bucketOf index) (beforeOf (K .scale) index) (keyOf (K .scale) L) o x → o ≤ reach (K .scale)
           by zero l = omega arith
-          by (suc y) l = omega (arith, C .chains .within y (hashFrom 0 L) (l .1 y refl .0))
+          by (suc y) l = omega (arith, C .chains .within y (keyOf (K .scale) L) (l .1 y refl .0))
 
       abbrev h : ℕ
-      h = hashFrom 0 L
+      h = keyOf (K .scale) L
 
-      abbrev dead : Descends keys reach (Member (killed L (C .front))) (Start (killed L (C .front))) (bucketOf index) (beforeOf index)
-      dead = killed-chains (C .front) (C .chains)
+      abbrev dead : Descends (K .scale) (reach (K .scale)) (Member (K .scale) (killed L (C .front))) (Start (K .scale) (killed L (C .front))) (bucketOf index) (beforeOf (K .scale) index)
+      dead = killed-chains (K .scale) (C .front) (C .chains)
 
-      hb : h < keys
-      hb = hash-below 0 L (omega arith)
+      hb : h < (K .scale)
+      hb = C .chains .within x h near-start .1
+
+      room : provedCells (K .scale) ≤ length index
+      room = roomy index (K .scale) (K .size) (omega (arith, hb)) .0
 
       -- the cells by key, and by place, where what led to it is the chain's start
-      module _ (index′ : List ℕ) (z : over ≡ 0) (is : index′ ≡ set index h (beforeOf index x)) where
-        start-chains : Descends keys reach (Member (killed L (C .front))) (Start (killed L (C .front))) (bucketOf index′) (beforeOf index′)
+      module _ (index′ : List ℕ) (z : over ≡ 0) (is : index′ ≡ set index h (beforeOf (K .scale) index x)) where
+        start-chains : Descends (K .scale) (reach (K .scale)) (Member (K .scale) (killed L (C .front))) (Start (K .scale) (killed L (C .front))) (bucketOf index′) (beforeOf (K .scale) index′)
         start-chains = rw is
             (same-entries
-            (unlinked-first dead x (killed-gone (C .front) x in-front) {bucket′ = bucketOf (set index h (beforeOf index x))} h hb (t .2 .0 z) (key-changed index h (beforeOf index x) (omega (arith, K .size, hb))))
+            (unlinked-first dead x (killed-gone (K .scale) (C .front) x in-front) {bucket′ = bucketOf (set index h (beforeOf (K .scale) index x))} h hb (t .2 .0 z) (key-changed (K .scale) index h (beforeOf (K .scale) index x) (omega (arith, room, hb))))
             (λ k b. refl)
-            (λ j b. ap (λ (m : ℕ). m - 1) (unchanged index keys reach h (beforeOf index x) (inl hb) j b)))
+            (λ j b. ap (λ (m : ℕ). m - 1) (unchanged index (K .scale) (reach (K .scale)) h (beforeOf (K .scale) index x) (inl hb) j b)))
 
-        start-cell : (j : ℕ) → keys ≤ j → getD index′ j 0 ≡ getD index j 0
-        start-cell j b = rw is (getD-set-other index h j (beforeOf index x) 0 (λ e. omega (arith, hb)))
+        start-cell : (j : ℕ) → (K .scale) ≤ j → getD index′ j 0 ≡ getD index j 0
+        start-cell j b = rw is (getD-set-other index h j (beforeOf (K .scale) index x) 0 (λ e. omega (arith, hb)))
 
       -- or where it is another place
-      module _ (index′ : List ℕ) (y : ℕ) (z : over ≡ suc y) (is : index′ ≡ set index (keys + y) (getD index (keys + x) 0)) where
-        yb : y < reach
+      module _ (index′ : List ℕ) (y : ℕ) (z : over ≡ suc y) (is : index′ ≡ set index ((K .scale) + y) (getD index ((K .scale) + x) 0)) where
+        yb : y < reach (K .scale)
         yb = C .chains .within y h (t .2 .1 y z .0) .0
 
-        place-chains : Descends keys reach (Member (killed L (C .front))) (Start (killed L (C .front))) (bucketOf index′) (beforeOf index′)
+        place-chains : Descends (K .scale) (reach (K .scale)) (Member (K .scale) (killed L (C .front))) (Start (K .scale) (killed L (C .front))) (bucketOf index′) (beforeOf (K .scale) index′)
         place-chains = rw is
             (same-entries
-            (unlinked-next dead x (killed-gone (C .front) x in-front) {before′ = beforeOf (set index (keys + y) (getD index (keys + x) 0))} y (t .2 .1 y z .1)
-            (λ j b. elim (changed index keys reach y (getD index (keys + x) 0) (omega (arith, K .size, yb)) j b) [
+            (unlinked-next dead x (killed-gone (K .scale) (C .front) x in-front) {before′ = beforeOf (K .scale) (set index ((K .scale) + y) (getD index ((K .scale) + x) 0))} y (t .2 .1 y z .1)
+            (λ j b. elim (changed index (K .scale) (reach (K .scale)) y (getD index ((K .scale) + x) 0) (omega (arith, room, yb)) j b) [
               | inl q ↦ inl (q .0, ap (λ (m : ℕ). m - 1) (q .1))
               | inr q ↦ inr (q .0, ap (λ (m : ℕ). m - 1) (q .1))
             ]))
-            (λ k b. getD-set-other index (keys + y) k (getD index (keys + x) 0) 0 (λ e. omega arith))
+            (λ k b. getD-set-other index ((K .scale) + y) k (getD index ((K .scale) + x) 0) 0 (λ e. omega arith))
             (λ j b. refl))
 
       -- the marks are at starts still, and the other cells as they were
-      unlinked-cell : (index′ : List ℕ) → Unlinked index index′ h x over → (j : ℕ) → j < reach → 0 < getD index′ (keys + j) 0
+      unlinked-cell : (index′ : List ℕ) → Unlinked (K .scale) index index′ h x over → (j : ℕ) → j < reach (K .scale) → 0 < getD index′ ((K .scale) + j) 0
           → (e : Stored) × Placed 0 (C .front) j e
       unlinked-cell index′ u j b m = by over refl
         where
           by : (o : ℕ) → over ≡ o → (e : Stored) × Placed 0 (C .front) j e
-          by zero z = C .marks j b (rw (u .atStart z, getD-set-other index h (keys + j) (beforeOf index x) 0 (λ e. omega (arith, hb))) at m)
+          by zero z = C .marks j b (rw (u .atStart z, getD-set-other index h ((K .scale) + j) (beforeOf (K .scale) index x) 0 (λ e. omega (arith, hb))) at m)
           by (suc y) z = elim (equal? j y) [
             | inl q ↦ let l = t .2 .1 y z .0 in (l .0, rw q (l .1))
-            | inr d ↦ C .marks j b (rw (u .atPlace y z, getD-set-other index (keys + y) (keys + j) (getD index (keys + x) 0) 0 (λ e. d (omega arith))) at m)
+            | inr d ↦ C .marks j b (rw (u .atPlace y z, getD-set-other index ((K .scale) + y) ((K .scale) + j) (getD index ((K .scale) + x) 0) 0 (λ e. d (omega arith))) at m)
           ]
 
-      unlinked-chains : (index′ : List ℕ) → Unlinked index index′ h x over
-          → Descends keys reach (Member (killed L (C .front))) (Start (killed L (C .front))) (bucketOf index′) (beforeOf index′)
+      unlinked-chains : (index′ : List ℕ) → Unlinked (K .scale) index index′ h x over
+          → Descends (K .scale) (reach (K .scale)) (Member (K .scale) (killed L (C .front))) (Start (K .scale) (killed L (C .front))) (bucketOf index′) (beforeOf (K .scale) index′)
       unlinked-chains index′ u = by over refl
         where
-          by : (o : ℕ) → over ≡ o → Descends keys reach (Member (killed L (C .front))) (Start (killed L (C .front))) (bucketOf index′) (beforeOf index′)
+          by : (o : ℕ) → over ≡ o → Descends (K .scale) (reach (K .scale)) (Member (K .scale) (killed L (C .front))) (Start (K .scale) (killed L (C .front))) (bucketOf index′) (beforeOf (K .scale) index′)
           by zero z = start-chains index′ z (u .atStart z)
           by (suc y) z = place-chains index′ y z (u .atPlace y z)
 
-      unlinked-extent : (index′ : List ℕ) → Unlinked index index′ h x over → (getD index′ coveredAt 0 ≡ getD index coveredAt 0) × (length index′ ≡ length index)
+      unlinked-extent : (index′ : List ℕ) → Unlinked (K .scale) index index′ h x over → (getD index′ (coveredAt (K .scale)) 0 ≡ getD index (coveredAt (K .scale)) 0) × (length index′ ≡ length index)
       unlinked-extent index′ u = by over refl
         where
-          by : (o : ℕ) → over ≡ o → (getD index′ coveredAt 0 ≡ getD index coveredAt 0) × (length index′ ≡ length index)
-          by zero z = rw (u .atStart z) (getD-set-other index h coveredAt (beforeOf index x) 0 (λ e. omega (arith, hb)), length-set index h (beforeOf index x))
+          by : (o : ℕ) → over ≡ o → (getD index′ (coveredAt (K .scale)) 0 ≡ getD index (coveredAt (K .scale)) 0) × (length index′ ≡ length index)
+          by zero z = rw (u .atStart z) (getD-set-other index h (coveredAt (K .scale)) (beforeOf (K .scale) index x) 0 (λ e. omega (arith, hb)), length-set index h (beforeOf (K .scale) index x))
           by (suc y) z = rw (u .atPlace y z) (
-            getD-set-other index (keys + y) coveredAt (getD index (keys + x) 0) 0 (λ e. omega (arith, yb index′ y z (u .atPlace y z))),
-            length-set index (keys + y) (getD index (keys + x) 0),
+            getD-set-other index ((K .scale) + y) (coveredAt (K .scale)) (getD index ((K .scale) + x) 0) 0 (λ e. omega (arith, yb index′ y z (u .atPlace y z))),
+            length-set index ((K .scale) + y) (getD index ((K .scale) + x) 0),
           )
 
       -- and so the index is right when it is dead
-      pub keeps-near : (store′ : List ℤ) (index′ : List ℕ) (k : ℕ) → k ≡ h → Unlinked index index′ k x over → Holds store′ used (killed L stored) → Keeps store′ index′ used (killed L stored)
+      pub keeps-near : (store′ : List ℤ) (index′ : List ℕ) (k : ℕ) → k ≡ h → Unlinked (K .scale) index index′ k x over → Holds store′ used (killed L stored) → Keeps store′ index′ used (killed L stored)
       keeps-near store′ index′ k q w H =
-          let u : Unlinked index index′ h x over = rw q at w in
+          let u : Unlinked (K .scale) index index′ h x over = rw q at w in
           let e = unlinked-extent index′ u in
           record {
             holds = H;
-            size = e .1 ∙ K .size;
+            scale = (K .scale);
+            size = K .size ∙ ap scaleOf (sym (e .1));
             covers = record {
               front = killed L (C .front);
               back = C .back;
@@ -699,5 +757,5 @@ skipped {store} {used} {from} {L} {stored} H S =
     }
 
 -- what a walk said, by cases
-pub spotted : (front : List Stored) (L : List ℤ) (index : List ℕ) (r t : Spot) → r ≡ t → Spotted front L index r → Spotted front L index t
-spotted front L index r t e k = rw e at k
+pub spotted : (sc : ℕ) (front : List Stored) (L : List ℤ) (index : List ℕ) (r t : Spot) → r ≡ t → Spotted sc front L index r → Spotted sc front L index t
+spotted sc front L index r t e k = rw e at k

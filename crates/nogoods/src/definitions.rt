@@ -4,14 +4,13 @@ ghost use mathlib.Core.List.{List, _∷_, map};
 ghost use Prim.Native.Nat.{_*_, _≤_};
 ghost use lib.IntN.{pos};
 ghost use lib.ListN.{length, drop, getD};
-ghost use Rattle.words.specs.Limits.{largest, longest, mostNumbers};
+ghost use Rattle.words.specs.Limits.{largest, widest, mostNumbers};
 ghost use Rattle.words.specs.Literals.{variable, complement, ascending};
 ghost use Rattle.derivation.specs.Steps.{definition};
 ghost use Rattle.nogoods.specs.Keeps.{Literals, WrittenFront};
 ghost use Rattle.nogoods.specs.Index.{Keeps, Fits};
 ghost use Rattle.nogoods.specs.Store.{Stored, recordOf, addedIn, keptWith, storedWords, wordsOf, recordSize};
 ghost use Rattle.nogoods.specs.Definitions.{pair, pairSize, defined, definedSize};
-use crate::INDEX;
 use crate::records::HEADER;
 use crate::store;
 use crate::store::Added;
@@ -22,7 +21,7 @@ const PAIR: usize = HEADER + 2;
 // The name with a literal's complement, ascending, at the front of the free tail. The origin is the number of the step, here and
 // below.
 fn write_pair(free: &mut [i32], origin: usize, name: i32, literal: i32)
-    requires origin { ⌜ origin ≤ longest ⌝ }
+    requires origin { ⌜ origin ≤ widest ⌝ }
     requires room { ⌜ (variable literal ≤ largest) × (pairSize ≤ length (now free)) ⌝ }
     ensures { λ _. ⌜ WrittenFront (storedWords (recordOf origin (pair name literal))) (now (free .entry)) (now (free .exit)) ⌝ }
 {
@@ -33,7 +32,7 @@ fn write_pair(free: &mut [i32], origin: usize, name: i32, literal: i32)
 
 // The name with each literal's complement, ascending, one record after another, at the front of the free tail.
 fn write_pairs(free: &mut [i32], origin: usize, name: i32, literals: &[i32])
-    requires origin { ⌜ origin ≤ longest ⌝ }
+    requires origin { ⌜ origin ≤ widest ⌝ }
     requires room { ⌜ Literals (now literals) × (pairSize * length (now literals) ≤ length (now free)) ⌝ }
     ensures { λ _. ⌜ WrittenFront (wordsOf (addedIn origin (map (pair name) (now (literals .entry)))))
         (now (free .entry)) (now (free .exit)) ⌝ }
@@ -49,7 +48,7 @@ fn write_pairs(free: &mut [i32], origin: usize, name: i32, literals: &[i32])
 
 // The name's complement with its literals, ascending, at the front of the free tail. The numbers are the name and its literals.
 fn write_first(free: &mut [i32], origin: usize, numbers: &[i32])
-    requires origin { ⌜ origin ≤ longest ⌝ }
+    requires origin { ⌜ origin ≤ widest ⌝ }
     requires numbers { ⌜ (variable (getD (now numbers) 0 (pos 0)) ≤ largest) × (1 ≤ length (now numbers)) ⌝ }
     requires room { ⌜ (length (now numbers) ≤ mostNumbers) × (recordSize (now numbers) ≤ length (now free)) ⌝ }
     ensures { λ _. ⌜ (let l = now (numbers .entry) in
@@ -64,7 +63,7 @@ fn write_first(free: &mut [i32], origin: usize, numbers: &[i32])
 
 // The words of a definition at the front of the free tail. The numbers may be left in another order.
 fn write_definition(free: &mut [i32], origin: usize, numbers: &mut [i32])
-    requires origin { ⌜ origin ≤ longest ⌝ }
+    requires origin { ⌜ origin ≤ widest ⌝ }
     requires numbers { ⌜ Literals (now numbers) × (1 ≤ length (now numbers)) × (length (now numbers) ≤ mostNumbers) ⌝ }
     requires room { ⌜ definedSize (length (now numbers)) ≤ length (now free) ⌝ }
     ensures { λ _. ⌜ WrittenFront (wordsOf (addedIn origin (defined (now (numbers .entry)))))
@@ -82,12 +81,12 @@ fn write_definition(free: &mut [i32], origin: usize, numbers: &mut [i32])
 pub fn append(
     store: &mut [i32],
     used: usize,
-    index: &mut [u16; INDEX],
+    index: &mut [u32],
     origin: usize,
     numbers: &mut [i32],
 ) -> Added
     requires held { ⌜ ((stored : List Stored) × Keeps (now store) (now index) used stored) ⌝ }
-    requires origin { ⌜ (1 ≤ origin) × (origin ≤ longest) ⌝ }
+    requires origin { ⌜ (1 ≤ origin) × (origin ≤ widest) ⌝ }
     requires numbers { ⌜ Literals (now numbers) × (1 ≤ length (now numbers)) × (length (now numbers) ≤ mostNumbers) ⌝ }
     ensures { λ r. ⌜ ((stored : List Stored) → Keeps (now (store .entry)) (now (index .entry)) used stored
         → Fits (keptWith (length (now (store .entry)))

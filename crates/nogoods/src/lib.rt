@@ -5,5 +5,8 @@ pub mod definitions;
 pub mod records;
 pub mod store;
 
-// The cells of the index: first those of specs/Index.antt, then those of the search.
-pub const INDEX: usize = chains::PROVED + search::CELLS;
+// The cells of the index that a check of document 01's lends, and the words of the store that they reach: an index may have any number
+// of cells, see specs/Index.antt.
+pub const LENT_CELLS: usize = 100487;
+
+const LENT_REACH: usize = 16384;

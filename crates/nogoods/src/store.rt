@@ -6,7 +6,7 @@ ghost use Prim.Native.Nat.{_+_, _≤_};
 ghost use lib.Dec.{eqb};
 ghost use lib.IntN.{pos, negℤ};
 ghost use lib.ListN.{length, getD, set};
-ghost use Rattle.words.specs.Limits.{largest, longest};
+ghost use Rattle.words.specs.Limits.{largest, widest};
 ghost use Rattle.words.specs.Lists.{any};
 ghost use Rattle.aspif.specs.Rules.{isEmpty};
 ghost use Rattle.nogoods.specs.Keeps.{Literals, Holds, WrittenFront};
@@ -16,9 +16,7 @@ ghost use Rattle.nogoods.specs.Moves.{MovedDown, Keeping};
 ghost use Rattle.nogoods.specs.Finds.{foundAt, Skips};
 ghost use Rattle.nogoods.specs.Index.{Keeps, Fits, Spotted};
 ghost use Rattle.nogoods.specs.declared.chains.Spot.the-variants.{Here};
-use crate::INDEX;
 use crate::chains;
-use crate::chains::PROVED;
 use crate::chains::Spot;
 use crate::records;
 use crate::records::COUNT;
@@ -38,7 +36,7 @@ pub enum Added {
 
 // The words of a nogood, with the number of its step, at the front of the free tail.
 pub fn write(free: &mut [i32], origin: usize, literals: &[i32])
-    requires origin { ⌜ origin ≤ longest ⌝ }
+    requires origin { ⌜ origin ≤ widest ⌝ }
     requires room { ⌜ (recordSize (now literals) ≤ length (now free)) × (length (now literals) ≤ largest) ⌝ }
     ensures { λ _. ⌜ WrittenFront (storedWords (recordOf origin (now (literals .entry))))
         (now (free .entry)) (now (free .exit)) ⌝ }
@@ -95,7 +93,7 @@ pub fn close(store: &mut [i32], used: usize) -> usize
 
 // Room for so many words after those that are used: the store is closed up if they do not fit otherwise. How many words are used
 // then.
-pub fn make_room(store: &mut [i32], used: usize, index: &mut [u16], size: usize) -> usize
+pub fn make_room(store: &mut [i32], used: usize, index: &mut [u32], size: usize) -> usize
     requires { ⌜ ((stored : List Stored) × Keeps (now store) (now index) used stored) ⌝ }
     ensures { λ r. ⌜ ((stored : List Stored) → Keeps (now (store .entry)) (now (index .entry)) used stored
         → Keeps (now (store .exit)) (now (index .exit)) r (keptFor (length (now (store .entry))) size stored)) ⌝ }
@@ -104,7 +102,8 @@ pub fn make_room(store: &mut [i32], used: usize, index: &mut [u16], size: usize)
         return used;
     }
     chains::clear(index);
-    search::reset(&mut index[PROVED..]);
+    let at = chains::start_of(index.len());
+    search::reset(&mut index[at..]);
     close(store, used)
 }
 
@@ -112,12 +111,12 @@ pub fn make_room(store: &mut [i32], used: usize, index: &mut [u16], size: usize)
 pub fn append(
     store: &mut [i32],
     used: usize,
-    index: &mut [u16; INDEX],
+    index: &mut [u32],
     origin: usize,
     literals: &[i32],
 ) -> Added
     requires held { ⌜ ((stored : List Stored) × Keeps (now store) (now index) used stored) ⌝ }
-    requires origin { ⌜ (1 ≤ origin) × (origin ≤ longest) ⌝ }
+    requires origin { ⌜ (1 ≤ origin) × (origin ≤ widest) ⌝ }
     requires literals { ⌜ Literals (now literals) × (length (now literals) ≤ largest) ⌝ }
     ensures { λ r. ⌜ ((stored : List Stored) → Keeps (now (store .entry)) (now (index .entry)) used stored
         → Fits (keptWith (length (now (store .entry))) (addedIn origin (now (literals .entry) ∷ [])) stored)
@@ -174,24 +173,26 @@ fn delete_far(store: &mut [i32], used: usize, from: usize, literals: &[i32])
 fn delete_near(
     store: &mut [i32],
     used: usize,
-    index: &mut [u16],
+    index: &mut [u32],
     literals: &[i32],
     x: usize,
     over: usize,
 )
     requires { ⌜ ((stored : List Stored) × (K : Keeps (now store) (now index) used stored)
-        × Spotted (K .covers .front) (now literals) (now index) (Here x over)) ⌝ }
+        × Spotted (K .scale) (K .covers .front) (now literals) (now index) (Here x over)) ⌝ }
     ensures { λ _. ⌜ ((stored : List Stored) (K : Keeps (now (store .entry)) (now (index .entry)) used stored)
-        → Spotted (K .covers .front) (now (literals .entry)) (now (index .entry)) (Here x over)
+        → Spotted (K .scale) (K .covers .front) (now (literals .entry)) (now (index .entry)) (Here x over)
         → Keeps (now (store .exit)) (now (index .exit)) used (killed (now (literals .entry)) stored)) ⌝ }
 {
-    chains::unlink(index, chains::hash_of(literals), x, over);
+    let m = chains::scale_of(index.len());
+    chains::unlink(index, m, chains::key_of(literals, m), x, over);
     kill(store, x);
-    search::forget(x, &mut index[PROVED..]);
+    let at = chains::start_of(index.len());
+    search::forget(x, &mut index[at..]);
 }
 
 // The oldest live nogood that is the list of literals is dead.
-fn discard(store: &mut [i32], used: usize, index: &mut [u16], literals: &[i32])
+fn discard(store: &mut [i32], used: usize, index: &mut [u32], literals: &[i32])
     requires { ⌜ ((stored : List Stored) × Keeps (now store) (now index) used stored) ⌝ }
     ensures { λ _. ⌜ ((stored : List Stored) → Keeps (now (store .entry)) (now (index .entry)) used stored
         → Keeps (now (store .exit)) (now (index .exit)) used (killed (now (literals .entry)) stored)) ⌝ }
@@ -210,7 +211,7 @@ fn discard(store: &mut [i32], used: usize, index: &mut [u16], literals: &[i32])
 }
 
 // The oldest live nogood that is the list of literals is dead: one word changes at most. As many words are used as before.
-pub fn delete(store: &mut [i32], used: usize, index: &mut [u16; INDEX], literals: &[i32]) -> usize
+pub fn delete(store: &mut [i32], used: usize, index: &mut [u32], literals: &[i32]) -> usize
     requires { ⌜ ((stored : List Stored) × Keeps (now store) (now index) used stored) ⌝ }
     ensures { λ r. ⌜ ((stored : List Stored) → Keeps (now (store .entry)) (now (index .entry)) used stored
         → Keeps (now (store .exit)) (now (index .exit)) r (killed (now (literals .entry)) stored)) ⌝ }

@@ -272,3 +272,23 @@ pub fn expand(out: &mut [u8], text: &[u8]) -> usize
     }
     most_bytes(n as u64, out)
 }
+
+// Whether every word is 0.
+pub fn is_clear(words: &[u32]) -> bool {
+    let mut at = 0;
+    while at < words.len() {
+        if words[at] != 0 {
+            return false;
+        }
+        at += 1;
+    }
+    true
+}
+
+// The same of cells.
+pub fn most_cells(n: u64, words: &[u32]) -> usize
+    ensures { λ r. ⌜ Counts r (now (words .entry)) ⌝ }
+{
+    let n = n as usize;
+    if n <= words.len() { n } else { words.len() }
+}

@@ -267,7 +267,7 @@ pub read-sound : ReadSound
 read-sound v packet tableSize textSize P ts e =
     let r = read-pair v packet tableSize textSize P ts e in
     let s = sound v packet P ts (taken v packet P ts (r .0)) in
-    (table-back tableSize P (record { formed = s .formed; few = s .few; room = r .1 }), read-back ts (s .passes) (s .short), s .fitting)
+    (table-back tableSize P (record { formed = s .formed; few = s .few; room = r .1 }), read-back longest ts (s .passes) (s .short), s .fitting)
 
 -- What the writer takes
 
@@ -291,7 +291,7 @@ pair-back : (v : Version) (table : List ℤ) (rules : ℕ) (proof bs : List ℕ)
     → PairOf v table rules proof bs
 pair-back v table rules proof bs P ts p a q e =
     let r = rules-of table rules P p in
-    let s = steps-exact proof ts .0 q in
+    let s = steps-exact longest proof ts .0 q in
     let f = subst (FitsTable (length table)) (r .1) (table-fits table rules (r .0)) in
     let sound : Sound v P ts = record { few = f .few; formed = f .formed; fitting = a; passes = s .2; short = rw (sym (s .0)) (s .1) } in
     record {

@@ -3,7 +3,6 @@
 use mathlib.Core.Path.{_≡_, refl, sym, _∙_, ap, ap₂, subst}
 use mathlib.Core.Bool.{Bool, true, false, cond, _&&_, true≢false}
 use mathlib.Core.Option.{Option, none, some}
-use mathlib.Core.Logic.{inl}
 use mathlib.Core.List.{List, [], _∷_, _++_, map, append-nil}
 use Prim.Native.Nat.{ℕ, zero, suc, _+_, _-_, _*_, _/_, _%_, _<_, _≤_, max}
 use native.Mathlib.Omega.{arith}
@@ -34,7 +33,7 @@ use Rattle.drupe.specs.declared.LineAnswer.the-variants as Answer
 use Rattle.drupe.specs.declared.LineReading.{LineReading}
 use Rattle.drupe.proofs.Lines.{passed-line}
 use Rattle.drupe.proofs.Rows.{lineTold}
-use Rattle.drupe.proofs.Texts.{Walked, walked-start, walked-on, walked-end, walked-refused, refused-exact}
+use Rattle.drupe.proofs.Texts.{Walked, walked-start, walked-on, walked-end, walked-refused, short-steps, long-steps}
 use Rattle.packets.specs.Bytes.{little, flipIf, signedBytes, bytesOf}
 use Rattle.packets.specs.Packets as Packets
 use Rattle.packets.specs.Packets.{limit, mark, packetRule, hasWords, packetWords, stepBytes, stepsBytes, packetOf, stepsTop, pairTop, ifFits, PacketWritten, unwritten, written, stepsTaken, held, writing, writingOf, writingAnswer, packetLeft, WritingLeaves}
@@ -155,6 +154,7 @@ rule-on v r P Q e g p = going-on (rw (e, bytes-append 4 (packetRule v r) (packet
 pub record Stepping (text before now : List ℕ) (at position n largest end : ℕ) : Type 0 where
   pub done : List Step
   pub walked : Walked text position n done
+  pub short : length text ≤ longest
   pub put : Put (stepsBytes done) before now at end
   pub tops : largest ≡ stepsTop done
   pub near : end ≤ at + stepRoom * position
@@ -163,7 +163,7 @@ pub record Stepping (text before now : List ℕ) (at position n largest end : �
 
 pub stepping-start : {text : List ℕ} (before : List ℕ) (at : ℕ) → length text ≤ longest → Stepping text before before at 0 0 0 at
 stepping-start before at h =
-    record { done = []; walked = walked-start h; put = put-none before at; tops = refl; near = omega arith; within = omega arith; few = omega arith }
+    record { done = []; walked = walked-start; short = h; put = put-none before at; tops = refl; near = omega arith; within = omega arith; few = omega arith }
 
 module _ {text before now : List ℕ} {at position n largest end : ℕ} (S : Stepping text before now at position n largest end) where
   -- one step more
@@ -178,6 +178,7 @@ module _ {text before now : List ℕ} {at position n largest end : ℕ} (S : Ste
       record {
         done = S .done ++ (t ∷ []);
         walked = walked-on (S .walked) e;
+        short = S .short;
         put = rw a (put-on (S .put) p);
         tops = omega (arith, m, S .tops, greatest-more (λ (t : Step). top (t .numbers)) (S .done) t);
         near = omega (arith, S .near, u .0);
@@ -186,15 +187,15 @@ module _ {text before now : List ℕ} {at position n largest end : ℕ} (S : Ste
       }
 
   pub stepping-end : lineAt text position ≡ Lines.end → StepsPutAs (stepsOf text) before now at (record { good = true; steps = n; top = largest; end = end })
-  stepping-end e = rw (walked-end (S .walked) e) (record { good = refl; count = S .walked .count; largest = S .tops; put = S .put })
+  stepping-end e = rw (short-steps longest text (S .short) ∙ walked-end (S .walked) e) (record { good = refl; count = S .walked .count; largest = S .tops; put = S .put })
 
   pub stepping-refused : (k : ℕ) → lineAt text position ≡ Lines.refused k → StepsPutAs (stepsOf text) before now at (record { good = false; steps = n; top = largest; end = end })
-  stepping-refused k e = rw (walked-refused (S .walked) k e) (record { good = refl; count = S .walked .count; largest = S .tops; put = S .put })
+  stepping-refused k e = rw (short-steps longest text (S .short) ∙ walked-refused (S .walked) k e) (record { good = refl; count = S .walked .count; largest = S .tops; put = S .put })
 
 -- the text is too long
 pub stepping-long : (text before : List ℕ) (at : ℕ) → longest < length text → StepsPutAs (stepsOf text) before before at (record { good = false; steps = 0; top = 0; end = at })
 stepping-long text before at h =
-    rw (refused-exact text [] 21 0 .1 (inl (h, (refl, (refl, refl))))) (record { good = refl; count = refl; largest = refl; put = put-none before at })
+    rw (long-steps longest text h) (record { good = refl; count = refl; largest = refl; put = put-none before at })
 
 -- The whole packet
 

@@ -15,13 +15,11 @@ ghost use Rattle.nogoods.specs.Keeps.{Literals};
 ghost use Rattle.nogoods.specs.Store.{Stored, live};
 ghost use Rattle.words.specs.Limits.{entries};
 ghost use Rattle.nogoods.specs.Records.{Encodes};
-ghost use Rattle.nogoods.specs.Index.{indexSize, Marked, Keeps};
+ghost use Rattle.nogoods.specs.Index.{scaleOf, Marked, Keeps};
 ghost use Rattle.propagation.specs.Propagate.{Assigns, BlankFrom, Sweeps, Settles, Ends};
 use crate::replay::Replayed;
 use crate::units::Derived;
-use nogoods::INDEX;
 use nogoods::chains;
-use nogoods::chains::PROVED;
 use nogoods::records;
 use words::ENTRIES;
 
@@ -124,9 +122,9 @@ fn exhaust(nogoods: &[i32], assignment: &mut [u8; ENTRIES]) -> bool
 }
 
 // The replay, and sweeps where that comes to no conflict, from an assignment whose entries from an end on are free. All are free afterwards.
-fn propagate(nogoods: &[i32], index: &[u16], end: usize, assignment: &mut [u8; ENTRIES]) -> bool
+fn propagate(nogoods: &[i32], index: &[u32], end: usize, assignment: &mut [u8; ENTRIES]) -> bool
     requires encoded { ⌜ ((stored : List Stored) × Encodes (now nogoods) stored) ⌝ }
-    requires index { ⌜ (length (now index) ≡ indexSize) × Marked (now nogoods) (now index) ⌝ }
+    requires index { ⌜ Marked (scaleOf (length (now index))) (now nogoods) (now index) ⌝ }
     requires size { ⌜ length (now assignment) ≡ entries ⌝ }
     requires start { ⌜ (end ≤ entries) × BlankFrom end (now assignment) ⌝ }
     ensures decided { λ r. ⌜ Ends (now (nogoods .entry)) (now (assignment .entry)) r ⌝ }
@@ -145,7 +143,7 @@ fn propagate(nogoods: &[i32], index: &[u16], end: usize, assignment: &mut [u8; E
 fn decide(
     store: &[i32],
     used: usize,
-    index: &mut [u16],
+    index: &mut [u32],
     assignment: &mut [u8; ENTRIES],
     literals: &[i32],
 ) -> bool
@@ -159,7 +157,8 @@ fn decide(
     ensures free { λ _. ⌜ now (assignment .exit) ≡ replicate entries 0 ⌝ }
 {
     chains::cover(store, used, index);
-    search::run(store, literals, &mut index[PROVED..]);
+    let at = chains::start_of(index.len());
+    search::run(store, literals, &mut index[at..]);
     let end = assign(literals, assignment);
     propagate(&store[..used], index, end, assignment)
 }
@@ -169,7 +168,7 @@ fn decide(
 pub fn refutes(
     store: &[i32],
     used: usize,
-    index: &mut [u16; INDEX],
+    index: &mut [u32],
     assignment: &mut [u8; ENTRIES],
     literals: &[i32],
 ) -> bool

@@ -8,15 +8,15 @@ ghost use lib.ListN.{length, getD};
 ghost use Rattle.words.specs.Limits.{entries};
 ghost use Rattle.nogoods.specs.Store.{Stored};
 ghost use Rattle.nogoods.specs.Records.{Encodes};
-ghost use Rattle.nogoods.specs.Index.{keys, reach, indexSize, Marked};
+ghost use Rattle.nogoods.specs.Index.{scaleOf, reach, Roomy, Marked};
 ghost use Rattle.propagation.specs.Propagate.{BlankFrom, Replays};
 use crate::units;
 use crate::units::Derived;
-use nogoods::chains::KEYS;
+use nogoods::chains;
 use nogoods::chains::PROVED;
+use nogoods::chains::WORDS;
 use search::FIRST;
 use search::MOST;
-use search::REACH;
 use search::TRAIL;
 use words::ENTRIES;
 
@@ -27,35 +27,40 @@ pub enum Replayed {
 }
 
 // A record starts at x, by its mark.
-fn is_start(index: &[u16], x: usize) -> bool
-    requires { ⌜ length (now index) ≡ indexSize ⌝ }
-    ensures { λ b. ⌜ (b ≡ true → (x < reach) × (0 < getD (now (index .entry)) (keys + x) 0)) ⌝ }
+fn is_start(index: &[u32], m: usize, x: usize) -> bool
+    requires { ⌜ Roomy m (now index) ⌝ }
+    ensures { λ b. ⌜ (b ≡ true → (x < reach m) × (0 < getD (now (index .entry)) (m + x) 0)) ⌝ }
 {
-    if REACH <= x {
+    if WORDS * m <= x {
         return false;
     }
-    0 < index[KEYS + x]
+    0 < index[m + x]
 }
 
 // The nogoods at the places of the path, one after another, from an assignment whose entries from an end on are free. Whether that comes to a conflict.
 pub fn replay(
     nogoods: &[i32],
-    index: &[u16],
+    index: &[u32],
     start: usize,
     assignment: &mut [u8; ENTRIES],
 ) -> Replayed
     requires encoded { ⌜ ((stored : List Stored) × Encodes (now nogoods) stored) ⌝ }
-    requires index { ⌜ (length (now index) ≡ indexSize) × Marked (now nogoods) (now index) ⌝ }
+    requires index { ⌜ Marked (scaleOf (length (now index))) (now nogoods) (now index) ⌝ }
     requires size { ⌜ length (now assignment) ≡ entries ⌝ }
     requires start { ⌜ (start ≤ entries) × BlankFrom start (now assignment) ⌝ }
     ensures { λ r. ⌜ Replays (now (nogoods .entry)) (now (assignment .entry)) (now (assignment .exit)) r ⌝ }
 {
+    let m = chains::scale_of(index.len());
+    if m == 0 {
+        return Replayed::Open;
+    }
+    let at = PROVED * m + 1;
     let mut end = start;
-    let mut k = index[PROVED + FIRST] as usize;
+    let mut k = index[at + FIRST] as usize;
     while k < MOST {
-        let x = index[PROVED + TRAIL + k] as usize;
+        let x = index[at + TRAIL + k] as usize;
         k += 1;
-        if is_start(index, x) {
+        if is_start(index, m, x) {
             let given = units::derive_at(nogoods, x, assignment);
             match given {
                 Derived::Conflicting => {

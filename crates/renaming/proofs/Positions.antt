@@ -9,7 +9,7 @@ use Rattle.words.specs.Limits.{longest}
 use Rattle.words.proofs.Lists.{zero-one}
 use Rattle.drupe.specs.Lines.{LineAt, end, line, lineAt}
 use Rattle.drupe.specs.Lines as Lines
-use Rattle.drupe.specs.Texts.{Step, StepsRead, steps, refused, after, stepsAt, stepsOf}
+use Rattle.drupe.specs.Texts.{Step, StepsRead, steps, refused, after, stepsAt, stepsWithin, stepsOf}
 
 module _ (text : List ℕ) where
   -- the steps from the position on
@@ -25,7 +25,7 @@ module _ (text : List ℕ) where
   LeftBy ts (line x zs next) = (us : List Step) × (ts ≡ record { letter = x; numbers = zs } ∷ us) × Left next us
 
   pub left-start : {ts : List Step} → stepsOf text ≡ steps ts → Left 0 ts
-  unfolding stepsOf
+  unfolding stepsWithin
   left-start {ts} e = by (ltb longest (length text)) e
     where
       by : (b : Bool) → cond b (refused [] 21 0) (stepsAt text (suc (length text)) 0 0) ≡ steps ts → Left 0 ts

@@ -8,7 +8,7 @@ use Prim.Native.Nat.{ℕ, suc, _≤_}
 use native.Mathlib.Bridge.{le-prop}
 use lib.IntN.{ℤ, pos, negsuc, negℤ}
 use Rattle.words.specs.Lists.{_∈_}
-use Rattle.words.specs.Limits.{largest}
+use Rattle.words.specs.Limits.{longest, largest}
 use Rattle.words.specs.Literals.{variable, ascending}
 use Rattle.text.specs.declared.Letter.{Letter}
 use Rattle.text.specs.declared.Letter.the-variants.{Addition, Body, Completion, Deletion, Extension, Loop, Support}
@@ -50,4 +50,4 @@ module _ (f g : ℕ → ℕ) (same : (v : ℕ) → v ≤ largest → f v ≡ g v
 
     -- of a text that is read
     pub same-half : (text : List ℕ) (ts : List Step) → stepsOf text ≡ Texts.steps ts → half P x f bodies [] ts ≡ half P x g bodies [] ts
-    same-half text ts e = half-same [] ts (steps-exact text ts .0 e .2)
+    same-half text ts e = half-same [] ts (steps-exact longest text ts .0 e .2)

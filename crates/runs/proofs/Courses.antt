@@ -7,7 +7,6 @@ use native.Mathlib.Omega.{arith}
 use lib.IntN.{ℤ, pos}
 use lib.ListN.{length, replicate}
 use Rattle.words.proofs.Lists.{zero-one}
-use Rattle.words.specs.Limits.{longest}
 use Rattle.aspif.specs.Rules.{Rule, InputRule, expand}
 use Rattle.drupe.specs.Lines.{LineAt, end, line, lineAt}
 use Rattle.drupe.specs.Lines as Lines
@@ -15,10 +14,10 @@ use Rattle.drupe.proofs.Lines.{passed-line}
 use Rattle.derivation.specs.States.{State, start}
 use Rattle.derivation.specs.Steps.{Outcome, refused, next, step}
 use Rattle.nogoods.specs.Store.{Stored, live, wordsFor}
-use Rattle.nogoods.specs.Index.{Blank, indexSize}
+use Rattle.nogoods.specs.Index.{BlankIndex}
 use Rattle.nogoods.proofs.Live.{live-few}
 use Rattle.steps.specs.After.{storedAfter}
-use Rattle.runs.specs.Course.{Course, stopped, course}
+use Rattle.runs.specs.Course.{Course, stopped, courseWithin}
 use Rattle.runs.specs.Claims.{Runs, ends, unread, unaccepted, full, good}
 use Rattle.steps.specs.Held.{Tracks, HoldsState, Starts, Leaves}
 use Rattle.steps.specs.declared.states.CheckingState.{CheckingState}
@@ -49,65 +48,66 @@ module _ (N : ℕ) (ws : List InputRule) (size : ℕ) (text : List ℕ) where
     pub long : length store ≡ size
 
   pub going-start : {c : CheckingState} {store : List ℤ} {index known names : List ℕ} {bodies : List ℤ} → Starts c → Tracks N ws known names bodies [] [] → store ≡ replicate (length store) (pos 0) → length store ≡ size
-      → length index ≡ indexSize → Blank index → Going store index known names bodies (c .used) (c .at) (c .steps)
-  going-start {store = store} {index = index} S T e l n b =
+      → BlankIndex index → Going store index known names bodies (c .used) (c .at) (c .steps)
+  going-start {store = store} {index = index} S T e l b =
       record {
         z = start;
         tracks = T;
         stored = [];
-        keeps = S .holds store index e n b;
+        keeps = S .holds store index e b;
         onward = λ c. rw (S .at, S .steps) (λ r. r);
         within = omega (arith, S .at);
         count = omega (arith, S .steps);
         long = l;
       }
 
-  module _ (short : length text ≤ longest) {store : List ℤ} {index known names : List ℕ} {bodies : List ℤ} {used at steps : ℕ} (G : Going store index known names bodies used at steps) where
-    comes : (c : Course) → Runs N P size text at steps (G .z) (G .stored) c → course N P size text ≡ c
-    comes c r = step-by-step N P size text c short .1 (G .onward c r)
+  module _ {store : List ℤ} {index known names : List ℕ} {bodies : List ℤ} {used at steps : ℕ} (G : Going store index known names bodies used at steps) where
+    comes : (limit : ℕ) → length text ≤ limit → (c : Course) → Runs N P size text at steps (G .z) (G .stored) c → courseWithin limit N P size text ≡ c
+    comes limit h c r = step-by-step limit N P size text c h .1 (G .onward c r)
 
     module _ (after : List ℤ) (index′ known′ names′ : List ℕ) (bodies′ : List ℤ) (same : length after ≡ length store) where
       -- what the turn at the position leaves
       abbrev Turned : LineAt → ProofTurn → Type 0
       Turned = LineLeaves N ws known′ names′ bodies′ after index′ used (steps + 1) size (G .z) (G .stored)
 
-      -- what the lines have left, once they are over
-      abbrev Left : Run → Type 0
-      Left r = Ran after (course N P size text) r × Ended N ws known′ names′ bodies′ (course N P size text)
+      -- what the lines have left, once they are over, under every limit that the text is within
+      abbrev Left : (limit : ℕ) → Run → Type 0
+      Left limit r = Ran after (courseWithin limit N P size text) r × Ended N ws known′ names′ bodies′ (courseWithin limit N P size text)
 
-      pub going-ends : {r : ProofTurn} → r ≡ Turn.Ends → Turned (lineAt text at) r → Left (Run.Through steps used)
-      going-ends e t = by (lineAt text at) refl (subst (Turned (lineAt text at)) e t)
+      pub going-ends : {r : ProofTurn} → r ≡ Turn.Ends → Turned (lineAt text at) r → (limit : ℕ) → length text ≤ limit → Left limit (Run.Through steps used)
+      going-ends e t limit h = by (lineAt text at) refl (subst (Turned (lineAt text at)) e t)
         where
           never : (n : ℕ) (s : Stepped) → Turn.Ends ≡ proofTurn n s → ⊥
           never n (Uses m) e = zero-one (cc)
           never n (Fails k) e = zero-one (cc)
 
-          by : (l : LineAt) → lineAt text at ≡ l → Turned l Turn.Ends → Left (Run.Through steps used)
-          by end q t = rw (comes _ (ends q)) ((used, refl, t .1), t .2)
+          by : (l : LineAt) → lineAt text at ≡ l → Turned l Turn.Ends → Left limit (Run.Through steps used)
+          by end q t = rw (comes limit h _ (ends q)) ((used, refl, t .1), t .2)
           by (Lines.refused k) q t = absurd (zero-one (cc))
           by (line x zs n) q t = absurd (never n (t .0) (t .1))
 
-      pub going-fails : {r : ProofTurn} (k : ℕ) → r ≡ Turn.Fails k → Turned (lineAt text at) r → Left (Run.Stopped (record { number = k; step = steps + 1 }))
-      going-fails k e t = by (lineAt text at) refl (subst (Turned (lineAt text at)) e t)
+      pub going-fails : {r : ProofTurn} (k : ℕ) → r ≡ Turn.Fails k → Turned (lineAt text at) r
+          → (limit : ℕ) → length text ≤ limit → Left limit (Run.Stopped (record { number = k; step = steps + 1 }))
+      going-fails k e t limit h = by (lineAt text at) refl (subst (Turned (lineAt text at)) e t)
         where
           Stops : Type 0
-          Stops = Left (Run.Stopped (record { number = k; step = steps + 1 }))
+          Stops = Left limit (Run.Stopped (record { number = k; step = steps + 1 }))
 
-          stops : (j : ℕ) → k ≡ j → course N P size text ≡ stopped j (steps + 1) → Stops
+          stops : (j : ℕ) → k ≡ j → courseWithin limit N P size text ≡ stopped j (steps + 1) → Stops
           stops j p q = rw (q, p) (refl, tt)
 
           by : (l : LineAt) → lineAt text at ≡ l → Turned l (Turn.Fails k) → Stops
           by end q t = absurd (zero-one (cc))
-          by (Lines.refused j) q t = stops j (cc) (comes _ (unread q))
+          by (Lines.refused j) q t = stops j (cc) (comes limit h _ (unread q))
           by (line x zs n) q t = outcome (step N P (G .z) (record { letter = x; numbers = zs })) refl (t .0) (t .1) (t .2)
             where
               outcome : (o : Outcome) → step N P (G .z) (record { letter = x; numbers = zs }) ≡ o → (s : Stepped) → Turn.Fails k ≡ proofTurn n s → Leaves N ws (storedAfter (steps + 1) size x zs (G .stored)) known′ names′ bodies′ after index′ o s → Stops
               outcome o p (Uses m) e l = absurd (zero-one (cc))
-              outcome (refused j) p (Fails i) e l = stops j (cc) (comes _ (unaccepted q p))
+              outcome (refused j) p (Fails i) e l = stops j (cc) (comes limit h _ (unaccepted q p))
               outcome (next z) p (Fails i) e l =
                   let a = l .0 .0 in
                   let m = step-live N P (steps + 1) size (G .z) (G .stored) (G .keeps .same) (record { letter = x; numbers = zs }) z p in
-                  stops 34 (cc) (comes _ (full q p (omega (arith, l .0 .1, ap wordsFor m, same, G .long))))
+                  stops 34 (cc) (comes limit h _ (full q p (omega (arith, l .0 .1, ap wordsFor m, same, G .long))))
 
       pub going-on : {r : ProofTurn} (n m : ℕ) → r ≡ Turn.Goes n m → Turned (lineAt text at) r → Going after index′ known′ names′ bodies′ m n (steps + 1) × (at < n)
       going-on n m e t = by (lineAt text at) refl (subst (Turned (lineAt text at)) e t)

@@ -2,3 +2,4 @@
 pub mod Lines
 pub mod Live
 pub mod Courses
+pub mod Lending

@@ -7,21 +7,21 @@ use Prim.Native.Nat.{ℕ, zero, suc, _+_, _<_, _≤_}
 use native.Mathlib.Omega.{arith}
 use lib.IntN.{ℤ}
 use lib.ListN.{length}
-use borrow.Author.Tests.{le-leb, lt-leb, leb-true, leb-false, le-ltb}
-use Rattle.words.specs.Limits.{longest}
+use borrow.Author.Tests.{le-leb, lt-leb, leb-true, leb-false}
 use Rattle.text.specs.declared.Letter.{Letter}
 use Rattle.aspif.specs.Rules.{Rule}
 use Rattle.drupe.specs.Lines.{LineAt, end, line, lineAt}
 use Rattle.drupe.specs.Lines as Lines
 use Rattle.drupe.proofs.Lines.{passed-line}
 use Rattle.derivation.specs.States.{State, start}
-use Rattle.drupe.specs.Texts.{Step, StepsRead, steps, refused, after, stepsAt, stepsOf}
+use Rattle.drupe.specs.Texts.{Step, StepsRead, steps, refused, after, stepsAt}
+use Rattle.drupe.proofs.Texts.{allSteps, short-steps, same-within}
 use Rattle.derivation.specs.Steps.{Outcome, next, step}
 use Rattle.derivation.specs.Steps as Steps
 use Rattle.nogoods.specs.Store.{Stored, wordsFor}
 use Rattle.steps.specs.After.{storedAfter}
-use Rattle.runs.specs.Course.{Course, stopped, thenStopped, fitting, runSteps, runRead, course}
-use Rattle.runs.specs.Claims.{Runs, ends, unread, unaccepted, full, good, StepByStep}
+use Rattle.runs.specs.Course.{Course, stopped, thenStopped, fitting, runSteps, runRead, courseWithin}
+use Rattle.runs.specs.Claims.{Runs, ends, unread, unaccepted, full, good, StepByStep, SameCourseWithin}
 
 -- what is stored once step t, the next after n, left the state z
 abbrev pub storedNext : (size n : ℕ) → List Stored → Step → State → List Stored
@@ -132,14 +132,18 @@ module _ (N : ℕ) (P : List Rule) (size : ℕ) (text : List ℕ) where
       line-then turns at n at′ z b x zs e s ∙ rw (le-leb (wordsFor (z′ .live)) size f) (only turns (u .1) (omega arith) r)
 
 pub step-by-step : StepByStep
-unfolding course stepsOf
-step-by-step N P size text c h = (
+unfolding courseWithin
+step-by-step limit N P size text c h = (
   λ e. subst (Runs N P size text 0 0 start []) (sym turns ∙ e) from,
   λ r. turns ∙ only N P size text (suc (length text)) (omega arith) (omega arith) r,
 )
   where
-    turns : course N P size text ≡ runRead N P size 0 start [] (stepsAt text (suc (length text)) 0 0)
-    turns = rw (le-ltb longest (length text) h)
+    turns : courseWithin limit N P size text ≡ runRead N P size 0 start [] (allSteps text)
+    turns = ap (runRead N P size 0 start []) (short-steps limit text h)
 
-    from : Runs N P size text 0 0 start [] (runRead N P size 0 start [] (stepsAt text (suc (length text)) 0 0))
+    from : Runs N P size text 0 0 start [] (runRead N P size 0 start [] (allSteps text))
     from = runs N P size text (suc (length text)) 0 0 start [] (omega arith) (omega arith)
+
+pub same-course-within : SameCourseWithin
+unfolding courseWithin
+same-course-within limit other N P size text h k = ap (runRead N P size 0 start []) (same-within text limit other h k)

@@ -6,7 +6,6 @@ use mathlib.Core.List.{List, []}
 use Prim.Native.Nat.{ℕ, _+_, _<_, _≤_}
 use lib.IntN.{ℤ}
 use lib.ListN.{length}
-use Rattle.words.specs.Limits.{longest}
 use Rattle.text.specs.declared.Letter.{Letter}
 use Rattle.aspif.specs.Rules.{Rule}
 use Rattle.drupe.specs.Lines.{end, line, lineAt}
@@ -16,7 +15,7 @@ use Rattle.derivation.specs.Steps.{next, step}
 use Rattle.derivation.specs.Steps as Steps
 use Rattle.nogoods.specs.Store.{Stored, wordsFor}
 use Rattle.steps.specs.After.{storedAfter}
-use Rattle.runs.specs.Course.{Course, stopped, through, course}
+use Rattle.runs.specs.Course.{Course, stopped, through, courseWithin}
 
 -- What the proof's lines come to from a position on, after n steps that left the state z and what is stored, with no bound on the
 -- turns.
@@ -36,8 +35,14 @@ module _ (N : ℕ) (P : List Rule) (size : ℕ) (text : List ℕ) where
         → lineAt text at ≡ line x zs after → step N P z (record { letter = x; numbers = zs }) ≡ next z′ → wordsFor (z′ .live) ≤ size
         → Runs after (n + 1) z′ (storedAfter (n + 1) size x zs b z′) c → Runs at n z b c
 
--- The course of a proof text that passes 21 is what its lines come to from the start, and nothing else.
+-- The course of a proof text that passes 21 is what its lines come to from the start, and nothing else, whatever the limit.
 abbrev pub StepByStep : Type 0
 StepByStep =
-    (N : ℕ) (P : List Rule) (size : ℕ) (text : List ℕ) (c : Course) → length text ≤ longest
-    → (course N P size text ≡ c) ↔ Runs N P size text 0 0 start [] c
+    (limit N : ℕ) (P : List Rule) (size : ℕ) (text : List ℕ) (c : Course) → length text ≤ limit
+    → (courseWithin limit N P size text ≡ c) ↔ Runs N P size text 0 0 start [] c
+
+-- So it is the same under any two limits that the text is within.
+abbrev pub SameCourseWithin : Type 0
+SameCourseWithin =
+    (limit other N : ℕ) (P : List Rule) (size : ℕ) (text : List ℕ) → length text ≤ limit → length text ≤ other
+    → courseWithin limit N P size text ≡ courseWithin other N P size text

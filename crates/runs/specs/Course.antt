@@ -4,8 +4,9 @@ use mathlib.Core.Bool.{Bool, false, cond}
 use mathlib.Core.List.{List, [], _∷_}
 use Prim.Native.Nat.{ℕ, _+_}
 use lib.Dec.{leb}
+use Rattle.words.specs.Limits.{longest}
 use Rattle.aspif.specs.Rules.{Rule, InputRule, expand, atoms}
-use Rattle.drupe.specs.Texts.{Step, StepsRead, steps, stepsOf}
+use Rattle.drupe.specs.Texts.{Step, StepsRead, steps, stepsWithin}
 use Rattle.drupe.specs.Texts as Texts
 use Rattle.derivation.specs.States.{State, start}
 use Rattle.derivation.specs.Steps.{next, step, emptyLive}
@@ -47,9 +48,13 @@ module _ (N : ℕ) (P : List Rule) (size : ℕ) where
   runRead n z stored (steps ts) = runSteps n z stored ts
   runRead n z stored (Texts.refused before k m) = thenStopped k m (runSteps n z stored before)
 
--- the proof text's steps, from the start
-unfoldable pub course : (N : ℕ) → List Rule → (size : ℕ) → List ℕ → Course
-course N P size text = runRead N P size 0 start [] (stepsOf text)
+-- the proof text's steps, from the start, where question 21 is put with so many bytes as the most
+unfoldable pub courseWithin : (limit N : ℕ) → List Rule → (size : ℕ) → List ℕ → Course
+courseWithin limit N P size text = runRead N P size 0 start [] (stepsWithin limit text)
+
+-- "At most 65,535 bytes? 21."
+abbrev pub course : (N : ℕ) → List Rule → (size : ℕ) → List ℕ → Course
+course N P size text = courseWithin longest N P size text
 
 -- the verdict is "inconsistent"
 abbrev pub endsEmpty : Course → Bool

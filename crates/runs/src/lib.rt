@@ -3,21 +3,21 @@
 ghost use mathlib.Core.Path.{_≡_};
 ghost use mathlib.Core.Bool.{true};
 ghost use mathlib.Core.List.{List};
-ghost use Prim.Native.Nat.{_+_, _≤_};
+ghost use Prim.Native.Nat.{ℕ, _+_, _≤_};
 ghost use lib.IntN.{pos};
 ghost use lib.ListN.{length, replicate};
-ghost use Rattle.words.specs.Limits.{longest, entries, mostNumbers, mostHeld};
+ghost use Rattle.words.specs.Limits.{widest, entries, mostNumbers, mostHeld};
 ghost use Rattle.text.specs.Classes.{byteClasses};
 ghost use Rattle.aspif.specs.Rules.{InputRule, allPlain, expand};
 ghost use Rattle.aspif.specs.Tables.{rulesAt};
 ghost use Rattle.drupe.specs.Lines.{lineAt};
 ghost use Rattle.derivation.specs.States.{State};
 ghost use Rattle.nogoods.specs.Store.{Stored};
-ghost use Rattle.nogoods.specs.Index.{Keeps};
+ghost use Rattle.nogoods.specs.Index.{Keeps, BlankIndex};
 ghost use Rattle.marks.specs.Marks.{Marks, upTo};
 ghost use Rattle.heads.specs.Heads.{nameWords, Indexed};
 ghost use Rattle.loops.specs.Relevance.{Relevant};
-ghost use Rattle.runs.specs.Course.{course};
+ghost use Rattle.runs.specs.Course.{courseWithin};
 ghost use Rattle.steps.specs.Held.{Program, Tracks, Tracked, NoBodies, HoldsState};
 ghost use Rattle.runs.specs.Held.{proofTurn, LineLeaves, Ran, Ended};
 ghost use Rattle.runs.specs.declared.Run.the-variants.{Through};
@@ -28,7 +28,8 @@ use heads::INDEX_WORDS;
 use heads::NAME_WORDS;
 use loops::relevance;
 use names::by_name;
-use nogoods::INDEX;
+use nogoods::LENT_CELLS;
+use nogoods::chains;
 use steps::outcomes::Stepped;
 use steps::states::CheckingState;
 use weights::MOST_WEIGHTED;
@@ -37,6 +38,11 @@ use words::MOST_HELD;
 
 // An entry for each pair of the weight bodies of all rules.
 const RELEVANT: usize = MOST_WEIGHTED * MOST_HELD;
+
+// A proof text of so many bytes is short: an index of so many cells, which reach 2,048 words, does for most, and is zero in half the time.
+const SHORT_TEXT: usize = 2048;
+
+const SHORT_CELLS: usize = 55687;
 
 // The question that a proof fails, and the step, counted from 1; 0 where the whole text is at fault.
 pub struct ProofRefusal {
@@ -85,7 +91,7 @@ fn turn_at(
     bodies: &mut [i16],
     store: &mut [i32],
     used: usize,
-    index: &mut [u16; INDEX],
+    index: &mut [u32],
     origin: usize,
     assignment: &mut [u8; ENTRIES],
 ) -> ProofTurn
@@ -93,7 +99,7 @@ fn turn_at(
     requires index { ⌜ Indexed (now lookup) (now table) rules ⌝ }
     requires relevant { ⌜ Relevant (now relevant) (rulesAt rules (now table)) ⌝ }
     requires store { ⌜ ((stored : List Stored) × Keeps (now store) (now index) used stored) × ((1 ≤ origin) × (origin ≤ at + 1)) ⌝ }
-    requires short { ⌜ length (now proof) ≤ longest ⌝ }
+    requires short { ⌜ length (now proof) ≤ widest ⌝ }
     requires classes { ⌜ now classes ≡ byteClasses ⌝ }
     requires rows { ⌜ (length (now numbers) ≡ mostNumbers) × (length (now sorted) ≡ mostNumbers) ⌝ }
     requires free { ⌜ now assignment ≡ replicate entries 0 ⌝ }
@@ -148,6 +154,7 @@ fn through(state: CheckingState) -> Run
 }
 
 // All lines of a proof text: "At the start there are no nogoods and no names, and the atoms alone are known." The first refusal ends them.
+// The index beside the store is lent, of any length, which decides time alone; its cells before the search's are 0.
 fn run_lines(
     proof: &[u8],
     table: &[i32],
@@ -159,22 +166,23 @@ fn run_lines(
     names: &mut [u16],
     bodies: &mut [i16],
     store: &mut [i32],
+    index: &mut [u32],
 ) -> Run
     requires program { ⌜ ((ws : List InputRule) × Program (now table) rules atoms ws) × (rules ≤ mostHeld) ⌝ }
     requires index { ⌜ Indexed (now lookup) (now table) rules ⌝ }
     requires relevant { ⌜ Relevant (now relevant) (rulesAt rules (now table)) ⌝ }
     requires start { ⌜ Marks (now known) (upTo atoms) × (now names ≡ replicate nameWords 0) ⌝ }
     requires bodies { ⌜ NoBodies (rulesAt rules (now table)) (now bodies) ⌝ }
-    requires short { ⌜ length (now proof) ≤ longest ⌝ }
+    requires short { ⌜ length (now proof) ≤ widest ⌝ }
     requires empty { ⌜ now store ≡ replicate (length (now store)) (pos 0) ⌝ }
-    ensures { λ r. ⌜ ((ws : List InputRule) → Program (now (table .entry)) rules atoms ws
-        → (let c = course atoms (expand ws) (length (now (store .entry))) (now (proof .entry)) in
+    requires cells { ⌜ BlankIndex (now index) ⌝ }
+    ensures { λ r. ⌜ ((limit : ℕ) → length (now (proof .entry)) ≤ limit → (ws : List InputRule) → Program (now (table .entry)) rules atoms ws
+        → (let c = courseWithin limit atoms (expand ws) (length (now (store .entry))) (now (proof .entry)) in
         Ran (now (store .exit)) c r × Ended atoms ws (now (known .exit)) (now (names .exit)) (now (bodies .exit)) c)) ⌝ }
 {
     let classes = text::classes::CLASSES;
     let mut numbers = [0; CheckingState::NUMBERS];
     let mut sorted = [0; CheckingState::NUMBERS];
-    let mut index = [0u16; INDEX];
     let mut assignment = [0u8; CheckingState::LARGEST + 1];
     let mut state = CheckingState::start();
     loop {
@@ -195,7 +203,7 @@ fn run_lines(
             bodies,
             store,
             state.used,
-            &mut index,
+            index,
             step,
             &mut assignment,
         ) {
@@ -210,6 +218,156 @@ fn run_lines(
     }
 }
 
+// The same with an index in a frame of its own, which is as long as the store asks for.
+fn run_framed(
+    proof: &[u8],
+    table: &[i32],
+    rules: usize,
+    lookup: &[u16],
+    relevant: &[u8],
+    atoms: usize,
+    known: &mut [u8],
+    names: &mut [u16],
+    bodies: &mut [i16],
+    store: &mut [i32],
+) -> Run
+    requires program { ⌜ ((ws : List InputRule) × Program (now table) rules atoms ws) × (rules ≤ mostHeld) ⌝ }
+    requires index { ⌜ Indexed (now lookup) (now table) rules ⌝ }
+    requires relevant { ⌜ Relevant (now relevant) (rulesAt rules (now table)) ⌝ }
+    requires start { ⌜ Marks (now known) (upTo atoms) × (now names ≡ replicate nameWords 0) ⌝ }
+    requires bodies { ⌜ NoBodies (rulesAt rules (now table)) (now bodies) ⌝ }
+    requires short { ⌜ length (now proof) ≤ widest ⌝ }
+    requires empty { ⌜ now store ≡ replicate (length (now store)) (pos 0) ⌝ }
+    ensures { λ r. ⌜ ((limit : ℕ) → length (now (proof .entry)) ≤ limit → (ws : List InputRule) → Program (now (table .entry)) rules atoms ws
+        → (let c = courseWithin limit atoms (expand ws) (length (now (store .entry))) (now (proof .entry)) in
+        Ran (now (store .exit)) c r × Ended atoms ws (now (known .exit)) (now (names .exit)) (now (bodies .exit)) c)) ⌝ }
+{
+    let mut index = [0u32; LENT_CELLS];
+    let cells = chains::cells_for(store.len());
+    run_lines(
+        proof,
+        table,
+        rules,
+        lookup,
+        relevant,
+        atoms,
+        known,
+        names,
+        bodies,
+        store,
+        &mut index[..cells],
+    )
+}
+
+// The same with a shorter index.
+fn run_short(
+    proof: &[u8],
+    table: &[i32],
+    rules: usize,
+    lookup: &[u16],
+    relevant: &[u8],
+    atoms: usize,
+    known: &mut [u8],
+    names: &mut [u16],
+    bodies: &mut [i16],
+    store: &mut [i32],
+) -> Run
+    requires program { ⌜ ((ws : List InputRule) × Program (now table) rules atoms ws) × (rules ≤ mostHeld) ⌝ }
+    requires index { ⌜ Indexed (now lookup) (now table) rules ⌝ }
+    requires relevant { ⌜ Relevant (now relevant) (rulesAt rules (now table)) ⌝ }
+    requires start { ⌜ Marks (now known) (upTo atoms) × (now names ≡ replicate nameWords 0) ⌝ }
+    requires bodies { ⌜ NoBodies (rulesAt rules (now table)) (now bodies) ⌝ }
+    requires short { ⌜ length (now proof) ≤ widest ⌝ }
+    requires empty { ⌜ now store ≡ replicate (length (now store)) (pos 0) ⌝ }
+    ensures { λ r. ⌜ ((limit : ℕ) → length (now (proof .entry)) ≤ limit → (ws : List InputRule) → Program (now (table .entry)) rules atoms ws
+        → (let c = courseWithin limit atoms (expand ws) (length (now (store .entry))) (now (proof .entry)) in
+        Ran (now (store .exit)) c r × Ended atoms ws (now (known .exit)) (now (names .exit)) (now (bodies .exit)) c)) ⌝ }
+{
+    let mut index = [0u32; SHORT_CELLS];
+    run_lines(
+        proof,
+        table,
+        rules,
+        lookup,
+        relevant,
+        atoms,
+        known,
+        names,
+        bodies,
+        store,
+        &mut index,
+    )
+}
+
+// The same with the index that is lent, or one in a frame of its own where that is shorter.
+fn run_indexed(
+    proof: &[u8],
+    table: &[i32],
+    rules: usize,
+    lookup: &[u16],
+    relevant: &[u8],
+    atoms: usize,
+    known: &mut [u8],
+    names: &mut [u16],
+    bodies: &mut [i16],
+    store: &mut [i32],
+    index: &mut [u32],
+) -> Run
+    requires program { ⌜ ((ws : List InputRule) × Program (now table) rules atoms ws) × (rules ≤ mostHeld) ⌝ }
+    requires index { ⌜ Indexed (now lookup) (now table) rules ⌝ }
+    requires relevant { ⌜ Relevant (now relevant) (rulesAt rules (now table)) ⌝ }
+    requires start { ⌜ Marks (now known) (upTo atoms) × (now names ≡ replicate nameWords 0) ⌝ }
+    requires bodies { ⌜ NoBodies (rulesAt rules (now table)) (now bodies) ⌝ }
+    requires short { ⌜ length (now proof) ≤ widest ⌝ }
+    requires empty { ⌜ now store ≡ replicate (length (now store)) (pos 0) ⌝ }
+    requires cells { ⌜ BlankIndex (now index) ⌝ }
+    ensures { λ r. ⌜ ((limit : ℕ) → length (now (proof .entry)) ≤ limit → (ws : List InputRule) → Program (now (table .entry)) rules atoms ws
+        → (let c = courseWithin limit atoms (expand ws) (length (now (store .entry))) (now (proof .entry)) in
+        Ran (now (store .exit)) c r × Ended atoms ws (now (known .exit)) (now (names .exit)) (now (bodies .exit)) c)) ⌝ }
+{
+    if LENT_CELLS <= index.len() {
+        return run_lines(
+            proof,
+            table,
+            rules,
+            lookup,
+            relevant,
+            atoms,
+            known,
+            names,
+            bodies,
+            store,
+            index,
+        );
+    }
+    if proof.len() <= SHORT_TEXT {
+        return run_short(
+            proof,
+            table,
+            rules,
+            lookup,
+            relevant,
+            atoms,
+            known,
+            names,
+            bodies,
+            store,
+        );
+    }
+    run_framed(
+        proof,
+        table,
+        rules,
+        lookup,
+        relevant,
+        atoms,
+        known,
+        names,
+        bodies,
+        store,
+    )
+}
+
 // The lines of a proof against a program with weight bodies: which of their literals are relevant stands in a frame of its own.
 fn run_weighted(
     proof: &[u8],
@@ -220,20 +378,22 @@ fn run_weighted(
     names: &mut [u16],
     bodies: &mut [i16],
     store: &mut [i32],
+    index: &mut [u32],
 ) -> Run
     requires program { ⌜ ((ws : List InputRule) × Program (now table) rules atoms ws) × (rules ≤ mostHeld) ⌝ }
     requires start { ⌜ Marks (now known) (upTo atoms) × (now names ≡ replicate nameWords 0) ⌝ }
     requires bodies { ⌜ NoBodies (rulesAt rules (now table)) (now bodies) ⌝ }
-    requires short { ⌜ length (now proof) ≤ longest ⌝ }
+    requires short { ⌜ length (now proof) ≤ widest ⌝ }
     requires empty { ⌜ now store ≡ replicate (length (now store)) (pos 0) ⌝ }
-    ensures { λ r. ⌜ ((ws : List InputRule) → Program (now (table .entry)) rules atoms ws
-        → (let c = course atoms (expand ws) (length (now (store .entry))) (now (proof .entry)) in
+    requires cells { ⌜ BlankIndex (now index) ⌝ }
+    ensures { λ r. ⌜ ((limit : ℕ) → length (now (proof .entry)) ≤ limit → (ws : List InputRule) → Program (now (table .entry)) rules atoms ws
+        → (let c = courseWithin limit atoms (expand ws) (length (now (store .entry))) (now (proof .entry)) in
         Ran (now (store .exit)) c r × Ended atoms ws (now (known .exit)) (now (names .exit)) (now (bodies .exit)) c)) ⌝ }
 {
     let mut relevant = [0u8; RELEVANT];
     relevance::fill(table, rules, &mut relevant);
     // no index of the rules: its first word is not 1
-    run_lines(
+    run_indexed(
         proof,
         table,
         rules,
@@ -244,6 +404,7 @@ fn run_weighted(
         names,
         bodies,
         store,
+        index,
     )
 }
 
@@ -257,19 +418,21 @@ fn run_plain(
     names: &mut [u16],
     bodies: &mut [i16],
     store: &mut [i32],
+    index: &mut [u32],
 ) -> Run
     requires program { ⌜ ((ws : List InputRule) × Program (now table) rules atoms ws) × (rules ≤ mostHeld) ⌝ }
     requires start { ⌜ Marks (now known) (upTo atoms) × (now names ≡ replicate nameWords 0) ⌝ }
     requires plain { ⌜ allPlain (rulesAt rules (now table)) ≡ true ⌝ }
-    requires short { ⌜ length (now proof) ≤ longest ⌝ }
+    requires short { ⌜ length (now proof) ≤ widest ⌝ }
     requires empty { ⌜ now store ≡ replicate (length (now store)) (pos 0) ⌝ }
-    ensures { λ r. ⌜ ((ws : List InputRule) → Program (now (table .entry)) rules atoms ws
-        → (let c = course atoms (expand ws) (length (now (store .entry))) (now (proof .entry)) in
+    requires cells { ⌜ BlankIndex (now index) ⌝ }
+    ensures { λ r. ⌜ ((limit : ℕ) → length (now (proof .entry)) ≤ limit → (ws : List InputRule) → Program (now (table .entry)) rules atoms ws
+        → (let c = courseWithin limit atoms (expand ws) (length (now (store .entry))) (now (proof .entry)) in
         Ran (now (store .exit)) c r × Ended atoms ws (now (known .exit)) (now (names .exit)) (now (bodies .exit)) c)) ⌝ }
 {
     let mut lookup = [0u16; INDEX_WORDS];
     heads::fill(table, rules, &mut lookup);
-    run_lines(
+    run_indexed(
         proof,
         table,
         rules,
@@ -280,11 +443,60 @@ fn run_plain(
         names,
         bodies,
         store,
+        index,
     )
 }
 
-// All lines of a proof text, from an empty store, with the arrays of the check lent. Where no rule has a weight body nothing is kept in
-// the bodies by name, and any number of words will do.
+// All lines of a proof text, from an empty store, with the arrays of the check and the index beside the store lent. Where no rule has a weight
+// body nothing is kept in the bodies by name, and any number of words will do.
+fn run_lent(
+    proof: &[u8],
+    table: &[i32],
+    rules: usize,
+    atoms: usize,
+    known: &mut [u8],
+    names: &mut [u16],
+    bodies: &mut [i16],
+    store: &mut [i32],
+    index: &mut [u32],
+) -> Run
+    requires program { ⌜ ((ws : List InputRule) × Program (now table) rules atoms ws) × (rules ≤ mostHeld) ⌝ }
+    requires start { ⌜ Marks (now known) (upTo atoms) × (now names ≡ replicate nameWords 0) ⌝ }
+    requires bodies { ⌜ NoBodies (rulesAt rules (now table)) (now bodies) ⌝ }
+    requires short { ⌜ length (now proof) ≤ widest ⌝ }
+    requires empty { ⌜ now store ≡ replicate (length (now store)) (pos 0) ⌝ }
+    requires cells { ⌜ BlankIndex (now index) ⌝ }
+    ensures { λ r. ⌜ ((limit : ℕ) → length (now (proof .entry)) ≤ limit → (ws : List InputRule) → Program (now (table .entry)) rules atoms ws
+        → (let c = courseWithin limit atoms (expand ws) (length (now (store .entry))) (now (proof .entry)) in
+        Ran (now (store .exit)) c r × Ended atoms ws (now (known .exit)) (now (names .exit)) (now (bodies .exit)) c)) ⌝ }
+{
+    if tables::all_plain(table, rules) {
+        return run_plain(
+            proof,
+            table,
+            rules,
+            atoms,
+            known,
+            names,
+            bodies,
+            store,
+            index,
+        );
+    }
+    run_weighted(
+        proof,
+        table,
+        rules,
+        atoms,
+        known,
+        names,
+        bodies,
+        store,
+        index,
+    )
+}
+
+// The same with nothing lent for the index.
 pub fn run_half(
     proof: &[u8],
     table: &[i32],
@@ -298,19 +510,27 @@ pub fn run_half(
     requires program { ⌜ ((ws : List InputRule) × Program (now table) rules atoms ws) × (rules ≤ mostHeld) ⌝ }
     requires start { ⌜ Marks (now known) (upTo atoms) × (now names ≡ replicate nameWords 0) ⌝ }
     requires bodies { ⌜ NoBodies (rulesAt rules (now table)) (now bodies) ⌝ }
-    requires short { ⌜ length (now proof) ≤ longest ⌝ }
+    requires short { ⌜ length (now proof) ≤ widest ⌝ }
     requires empty { ⌜ now store ≡ replicate (length (now store)) (pos 0) ⌝ }
-    ensures { λ r. ⌜ ((ws : List InputRule) → Program (now (table .entry)) rules atoms ws
-        → (let c = course atoms (expand ws) (length (now (store .entry))) (now (proof .entry)) in
+    ensures { λ r. ⌜ ((limit : ℕ) → length (now (proof .entry)) ≤ limit → (ws : List InputRule) → Program (now (table .entry)) rules atoms ws
+        → (let c = courseWithin limit atoms (expand ws) (length (now (store .entry))) (now (proof .entry)) in
         Ran (now (store .exit)) c r × Ended atoms ws (now (known .exit)) (now (names .exit)) (now (bodies .exit)) c)) ⌝ }
 {
-    if tables::all_plain(table, rules) {
-        return run_plain(proof, table, rules, atoms, known, names, bodies, store);
-    }
-    run_weighted(proof, table, rules, atoms, known, names, bodies, store)
+    let mut none = [0u32; 1];
+    run_lent(
+        proof,
+        table,
+        rules,
+        atoms,
+        known,
+        names,
+        bodies,
+        store,
+        &mut none,
+    )
 }
 
-// The same with the records of the bodies by name, which are large and stand in a frame of their own.
+// The lines with the records of the bodies by name, which are large and stand in a frame of their own.
 fn run_recorded(
     proof: &[u8],
     table: &[i32],
@@ -319,25 +539,45 @@ fn run_recorded(
     known: &mut [u8],
     names: &mut [u16],
     store: &mut [i32],
+    index: &mut [u32],
 ) -> Run
     requires program { ⌜ ((ws : List InputRule) × Program (now table) rules atoms ws) × (rules ≤ mostHeld) ⌝ }
     requires start { ⌜ Marks (now known) (upTo atoms) × (now names ≡ replicate nameWords 0) ⌝ }
-    requires short { ⌜ length (now proof) ≤ longest ⌝ }
+    requires short { ⌜ length (now proof) ≤ widest ⌝ }
     requires empty { ⌜ now store ≡ replicate (length (now store)) (pos 0) ⌝ }
-    ensures { λ r. ⌜ ((ws : List InputRule) → Program (now (table .entry)) rules atoms ws
-        → Ran (now (store .exit)) (course atoms (expand ws) (length (now (store .entry))) (now (proof .entry))) r) ⌝ }
+    requires cells { ⌜ BlankIndex (now index) ⌝ }
+    ensures { λ r. ⌜ ((limit : ℕ) → length (now (proof .entry)) ≤ limit → (ws : List InputRule) → Program (now (table .entry)) rules atoms ws
+        → Ran (now (store .exit)) (courseWithin limit atoms (expand ws) (length (now (store .entry))) (now (proof .entry))) r) ⌝ }
 {
     let mut bodies = [0i16; by_name::BODY_WORDS];
-    run_weighted(proof, table, rules, atoms, known, names, &mut bodies, store)
+    run_weighted(
+        proof,
+        table,
+        rules,
+        atoms,
+        known,
+        names,
+        &mut bodies,
+        store,
+        index,
+    )
 }
 
-// All lines of a proof text, from an empty store.
-pub fn run_proof(proof: &[u8], table: &[i32], rules: usize, atoms: usize, store: &mut [i32]) -> Run
+// All lines of a proof text, from an empty store, with the index beside it lent, of any length, which decides time alone.
+pub fn run_long(
+    proof: &[u8],
+    table: &[i32],
+    rules: usize,
+    atoms: usize,
+    store: &mut [i32],
+    index: &mut [u32],
+) -> Run
     requires program { ⌜ ((ws : List InputRule) × Program (now table) rules atoms ws) × (rules ≤ mostHeld) ⌝ }
-    requires short { ⌜ length (now proof) ≤ longest ⌝ }
+    requires short { ⌜ length (now proof) ≤ widest ⌝ }
     requires empty { ⌜ now store ≡ replicate (length (now store)) (pos 0) ⌝ }
-    ensures { λ r. ⌜ ((ws : List InputRule) → Program (now (table .entry)) rules atoms ws
-        → Ran (now (store .exit)) (course atoms (expand ws) (length (now (store .entry))) (now (proof .entry))) r) ⌝ }
+    requires cells { ⌜ BlankIndex (now index) ⌝ }
+    ensures { λ r. ⌜ ((limit : ℕ) → length (now (proof .entry)) ≤ limit → (ws : List InputRule) → Program (now (table .entry)) rules atoms ws
+        → Ran (now (store .exit)) (courseWithin limit atoms (expand ws) (length (now (store .entry))) (now (proof .entry))) r) ⌝ }
 {
     let mut known = marks::marks_to(atoms);
     let mut names = [0u16; NAME_WORDS];
@@ -352,7 +592,29 @@ pub fn run_proof(proof: &[u8], table: &[i32], rules: usize, atoms: usize, store:
             &mut names,
             &mut none,
             store,
+            index,
         );
     }
-    run_recorded(proof, table, rules, atoms, &mut known, &mut names, store)
+    run_recorded(
+        proof,
+        table,
+        rules,
+        atoms,
+        &mut known,
+        &mut names,
+        store,
+        index,
+    )
+}
+
+// The same with nothing lent for the index.
+pub fn run_proof(proof: &[u8], table: &[i32], rules: usize, atoms: usize, store: &mut [i32]) -> Run
+    requires program { ⌜ ((ws : List InputRule) × Program (now table) rules atoms ws) × (rules ≤ mostHeld) ⌝ }
+    requires short { ⌜ length (now proof) ≤ widest ⌝ }
+    requires empty { ⌜ now store ≡ replicate (length (now store)) (pos 0) ⌝ }
+    ensures { λ r. ⌜ ((limit : ℕ) → length (now (proof .entry)) ≤ limit → (ws : List InputRule) → Program (now (table .entry)) rules atoms ws
+        → Ran (now (store .exit)) (courseWithin limit atoms (expand ws) (length (now (store .entry))) (now (proof .entry))) r) ⌝ }
+{
+    let mut none = [0u32; 1];
+    run_long(proof, table, rules, atoms, store, &mut none)
 }

@@ -9,49 +9,52 @@
 // The root is what is true without any assumption. Where a nogood has a literal that the root makes false, it is not to be looked at as long as the
 // root stays: its watches wait in the chain of that literal, which is not gone through.
 ghost use Prim.Native.Nat.{_≤_};
-ghost use Rattle.search.specs.Search.{SmallTurn, SmallVisit};
-// As many words of the store are watched at most.
-pub const REACH: usize = 16384;
+ghost use Rattle.words.specs.Limits.{entries};
+ghost use Rattle.search.specs.Search.{largestCell, SmallTurn, SmallVisit};
+use words::ENTRIES;
+
+// The largest number that a cell holds.
+const LARGEST_CELL: usize = 4294967295;
+
+// Places from here on are not watched. Whoever lends the cells sees to it that there are two for each word of the store that is entered.
+const FAR: usize = 1073741824;
 
 // As many literals as can be true, with the one of code 0.
-pub const MOST: usize = 8192;
+pub const MOST: usize = ENTRIES;
 
-// The regions: by code, the first node of its chain; by place and watch, the next node, and the code that is watched; by code, one more than where it
-// stands among those that are true, or 0; the codes that are true, in their order, and at the end the path; by that order, the places that gave them;
-// how many of 64 in that order are needed.
+// The regions: by code, the first node of its chain; by code, one more than where it stands among those that are true, or 0; the codes that are true,
+// in their order, and at the end the path; by that order, the places that gave them; how many of 64 in that order are needed.
 const HEAD: usize = 0;
 
-const LINK: usize = 16384;
+const ORDER: usize = 16384;
 
-const WATCHED: usize = 32768;
+pub const TRAIL: usize = 32768;
 
-const ORDER: usize = 49152;
+const REASON: usize = 40960;
 
-pub const TRAIL: usize = 65536;
-
-const REASON: usize = 73728;
-
-const BLOCKS: usize = 81920;
+const BLOCKS: usize = 49152;
 
 // How many are true; how many of them were propagated; a nogood that the root violates, and whether the path leads to it; where the path begins; the
 // first place of a nogood that died since the store was closed up; before which place the nogoods stayed where they were then.
-const COUNT: usize = 82048;
+const COUNT: usize = 49280;
 
-const DONE: usize = 82049;
+const DONE: usize = 49281;
 
-const HINT: usize = 82050;
+const HINT: usize = 49282;
 
-pub const FIRST: usize = 82051;
+pub const FIRST: usize = 49283;
 
-const DEAD: usize = 82052;
+const DEAD: usize = 49284;
 
-const KEPT: usize = 82053;
+const KEPT: usize = 49285;
 
-// All cells.
-pub const CELLS: usize = 82054;
+// By place and watch, the next node, and after it the code that is watched: two cells for each word of the store, as many as there are cells for.
+const LINK: usize = 49286;
+
+const WATCHED: usize = 49287;
 
 // What is added to the place that gave a literal where the path needs that.
-const NEEDED: usize = 32768;
+const NEEDED: usize = 2147483648;
 
 // As many literals in their order are counted together.
 const BLOCK: usize = 64;
@@ -63,7 +66,7 @@ const SHORT: usize = 64;
 const FEW: usize = 64;
 
 // What is added to the nogood that the root violates where the path leads to it.
-const LED: usize = 32768;
+const LED: usize = 2147483648;
 
 // What a walk along one chain gave: a nogood that is violated, and how many literals are true; or only that.
 enum Visited {
@@ -81,22 +84,25 @@ enum Turn {
     Violated,
 }
 
-// The cell at i; 0 past the end.
-fn get(cells: &[u16], i: usize) -> usize
-    ensures { λ r. ⌜ r ≤ 65535 ⌝ }
+// A number of 32 bits as a size.
+fn wide(number: u32) -> usize
+    ensures { λ r. ⌜ r ≤ largestCell ⌝ }
 {
-    if i < cells.len() {
-        words::wide(cells[i])
-    } else {
-        0
-    }
+    number as usize
+}
+
+// The cell at i; 0 past the end.
+fn get(cells: &[u32], i: usize) -> usize
+    ensures { λ r. ⌜ r ≤ largestCell ⌝ }
+{
+    if i < cells.len() { wide(cells[i]) } else { 0 }
 }
 
 // The cell at i becomes v, where both fit.
-fn put(cells: &mut [u16], i: usize, v: usize) {
+fn put(cells: &mut [u32], i: usize, v: usize) {
     if i < cells.len() {
-        if v <= 65535 {
-            cells[i] = v as u16;
+        if v <= LARGEST_CELL {
+            cells[i] = v as u32;
         }
     }
 }
@@ -110,35 +116,35 @@ fn code_of(word: i32) -> usize
 
 // The code of the complement; of 0, a code that is never true.
 fn opposite(c: usize) -> usize
-    requires { ⌜ c ≤ 65535 ⌝ }
-    ensures { λ r. ⌜ r ≤ 65535 ⌝ }
+    requires { ⌜ c ≤ largestCell ⌝ }
+    ensures { λ r. ⌜ r ≤ largestCell ⌝ }
 {
     if c == 0 {
         return 8192;
     }
-    (65536 - c) % 16384
+    (4294967296 - c) % 16384
 }
 
 // The literal is true.
-fn is_true(cells: &[u16], c: usize) -> bool
-    requires { ⌜ c ≤ 65535 ⌝ }
+fn is_true(cells: &[u32], c: usize) -> bool
+    requires { ⌜ c ≤ largestCell ⌝ }
 {
     get(cells, ORDER + c) != 0
 }
 
 // Where the literals of the nogood at x end, as far as that is a small number.
 fn end_of(store: &[i32], x: usize) -> usize
-    requires { ⌜ x ≤ 65535 ⌝ }
-    ensures { λ r. ⌜ r ≤ 131072 ⌝ }
+    requires { ⌜ x ≤ largestCell ⌝ }
+    ensures { λ r. ⌜ r ≤ 8589934592 ⌝ }
 {
     let n = words::variable_of(words::word_at(store, x + 1));
-    if n <= 65535 { x + 2 + n } else { x + 2 }
+    if n <= LARGEST_CELL { x + 2 + n } else { x + 2 }
 }
 
 // A literal is true now, by a nogood or by none. How many are.
-fn push(cells: &mut [u16], n: usize, c: usize, reason: usize) -> usize
-    requires { ⌜ (n ≤ 8192) × (c ≤ 65535) ⌝ }
-    ensures { λ r. ⌜ r ≤ 8192 ⌝ }
+fn push(cells: &mut [u32], n: usize, c: usize, reason: usize) -> usize
+    requires { ⌜ (n ≤ entries) × (c ≤ largestCell) ⌝ }
+    ensures { λ r. ⌜ r ≤ entries ⌝ }
 {
     if MOST <= n {
         return n;
@@ -150,18 +156,19 @@ fn push(cells: &mut [u16], n: usize, c: usize, reason: usize) -> usize
 }
 
 // The watch w of the nogood at x is in the chain of c, on the literal d.
-fn watch(cells: &mut [u16], x: usize, w: usize, c: usize, d: usize)
-    requires { ⌜ (x ≤ 65535) × (w ≤ 1) × (c ≤ 65535) ⌝ }
+fn watch(cells: &mut [u32], x: usize, w: usize, c: usize, d: usize)
+    requires { ⌜ (x ≤ largestCell) × (w ≤ 1) × (c ≤ largestCell) ⌝ }
 {
     let first = get(cells, HEAD + c);
-    put(cells, WATCHED + x + w, d);
-    put(cells, LINK + x + w, first);
+    let at = 2 * (x + w);
+    put(cells, LINK + at, first);
+    put(cells, WATCHED + at, d);
     put(cells, HEAD + c, 2 * x + w + 1);
 }
 
 // From j on, the place of a literal that is not true, other than one given; else the end.
-fn open_from(store: &[i32], cells: &[u16], j: usize, end: usize, other: usize) -> usize
-    requires { ⌜ end ≤ 200000 ⌝ }
+fn open_from(store: &[i32], cells: &[u32], j: usize, end: usize, other: usize) -> usize
+    requires { ⌜ end ≤ 10000000000 ⌝ }
     ensures { λ r. ⌜ r ≤ end ⌝ }
 {
     let mut i = j;
@@ -179,14 +186,14 @@ fn open_from(store: &[i32], cells: &[u16], j: usize, end: usize, other: usize) -
 
 // The variable of a code.
 fn variable(c: usize) -> usize
-    requires { ⌜ c ≤ 65535 ⌝ }
+    requires { ⌜ c ≤ largestCell ⌝ }
 {
     if c < 8192 { c } else { opposite(c) }
 }
 
 // The place of a variable among literals from one place to another, which ascend by variable; else the place of the next one.
 fn place_of(store: &[i32], from: usize, end: usize, v: usize) -> usize
-    requires { ⌜ end ≤ 200000 ⌝ }
+    requires { ⌜ end ≤ 10000000000 ⌝ }
     ensures { λ r. ⌜ r ≤ end ⌝ }
 {
     let mut low = from;
@@ -205,13 +212,13 @@ fn place_of(store: &[i32], from: usize, end: usize, v: usize) -> usize
 // The same in a long nogood, from the literal c on and round to the front: what was passed over before is not read again.
 fn open_around(
     store: &[i32],
-    cells: &[u16],
+    cells: &[u32],
     from: usize,
     end: usize,
     c: usize,
     other: usize,
 ) -> usize
-    requires { ⌜ (c ≤ 65535) × (end ≤ 200000) ⌝ }
+    requires { ⌜ (c ≤ largestCell) × (end ≤ 10000000000) ⌝ }
     ensures { λ r. ⌜ r ≤ end ⌝ }
 {
     let middle = place_of(store, from, end, variable(c));
@@ -224,8 +231,8 @@ fn open_around(
 }
 
 // The place of a literal of a nogood that is not true, other than one given; else the end. Of two literals both are watched.
-fn open_in(store: &[i32], cells: &[u16], from: usize, end: usize, c: usize, other: usize) -> usize
-    requires { ⌜ (c ≤ 65535) × (from ≤ 65537) × (end ≤ 200000) ⌝ }
+fn open_in(store: &[i32], cells: &[u32], from: usize, end: usize, c: usize, other: usize) -> usize
+    requires { ⌜ (c ≤ largestCell) × (from ≤ 4294967297) × (end ≤ 10000000000) ⌝ }
     ensures { λ r. ⌜ r ≤ end ⌝ }
 {
     if end == from + 2 {
@@ -239,11 +246,11 @@ fn open_in(store: &[i32], cells: &[u16], from: usize, end: usize, c: usize, othe
 }
 
 // What becomes of the watch w of the nogood at x, which is on the literal c. The first `mark` of the literals that are true are the root.
-fn look(store: &[i32], cells: &[u16], x: usize, w: usize, c: usize, mark: usize) -> Turn
-    requires { ⌜ (x ≤ 65535) × (w ≤ 1) × (c ≤ 65535) ⌝ }
+fn look(store: &[i32], cells: &[u32], x: usize, w: usize, c: usize, mark: usize) -> Turn
+    requires { ⌜ (x ≤ largestCell) × (w ≤ 1) × (c ≤ largestCell) ⌝ }
     ensures { λ r. ⌜ SmallTurn r ⌝ }
 {
-    let other = get(cells, WATCHED + x + 1 - w);
+    let other = get(cells, WATCHED + 2 * (x + 1 - w));
     let at = get(cells, ORDER + opposite(other));
     if mark < at {
         return Turn::Stays;
@@ -267,25 +274,25 @@ fn look(store: &[i32], cells: &[u16], x: usize, w: usize, c: usize, mark: usize)
 }
 
 // What led to a node leads to the next one: the node before it, or the chain's start.
-fn skip(cells: &mut [u16], c: usize, last: usize, next: usize)
-    requires { ⌜ (c ≤ 65535) × (last ≤ 65535) ⌝ }
+fn skip(cells: &mut [u32], c: usize, last: usize, next: usize)
+    requires { ⌜ (c ≤ largestCell) × (last ≤ largestCell) ⌝ }
 {
     if last == 0 {
         put(cells, HEAD + c, next);
     } else {
-        put(cells, LINK + (last - 1) / 2 + (last - 1) % 2, next);
+        put(cells, LINK + 2 * ((last - 1) / 2 + (last - 1) % 2), next);
     }
 }
 
 // The nogoods that watch a literal that is true now.
-fn visit(store: &[i32], cells: &mut [u16], c: usize, start: usize, mark: usize) -> Visited
-    requires { ⌜ (c ≤ 65535) × (start ≤ 8192) ⌝ }
+fn visit(store: &[i32], cells: &mut [u32], c: usize, start: usize, mark: usize) -> Visited
+    requires { ⌜ (c ≤ largestCell) × (start ≤ entries) ⌝ }
     ensures { λ r. ⌜ SmallVisit r ⌝ }
 {
     let mut n = start;
     let mut last = 0;
     let mut node = get(cells, HEAD + c);
-    let mut fuel: usize = 65535;
+    let mut fuel: usize = LARGEST_CELL;
     while 0 < fuel {
         if node == 0 {
             return Visited::Queued(n);
@@ -294,7 +301,7 @@ fn visit(store: &[i32], cells: &mut [u16], c: usize, start: usize, mark: usize) 
         let here = node;
         let x = (here - 1) / 2;
         let w = (here - 1) % 2;
-        node = get(cells, LINK + x + w);
+        node = get(cells, LINK + 2 * (x + w));
         let turn = look(store, cells, x, w, c, mark);
         match turn {
             Turn::Stays => {
@@ -320,8 +327,8 @@ fn visit(store: &[i32], cells: &mut [u16], c: usize, start: usize, mark: usize) 
 }
 
 // How many literals are true.
-fn count(cells: &[u16]) -> usize
-    ensures { λ r. ⌜ r ≤ 8192 ⌝ }
+fn count(cells: &[u32]) -> usize
+    ensures { λ r. ⌜ r ≤ entries ⌝ }
 {
     let n = get(cells, COUNT);
     if n <= MOST { n } else { MOST }
@@ -329,8 +336,8 @@ fn count(cells: &[u16]) -> usize
 
 // To the end, or to a nogood that is violated. Watches wait with the first `mark` literals: 0 for the root itself, whose chains are not gone through
 // again.
-fn propagate(store: &[i32], cells: &mut [u16], mark: usize) -> usize
-    ensures { λ r. ⌜ r ≤ 65535 ⌝ }
+fn propagate(store: &[i32], cells: &mut [u32], mark: usize) -> usize
+    ensures { λ r. ⌜ r ≤ largestCell ⌝ }
 {
     let mut n = count(cells);
     let mut done = get(cells, DONE);
@@ -355,7 +362,7 @@ fn propagate(store: &[i32], cells: &mut [u16], mark: usize) -> usize
 }
 
 // Only the first literals are true.
-fn undo(cells: &mut [u16], to: usize) {
+fn undo(cells: &mut [u32], to: usize) {
     let n = count(cells);
     let mut i = to;
     while i < n {
@@ -370,8 +377,8 @@ fn undo(cells: &mut [u16], to: usize) {
 }
 
 // The literals are true. The code of the complement of one that was false before, else 0.
-fn assume(literals: &[i32], cells: &mut [u16]) -> usize
-    ensures { λ r. ⌜ r ≤ 65535 ⌝ }
+fn assume(literals: &[i32], cells: &mut [u32]) -> usize
+    ensures { λ r. ⌜ r ≤ largestCell ⌝ }
 {
     let mut n = count(cells);
     let mut i = 0;
@@ -392,8 +399,8 @@ fn assume(literals: &[i32], cells: &mut [u16]) -> usize
 }
 
 // The path needs a literal, if it is true.
-fn need(cells: &mut [u16], c: usize)
-    requires { ⌜ c ≤ 65535 ⌝ }
+fn need(cells: &mut [u32], c: usize)
+    requires { ⌜ c ≤ largestCell ⌝ }
 {
     let at = get(cells, ORDER + c);
     if at == 0 {
@@ -408,8 +415,8 @@ fn need(cells: &mut [u16], c: usize)
 }
 
 // The path needs the literals of the nogood at x that are true.
-fn need_all(store: &[i32], cells: &mut [u16], x: usize)
-    requires { ⌜ x ≤ 65535 ⌝ }
+fn need_all(store: &[i32], cells: &mut [u32], x: usize)
+    requires { ⌜ x ≤ largestCell ⌝ }
 {
     let end = end_of(store, x);
     let mut j = x + 2;
@@ -420,9 +427,9 @@ fn need_all(store: &[i32], cells: &mut [u16], x: usize)
 }
 
 // A place goes to the front of the path, if there is room. Where the path begins then.
-fn prepend(cells: &mut [u16], first: usize, x: usize) -> usize
-    requires { ⌜ first ≤ 8192 ⌝ }
-    ensures { λ r. ⌜ r ≤ 8192 ⌝ }
+fn prepend(cells: &mut [u32], first: usize, x: usize) -> usize
+    requires { ⌜ first ≤ entries ⌝ }
+    ensures { λ r. ⌜ r ≤ entries ⌝ }
 {
     if first <= count(cells) {
         return first;
@@ -432,8 +439,8 @@ fn prepend(cells: &mut [u16], first: usize, x: usize) -> usize
 }
 
 // One less is needed of a block.
-fn met(cells: &mut [u16], block: usize)
-    requires { ⌜ block ≤ 65535 ⌝ }
+fn met(cells: &mut [u32], block: usize)
+    requires { ⌜ block ≤ largestCell ⌝ }
 {
     let left = get(cells, BLOCKS + block);
     if 0 < left {
@@ -442,9 +449,9 @@ fn met(cells: &mut [u16], block: usize)
 }
 
 // One of the literals in their order: if the path needs it, the nogood that gave it goes to the front, and its literals are needed.
-fn follow(store: &[i32], cells: &mut [u16], i: usize, first: usize) -> usize
-    requires { ⌜ (i ≤ 8192) × (first ≤ 8192) ⌝ }
-    ensures { λ r. ⌜ r ≤ 8192 ⌝ }
+fn follow(store: &[i32], cells: &mut [u32], i: usize, first: usize) -> usize
+    requires { ⌜ (i ≤ entries) × (first ≤ entries) ⌝ }
+    ensures { λ r. ⌜ r ≤ entries ⌝ }
 {
     let reason = get(cells, REASON + i);
     if reason < NEEDED {
@@ -461,9 +468,9 @@ fn follow(store: &[i32], cells: &mut [u16], i: usize, first: usize) -> usize
 }
 
 // The nogoods that gave what is needed, latest first, go to the front of the path.
-fn gather(store: &[i32], cells: &mut [u16], start: usize) -> usize
-    requires { ⌜ start ≤ 8192 ⌝ }
-    ensures { λ r. ⌜ r ≤ 8192 ⌝ }
+fn gather(store: &[i32], cells: &mut [u32], start: usize) -> usize
+    requires { ⌜ start ≤ entries ⌝ }
+    ensures { λ r. ⌜ r ≤ entries ⌝ }
 {
     let mut first = start;
     let mut i = count(cells);
@@ -479,8 +486,8 @@ fn gather(store: &[i32], cells: &mut [u16], start: usize) -> usize
 }
 
 // All nogoods that gave a literal go to the front of the path.
-fn gather_all(cells: &mut [u16], start: usize) -> usize
-    requires { ⌜ start ≤ 8192 ⌝ }
+fn gather_all(cells: &mut [u32], start: usize) -> usize
+    requires { ⌜ start ≤ entries ⌝ }
 {
     let mut first = start;
     let mut i = count(cells);
@@ -495,8 +502,8 @@ fn gather_all(cells: &mut [u16], start: usize) -> usize
 }
 
 // So few literals of all are true without any assumption that it costs less to replay all than to tell which are needed; and all have room.
-fn is_small(cells: &[u16], mark: usize) -> bool
-    requires { ⌜ mark ≤ 8192 ⌝ }
+fn is_small(cells: &[u32], mark: usize) -> bool
+    requires { ⌜ mark ≤ entries ⌝ }
 {
     let n = count(cells);
     if MOST <= 2 * n {
@@ -509,8 +516,8 @@ fn is_small(cells: &[u16], mark: usize) -> bool
 }
 
 // The path to a nogood that is violated. Where it begins.
-fn lead(store: &[i32], cells: &mut [u16], mark: usize, last: usize) -> usize
-    requires { ⌜ (mark ≤ 8192) × (1 ≤ last) × (last ≤ 65535) ⌝ }
+fn lead(store: &[i32], cells: &mut [u32], mark: usize, last: usize) -> usize
+    requires { ⌜ (mark ≤ entries) × (1 ≤ last) × (last ≤ largestCell) ⌝ }
 {
     let first = prepend(cells, MOST, last - 1);
     if is_small(cells, mark) {
@@ -521,8 +528,8 @@ fn lead(store: &[i32], cells: &mut [u16], mark: usize, last: usize) -> usize
 }
 
 // The path to a literal that is true and was to be false. Where it begins.
-fn contradict(store: &[i32], cells: &mut [u16], mark: usize, c: usize) -> usize
-    requires { ⌜ (mark ≤ 8192) × (c ≤ 65535) ⌝ }
+fn contradict(store: &[i32], cells: &mut [u32], mark: usize, c: usize) -> usize
+    requires { ⌜ (mark ≤ entries) × (c ≤ largestCell) ⌝ }
 {
     if is_small(cells, mark) {
         return gather_all(cells, MOST);
@@ -532,7 +539,7 @@ fn contradict(store: &[i32], cells: &mut [u16], mark: usize, c: usize) -> usize
 }
 
 // The literal of code 0 is true.
-fn ready(cells: &mut [u16]) {
+fn ready(cells: &mut [u32]) {
     if count(cells) == 0 {
         let n = push(cells, 0, 0, 0);
         put(cells, COUNT, n);
@@ -540,15 +547,15 @@ fn ready(cells: &mut [u16]) {
 }
 
 // The nogood that the root violates, one more than its place, or 0.
-fn hint_of(cells: &[u16]) -> usize
-    ensures { λ r. ⌜ r ≤ 65535 ⌝ }
+fn hint_of(cells: &[u32]) -> usize
+    ensures { λ r. ⌜ r ≤ largestCell ⌝ }
 {
     let hint = get(cells, HINT);
     if hint < LED { hint } else { hint - LED }
 }
 
 // The path leads to the nogood that the root violates, and no literal was written over it.
-fn is_led(cells: &[u16]) -> bool {
+fn is_led(cells: &[u32]) -> bool {
     if get(cells, HINT) < LED {
         return false;
     }
@@ -556,8 +563,8 @@ fn is_led(cells: &[u16]) -> bool {
 }
 
 // A nogood that is violated without any assumption.
-fn root(store: &[i32], cells: &mut [u16]) -> usize
-    ensures { λ r. ⌜ r ≤ 65535 ⌝ }
+fn root(store: &[i32], cells: &mut [u32]) -> usize
+    ensures { λ r. ⌜ r ≤ largestCell ⌝ }
 {
     let hint = hint_of(cells);
     if 0 < hint {
@@ -569,8 +576,8 @@ fn root(store: &[i32], cells: &mut [u16]) -> usize
 }
 
 // The literals are true, and what follows. The path to a nogood that is violated, or to a literal that is true and false; else all that was found.
-fn pursue(store: &[i32], literals: &[i32], cells: &mut [u16], mark: usize) -> usize
-    requires { ⌜ mark ≤ 8192 ⌝ }
+fn pursue(store: &[i32], literals: &[i32], cells: &mut [u32], mark: usize) -> usize
+    requires { ⌜ mark ≤ entries ⌝ }
 {
     let against = assume(literals, cells);
     if 0 < against {
@@ -584,8 +591,8 @@ fn pursue(store: &[i32], literals: &[i32], cells: &mut [u16], mark: usize) -> us
 }
 
 // A path: to a nogood that is violated without any assumption, if there is one.
-fn find(store: &[i32], literals: &[i32], cells: &mut [u16], mark: usize, last: usize) -> usize
-    requires { ⌜ (mark ≤ 8192) × (last ≤ 65535) ⌝ }
+fn find(store: &[i32], literals: &[i32], cells: &mut [u32], mark: usize, last: usize) -> usize
+    requires { ⌜ (mark ≤ entries) × (last ≤ largestCell) ⌝ }
 {
     if 0 < last {
         put(cells, HINT, last + LED);
@@ -596,7 +603,7 @@ fn find(store: &[i32], literals: &[i32], cells: &mut [u16], mark: usize, last: u
 }
 
 // One search for a conflict that the literals lead to. It leaves a path; one that leads to a conflict without any assumption stays.
-pub fn run(store: &[i32], literals: &[i32], cells: &mut [u16]) {
+pub fn run(store: &[i32], literals: &[i32], cells: &mut [u32]) {
     ready(cells);
     if is_led(cells) {
         return;
@@ -620,8 +627,8 @@ fn code_at(store: &[i32], j: usize, end: usize) -> usize
 }
 
 // A nogood that watches one literal that is not true, or none: what follows without any assumption.
-fn settle(cells: &mut [u16], x: usize, open: bool, c: usize)
-    requires { ⌜ (c ≤ 65535) × (x ≤ 65535) ⌝ }
+fn settle(cells: &mut [u32], x: usize, open: bool, c: usize)
+    requires { ⌜ (c ≤ largestCell) × (x ≤ largestCell) ⌝ }
 {
     if open {
         if !is_true(cells, opposite(c)) {
@@ -636,19 +643,19 @@ fn settle(cells: &mut [u16], x: usize, open: bool, c: usize)
 }
 
 // The literal whose chain a watch on c goes into: the other literal d where the root makes that one false.
-fn chain_of(cells: &[u16], c: usize, d: usize) -> usize
-    requires { ⌜ (c ≤ 65535) × (d ≤ 65535) ⌝ }
-    ensures { λ r. ⌜ r ≤ 65535 ⌝ }
+fn chain_of(cells: &[u32], c: usize, d: usize) -> usize
+    requires { ⌜ (c ≤ largestCell) × (d ≤ largestCell) ⌝ }
+    ensures { λ r. ⌜ r ≤ largestCell ⌝ }
 {
     if is_true(cells, opposite(d)) { d } else { c }
 }
 
 // A nogood that stayed where it was: its watches are on the same literals.
-fn enter_again(cells: &mut [u16], x: usize)
-    requires { ⌜ x ≤ 65535 ⌝ }
+fn enter_again(cells: &mut [u32], x: usize)
+    requires { ⌜ x ≤ largestCell ⌝ }
 {
-    let c = get(cells, WATCHED + x);
-    let d = get(cells, WATCHED + x + 1);
+    let c = get(cells, WATCHED + 2 * x);
+    let d = get(cells, WATCHED + 2 * x + 2);
     let first = chain_of(cells, c, d);
     let second = chain_of(cells, d, c);
     watch(cells, x, 0, first, c);
@@ -656,8 +663,8 @@ fn enter_again(cells: &mut [u16], x: usize)
 }
 
 // A new nogood: two literals that are not true are watched, as far as there are any.
-pub fn enter(store: &[i32], x: usize, cells: &mut [u16]) {
-    if REACH <= x {
+pub fn enter(store: &[i32], x: usize, cells: &mut [u32]) {
+    if FAR <= x {
         return;
     }
     if x < get(cells, KEPT) {
@@ -685,12 +692,12 @@ pub fn enter(store: &[i32], x: usize, cells: &mut [u16]) {
 }
 
 // The watches that wait in the chain of a literal go back to their own.
-fn release(cells: &mut [u16], c: usize)
-    requires { ⌜ c ≤ 65535 ⌝ }
+fn release(cells: &mut [u32], c: usize)
+    requires { ⌜ c ≤ largestCell ⌝ }
 {
     let mut last = 0;
     let mut node = get(cells, HEAD + c);
-    let mut fuel: usize = 65535;
+    let mut fuel: usize = LARGEST_CELL;
     while 0 < fuel {
         if node == 0 {
             return;
@@ -699,8 +706,8 @@ fn release(cells: &mut [u16], c: usize)
         let here = node;
         let x = (here - 1) / 2;
         let w = (here - 1) % 2;
-        node = get(cells, LINK + x + w);
-        let own = get(cells, WATCHED + x + w);
+        node = get(cells, LINK + 2 * (x + w));
+        let own = get(cells, WATCHED + 2 * (x + w));
         if own == c {
             last = here;
         } else {
@@ -711,7 +718,7 @@ fn release(cells: &mut [u16], c: usize)
 }
 
 // Of the root only the first literals stay.
-fn retract(cells: &mut [u16], to: usize) {
+fn retract(cells: &mut [u32], to: usize) {
     let n = count(cells);
     let mut i = to;
     while i < n {
@@ -723,8 +730,8 @@ fn retract(cells: &mut [u16], to: usize) {
 }
 
 // A literal of a nogood at x that is dead now: if its complement was true by it, that and what came later is not any more. Whether that is so.
-fn withdraw(cells: &mut [u16], x: usize, c: usize) -> bool
-    requires { ⌜ (c ≤ 65535) × (x ≤ 65535) ⌝ }
+fn withdraw(cells: &mut [u32], x: usize, c: usize) -> bool
+    requires { ⌜ (c ≤ largestCell) × (x ≤ largestCell) ⌝ }
 {
     let at = get(cells, ORDER + c);
     if at == 0 {
@@ -740,8 +747,8 @@ fn withdraw(cells: &mut [u16], x: usize, c: usize) -> bool
 }
 
 // The nogood at x, which is dead now, does not say that the root is violated.
-fn unhint(cells: &mut [u16], x: usize)
-    requires { ⌜ x ≤ 65535 ⌝ }
+fn unhint(cells: &mut [u32], x: usize)
+    requires { ⌜ x ≤ largestCell ⌝ }
 {
     if hint_of(cells) == x + 1 {
         put(cells, HINT, 0);
@@ -750,8 +757,8 @@ fn unhint(cells: &mut [u16], x: usize)
 }
 
 // The nogood at x is dead now: one more than the first such place is kept.
-fn note_dead(cells: &mut [u16], x: usize)
-    requires { ⌜ x ≤ 65535 ⌝ }
+fn note_dead(cells: &mut [u32], x: usize)
+    requires { ⌜ x ≤ largestCell ⌝ }
 {
     let dead = get(cells, DEAD);
     if 0 < dead {
@@ -763,8 +770,8 @@ fn note_dead(cells: &mut [u16], x: usize)
 }
 
 // Nothing of the root rests on the nogood at x, which is dead now. What it gave is the complement of a literal that it watches.
-pub fn forget(x: usize, cells: &mut [u16]) {
-    if REACH <= x {
+pub fn forget(x: usize, cells: &mut [u32]) {
+    if FAR <= x {
         return;
     }
     note_dead(cells, x);
@@ -772,16 +779,16 @@ pub fn forget(x: usize, cells: &mut [u16]) {
     if count(cells) <= 1 {
         return;
     }
-    let first = get(cells, WATCHED + x);
+    let first = get(cells, WATCHED + 2 * x);
     if withdraw(cells, x, opposite(first)) {
         return;
     }
-    let second = get(cells, WATCHED + x + 1);
+    let second = get(cells, WATCHED + 2 * x + 2);
     withdraw(cells, x, opposite(second));
 }
 
 // The cells become 0.
-fn clear(cells: &mut [u16]) {
+fn clear(cells: &mut [u32]) {
     let mut i = 0;
     while i < cells.len() {
         cells[i] = 0;
@@ -790,13 +797,13 @@ fn clear(cells: &mut [u16]) {
 }
 
 // The place before which no nogood died; 0 where none did at all.
-fn front(cells: &[u16]) -> usize {
+fn front(cells: &[u32]) -> usize {
     let dead = get(cells, DEAD);
     if dead == 0 { 0 } else { dead - 1 }
 }
 
 // Of the root the first literals stay, up to the first that was given by a nogood at a place or after it.
-fn cut_root(cells: &mut [u16], place: usize) {
+fn cut_root(cells: &mut [u32], place: usize) {
     let n = count(cells);
     let mut i = 0;
     while i < n {
@@ -810,7 +817,7 @@ fn cut_root(cells: &mut [u16], place: usize) {
 }
 
 // No nogood is known that the root violates.
-fn clear_hint(cells: &mut [u16]) {
+fn clear_hint(cells: &mut [u32]) {
     if 0 < get(cells, HINT) {
         put(cells, HINT, 0);
         put(cells, DONE, 0);
@@ -819,13 +826,13 @@ fn clear_hint(cells: &mut [u16]) {
 
 // The store is closed up, and all nogoods are to be entered again: no literal is watched. What rests on nogoods before the first dead one stays, since
 // they do not move.
-pub fn reset(cells: &mut [u16]) {
+pub fn reset(cells: &mut [u32]) {
     let kept = front(cells);
     put(cells, KEPT, kept);
     put(cells, DEAD, 0);
     cut_root(cells, kept);
     clear_hint(cells);
-    if LINK <= cells.len() {
-        clear(&mut cells[..LINK]);
+    if ORDER <= cells.len() {
+        clear(&mut cells[..ORDER]);
     }
 }

@@ -9,10 +9,11 @@ use borrow.Author.Tests.{ltb-true, ltb-false, eqb-true, eqb-false, eq-eqb, ne-eq
 use lib.Dec.{eqb, ltb, leb}
 use lib.ListN.{length, take, drop, set, getD, drop-of-length-le, length-drop}
 use lib.Seq.{drop-cons, take-suc-set, drop-drop}
+use Rattle.words.specs.Limits.{largestSize}
 use Rattle.words.specs.Lists.{any}
 use Rattle.derivation.specs.States.{isAtom}
 use Rattle.shapes.specs.Tree.{end, split, Parsed, bad, found, andThen, treeOf, sum}
-use Rattle.shapes.specs.Walks.{Walks, largestSize, AreJoined, joinedTo, isTree}
+use Rattle.shapes.specs.Walks.{Walks, AreJoined, joinedTo, isTree}
 use Rattle.shapes.specs.declared.Walked.{Walked}
 use Rattle.shapes.specs.declared.Walked.the-variants.{Tree, NoTree}
 

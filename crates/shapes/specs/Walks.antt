@@ -6,6 +6,7 @@ use mathlib.Core.List.{List, [], _∷_}
 use Prim.Native.Nat.{ℕ, _+_, _≤_}
 use lib.Dec.{eqb}
 use lib.ListN.{length, drop}
+use Rattle.words.specs.Limits.{largestSize}
 use Rattle.shapes.specs.Tree.{Shape, Parsed, bad, found, leaves, sum}
 use Rattle.shapes.specs.declared.Walked.{Walked}
 use Rattle.shapes.specs.declared.Walked.the-variants.{Tree, NoTree}
@@ -14,10 +15,6 @@ use Rattle.shapes.specs.declared.Walked.the-variants.{Tree, NoTree}
 abbrev pub Walks : Parsed → (numbers : List ℕ) → Walked → Type 0
 Walks p numbers (Tree n k) = (t : Shape) × (p ≡ found t (drop n numbers)) × (k ≡ leaves t) × (k ≤ n) × (n ≤ length numbers)
 Walks p numbers NoTree = p ≡ bad
-
--- the largest size
-abbrev pub largestSize : ℕ
-largestSize = 18446744073709551615
 
 -- the numbers of two sides stay within what can be counted
 abbrev pub AreJoined : (numbers ends : ℕ) → Walked → Type 0

@@ -13,11 +13,11 @@ use Rattle.text.specs.Strings.{lines}
 use Rattle.aspif.specs.Rules.{InputRule, bodiesOf, expandRule, expand}
 use Rattle.aspif.specs.Reading.{shapeOf, readLines, readText, linesFrom}
 use Rattle.aspif.specs.declared.Kind.the-variants.{Normal, Choice}
-use Rattle.drupe.specs.Texts.{stepsAt, stepsOf}
+use Rattle.drupe.specs.Texts.{stepsAt, stepsWithin}
 use Rattle.derivation.specs.Loops.{isLoop}
 use Rattle.nogoods.specs.Store.{live, closed, killed}
-use Rattle.runs.specs.Course.{course}
-use Rattle.checker.specs.Check.{check}
+use Rattle.runs.specs.Course.{courseWithin}
+use Rattle.checker.specs.Check.{checkWithin}
 use Rattle.checker.specs.Report.{printed}
 use Rattle.aspif.specs.Text.{ruleText, rulesText, programText}
 use Rattle.cheapest.specs.Service.{cheapest}
@@ -32,7 +32,7 @@ use Rattle.soundness.proofs.Cheapest.{cheapest-printed}
 
 -- starred example 1's proof
 one-none : HasNone one
-unfolding printed check course live closed killed stepsOf stepsAt readText readLines linesFrom shapeOf lineOf insert insertAll isLoop expand expandRule bodiesOf decimal decimals numberBytes spaced ruleText rulesText programText
+unfolding printed checkWithin courseWithin live closed killed stepsWithin stepsAt readText readLines linesFrom shapeOf lineOf insert insertAll isLoop expand expandRule bodiesOf decimal decimals numberBytes spaced ruleText rulesText programText
 one-none = sound-line one (lines ("b 2 -1 0" ∷ "c 2 1 0" ∷ "s 1 2 0" ∷ "a 1 0" ∷ "a 0" ∷ [])) (lines (" 1 1 5 6" ∷ [])) refl
 
 -- program B of `cheapest` with proof Q

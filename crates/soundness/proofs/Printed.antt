@@ -7,8 +7,9 @@ use mathlib.Core.Option.{some, Option·some-injective}
 use mathlib.Core.List.{List, _++_, map}
 use Prim.Native.Nat.{ℕ}
 use native.Mathlib.Omega.{arith}
+use lib.IntN.{ℤ}
 use lib.ListN.{length}
-use Rattle.words.specs.Limits.{entries}
+use Rattle.words.specs.Limits.{longest, widest, entries}
 use Rattle.words.specs.Lists.{_∈_, ascends}
 use Rattle.words.proofs.Lists.{zero-one}
 use Rattle.text.specs.Strings.{bytes}
@@ -24,14 +25,14 @@ use Rattle.aspif.proofs.Spelled.{sortedRule, Once, read-spelled}
 use Rattle.answer_set.specs.declared.SetAnswer.the-variants.{Yes}
 use Rattle.answer_set.proofs.Service.{service-yes}
 use Rattle.derivation.specs.Claims.{NoneAsWritten}
-use Rattle.checker.specs.Check.{check}
+use Rattle.checker.specs.Check.{check, CheckedWithin}
 use Rattle.checker.specs.Report.{lent, verdictLine, printed}
 use Rattle.checker.specs.declared.Counts.{Counts}
 use Rattle.checker.specs.declared.Verdict.{Verdict}
 use Rattle.checker.specs.declared.Verdict.the-variants.{Inconsistent, Open, RefusedProgram, RefusedProof}
 use Rattle.checker.proofs.Whole.{soundness-whole, service-sound}
 use Rattle.checker.proofs.Verdicts.{lines-read}
-use Rattle.soundness.specs.Page.{IsAnswerSet, HasNone, SoundPrinted, OnlyPrinted, SoundLine, OnlyLine, YesPrinted}
+use Rattle.soundness.specs.Page.{IsAnswerSet, HasNone, SoundPrinted, OnlyPrinted, SoundLong, OnlyLong, SoundLine, OnlyLine, YesPrinted}
 use Rattle.soundness.proofs.Once.{same-cons, printed-once}
 use Rattle.soundness.proofs.Direct.{plain-set, direct-set}
 use Rattle.soundness.proofs.Orders.{sorted-set, written-set, sorted-with}
@@ -60,18 +61,33 @@ has-none {ws} o n =
 
 -- The whole check
 
-pub sound-printed : SoundPrinted
-sound-printed ws proof table store table′ store′ c e =
-    let s = service-sound (programText ws) proof table store table′ store′ c e in
+-- under every limit of question 21
+sound-within : (limit : ℕ) (ws : List InputRule) (proof : List ℕ) (table store table′ store′ : List ℤ) (c : Counts)
+    → CheckedWithin limit (programText ws) proof table store table′ store′ (Inconsistent c) → HasNone ws
+sound-within limit ws proof table store table′ store′ c e =
+    let s = service-sound limit (programText ws) proof table store table′ store′ c e in
     has-none (read-in-order (length table) ws (s .0) (s .1)) (s .2)
+
+pub sound-printed : SoundPrinted
+sound-printed = sound-within longest
+
+pub sound-long : SoundLong
+sound-long ws proof table store table′ store′ memory memory′ c e = sound-within widest ws proof table store table′ store′ c (e .checked)
 
 -- a text that is read is that of some rules
 is-text : (size : ℕ) (text : List ℕ) (rs : List InputRule) → readText size text ≡ program rs → (ws : List InputRule) × (text ≡ programText ws)
 is-text size text rs e = let r = read-spelled size text rs e in (r .ws, r .is)
 
+only-within : (limit : ℕ) (text proof : List ℕ) (table store table′ store′ : List ℤ) (c : Counts)
+    → CheckedWithin limit text proof table store table′ store′ (Inconsistent c) → (ws : List InputRule) × (text ≡ programText ws)
+only-within limit text proof table store table′ store′ c e =
+    let s = service-sound limit text proof table store table′ store′ c e in is-text (length table) text (s .0) (s .1)
+
 pub only-printed : OnlyPrinted
-only-printed text proof table store table′ store′ c e =
-    let s = service-sound text proof table store table′ store′ c e in is-text (length table) text (s .0) (s .1)
+only-printed = only-within longest
+
+pub only-long : OnlyLong
+only-long text proof table store table′ store′ memory memory′ c e = only-within widest text proof table store table′ store′ c (e .checked)
 
 -- The line of `verdict`
 
@@ -85,7 +101,7 @@ line-sound : (text proof more : List ℕ) → printed text proof ≡ bytes "inco
     → (rs : List InputRule) × (readText lent text ≡ program rs) × NoneAsWritten rs
 unfolding printed
 line-sound text proof more e =
-    let v = says-inconsistent (check text proof lent lent .verdict) more e in soundness-whole text proof lent lent (v .0) (v .1)
+    let v = says-inconsistent (check text proof lent lent .verdict) more e in soundness-whole longest text proof lent lent (v .0) (v .1)
 
 pub sound-line : SoundLine
 sound-line ws proof more e = let s = line-sound (programText ws) proof more e in has-none (read-in-order lent ws (s .0) (s .1)) (s .2)

@@ -1,6 +1,6 @@
 -- What the services for C say of a program over its text: each returns 0 of its passing answer and of no other, and the numbers at the
--- front of the lent buffer are that answer's. `sound-returned`, `yes-returned`, `cheapest-returned`, and of
--- no other text do they: `only-returned`, `only-cheapest-returned`.
+-- front of the lent buffer are that answer's. `sound-returned`, `sound-long-returned`, `yes-returned`,
+-- `cheapest-returned`, and of no other text do they: `only-returned`, `only-long-returned`, `only-cheapest-returned`.
 -- Assumes nothing.
 use mathlib.Core.Path.{_≡_, refl, sym, _∙_, ap, subst}
 use mathlib.Core.Option.{Option, none, some}
@@ -26,7 +26,7 @@ use Rattle.answer_set.specs.declared.SetAnswer.{SetAnswer}
 use Rattle.answer_set.specs.declared.SetAnswer.the-variants.{Yes}
 use Rattle.derivation.specs.Steps.{emptyLive}
 use Rattle.runs.specs.Course.{Course, stopped, through}
-use Rattle.checker.specs.Check.{CheckedTexts}
+use Rattle.checker.specs.Check.{CheckedTexts, CheckedLong}
 use Rattle.checker.specs.declared.Counts.{Counts}
 use Rattle.checker.specs.declared.Verdict.{Verdict}
 use Rattle.checker.specs.declared.Verdict.the-variants.{Inconsistent, Open, RefusedProgram, RefusedProof}
@@ -35,10 +35,10 @@ use Rattle.cheapest.specs.Service.{isYes, restrictedCourse, CheapestLeft, leave
 use Rattle.cheapest.specs.declared.CheapestAnswer.{CheapestAnswer}
 use Rattle.cheapest.specs.declared.CheapestAnswer.the-variants as Answers
 use Rattle.exports.specs.Services.{CheckService, CheapestService}
-use Rattle.exports.specs.Codes.{programCode, programNumbers, setCode, verdictCode, cheapestCode, cheapestNumbers}
-use Rattle.soundness.specs.Page.{IsCheapest, SoundReturned, OnlyReturned, YesReturned, CheapestReturned, OnlyCheapestReturned}
+use Rattle.exports.specs.Codes.{Told, programCode, programNumbers, setCode, verdictCode, verdictNumbers, cheapestCode, cheapestNumbers}
+use Rattle.soundness.specs.Page.{IsCheapest, SoundReturned, OnlyReturned, SoundLongReturned, OnlyLongReturned, YesReturned, CheapestReturned, OnlyCheapestReturned}
 use Rattle.soundness.proofs.Numbers.{Numbered, read-numbered}
-use Rattle.soundness.proofs.Printed.{sound-printed, only-printed, yes-printed}
+use Rattle.soundness.proofs.Printed.{sound-printed, only-printed, sound-long, only-long, yes-printed}
 use Rattle.soundness.proofs.Cheapest.{cheapest-printed, only-cheapest}
 
 -- The whole check
@@ -49,21 +49,30 @@ is-inconsistent (Open c) e = absurd (zero-one e)
 is-inconsistent (RefusedProgram r) e = absurd (omega arith)
 is-inconsistent (RefusedProof r) e = absurd (omega arith)
 
--- where 0 is returned, the check said "inconsistent"
-checked-so : {text proof : List ℕ} {table store table′ store′ : List ℤ} {answer answer′ : List ℕ}
-    → CheckService text proof table store table′ store′ answer answer′ 0
-    → (c : Counts) × CheckedTexts text proof table store table′ store′ (Inconsistent c)
-checked-so {text} {proof} {table} {store} {table′} {store′} s =
-    let v = is-inconsistent (s .verdict) (s .told .returned) in
-    (v .0, subst (λ (r : Verdict). CheckedTexts text proof table store table′ store′ r) (v .1) (s .checked))
+-- where 0 is returned, the check said "inconsistent", whatever it says of a verdict
+checked-so : (A : Verdict → Type 0) {answer answer′ : List ℕ} (v : Verdict) → A v → Told (verdictCode v) (verdictNumbers v) answer answer′ 0
+    → (c : Counts) × A (Inconsistent c)
+checked-so A v a t = let w = is-inconsistent v (t .returned) in (w .0, subst A (w .1) a)
 
 pub sound-returned : SoundReturned
 sound-returned ws proof table store table′ store′ answer answer′ s =
-    let c = checked-so s in sound-printed ws proof table store table′ store′ (c .0) (c .1)
+    let c = checked-so (CheckedTexts (programText ws) proof table store table′ store′) (s .verdict) (s .checked) (s .told) in
+    sound-printed ws proof table store table′ store′ (c .0) (c .1)
 
 pub only-returned : OnlyReturned
 only-returned text proof table store table′ store′ answer answer′ s =
-    let c = checked-so s in only-printed text proof table store table′ store′ (c .0) (c .1)
+    let c = checked-so (CheckedTexts text proof table store table′ store′) (s .verdict) (s .checked) (s .told) in
+    only-printed text proof table store table′ store′ (c .0) (c .1)
+
+pub sound-long-returned : SoundLongReturned
+sound-long-returned ws proof table store table′ store′ memory memory′ answer answer′ s =
+    let c = checked-so (CheckedLong (programText ws) proof table store table′ store′ memory memory′) (s .verdict) (s .checked) (s .told) in
+    sound-long ws proof table store table′ store′ memory memory′ (c .0) (c .1)
+
+pub only-long-returned : OnlyLongReturned
+only-long-returned text proof table store table′ store′ memory memory′ answer answer′ s =
+    let c = checked-so (CheckedLong text proof table store table′ store′ memory memory′) (s .verdict) (s .checked) (s .told) in
+    only-long text proof table store table′ store′ memory memory′ (c .0) (c .1)
 
 -- The set test
 

@@ -25,14 +25,14 @@ use Rattle.derivation.specs.Claims.{WrittenConstraint}
 use Rattle.answer_set.specs.SetTest.{SetTested}
 use Rattle.answer_set.specs.declared.SetAnswer.{SetAnswer}
 use Rattle.answer_set.specs.declared.SetAnswer.the-variants.{Yes}
-use Rattle.checker.specs.Check.{CheckedTexts}
+use Rattle.checker.specs.Check.{CheckedTexts, CheckedLong}
 use Rattle.checker.specs.Report.{printed}
 use Rattle.checker.specs.declared.Counts.{Counts}
 use Rattle.checker.specs.declared.Verdict.the-variants.{Inconsistent}
 use Rattle.costs.specs.Costs.{Costs}
 use Rattle.cheapest.specs.Service.{CheckedCheapest}
 use Rattle.cheapest.specs.declared.CheapestAnswer.the-variants.{Cheapest}
-use Rattle.exports.specs.Services.{ProgramService, SetService, CheckService, CheapestService}
+use Rattle.exports.specs.Services.{ProgramService, SetService, CheckService, LongService, CheapestService}
 
 -- Answer sets: document 01, 'Answer sets', of rules as they are written. A set is any predicate on
 -- numbers.
@@ -112,6 +112,35 @@ abbrev pub OnlyReturned : Type 0
 OnlyReturned =
     (text proof : List ℕ) (table store table′ store′ : List ℤ) (answer answer′ : List ℕ)
     → CheckService text proof table store table′ store′ answer answer′ 0
+    → (ws : List InputRule) × (text ≡ programText ws)
+
+-- The same of the long check, `check_long` by its contract `CheckedLong` and `aspdrupe_check_long` by
+-- its own: its proofs may be as long as a signed word can count, and its memory is any
+abbrev pub SoundLong : Type 1
+SoundLong =
+    (ws : List InputRule) (proof : List ℕ) (table store table′ store′ : List ℤ)
+    (memory memory′ : List ℕ) (c : Counts)
+    → CheckedLong (programText ws) proof table store table′ store′ memory memory′ (Inconsistent c)
+    → HasNone ws
+
+abbrev pub SoundLongReturned : Type 1
+SoundLongReturned =
+    (ws : List InputRule) (proof : List ℕ) (table store table′ store′ : List ℤ)
+    (memory memory′ answer answer′ : List ℕ)
+    → LongService (programText ws) proof table store table′ store′ memory memory′ answer answer′ 0
+    → HasNone ws
+
+abbrev pub OnlyLong : Type 0
+OnlyLong =
+    (text proof : List ℕ) (table store table′ store′ : List ℤ) (memory memory′ : List ℕ) (c : Counts)
+    → CheckedLong text proof table store table′ store′ memory memory′ (Inconsistent c)
+    → (ws : List InputRule) × (text ≡ programText ws)
+
+abbrev pub OnlyLongReturned : Type 0
+OnlyLongReturned =
+    (text proof : List ℕ) (table store table′ store′ : List ℤ)
+    (memory memory′ answer answer′ : List ℕ)
+    → LongService text proof table store table′ store′ memory memory′ answer answer′ 0
     → (ws : List InputRule) × (text ≡ programText ws)
 
 abbrev pub PrintedOnce : Type 0

@@ -8,9 +8,9 @@ use Rattle.text.specs.Decimals.{decimals, decimal, numberBytes, spaced}
 use Rattle.text.specs.Line.{lineOf}
 use Rattle.aspif.specs.Rules.{bodiesOf, expandRule, expand}
 use Rattle.aspif.specs.Reading.{shapeOf, readLines, readText, linesFrom}
-use Rattle.drupe.specs.Texts.{stepText, textOf, stepsAt, stepsOf}
+use Rattle.drupe.specs.Texts.{stepText, textOf, stepsAt, stepsWithin}
 use Rattle.nogoods.specs.Store.{live}
-use Rattle.runs.specs.Course.{course}
+use Rattle.runs.specs.Course.{courseWithin}
 use Rattle.merging.specs.Merge.{merged}
 use Rattle.merging.specs.Examples.{rules, programA}
 use Rattle.splits.specs.Service.{merge}
@@ -26,7 +26,7 @@ whole size =
     (merged-exactly textA 1 halfA otherA (replicate 30 (pos 0)) (replicate size (pos 0)) _ _ (replicate 167 0) _ _ refl (rules programA) refl)
 
 pub worked : Worked
-unfolding merge merged course live textOf stepText spaced numberBytes decimal decimals stepsOf stepsAt readText readLines linesFrom shapeOf lineOf insert insertAll expand expandRule bodiesOf
+unfolding merge merged courseWithin live textOf stepText spaced numberBytes decimal decimals stepsWithin stepsAt readText readLines linesFrom shapeOf lineOf insert insertAll expand expandRule bodiesOf
 worked = record {
   good = refl;
   table = refl;

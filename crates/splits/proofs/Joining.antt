@@ -27,7 +27,7 @@ use Rattle.derivation.specs.Steps.{next}
 use Rattle.derivation.specs.Steps as Steps
 use Rattle.nogoods.specs.Store.{Stored}
 use Rattle.names.specs.Queries.{entry, Kept, constraining}
-use Rattle.runs.specs.Course.{Course, stopped, through, thenStopped, runSteps, runRead, course}
+use Rattle.runs.specs.Course.{Course, stopped, through, thenStopped, runSteps, runRead, courseWithin, course}
 use Rattle.steps.specs.Held.{Program, nameOf}
 use Rattle.steps.proofs.Names.{name-high}
 use Rattle.steps.proofs.Tracking.{rules-held}
@@ -93,7 +93,7 @@ atom-within N v e h = let t = and-decides (leb-decides 1 v) (leb-decides v N) .t
 -- a course that goes through is that of a text which is read, and its steps are accepted
 course-read : (N : ℕ) (P : List Rule) (size : ℕ) (text : List ℕ) (n : ℕ) (z : State) (stored : List Stored) → course N P size text ≡ through n z stored
     → (stepsOf text ≡ steps (stepsIn text)) × (Steps.steps N P start (stepsIn text) ≡ next z)
-unfolding course
+unfolding courseWithin
 course-read N P size text n z stored e = by (stepsOf text) e
   where
     unread : (k m : ℕ) (c : Course) → thenStopped k m c ≡ through n z stored → ⊥

@@ -23,7 +23,7 @@ use Rattle.derivation.specs.Steps.{Outcome, refused, next, step, emptyLive}
 use Rattle.nogoods.specs.Store.{Stored, storeWords}
 use Rattle.steps.specs.After.{storedAfter}
 use Rattle.runs.specs.Course.{Course, stopped, through, fitting, runSteps, course, endsEmpty, isAccepted}
-use Rattle.checker.specs.Check.{countsOf, judged, check}
+use Rattle.checker.specs.Check.{countsOf, judged, checkWithin, check}
 use Rattle.checker.specs.declared.Counts.{Counts}
 use Rattle.checker.specs.declared.Verdict.the-variants.{Inconsistent, RefusedProof}
 use Rattle.steps.proofs.Turns.{steps-pass}
@@ -102,7 +102,7 @@ pub merged-ends : MergedEnds
 merged-ends size ws v first second halves fit h = (
   good,
   (
-    read-back ts pass h,
+    read-back longest ts pass h,
     by (merged-as-written (fitting size) ws v (atom size ws v first second halves fit) (stepsIn first) (stepsIn second)
         (first-half size ws v first second halves fit) (second-half size ws v first second halves fit) fit .0),
   ),
@@ -122,7 +122,7 @@ merged-ends size ws v first second halves fit h = (
 
     ran : (o : Outcome) → Claims.stepsIn (fitting size) (atoms ws) (expand ws) start ts ≡ o → RunsAs o checked
     ran o e = subst (λ (x : Outcome). RunsAs x checked) e
-        (subst (RunsAs (Claims.stepsIn (fitting size) (atoms ws) (expand ws) start ts)) (sym (course-written (atoms ws) (expand ws) size ts pass h))
+        (subst (RunsAs (Claims.stepsIn (fitting size) (atoms ws) (expand ws) start ts)) (sym (course-written longest (atoms ws) (expand ws) size ts pass h))
         (runs-as (atoms ws) (expand ws) size 0 start [] ts))
 
     by : InOr34 (fitting size) (atoms ws) (expand ws) ts
@@ -131,7 +131,7 @@ merged-ends size ws v first second halves fit h = (
     by (inr e) = inr (goes-past size ws ts (good .0) (good .1) e, ran (refused 34) e)
 
 pub merged-text : MergedText
-unfolding check
+unfolding checkWithin
 merged-text text t s ws q v first second halves fit h =
     let m = merged-as-written (fitting s) ws v (atom s ws v first second halves fit) (stepsIn first) (stepsIn second)
     (first-half s ws v first second halves fit) (second-half s ws v first second halves fit) fit in
@@ -200,7 +200,7 @@ module _ (text : List ℕ) (t s o n : ℕ) (table′ store′ : List ℤ) (outpu
 
   pub judged-checked : (ws : List InputRule) → readText t text ≡ program ws → (p : List ℕ) (c : Course) → course (atoms ws) (expand ws) s p ≡ c
       → left ≡ judgedText t s o ws p c → Goal
-  unfolding check
+  unfolding checkWithin
   judged-checked ws q p (stopped k m) r f = absurd (full f)
   judged-checked ws q p (through m z b) r f = ends (emptyLive z) refl f
     where

@@ -20,12 +20,12 @@ use Rattle.answer_set.specs.declared.SetAnswer.{SetAnswer}
 use Rattle.answer_set.specs.declared.SetAnswer.the-variants.{Yes}
 use Rattle.answer_set.proofs.Answered.{no-differs, no-breaks, yes-answer-set}
 use Rattle.answer_set.proofs.Broken.{breaks-lowest}
-use Rattle.drupe.specs.Texts.{stepsAt, stepsOf}
+use Rattle.drupe.specs.Texts.{stepsAt, stepsWithin}
 use Rattle.derivation.specs.Loops.{isLoop}
 use Rattle.nogoods.specs.Store.{live, closed, killed}
 use Rattle.checker.specs.Report.{lent, printed}
-use Rattle.runs.specs.Course.{course}
-use Rattle.checker.specs.Check.{check}
+use Rattle.runs.specs.Course.{courseWithin}
+use Rattle.checker.specs.Check.{checkWithin}
 use Rattle.starred.specs.Examples.{SetPasses, SetFails, Starred, Source000, WeightBodies, BrokenSecond, LoopsOnly, OriginWords, DeadWords, LongLines}
 
 -- Which sets pass: the programs as they are read
@@ -51,7 +51,7 @@ fails text l P r e ready d f a =
     record { P = P; read = e; answer = a; none = λ s. f (sym d ∙ yes-answer-set (programWords P) (length P) l P ready .1 s) }
 
 pub starred : Starred
-unfolding check course live closed killed stepsOf stepsAt readText readLines linesFrom shapeOf lineOf insert insertAll isLoop printed decimal decimals asked soundTable soundAt bodySound shapeSound sizeAt headsAt bodyWordsAt bodyAt expand expandRule bodiesOf verdictOf least giveRule giveHead
+unfolding checkWithin courseWithin live closed killed stepsWithin stepsAt readText readLines linesFrom shapeOf lineOf insert insertAll isLoop printed decimal decimals asked soundTable soundAt bodySound shapeSound sizeAt headsAt bodyWordsAt bodyAt expand expandRule bodiesOf verdictOf least giveRule giveHead
 starred = record {
   onePrints = refl;
   one = refl;
@@ -80,11 +80,11 @@ starred = record {
 }
 
 pub source000 : Source000
-unfolding check course live closed killed stepsOf stepsAt readText readLines linesFrom shapeOf lineOf insert insertAll isLoop expand expandRule bodiesOf
+unfolding checkWithin courseWithin live closed killed stepsWithin stepsAt readText readLines linesFrom shapeOf lineOf insert insertAll isLoop expand expandRule bodiesOf
 source000 = refl
 
 pub weight-bodies : WeightBodies
-unfolding check course live closed killed stepsOf stepsAt readText readLines linesFrom shapeOf ranged allWeights arranged lineOf insert insertAll expand expandRule bodiesOf bodies minimalSets sublists
+unfolding checkWithin courseWithin live closed killed stepsWithin stepsAt readText readLines linesFrom shapeOf ranged allWeights arranged lineOf insert insertAll expand expandRule bodiesOf bodies minimalSets sublists
 weight-bodies = record { refuted = refl; wholeSet = refl; weightRange = refl; tooMany = refl }
 
 abbrev brokenRead : List InputRule
@@ -110,11 +110,11 @@ broken-second = record {
 }
 
 pub loops-only : LoopsOnly
-unfolding check course live closed killed stepsOf stepsAt readText readLines linesFrom shapeOf ranged allWeights arranged lineOf insert insertAll isLoop expand expandRule bodiesOf bodies minimalSets sublists
+unfolding checkWithin courseWithin live closed killed stepsWithin stepsAt readText readLines linesFrom shapeOf ranged allWeights arranged lineOf insert insertAll isLoop expand expandRule bodiesOf bodies minimalSets sublists
 loops-only = record { sixNoLoop = refl; weightLoop = refl; weightNoLoop = refl }
 
 pub origin-words : OriginWords
-unfolding check course live closed killed stepsOf stepsAt readText readLines linesFrom shapeOf lineOf insert insertAll expand expandRule bodiesOf
+unfolding checkWithin courseWithin live closed killed stepsWithin stepsAt readText readLines linesFrom shapeOf lineOf insert insertAll expand expandRule bodiesOf
 origin-words = record {
   deleted = (refl, refl);
   counted = (refl, refl);
@@ -127,7 +127,7 @@ origin-words = record {
 }
 
 pub dead-words : DeadWords
-unfolding check course live closed killed stepsOf stepsAt readText readLines linesFrom shapeOf lineOf insert insertAll expand expandRule bodiesOf
+unfolding checkWithin courseWithin live closed killed stepsWithin stepsAt readText readLines linesFrom shapeOf lineOf insert insertAll expand expandRule bodiesOf
 dead-words = record {
   secondTakesNext = (refl, refl);
   thirdTakesNone = (refl, refl);

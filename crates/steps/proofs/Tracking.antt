@@ -20,7 +20,7 @@ use Rattle.marks.specs.Marks.{listed, marked, Marks, upTo}
 use Rattle.derivation.specs.States.{Named, State, start, isAtom, isKnown}
 use Rattle.derivation.specs.Steps.{allKnown}
 use Rattle.derivation.proofs.Questions.{known-decides}
-use Rattle.nogoods.specs.Index.{Blank, indexSize}
+use Rattle.nogoods.specs.Index.{BlankIndex}
 use Rattle.nogoods.specs.Keeps.{Holds}
 use Rattle.nogoods.proofs.Live.{live-nil}
 use Rattle.nogoods.proofs.Indexing.{keeps-blank}
@@ -97,8 +97,8 @@ holds-none store e =
     let n : length store - 0 ≡ length store = omega arith in
     record { words = rw n e; extent = refl; fits = omega arith; literals = λ x i. elim i [ ]; origins = λ x i. elim i [ ] }
 
-pub holds-start : (store : List ℤ) (index : List ℕ) → store ≡ replicate (length store) (pos 0) → length index ≡ indexSize → Blank index → HoldsState store index 0 start []
-holds-start store index e n b = record { keeps = keeps-blank (holds-none store e) n b; same = live-nil }
+pub holds-start : (store : List ℤ) (index : List ℕ) → store ≡ replicate (length store) (pos 0) → BlankIndex index → HoldsState store index 0 start []
+holds-start store index e b = record { keeps = keeps-blank (holds-none store e) b; same = live-nil }
 
 -- A new name
 

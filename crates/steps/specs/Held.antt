@@ -19,7 +19,7 @@ use Rattle.drupe.specs.Lines.{signsOf, signed}
 use Rattle.derivation.specs.States.{Named, State, start, isAtom, isKnown}
 use Rattle.derivation.specs.Steps.{Outcome, refused, next, byLetter}
 use Rattle.nogoods.specs.Keeps.{Literals}
-use Rattle.nogoods.specs.Index.{Keeps, Blank, indexSize}
+use Rattle.nogoods.specs.Index.{Keeps, BlankIndex}
 use Rattle.nogoods.specs.Store.{Stored, addedIn, live, keptWith, wordsFor}
 use Rattle.nogoods.specs.declared.store.Added.{Added}
 use Rattle.nogoods.specs.declared.store.Added.the-variants as Added
@@ -96,11 +96,11 @@ pub record HoldsState (store : List ℤ) (index : List ℕ) (used : ℕ) (z : St
   pub keeps : Keeps store index used stored
   pub same : live stored ≡ z .live
 
--- "It starts empty": nothing is read, no step is done, and of a store and an index of zeros it says that they hold the state at the start
+-- "It starts empty": nothing is read, no step is done, and of a store of zeros and a blank index it says that they hold the state at the start
 pub record Starts (c : CheckingState) : Type 0 where
   pub at : c .at ≡ 0
   pub steps : c .steps ≡ 0
-  pub holds : (store : List ℤ) (index : List ℕ) → store ≡ replicate (length store) (pos 0) → length index ≡ indexSize → Blank index → HoldsState store index (c .used) start []
+  pub holds : (store : List ℤ) (index : List ℕ) → store ≡ replicate (length store) (pos 0) → BlankIndex index → HoldsState store index (c .used) start []
 
 -- what a step leaves, by what it comes to: the number of the question, or arrays and store that hold the next state, with what is
 -- `after` it in the store

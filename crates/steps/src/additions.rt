@@ -5,7 +5,7 @@ ghost use mathlib.Core.List.{List};
 ghost use Prim.Native.Nat.{ℕ, _≤_};
 ghost use lib.IntN.{ℤ};
 ghost use lib.ListN.{replicate};
-ghost use Rattle.words.specs.Limits.{longest, entries};
+ghost use Rattle.words.specs.Limits.{widest, entries};
 ghost use Rattle.words.specs.Literals.{ascending};
 ghost use Rattle.aspif.specs.Rules.{InputRule};
 ghost use Rattle.text.specs.declared.Letter.the-variants.{Addition, Deletion};
@@ -14,7 +14,6 @@ ghost use Rattle.nogoods.specs.Index.{Keeps};
 ghost use Rattle.steps.specs.Held.{PassedLine, Stepping};
 use crate::outcomes;
 use crate::outcomes::Stepped;
-use nogoods::INDEX;
 use nogoods::store;
 use words::ENTRIES;
 
@@ -24,13 +23,13 @@ pub fn addition(
     known: &[u8],
     store: &mut [i32],
     used: usize,
-    index: &mut [u16; INDEX],
+    index: &mut [u32],
     origin: usize,
     numbers: &[i32],
     sorted: &[i32],
     assignment: &mut [u8; ENTRIES],
 ) -> Stepped
-    requires store { ⌜ ((stored : List Stored) × Keeps (now store) (now index) used stored) × ((1 ≤ origin) × (origin ≤ longest)) ⌝ }
+    requires store { ⌜ ((stored : List Stored) × Keeps (now store) (now index) used stored) × ((1 ≤ origin) × (origin ≤ widest)) ⌝ }
     requires line { ⌜ PassedLine Addition (now numbers) ⌝ }
     requires sorted { ⌜ now sorted ≡ ascending (now numbers) ⌝ }
     requires free { ⌜ now assignment ≡ replicate entries 0 ⌝ }
@@ -53,7 +52,7 @@ pub fn deletion(
     known: &[u8],
     store: &mut [i32],
     used: usize,
-    index: &mut [u16; INDEX],
+    index: &mut [u32],
     numbers: &[i32],
     sorted: &[i32],
 ) -> Stepped

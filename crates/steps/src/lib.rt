@@ -12,7 +12,7 @@ ghost use mathlib.Core.Logic.{_⊎_};
 ghost use mathlib.Core.List.{List};
 ghost use Prim.Native.Nat.{ℕ, _≤_};
 ghost use lib.ListN.{length, replicate};
-ghost use Rattle.words.specs.Limits.{longest, entries};
+ghost use Rattle.words.specs.Limits.{widest, entries};
 ghost use Rattle.words.specs.Literals.{ascending};
 ghost use Rattle.text.specs.declared.Letter.the-variants.{Body, Completion, Loop, Support};
 ghost use Rattle.aspif.specs.Rules.{InputRule};
@@ -25,7 +25,6 @@ ghost use Rattle.loops.specs.Relevance.{Relevant};
 ghost use Rattle.steps.specs.Held.{PassedLine, Program, Tracked, Stepping};
 use crate::additions::addition;
 use crate::outcomes::Stepped;
-use nogoods::INDEX;
 use text::Letter;
 use words::ENTRIES;
 
@@ -41,13 +40,13 @@ fn step_of_body(
     bodies: &mut [i16],
     store: &mut [i32],
     used: usize,
-    index: &mut [u16; INDEX],
+    index: &mut [u32],
     origin: usize,
 ) -> Stepped
     requires letter { ⌜ (letter ≡ Body) ⊎ (letter ≡ Completion) ⌝ }
     requires program { ⌜ ((ws : List InputRule) × HoldsRules (now table) rules ws) × (rules ≤ length (now names)) ⌝ }
     requires index { ⌜ Indexed (now lookup) (now table) rules ⌝ }
-    requires store { ⌜ ((stored : List Stored) × Keeps (now store) (now index) used stored) × ((1 ≤ origin) × (origin ≤ longest)) ⌝ }
+    requires store { ⌜ ((stored : List Stored) × Keeps (now store) (now index) used stored) × ((1 ≤ origin) × (origin ≤ widest)) ⌝ }
     requires line { ⌜ PassedLine letter (now line) ⌝ }
     ensures { λ r. ⌜ ((N : ℕ) (ws : List InputRule) → HoldsRules (now (table .entry)) rules ws
         → Stepping N ws letter (now (line .entry)) used origin
@@ -98,14 +97,14 @@ fn step_of_heads(
     bodies: &[i16],
     store: &mut [i32],
     used: usize,
-    index: &mut [u16; INDEX],
+    index: &mut [u32],
     origin: usize,
 ) -> Stepped
     requires letter { ⌜ (letter ≡ Loop) ⊎ (letter ≡ Support) ⌝ }
     requires state { ⌜ Tracked (now table) rules atoms (now known) (now names) (now bodies) ⌝ }
     requires index { ⌜ Indexed (now lookup) (now table) rules ⌝ }
     requires relevant { ⌜ Relevant (now relevant) (rulesAt rules (now table)) ⌝ }
-    requires store { ⌜ ((stored : List Stored) × Keeps (now store) (now index) used stored) × ((1 ≤ origin) × (origin ≤ longest)) ⌝ }
+    requires store { ⌜ ((stored : List Stored) × Keeps (now store) (now index) used stored) × ((1 ≤ origin) × (origin ≤ widest)) ⌝ }
     requires line { ⌜ PassedLine letter (now line) ⌝ }
     ensures { λ r. ⌜ ((ws : List InputRule) → Program (now (table .entry)) rules atoms ws
         → Stepping atoms ws letter (now (line .entry)) used origin
@@ -161,14 +160,14 @@ pub fn step(
     bodies: &mut [i16],
     store: &mut [i32],
     used: usize,
-    index: &mut [u16; INDEX],
+    index: &mut [u32],
     origin: usize,
     assignment: &mut [u8; ENTRIES],
 ) -> Stepped
     requires state { ⌜ Tracked (now table) rules atoms (now known) (now names) (now bodies) ⌝ }
     requires index { ⌜ Indexed (now lookup) (now table) rules ⌝ }
     requires relevant { ⌜ Relevant (now relevant) (rulesAt rules (now table)) ⌝ }
-    requires store { ⌜ ((stored : List Stored) × Keeps (now store) (now index) used stored) × ((1 ≤ origin) × (origin ≤ longest)) ⌝ }
+    requires store { ⌜ ((stored : List Stored) × Keeps (now store) (now index) used stored) × ((1 ≤ origin) × (origin ≤ widest)) ⌝ }
     requires line { ⌜ PassedLine letter (now line) ⌝ }
     requires sorted { ⌜ now sorted ≡ ascending (now line) ⌝ }
     requires free { ⌜ now assignment ≡ replicate entries 0 ⌝ }

@@ -5,7 +5,7 @@ ghost use mathlib.Core.List.{List, _∷_};
 ghost use Prim.Native.Nat.{ℕ, _≤_};
 ghost use lib.IntN.{ℤ, pos};
 ghost use lib.ListN.{length, drop, getD, set};
-ghost use Rattle.words.specs.Limits.{largest, longest, mostNumbers};
+ghost use Rattle.words.specs.Limits.{largest, widest, mostNumbers};
 ghost use Rattle.words.specs.Literals.{variable, ascending};
 ghost use Rattle.aspif.specs.Rules.{InputRule, expand};
 ghost use Rattle.text.specs.declared.Letter.the-variants.{Body, Extension};
@@ -20,7 +20,6 @@ ghost use Rattle.steps.specs.Held.{PassedLine, nameOf, Tracks, Fitted, S
 use crate::outcomes;
 use crate::outcomes::Stepped;
 use crate::states::CheckingState;
-use nogoods::INDEX;
 use nogoods::definitions;
 use nogoods::store;
 
@@ -29,11 +28,11 @@ fn define(
     known: &mut [u8],
     store: &mut [i32],
     used: usize,
-    index: &mut [u16; INDEX],
+    index: &mut [u32],
     origin: usize,
     numbers: &mut [i32],
 ) -> Stepped
-    requires store { ⌜ ((stored : List Stored) × Keeps (now store) (now index) used stored) × ((1 ≤ origin) × (origin ≤ longest)) ⌝ }
+    requires store { ⌜ ((stored : List Stored) × Keeps (now store) (now index) used stored) × ((1 ≤ origin) × (origin ≤ widest)) ⌝ }
     requires line { ⌜ Literals (now numbers) × (1 ≤ length (now numbers)) × (length (now numbers) ≤ mostNumbers) ⌝ }
     ensures known { λ r. ⌜ now (known .exit) ≡ set (now (known .entry)) (variable (getD (now (numbers .entry)) 0 (pos 0))) 1 ⌝ }
     ensures defined { λ r. ⌜ ((stored : List Stored) → Keeps (now (store .entry)) (now (index .entry)) used stored
@@ -50,11 +49,11 @@ pub fn extension(
     known: &mut [u8],
     store: &mut [i32],
     used: usize,
-    index: &mut [u16; INDEX],
+    index: &mut [u32],
     origin: usize,
     numbers: &mut [i32],
 ) -> Stepped
-    requires store { ⌜ ((stored : List Stored) × Keeps (now store) (now index) used stored) × ((1 ≤ origin) × (origin ≤ longest)) ⌝ }
+    requires store { ⌜ ((stored : List Stored) × Keeps (now store) (now index) used stored) × ((1 ≤ origin) × (origin ≤ widest)) ⌝ }
     requires line { ⌜ PassedLine Extension (now numbers) ⌝ }
     ensures { λ r. ⌜ ((N : ℕ) (ws : List InputRule) (names : List ℕ) (bodies : List ℤ)
         → Stepping N ws Extension (now (numbers .entry)) used origin (now (known .entry)) names bodies (now (store .entry)) (now (index .entry))
@@ -110,13 +109,13 @@ pub fn body(
     bodies: &mut [i16],
     store: &mut [i32],
     used: usize,
-    index: &mut [u16; INDEX],
+    index: &mut [u32],
     origin: usize,
     numbers: &mut [i32],
 ) -> Stepped
     requires program { ⌜ ((ws : List InputRule) × HoldsRules (now table) rules ws) × (rules ≤ length (now names)) ⌝ }
     requires index { ⌜ Indexed (now lookup) (now table) rules ⌝ }
-    requires store { ⌜ ((stored : List Stored) × Keeps (now store) (now index) used stored) × ((1 ≤ origin) × (origin ≤ longest)) ⌝ }
+    requires store { ⌜ ((stored : List Stored) × Keeps (now store) (now index) used stored) × ((1 ≤ origin) × (origin ≤ widest)) ⌝ }
     requires line { ⌜ PassedLine Body (now numbers) ⌝ }
     ensures { λ r. ⌜ ((N : ℕ) (ws : List InputRule) → HoldsRules (now (table .entry)) rules ws
         → Stepping N ws Body (now (numbers .entry)) used origin

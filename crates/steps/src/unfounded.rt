@@ -5,7 +5,7 @@ ghost use mathlib.Core.List.{List, _∷_, _++_, map};
 ghost use Prim.Native.Nat.{ℕ, suc, _+_, _≤_, _<_};
 ghost use lib.IntN.{ℤ, pos};
 ghost use lib.ListN.{length, take, drop, getD};
-ghost use Rattle.words.specs.Limits.{largest, entries, longest};
+ghost use Rattle.words.specs.Limits.{largest, entries, widest};
 ghost use Rattle.words.specs.Lists.{_∈_};
 ghost use Rattle.words.specs.Literals.{variable, complement};
 ghost use Rattle.marks.specs.Marks.{marked, Marks};
@@ -24,7 +24,6 @@ use crate::outcomes::Stepped;
 use heads::Found;
 use names::queries;
 use names::queries::Query;
-use nogoods::INDEX;
 use nogoods::store;
 
 // One number of the nogood of an `l` step: h itself, or minus a name that is marked. How many literals there are then.
@@ -139,11 +138,11 @@ fn add_found(
     row: &[i32],
     store: &mut [i32],
     used: usize,
-    index: &mut [u16; INDEX],
+    index: &mut [u32],
     origin: usize,
 ) -> Stepped
     requires found { ⌜ ((l : List ℕ) × (h : ℤ) × LoopNogood l h (now row) found) ⌝ }
-    requires store { ⌜ ((stored : List Stored) × Keeps (now store) (now index) used stored) × ((1 ≤ origin) × (origin ≤ longest)) ⌝ }
+    requires store { ⌜ ((stored : List Stored) × Keeps (now store) (now index) used stored) × ((1 ≤ origin) × (origin ≤ widest)) ⌝ }
     ensures { λ r. ⌜ ((l : List ℕ) (h : ℤ) → LoopNogood l h (now (row .entry)) found
         → (stored : List Stored) → Keeps (now (store .entry)) (now (index .entry)) used stored
         → LoopAdded l h (length (now (store .entry))) origin stored (now (store .exit)) (now (index .exit)) r) ⌝ }
@@ -167,14 +166,14 @@ fn add_by_index(
     inside: &[u8],
     store: &mut [i32],
     used: usize,
-    index: &mut [u16; INDEX],
+    index: &mut [u32],
     origin: usize,
 ) -> Stepped
     requires state { ⌜ ((ws : List InputRule) × (called : List ℤ → ℕ)
         × Above (now table) rules (now names) (now bodies) (getD (now numbers) 0 (pos 0)) ws called) ⌝ }
     requires index { ⌜ Indexed (now lookup) (now table) rules × (covered (now lookup) ≡ true) ⌝ }
     requires set { ⌜ Marks (now inside) (map variable (now numbers)) × PassedLine Loop (now numbers) ⌝ }
-    requires store { ⌜ ((stored : List Stored) × Keeps (now store) (now index) used stored) × ((1 ≤ origin) × (origin ≤ longest)) ⌝ }
+    requires store { ⌜ ((stored : List Stored) × Keeps (now store) (now index) used stored) × ((1 ≤ origin) × (origin ≤ widest)) ⌝ }
     ensures { λ r. ⌜ ((ws : List InputRule) (called : List ℤ → ℕ)
         → Above (now (table .entry)) rules (now (names .entry)) (now (bodies .entry)) (getD (now (numbers .entry)) 0 (pos 0)) ws called
         → (stored : List Stored) → Keeps (now (store .entry)) (now (index .entry)) used stored
@@ -205,12 +204,12 @@ fn add_by_rules(
     inside: &[u8],
     store: &mut [i32],
     used: usize,
-    index: &mut [u16; INDEX],
+    index: &mut [u32],
     origin: usize,
 ) -> Stepped
     requires state { ⌜ ((ws : List InputRule) × (called : List ℤ → ℕ) × Above (now table) rules (now names) (now bodies) h ws called)
         × (rules ≤ length (now names)) × (variable h ≤ largest) ⌝ }
-    requires store { ⌜ ((stored : List Stored) × Keeps (now store) (now index) used stored) × ((1 ≤ origin) × (origin ≤ longest)) ⌝ }
+    requires store { ⌜ ((stored : List Stored) × Keeps (now store) (now index) used stored) × ((1 ≤ origin) × (origin ≤ widest)) ⌝ }
     ensures { λ r. ⌜ ((ws : List InputRule) (called : List ℤ → ℕ)
         → Above (now (table .entry)) rules (now (names .entry)) (now (bodies .entry)) h ws called
         → (stored : List Stored) → Keeps (now (store .entry)) (now (index .entry)) used stored
@@ -233,14 +232,14 @@ fn add_nogood(
     inside: &[u8],
     store: &mut [i32],
     used: usize,
-    index: &mut [u16; INDEX],
+    index: &mut [u32],
     origin: usize,
 ) -> Stepped
     requires state { ⌜ ((ws : List InputRule) × (called : List ℤ → ℕ)
         × Above (now table) rules (now names) (now bodies) (getD (now numbers) 0 (pos 0)) ws called) ⌝ }
     requires index { ⌜ Indexed (now lookup) (now table) rules ⌝ }
     requires set { ⌜ Marks (now inside) (map variable (now numbers)) × PassedLine Loop (now numbers) ⌝ }
-    requires store { ⌜ ((stored : List Stored) × Keeps (now store) (now index) used stored) × ((1 ≤ origin) × (origin ≤ longest)) ⌝ }
+    requires store { ⌜ ((stored : List Stored) × Keeps (now store) (now index) used stored) × ((1 ≤ origin) × (origin ≤ widest)) ⌝ }
     ensures { λ r. ⌜ ((ws : List InputRule) (called : List ℤ → ℕ)
         → Above (now (table .entry)) rules (now (names .entry)) (now (bodies .entry)) (getD (now (numbers .entry)) 0 (pos 0)) ws called
         → (stored : List Stored) → Keeps (now (store .entry)) (now (index .entry)) used stored
@@ -289,14 +288,14 @@ pub fn loops(
     bodies: &[i16],
     store: &mut [i32],
     used: usize,
-    index: &mut [u16; INDEX],
+    index: &mut [u32],
     origin: usize,
     numbers: &[i32],
 ) -> Stepped
     requires state { ⌜ Tracked (now table) rules atoms (now known) (now names) (now bodies) ⌝ }
     requires index { ⌜ Indexed (now lookup) (now table) rules ⌝ }
     requires relevant { ⌜ Relevant (now relevant) (rulesAt rules (now table)) ⌝ }
-    requires store { ⌜ ((stored : List Stored) × Keeps (now store) (now index) used stored) × ((1 ≤ origin) × (origin ≤ longest)) ⌝ }
+    requires store { ⌜ ((stored : List Stored) × Keeps (now store) (now index) used stored) × ((1 ≤ origin) × (origin ≤ widest)) ⌝ }
     requires line { ⌜ PassedLine Loop (now numbers) ⌝ }
     ensures { λ r. ⌜ ((ws : List InputRule) → Program (now (table .entry)) rules atoms ws
         → Stepping atoms ws Loop (now (numbers .entry)) used origin

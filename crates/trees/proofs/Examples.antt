@@ -9,9 +9,9 @@ use Rattle.text.specs.Decimals.{decimals, decimal, numberBytes, spaced}
 use Rattle.text.specs.Line.{lineOf}
 use Rattle.aspif.specs.Rules.{InputRule, bodiesOf, expandRule, expand, atoms}
 use Rattle.aspif.specs.Reading.{Reading, refused, program, shapeOf, readLines, readText, linesFrom}
-use Rattle.drupe.specs.Texts.{stepText, textOf, stepsAt, stepsOf}
+use Rattle.drupe.specs.Texts.{stepText, textOf, stepsAt, stepsWithin}
 use Rattle.nogoods.specs.Store.{live}
-use Rattle.runs.specs.Course.{course}
+use Rattle.runs.specs.Course.{courseWithin}
 use Rattle.merging.specs.Merge.{merged}
 use Rattle.shapes.specs.Tree.{Shape, end, Parsed, bad, found, treeOf, mostSplits}
 use Rattle.trees.specs.Service.{treeOutcome, mergeTree}
@@ -30,7 +30,7 @@ fits-as ws q shape p f =
     subst₂ (λ (us : List InputRule) (t : Shape). FitsAll 200 87 us t endsC) w z f
 
 pub worked : Worked
-unfolding mergeTree treeOutcome treeOf merged course live textOf stepText spaced numberBytes decimal decimals stepsOf stepsAt readText readLines linesFrom shapeOf lineOf insert insertAll expand expandRule bodiesOf
+unfolding mergeTree treeOutcome treeOf merged courseWithin live textOf stepText spaced numberBytes decimal decimals stepsWithin stepsAt readText readLines linesFrom shapeOf lineOf insert insertAll expand expandRule bodiesOf
 worked = record {
   none = refl;
   too-few = refl;

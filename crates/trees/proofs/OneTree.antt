@@ -5,6 +5,7 @@ use mathlib.Core.List.{List}
 use Prim.Native.Nat.{ℕ}
 use lib.IntN.{ℤ, pos, negℤ}
 use lib.ListN.{drop}
+use Rattle.words.specs.Limits.{longest}
 use Rattle.words.specs.Literals.{variable}
 use Rattle.words.proofs.Lists.{passed}
 use Rattle.words.proofs.Literals.{variable-complement}
@@ -89,4 +90,4 @@ module _ (s o N : ℕ) where
 pub one-tree : OneTree
 one-tree s o ws shape texts a =
     let x = one s o (atoms ws) ws (expand ws) refl refl shape texts a in
-    (x .fits, spelled (treeText ws shape texts) (mergedTree (atoms ws) (expand ws) (treeSteps shape texts)) (x .is))
+    (x .fits, spelled longest (treeText ws shape texts) (mergedTree (atoms ws) (expand ws) (treeSteps shape texts)) (x .is))

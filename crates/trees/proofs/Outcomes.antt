@@ -10,7 +10,7 @@ use lib.Dec.{leb}
 use lib.IntN.{ℤ, pos, negℤ}
 use lib.ListN.{length, take, drop, getD}
 use lib.Seq.{length-take-le}
-use Rattle.words.specs.Limits.{longest}
+use Rattle.words.specs.Limits.{longest, largestSize}
 use Rattle.words.proofs.Lists.{if-true, leb-decides, and-left, and-right}
 use Rattle.aspif.specs.Rules.{InputRule, expand, atoms}
 use Rattle.drupe.specs.Texts.{textOf}
@@ -25,7 +25,6 @@ use Rattle.splits.specs.declared.texts.Written.{Written}
 use Rattle.splits.specs.declared.texts.Written.the-variants as Written
 use Rattle.splits.proofs.Answers.{text-in}
 use Rattle.shapes.specs.Tree.{Shape, end, split, leaves, sum, ends}
-use Rattle.shapes.specs.Walks.{largestSize}
 use Rattle.trees.specs.Service.{Side, fails, gives, firstEnd, mergeOutcome, treeOutcome}
 use Rattle.trees.specs.Sides.{Standing, Subtree, Takes, bothTaken, pending, joinedSides, sideOf, EndTaken, AddsTo, Joinable, Took, Merged}
 use Rattle.trees.specs.declared.sides.Place.{Place}
@@ -65,7 +64,7 @@ module _ (s o : ℕ) (ws : List InputRule) where
         by (Refused j) (a, b) =
             let l : length (take (getD lengths 0 0) texts) ≡ getD lengths 0 0 = length-take-le (getD lengths 0 0) texts (first-length texts lengths (some-length T) (T .added)) in
             let no : isAccepted s ws (take (getD lengths 0 0) texts) ≡ false =
-            ap endsEmpty (too-long (atoms ws) (expand ws) s (take (getD lengths 0 0) texts) (omega (arith, l, b))) in
+            ap endsEmpty (too-long longest (atoms ws) (expand ws) s (take (getD lengths 0 0) texts) (omega (arith, l, b))) in
             record { outcome = end-text ∙ (ap (λ (x : Bool). cond x (gives (take (getD lengths 0 0) texts)) (fails 57)) no ∙ ap fails (sym a)); took = tt }
 
 -- A split: the first refusal met decides, the demanding side before the other

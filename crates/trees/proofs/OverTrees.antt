@@ -7,6 +7,7 @@ use Prim.Native.Nat.{ℕ}
 use lib.Dec.{leb}
 use lib.IntN.{pos, negℤ}
 use lib.ListN.{length, take, drop}
+use Rattle.words.specs.Limits.{longest}
 use Rattle.words.proofs.Lists.{is-true, leb-decides}
 use Rattle.aspif.specs.Rules.{InputRule, expand, atoms}
 use Rattle.aspif.specs.Reading.{Reading, program, readText}
@@ -123,4 +124,4 @@ unfolding mergeTree
 demand3-tree text tree texts lengths table store table′ store′ output output′ n e =
     let J = judged-tree (length table) (length store) (length output) tree texts lengths (readText (length table) text) (subst IsMerged (ap (λ (x : MergeLeft). x .answer) e) tt) in
     let k = judged-checked text (length table) (length store) (length output) n table′ store′ output′ (J .rules) (J .read) (J .parse .text) _ refl (e ∙ J .judging) in
-    (soundness-whole text (take n output′) (length table) (length store) (k .0) (ap (λ (x : Checked). x .verdict) (k .1)), k)
+    (soundness-whole longest text (take n output′) (length table) (length store) (k .0) (ap (λ (x : Checked). x .verdict) (k .1)), k)

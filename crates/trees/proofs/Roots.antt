@@ -10,7 +10,7 @@ use lib.Seq.{take-length}
 use Rattle.aspif.specs.Rules.{InputRule, expand, atoms}
 use Rattle.aspif.specs.Reading.{program, readText}
 use Rattle.runs.specs.Course.{course}
-use Rattle.checker.specs.Check.{judged, check}
+use Rattle.checker.specs.Check.{judged, checkWithin, check}
 use Rattle.shapes.specs.Tree.{end, found, treeOf, mostSplits, ends, matches}
 use Rattle.shapes.proofs.Steps.{at-end}
 use Rattle.trees.specs.Service.{treeOutcome, writtenTree, mergeTree}
@@ -33,7 +33,7 @@ module _ (t s o : ℕ) (text texts : List ℕ) (ws : List InputRule) (read : rea
       rw (read, p, fits, outcome) refl
 
   checked : check text texts t s ≡ judged t s ws (course (atoms ws) (expand ws) s texts)
-  unfolding check
+  unfolding checkWithin
   checked = rw read refl
 
 pub root-end : RootEnd

@@ -9,11 +9,11 @@ use borrow.Author.Tests.{eqb-true, eqb-false}
 use lib.Dec.{eqb}
 use lib.ListN.{length, drop, getD, length-drop}
 use lib.Seq.{drop-drop}
+use Rattle.words.specs.Limits.{largestSize}
 use Rattle.words.specs.Lists.{any}
 use Rattle.words.proofs.Lists.{and-left}
 use Rattle.derivation.specs.States.{isAtom}
 use Rattle.shapes.specs.Tree.{Shape, end, split, Parsed, bad, found, andThen, treeOf, leaves, sum, ends}
-use Rattle.shapes.specs.Walks.{largestSize}
 use Rattle.trees.specs.Sides.{Subtree, Takes, Countable, bothTaken}
 use Rattle.trees.specs.declared.sides.Pending.{Pending}
 

@@ -6,13 +6,12 @@ use mathlib.Core.List.{List, _++_}
 use Prim.Native.Nat.{ℕ, _+_, _*_, _-_, _≤_, _<_}
 use lib.IntN.{ℤ, pos}
 use lib.ListN.{length, replicate, take, drop, getD}
-use Rattle.words.specs.Limits.{longest, mostHeld}
+use Rattle.words.specs.Limits.{longest, mostHeld, largestSize}
 use Rattle.aspif.specs.Rules.{InputRule, programWords}
 use Rattle.steps.specs.Held.{Program}
 use Rattle.runs.specs.Course.{isAccepted}
 use Rattle.splits.specs.Halves.{mostWords}
 use Rattle.shapes.specs.Tree.{Shape, found, treeOf, leaves, sum, ends}
-use Rattle.shapes.specs.Walks.{largestSize}
 use Rattle.trees.specs.Service.{Side, fails, gives, onward, mergeOutcome, treeOutcome}
 use Rattle.trees.specs.declared.sides.Place.{Place}
 use Rattle.trees.specs.declared.sides.Pending.{Pending}

@@ -6,6 +6,7 @@ use Prim.Native.Nat.{ℕ, _-_, _≤_}
 use lib.IntN.{ℤ, pos}
 use lib.ListN.{length, replicate, take}
 use lib.Seq.{length-take-le, take-at}
+use Rattle.words.specs.Limits.{longest}
 use Rattle.aspif.specs.Rules.{InputRule, expand, atoms, tableWords}
 use Rattle.aspif.specs.Reading.{Reading, program, readText, programAnswer, tableOf}
 use Rattle.aspif.specs.Reading as Reading
@@ -51,7 +52,7 @@ module _ (t s : ℕ) (proof : List ℕ) (ws : List InputRule) {table store : Lis
   -- the text written, and its check
   pub written : isAccepted s ws proof ≡ true → (text : List ℕ) (n : ℕ) → n ≤ length text → length text ≡ length proof
       → ((ts : List Step) → stepsOf proof ≡ steps ts → Reads text n (trimmedSteps s ws ts))
-      → {v : Verdict} → record { verdict = v; table = table; store = store } ≡ judgedReading t s (take n text) (program ws)
+      → {v : Verdict} → record { verdict = v; table = table; store = store } ≡ judgedReading longest t s (take n text) (program ws)
       → record { answer = Trimmed n; text = take n text ++ replicate (length text - n) 0; table = table; store = store } ≡ trimmedReading t s proof (program ws)
   written a text n h l f {v} c = by (accepted-steps s ws proof a)
     where
@@ -59,8 +60,8 @@ module _ (t s : ℕ) (proof : List ℕ) (ws : List InputRule) {table store : Lis
           → record { answer = Trimmed n; text = take n text ++ replicate (length text - n) 0; table = table; store = store } ≡ trimmedReading t s proof (program ws)
       by (ts, e, b) =
           let us = trimmedSteps s ws ts in
-          let x = steps-exact proof ts .0 e in
-          let p : take n text ≡ textOf us = spelled (take n text) us (f ts e) in
+          let x = steps-exact longest proof ts .0 e in
+          let p : take n text ≡ textOf us = spelled longest (take n text) us (f ts e) in
           let m : n ≡ length (textOf us) = sym (length-take-le n text h) ∙ ap length p in
           let q : course (atoms ws) (expand ws) s (textOf us) ≡ courseOf s ws us = sub-course (x .2) (rw (← x .0) (x .1)) s ws (trimmed-order Step (accepted s ws) ts) in
           let k = left-by t s proof ws (courseOf s ws us) (trimmed-settles (accepted s ws) ts b .good) in

@@ -17,7 +17,7 @@ use Rattle.drupe.specs.Texts.{Step, StepsRead, steps, textOf, stepsOf}
 use Rattle.drupe.specs.Texts as Texts
 use Rattle.drupe.proofs.Texts.{AllPass, steps-exact}
 use Rattle.runs.specs.Course.{Course, stopped, through, endsEmpty, isAccepted}
-use Rattle.checker.specs.Check.{countsOf, check}
+use Rattle.checker.specs.Check.{countsOf, checkWithin, check}
 use Rattle.checker.specs.declared.Counts.{Counts}
 use Rattle.checker.specs.declared.Verdict.the-variants.{Inconsistent}
 use Rattle.trimming.specs.Trims.{Sublist}
@@ -65,10 +65,10 @@ module _ (t s : ℕ) (text proof : List ℕ) (T : Told t s proof (readText t tex
   us = trimmedSteps s ws (T .before)
 
   passing : AllPass (T .before)
-  passing = steps-exact proof (T .before) .0 (T .given) .2
+  passing = steps-exact longest proof (T .before) .0 (T .given) .2
 
   short : length (textOf (T .before)) ≤ longest
-  short = let x = steps-exact proof (T .before) .0 (T .given) in rw (← x .0) (x .1)
+  short = let x = steps-exact longest proof (T .before) .0 (T .given) in rw (← x .0) (x .1)
 
   order : Sublist us (T .before)
   order = trimmed-order Step (accepted s ws) (T .before)
@@ -79,7 +79,7 @@ module _ (t s : ℕ) (text proof : List ℕ) (T : Told t s proof (readText t tex
   -- the check of their text
   found : (c : Course) → courseOf s ws us ≡ c → endsEmpty c ≡ true
       → (n : Counts) × (check text (textOf us) t s ≡ record { verdict = Inconsistent n; table = tableWords t ws; store = storeAfter t s proof c })
-  unfolding check
+  unfolding checkWithin
   found (stopped k n) q e = absurd (true≢false (sym e))
   found (through n z b) q e =
       let p = sub-course passing short s ws order ∙ q in

@@ -48,10 +48,10 @@ sub-shorter a = omega (arith, sub-text a, sublist-short a)
 -- of steps that pass, in a text that is short enough
 module _ {ts : List Step} (good : AllPass ts) (short : length (textOf ts) ≤ longest) where
   pub sub-read : {us : List Step} → Sublist us ts → stepsOf (textOf us) ≡ steps us
-  sub-read {us} a = read-back us (λ t i. good t (in-whole i a)) (omega (arith, sub-shorter a, short))
+  sub-read {us} a = read-back longest us (λ t i. good t (in-whole i a)) (omega (arith, sub-shorter a, short))
 
   pub sub-course : (size : ℕ) (ws : List InputRule) {us : List Step} → Sublist us ts → course (atoms ws) (expand ws) size (textOf us) ≡ courseOf size ws us
-  sub-course size ws {us} a = course-written (atoms ws) (expand ws) size us (λ t i. good t (in-whole i a)) (omega (arith, sub-shorter a, short))
+  sub-course size ws {us} a = course-written longest (atoms ws) (expand ws) size us (λ t i. good t (in-whole i a)) (omega (arith, sub-shorter a, short))
 
   pub sub-accepted : (size : ℕ) (ws : List InputRule) {us : List Step} → Sublist us ts → isAccepted size ws (textOf us) ≡ accepted size ws us
   sub-accepted size ws a = ap endsEmpty (sub-course size ws a)
@@ -171,7 +171,7 @@ module _ (size : ℕ) (ws : List InputRule) (ts : List Step) where
   pub try-reads : (text₀ : List ℕ) (len : ℕ) → Reads text₀ len ts → (text : List ℕ) (left : ℕ) → take left text ≡ textOf (pass (accepted size ws) [] ts)
       → Reads text left (pass (accepted size ws) [] ts)
   try-reads text₀ len r text left e =
-      let x = steps-exact (take len text₀) ts .0 r in
+      let x = steps-exact longest (take len text₀) ts .0 r in
       ap stepsOf e ∙ sub-read (x .2) (rw (← x .0) (x .1)) (pass-order (accepted size ws) [] ts)
 
 -- Passes
@@ -249,13 +249,13 @@ module _ (size : ℕ) (ws : List InputRule) (ts : List Step) where
 -- the same of what is read
 module _ (size : ℕ) (ws : List InputRule) (ts : List Step) (text₀ : List ℕ) (read : stepsOf text₀ ≡ steps ts) where
   good : AllPass ts
-  good = steps-exact text₀ ts .0 read .2
+  good = steps-exact longest text₀ ts .0 read .2
 
   short : length (textOf ts) ≤ longest
-  short = let x = steps-exact text₀ ts .0 read in rw (← x .0) (x .1)
+  short = let x = steps-exact longest text₀ ts .0 read in rw (← x .0) (x .1)
 
   pub reads-start : Repeating size ws ts text₀ (length text₀)
-  reads-start = repeat-start size ws ts (take-length text₀ ∙ spelled text₀ ts read)
+  reads-start = repeat-start size ws ts (take-length text₀ ∙ spelled longest text₀ ts read)
 
   module _ (text : List ℕ) (len : ℕ) (R : Repeating size ws ts text len) where
     pub reads-now : Reads text len (R .steps)
@@ -264,11 +264,11 @@ module _ (size : ℕ) (ws : List InputRule) (ts : List Step) (text₀ : List ℕ
     module _ (inside : len ≤ length text) (text′ : List ℕ) (r : ℕ) (inside′ : r ≤ length text′) (after : Reads text′ r (pass (accepted size ws) [] (R .steps))) where
       pub reads-end : r ≡ len → Reads text′ r (trimmed (accepted size ws) ts)
       reads-end e =
-          ap stepsOf (repeat-end size ws ts R inside text′ r inside′ (spelled (take r text′) _ after) e)
+          ap stepsOf (repeat-end size ws ts R inside text′ r inside′ (spelled longest (take r text′) _ after) e)
           ∙ sub-read good short (trimmed-order Step (accepted size ws) ts)
 
       pub reads-on : ¬ (r ≡ len) → Repeating size ws ts text′ r
-      reads-on d = repeat-on size ws ts R inside text′ r inside′ (spelled (take r text′) _ after) d
+      reads-on d = repeat-on size ws ts R inside text′ r inside′ (spelled longest (take r text′) _ after) d
 
 -- The loops
 

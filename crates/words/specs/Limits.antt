@@ -14,6 +14,14 @@ entries = suc largest
 abbrev pub longest : ℕ
 longest = 65535
 
+-- what a signed word holds, and so the most bytes of a proof text of the long check: its steps are numbered in words of the store
+abbrev pub widest : ℕ
+widest = 2147483647
+
+-- what a `usize` holds
+abbrev pub largestSize : ℕ
+largestSize = 18446744073709551615
+
 -- "At most 1,024 rules."
 abbrev pub mostRules : ℕ
 mostRules = 1024

@@ -2,6 +2,7 @@ use mathlib.Core.Path.{_≡_, sym, _∙_}
 use native.Mathlib.Omega.{arith}
 use lib.IntN.{pos}
 use lib.ListN.{length}
+use Rattle.words.specs.Limits.{longest}
 use Rattle.words.proofs.Laws.{zeros}
 use Rattle.aspif.specs.Reading.{ProgramRead}
 use Rattle.checker.proofs.Verdicts.{judged-lengths, program-refused, ReadProgram, program-read, check-read, held}
@@ -32,7 +33,7 @@ check-proof-requires c κs =
 returns : tie.Need-returns
 returns c =
     let r = c .before .before .before .before .read-program .ensures in
-    program-refused _ _ _ _ (r .answer) (r .table) _ (c .before .read .given .1) (c .before .before .before .before .before .before .before .zero-all .ensures)
+    program-refused _ _ _ _ (r .answer) (r .table) longest _ (c .before .read .given .1) (c .before .before .before .before .before .before .before .zero-all .ensures)
 
 returns-2 : tie.Need-returns-2
 returns-2 c =
@@ -41,7 +42,7 @@ returns-2 c =
     let b : length (c .before .before .before .before .before .before .before .before .before .before .before .before .zero-all .last .0) ≡ length (start d .args .store .now) = search needs in
     let p = found d in
     let h = held _ _ _ _ (read d .answer) (read d .table) p a in
-    c .before .before .check-proof .ensures (p .P) (h .0) (h .2) ∙ judged-lengths (p .P) (start d .args .proof .now) a b ∙ sym (check-read _ _ _ _ (read d .answer) (read d .table) p)
+    c .before .before .check-proof .ensures (p .P) (h .0) (h .2) ∙ judged-lengths longest (p .P) (start d .args .proof .now) a b ∙ sym (check-read _ _ _ _ (read d .answer) (read d .table) longest p)
 
 pub check-texts-spec : {M : Type 1} → statement M
 check-texts-spec =

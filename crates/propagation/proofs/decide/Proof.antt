@@ -1,10 +1,10 @@
 -- A conflict is one of the closure; and where nothing follows any more the assignment has the closure, and there is none.
-use mathlib.Core.Path.{_≡_, sym, _∙_}
+use mathlib.Core.Path.{_≡_, sym, subst, _∙_}
 use mathlib.Core.Bool.{Bool, true, false}
 use mathlib.Core.List.{List}
 use Prim.Native.Nat.{ℕ, _-_}
 use lib.IntN.{ℤ}
-use lib.ListN.{length}
+use lib.ListN.{length, take}
 use lib.Seq.{length-take-le}
 use borrow.Rule.Slice.PartMut.{putMid}
 use Rattle.words.proofs.Lists.{passed, failed, not-decides}
@@ -14,7 +14,7 @@ use Rattle.derivation.proofs.Closure.{refuted-decides}
 use Rattle.nogoods.specs.Store.{Stored, live}
 use Rattle.nogoods.specs.Keeps.{Literals}
 use Rattle.nogoods.specs.Records.{Encodes}
-use Rattle.nogoods.specs.Index.{Keeps, provedCells, indexSize}
+use Rattle.nogoods.specs.Index.{Keeps, Marked}
 use Rattle.propagation.specs.Propagate.{Assigns, Ends}
 use Rattle.nogoods.proofs.Live.{live-from}
 use Rattle.nogoods.proofs.Recorded.{used-words}
@@ -37,24 +37,30 @@ module _ (s : List ℤ) (stored : List Stored) (enc : Encodes s stored) (L : Lis
 
 -- what is kept after the search
 module _ (c : tie.After-run) where
+  abbrev o : tie.After-start-of
+  o = c .before .before
+
+  abbrev k : tie.After-cover
+  k = o .before .before .before
+
   abbrev s : tie.Start
-  s = c .before .before .before .before .before .before .before
+  s = k .before .before .before
 
   abbrev index : List ℕ
-  index = c .before .before .before .before .cover .last .1 .1 .0
+  index = k .cover .last .1 .1 .0
 
-  long : length index ≡ indexSize
-  long = c .before .before .before .before .cover .kept .1 .1 .0 ∙ s .pre .0 .1 .size
+  abbrev at : ℕ
+  at = o .start-of .result
 
   abbrev found : List ℕ
-  found = putMid provedCells (length index - provedCells) index (c .run .last .1 .1 .0)
+  found = putMid at (length index - at) index (c .run .last .1 .1 .0)
 
   searched : (stored : List Stored) → Keeps (s .args .store .now) (s .args .index .now) (s .args .used) stored → Keeps (s .args .store .now) found (s .args .used) stored
-  searched stored K = keeps-part index (c .run .last .1 .1 .0) long (c .run .kept .1 .1 .0) (c .before .before .before .before .cover .ensures stored K)
+  searched stored K = keeps-part at index (c .run .last .1 .1 .0) (o .start-of .ensures .1) (c .run .kept .1 .1 .0) (o .start-of .ensures .0) (k .cover .ensures stored K)
 
 slice-aggregate-propagate : tie.Need-slice-aggregate-propagate
 slice-aggregate-propagate c =
-    let s = c .before .before .before .before .before .before .before .before .before .before .before .before in
+    let s = c .before .before .before .before .before .before .before .before .before .before .before .before .before in
     sym (length-take-le (s .args .used) (s .args .store .now) (s .pre .0 .1 .holds .fits))
 
 propagate-requires : tie.Need-propagate-requires
@@ -62,7 +68,7 @@ propagate-requires c κs =
     let r = c .before .before .before .before .before .before .before in
     let p = s r .pre .0 in
     let K = searched r (p .0) (p .1) in
-    ((p .0, used-words _ _ (p .0) (p .1 .holds)), ((K .size, marked K), c .before .before .before .assign .ensures .0))
+    ((p .0, used-words _ _ (p .0) (p .1 .holds)), (subst (λ (n : ℕ). Marked n (take (s r .args .used) (s r .args .store .now)) (found r)) (K .size) (marked K), c .before .before .before .assign .ensures .0))
 
 returns : tie.Need-returns
 returns c =
@@ -79,6 +85,8 @@ decide-spec =
     tie.close
     (tie.spec
     (λ c κs. search needs)
+    (λ c κs. search needs)
+    (λ c. search needs)
     (λ c. search needs)
     (λ c. search needs)
     (λ c. search needs)

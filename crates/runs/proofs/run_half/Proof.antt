@@ -1,31 +1,21 @@
-use mathlib.Core.Path.{sym, _∙_}
 use borrow.Author.Needs.{needs}
+use Rattle.nogoods.proofs.Indexing.{blank-index}
 use Rattle.runs.proofs.run_half.Statement.{statement}
 use Rattle.runs.proofs.run_half.Tie as tie
 
-run-plain-requires : tie.Need-run-plain-requires
-run-plain-requires c κs =
-    let d = c .before .before .before .before in
-    let p = d .before .before .before .before .before .pre in
-    (p .0, (p .1 .0, (sym (d .before .all-plain .ensures) ∙ d .if1 .taken, p .1 .1 .1)))
-
-run-weighted-requires : tie.Need-run-weighted-requires
-run-weighted-requires c κs = c .before .before .before .before .before .before .before .before .before .pre
+run-lent-requires : tie.Need-run-lent-requires
+run-lent-requires c κs =
+    let p = c .before .before .before .before .before .before .before .before .pre in
+    (p .0, (p .1 .0, (p .1 .1 .0, (p .1 .1 .1 .0, (p .1 .1 .1 .1, blank-index 1)))))
 
 pub run-half-spec : {M : Type 1} → statement M
 run-half-spec =
     tie.close
     (tie.spec
-    (λ c κs. search needs)
-    run-plain-requires
+    (λ c. search needs)
+    run-lent-requires
     (λ c. search needs)
     (λ c. search needs)
     (λ c. search needs)
     (λ c. search needs)
-    (λ c. c .before .before .before .before .before .before .run-plain .ensures)
-    run-weighted-requires
-    (λ c. search needs)
-    (λ c. search needs)
-    (λ c. search needs)
-    (λ c. search needs)
-    (λ c. c .before .before .before .before .before .before .run-weighted .ensures))
+    (λ c. search needs))

@@ -1,35 +1,10 @@
-use mathlib.Core.Path.{refl, sym, _∙_}
 use borrow.Author.Needs.{needs}
+use Rattle.nogoods.proofs.Indexing.{blank-index}
 use Rattle.runs.proofs.run_proof.Statement.{statement}
 use Rattle.runs.proofs.run_proof.Tie as tie
 
-run-plain-requires : tie.Need-run-plain-requires
-run-plain-requires c κs =
-    let d = c .before .before .before .before in
-    let m = d .before .before in
-    let p = m .before .before .pre in
-    (p .0, ((m .marks-to .ensures, refl), (sym (d .before .all-plain .ensures) ∙ d .if1 .taken, p .1)))
-
-run-recorded-requires : tie.Need-run-recorded-requires
-run-recorded-requires c κs =
-    let m = c .before .before .before .before .before in
-    let p = m .before .before .pre in
-    (p .0, ((m .marks-to .ensures, refl), p .1))
+run-long-requires : tie.Need-run-long-requires
+run-long-requires c κs = let p = c .before .before .before .pre in (p .0, (p .1 .0, (p .1 .1, blank-index 1)))
 
 pub run-proof-spec : {M : Type 1} → statement M
-run-proof-spec =
-    tie.close
-    (tie.spec
-    (λ c κs. c .before .pre .0 .0 .1 .high)
-    (λ c κs. search needs)
-    (λ c. search needs)
-    (λ c. search needs)
-    (λ c. search needs)
-    run-plain-requires
-    (λ c. search needs)
-    (λ c ws p. c .before .before .before .before .run-plain .ensures ws p .0)
-    (λ c. search needs)
-    (λ c. search needs)
-    run-recorded-requires
-    (λ c. search needs)
-    (λ c. c .before .before .before .run-recorded .ensures))
+run-proof-spec = tie.close (tie.spec (λ c. search needs) run-long-requires (λ c. search needs) (λ c. search needs))

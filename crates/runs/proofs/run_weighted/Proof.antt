@@ -4,10 +4,10 @@ use borrow.Author.Needs.{needs}
 use Rattle.runs.proofs.run_weighted.Statement.{statement}
 use Rattle.runs.proofs.run_weighted.Tie as tie
 
-run-lines-requires : tie.Need-run-lines-requires
-run-lines-requires c κs =
-    let f = c .before .before .before .before .before .before .before in
-    let p = f .before .before .before .before .before .pre in
+run-indexed-requires : tie.Need-run-indexed-requires
+run-indexed-requires c κs =
+    let f = c .before .before .before .before .before .before .before .before in
+    let p = f .before .before .before .before .before .before .pre in
     (p .0, (λ e. absurd (true≢false (sym e)), (f .fill .ensures, p .1)))
 
 pub run-weighted-spec : {M : Type 1} → statement M
@@ -18,9 +18,10 @@ run-weighted-spec =
     (λ c κs. search needs)
     (λ c. search needs)
     (λ c. search needs)
-    run-lines-requires
+    run-indexed-requires
     (λ c. search needs)
     (λ c. search needs)
     (λ c. search needs)
     (λ c. search needs)
-    (λ c. c .before .before .before .before .before .before .run-lines .ensures))
+    (λ c. search needs)
+    (λ c. c .before .before .before .before .before .before .before .before .run-indexed .ensures))

@@ -7,7 +7,7 @@ use native.Mathlib.Omega.{arith}
 use lib.IntN.{ℤ, pos}
 use lib.ListN.{length, take, replicate}
 use lib.Seq.{length-take-le}
-use Rattle.words.specs.Limits.{longest, entries}
+use Rattle.words.specs.Limits.{widest, entries}
 use Rattle.words.specs.Literals.{has}
 use Rattle.aspif.specs.Rules.{expand}
 use Rattle.drupe.specs.Lines.{lineRefusal, line, lineAt}
@@ -24,7 +24,7 @@ module _ (c : tie.After-answer2) where
   b = c .before .before .before .before
 
   abbrev start : tie.Start
-  start = b .before .before .before .before .before .before .before .before
+  start = b .before .before .before .before .before .before .before .before .before
 
   abbrev numbers : List ℤ
   numbers = b .step-at .last .1 .1 .1 .0
@@ -44,7 +44,7 @@ module _ (c : tie.After-answer2) where
       (omega (arith, u .2, k .1 .1 .1 .0, r .0), omega (arith, u .2, k .1 .1 .1 .1 .0, r .1))
 
   -- the step's number is at most that of the bytes
-  numbered : (let a = start .args in (1 ≤ a .origin) × (a .origin ≤ longest))
+  numbered : (let a = start .args in (1 ≤ a .origin) × (a .origin ≤ widest))
   numbered =
       let u = passed-line (start .args .proof .now) (start .args .at) there in
       let o = start .pre .1 .1 .1 .0 .1 in
@@ -72,8 +72,8 @@ step-requires c κs =
     (s .pre .0, (s .pre .1 .0, (s .pre .1 .1 .0, ((s .pre .1 .1 .1 .0 .0, numbered d), (good-line _ _ (good d .0) (good d .1), (into-sorted (b d .step-at .ensures) (d .answer2 .given .1), s .pre .1 .1 .1 .1 .1 .1 .1))))))
 
 -- where there is no step the assignment is as it was
-free : (c : tie.After-step-at) → c .before .before .before .before .before .before .before .before .args .assignment .now ≡ replicate entries 0
-free c = c .before .before .before .before .before .before .before .before .pre .1 .1 .1 .1 .1 .1 .1
+free : (c : tie.After-step-at) → c .before .before .before .before .before .before .before .before .before .args .assignment .now ≡ replicate entries 0
+free c = c .before .before .before .before .before .before .before .before .before .pre .1 .1 .1 .1 .1 .1 .1
 
 returns : tie.Need-returns
 returns c =
@@ -87,8 +87,8 @@ returns-2 c =
 
 returns-3 : tie.Need-returns-3
 returns-3 c =
-    let t = c .before .before .before .before .before .before .before .before .step in
-    let d = c .before .before .before .before .before .before .before .before .before .before .before .before .before .before .before .before .before .before in
+    let t = c .before .before .before .before .before .before .before .before .before .before .step in
+    let d = c .before .before .before .before .before .before .before .before .before .before .before .before .before .before .before .before .before .before .before .before in
     let g = d .answer2 .given .0 in
     let zs = take (g .1 .0) (numbers d) in (
       λ ws p z stored T K.
@@ -116,6 +116,7 @@ turn-at-spec =
     (λ c. search needs)
     (λ c. search needs)
     returns-2
+    (λ c. search needs)
     (λ c. search needs)
     (λ c. search needs)
     (λ c. search needs)

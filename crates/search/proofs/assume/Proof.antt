@@ -2,11 +2,12 @@ use mathlib.Core.Path.{_≡_}
 use Prim.Native.Nat.{_-_, _≤_}
 use borrow.Author.Needs.{needs}
 use lib.ListN.{length}
+use Rattle.words.specs.Limits.{entries}
 use Rattle.search.proofs.assume.Statement.{statement}
 use Rattle.search.proofs.assume.Tie as tie
 
 abbrev Inv-loop : tie.InvT-loop
-Inv-loop literals cells₀ n₀ i₀ cells n i = (n ≤ 8192) × (length cells ≡ length cells₀)
+Inv-loop literals cells₀ n₀ i₀ cells n i = (n ≤ entries) × (length cells ≡ length cells₀)
 
 abbrev μ-loop : tie.MeasureT-loop
 μ-loop literals cells₀ n₀ i₀ cells n i = length literals - i

@@ -4,14 +4,15 @@ use Rattle.search.specs.Search.{SmallVisit}
 use Rattle.search.specs.declared.Visited.{Visited}
 use borrow.Author.Needs.{needs}
 use lib.ListN.{length}
+use Rattle.words.specs.Limits.{entries}
 use Rattle.search.proofs.propagate.Statement.{statement}
 use Rattle.search.proofs.propagate.Tie as tie
 
 abbrev Inv-loop : tie.InvT-loop
-Inv-loop store cells₀ mark n₀ done₀ cells n done = (n ≤ 8192) × (length cells ≡ length cells₀)
+Inv-loop store cells₀ mark n₀ done₀ cells n done = (n ≤ entries) × (length cells ≡ length cells₀)
 
 abbrev μ-loop : tie.MeasureT-loop
-μ-loop store cells₀ mark n₀ done₀ cells n done = 8192 - done
+μ-loop store cells₀ mark n₀ done₀ cells n done = entries - done
 
 same-length : tie.Need-same-length Inv-loop μ-loop
 same-length c = search needs

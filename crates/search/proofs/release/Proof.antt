@@ -2,11 +2,12 @@ use mathlib.Core.Path.{_≡_}
 use Prim.Native.Nat.{_≤_}
 use borrow.Author.Needs.{needs}
 use lib.ListN.{length}
+use Rattle.search.specs.Search.{largestCell}
 use Rattle.search.proofs.release.Statement.{statement}
 use Rattle.search.proofs.release.Tie as tie
 
 abbrev Inv-loop : tie.InvT-loop
-Inv-loop cells₀ c last₀ node₀ fuel₀ cells last node fuel = (last ≤ 65535) × (node ≤ 65535) × (length cells ≡ length cells₀)
+Inv-loop cells₀ c last₀ node₀ fuel₀ cells last node fuel = (last ≤ largestCell) × (node ≤ largestCell) × (length cells ≡ length cells₀)
 
 abbrev μ-loop : tie.MeasureT-loop
 μ-loop cells₀ c last₀ node₀ fuel₀ cells last node fuel = fuel
@@ -33,7 +34,9 @@ release-spec =
     (λ c. search needs)
     (λ c. search needs)
     (λ c. search needs)
+    (λ c. search needs)
     (λ c κs. search needs)
+    (λ c. search needs)
     (λ c. search needs)
     (λ c. search needs)
     (λ c κs. search needs)

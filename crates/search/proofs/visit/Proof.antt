@@ -1,14 +1,15 @@
 use mathlib.Core.Path.{_≡_}
 use Prim.Native.Nat.{_≤_}
 use Rattle.search.specs.declared.Turn.{Turn}
-use Rattle.search.specs.Search.{SmallTurn}
+use Rattle.search.specs.Search.{largestCell, SmallTurn}
 use borrow.Author.Needs.{needs}
 use lib.ListN.{length}
+use Rattle.words.specs.Limits.{entries}
 use Rattle.search.proofs.visit.Statement.{statement}
 use Rattle.search.proofs.visit.Tie as tie
 
 abbrev Inv-loop : tie.InvT-loop
-Inv-loop store cells₀ c start mark n₀ last₀ node₀ fuel₀ cells n last node fuel = (n ≤ 8192) × (last ≤ 65535) × (node ≤ 65535) × (length cells ≡ length cells₀)
+Inv-loop store cells₀ c start mark n₀ last₀ node₀ fuel₀ cells n last node fuel = (n ≤ entries) × (last ≤ largestCell) × (node ≤ largestCell) × (length cells ≡ length cells₀)
 
 abbrev μ-loop : tie.MeasureT-loop
 μ-loop store cells₀ c start mark n₀ last₀ node₀ fuel₀ cells n last node fuel = fuel
@@ -41,6 +42,7 @@ visit-spec =
     (λ c κs. search needs)
     (λ c. search needs)
     same-length
+    (λ c. search needs)
     (λ c. search needs)
     (λ c. search needs)
     (λ c. search needs)

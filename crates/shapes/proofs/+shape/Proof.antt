@@ -10,11 +10,12 @@ use native.Mathlib.Omega.{arith}
 use lib.Dec.{eqb, ltb}
 use lib.ListN.{length, take, drop, set, getD, length-set, length-drop}
 use lib.Seq.{length-take-le}
+use Rattle.words.specs.Limits.{largestSize}
 use Rattle.words.specs.Lists.{any}
 use Rattle.words.proofs.Parts.{tail-of}
 use borrow.Author.Needs.{needs}
 use Rattle.shapes.specs.Tree.{Parsed, end, treeOf}
-use Rattle.shapes.specs.Walks.{Walks, largestSize}
+use Rattle.shapes.specs.Walks.{Walks}
 use Rattle.shapes.specs.declared.Walked.the-variants.{Tree}
 use Rattle.shapes.proofs.Steps.{path-below, no-number, at-end, too-deep, refused-atom, first-none, joins, walks-none, walks-tree, joinable}
 use Rattle.shapes.proofs.shape.Reads as shape

@@ -2,7 +2,8 @@ use native.Mathlib.Omega.{arith}
 use borrow.Author.Needs.{needs}
 use Prim.Native.Nat.{_+_, _≤_}
 use mathlib.Core.Path.{sym, ap}
-use Rattle.shapes.specs.Walks.{largestSize, joinedTo}
+use Rattle.words.specs.Limits.{largestSize}
+use Rattle.shapes.specs.Walks.{joinedTo}
 use Rattle.shapes.proofs.Steps.{joined-fits}
 use Rattle.shapes.proofs.joined.Statement.{statement}
 use Rattle.shapes.proofs.joined.Tie as tie

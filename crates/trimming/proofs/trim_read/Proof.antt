@@ -59,7 +59,7 @@ module _ (c : tie.Else1) where
   short =
       let q = s first .pre .0 .0 in
       let x = accepted-steps (size first) (q .0) (s first .args .text .now) (is-good (q .0) (q .1)) in
-      steps-exact (s first .args .text .now) (x .0) .0 (x .1) .1
+      steps-exact longest (s first .args .text .now) (x .0) .0 (x .1) .1
 
 passes-requires : tie.Need-passes-requires
 passes-requires c κs =
@@ -128,8 +128,8 @@ returns-2 c =
     ap (λ (l : List ℕ). record { answer = Trimmed (n d); text = l; table = k .check-proof .last .1 .0; store = k .check-proof .last .1 .1 .1 .1 .0 }) (behind z)
     ∙ written t m (x .text .now) ws (is-good (e d) ws p) (text′ d) (n d) (within d) (same-text d)
     (λ ts q. subst (λ (i : ℕ). Reads (text′ d) (n d) (trimmedSteps i ws ts)) (same₁ (first (e d))) (d .passes .ensures .1 .1 ws ts p q))
-    (k .check-proof .ensures ws p w ∙ ap (λ (i : ℕ). judgedReading t i (take (n d) (text″ z)) (program ws)) (same₂ d)
-    ∙ ap (λ (l : List ℕ). judgedReading t m l (program ws)) (front-kept (n d) (length (text′ d) - n d) (text′ d) (within d) (behind z)))
+    (k .check-proof .ensures ws p w ∙ ap (λ (i : ℕ). judgedReading longest t i (take (n d) (text″ z)) (program ws)) (same₂ d)
+    ∙ ap (λ (l : List ℕ). judgedReading longest t m l (program ws)) (front-kept (n d) (length (text′ d) - n d) (text′ d) (within d) (behind z)))
 
 pub trim-read-spec : {M : Type 1} → statement M
 trim-read-spec =

@@ -8,7 +8,7 @@ use lib.IntN.{ℤ, pos}
 use lib.ListN.{length, drop, getD, drop-of-length-le}
 use lib.Seq.{drop-cons}
 use Rattle.words.proofs.Words.{back}
-use Rattle.nogoods.specs.Index.{keys, mixed, hashFrom}
+use Rattle.nogoods.specs.Index.{hashes, mixed, hashFrom}
 use Rattle.nogoods.proofs.chains.hash_of.Statement.{statement}
 use Rattle.nogoods.proofs.chains.hash_of.Tie as tie
 
@@ -21,7 +21,7 @@ unfolding hashFrom
 hash-end h l i k = rw (drop-of-length-le l {i = i} k)
 
 abbrev Inv-loop : tie.InvT-loop
-Inv-loop literals h₀ i₀ h i = (i ≤ length literals) × (h < keys) × (hashFrom h (drop i literals) ≡ hashFrom 0 literals)
+Inv-loop literals h₀ i₀ h i = (i ≤ length literals) × (h < hashes) × (hashFrom h (drop i literals) ≡ hashFrom 0 literals)
 
 abbrev μ-loop : tie.MeasureT-loop
 μ-loop literals h₀ i₀ h i = length literals - i
@@ -40,7 +40,7 @@ loop-again c =
 returns : tie.Need-returns Inv-loop μ-loop
 returns c =
     let l = c .before .loop in
-    (sym (hash-end (l .h) _ (l .i) (c .loop-test .left)) ∙ l .inv .2, l .inv .1)
+    sym (hash-end (l .h) _ (l .i) (c .loop-test .left)) ∙ l .inv .2
 
 pub hash-of-spec : {M : Type 1} → statement M
 hash-of-spec =

@@ -8,7 +8,7 @@ use mir.Syntax.{w32}
 use mir.Facts.{toZ-ofZ}
 use Rattle.words.specs.Literals.{variable}
 use Rattle.words.proofs.Words.{variable-most}
-use Rattle.nogoods.specs.Index.{keys, mixed}
+use Rattle.nogoods.specs.Index.{hashes, mixed}
 use borrow.Author.Needs.{needs}
 use Rattle.nogoods.proofs.chains.mix.Statement.{statement}
 use Rattle.nogoods.proofs.chains.mix.Tie as tie
@@ -16,15 +16,15 @@ use Rattle.nogoods.proofs.chains.mix.Tie as tie
 v-is : (c : tie.After-variable-of) → c .variable-of .result ≡ variable (c .before .args .word)
 v-is c = rw (toZ-ofZ (c .before .fits .word)) at (c .variable-of .ensures)
 
-mixed-neg : (h : ℕ) (z : ℤ) (v : ℕ) → v ≡ variable z → ltZ z (pos 0) ≡ true → (h * 1565 + 2 * v + 1) % keys ≡ mixed h z
+mixed-neg : (h : ℕ) (z : ℤ) (v : ℕ) → v ≡ variable z → ltZ z (pos 0) ≡ true → (h * 1664525 + 2 * v + 1) % hashes ≡ mixed h z
 unfolding mixed
 mixed-neg h z v e t = rw (e, t)
 
-mixed-pos : (h : ℕ) (z : ℤ) (v : ℕ) → v ≡ variable z → ltZ z (pos 0) ≡ false → (h * 1565 + 2 * v + 0) % keys ≡ mixed h z
+mixed-pos : (h : ℕ) (z : ℤ) (v : ℕ) → v ≡ variable z → ltZ z (pos 0) ≡ false → (h * 1664525 + 2 * v + 0) % hashes ≡ mixed h z
 unfolding mixed
 mixed-pos h z v e t = rw (e, t)
 
-below : (n : ℕ) → n % keys < keys
+below : (n : ℕ) → n % hashes < hashes
 below n = omega arith
 
 mul-result-2 : tie.Need-mul-result-2

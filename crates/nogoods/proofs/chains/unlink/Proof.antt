@@ -1,7 +1,6 @@
 use mathlib.Core.Path.{_≡_}
 use Prim.Native.Nat.{_+_, _-_}
 use native.Mathlib.Omega.{arith}
-use Rattle.nogoods.specs.Index.{keys}
 use borrow.Author.Needs.{needs}
 use Rattle.nogoods.proofs.chains.unlink.Statement.{statement}
 use Rattle.nogoods.proofs.chains.unlink.Tie as tie
@@ -17,7 +16,7 @@ returns-2 c =
     let s = c .before .before .before in
     record {
       atStart = λ e. absurd (c .before .if1 .left e);
-      atPlace = λ y e. let i : keys + s .args .over - 1 ≡ keys + y = omega arith in rw i;
+      atPlace = λ y e. let i : s .args .m + s .args .over - 1 ≡ s .args .m + y = omega arith in rw i;
     }
 
 pub unlink-spec : {M : Type 1} → statement M

@@ -1,5 +1,5 @@
 -- The loop keeps `Walking`.
-use mathlib.Core.Path.{_≡_, sym, _∙_}
+use mathlib.Core.Path.{_≡_, sym, ap, subst, _∙_}
 use mathlib.Core.Logic.{inl, inr}
 use mathlib.Core.List.{List}
 use Prim.Native.Nat.{ℕ, suc, _-_, _≤_, _<_}
@@ -9,34 +9,47 @@ use lib.ListN.{length}
 use Rattle.words.proofs.Descending.{Walking, walk-start, step-less, step-past, step-found}
 use Rattle.nogoods.specs.Store.{Stored}
 use Rattle.nogoods.specs.Records.{endAt}
-use Rattle.nogoods.specs.Index.{Keeps, Start, Member, Target, hashFrom, bucketOf, beforeOf, reach}
-use Rattle.nogoods.proofs.Indexing.{front, start-room, is-wanted, not-wanted, target-member}
+use Rattle.nogoods.specs.Index.{Keeps, Start, Member, Target, keyOf, bucketOf, beforeOf, reach}
+use Rattle.nogoods.proofs.Indexing.{roomy, front, start-room, is-wanted, not-wanted, target-member}
 use Rattle.nogoods.proofs.chains.walk.Statement.{statement}
 use Rattle.nogoods.proofs.chains.walk.Tie as tie
 
 abbrev Inv-loop : tie.InvT-loop
-Inv-loop store used index literals found₀ over₀ last₀ p₀ found over last p =
+Inv-loop store used index literals m found₀ over₀ last₀ p₀ found over last p =
     (stored : List Stored) (K : Keeps store index used stored)
-    → Walking (Member (front K)) (Start (front K)) (bucketOf index) (beforeOf index) (Target (front K) literals) (hashFrom 0 literals) found over last p
+    → Walking (Member (K .scale) (front K)) (Start (K .scale) (front K)) (bucketOf index) (beforeOf (K .scale) index) (Target (front K) literals) (keyOf (K .scale) literals) found over last p
 
 abbrev μ-loop : tie.MeasureT-loop
-μ-loop store used index literals found₀ over₀ last₀ p₀ found over last p = p
+μ-loop store used index literals m found₀ over₀ last₀ p₀ found over last p = p
+
+-- no words are reached
+returns : tie.Need-returns Inv-loop μ-loop
+returns c stored K y t =
+    let z = K .covers .chains .within y _ (K .covers .chains .member y _ (target-member (K .scale) (front K) _ y t)) .1 in
+    omega (arith, z, K .size, c .before .scale-of .ensures .0, c .if1 .taken)
+
+key-of-requires : tie.Need-key-of-requires Inv-loop μ-loop
+key-of-requires c κs = omega (arith, c .if1 .left)
 
 shared-slice-read-p : tie.Need-shared-slice-read-p Inv-loop μ-loop
-shared-slice-read-p c = omega (arith, c .before .hash-of .ensures .1, c .before .before .before .pre .1 .size)
+shared-slice-read-p c =
+    let e = c .before .before .before in
+    omega (arith, c .before .key-of .ensures .1, roomy (e .before .before .args .index .now) (e .scale-of .result) (e .scale-of .ensures .0) (omega (arith, c .before .before .if1 .left)) .0)
 
 cast-p : tie.Need-cast-p Inv-loop μ-loop
-cast-p c = omega (arith, c .shared-slice-known2 .given (c .before .hash-of .result))
+cast-p c = omega (arith, c .shared-slice-known2 .given (c .before .key-of .result))
 
 loop-holds : tie.Need-loop-holds Inv-loop μ-loop
 loop-holds c stored K =
-    let k = c .before .hash-of .ensures in
-    rw (k .0) (walk-start (K .covers .chains) (rw (k .0) at (k .1)))
+    let k = c .before .key-of .ensures in
+    let e = c .before .before .before .scale-of .ensures .0 in
+    let t : c .before .key-of .result ≡ keyOf (K .scale) _ = k .0 ∙ ap (λ (j : ℕ). keyOf j _) (e ∙ sym (K .size)) in
+    rw t (walk-start (K .covers .chains) (omega (arith, k .1, t, e, K .size)))
 
 -- the place x
 module _ (c : tie.In-loop Inv-loop μ-loop) where
   abbrev s : tie.Start Inv-loop μ-loop
-  s = c .before .before .before .before .before
+  s = c .before .before .before .before .before .before .before
 
   abbrev x : ℕ
   x = c .before .loop .p - 1
@@ -44,23 +57,33 @@ module _ (c : tie.In-loop Inv-loop μ-loop) where
   is : c .before .loop .p ≡ suc x
   is = omega (arith, c .loop-test .taken)
 
-  abbrev key : ℕ
-  key = hashFrom 0 (s .args .literals .now)
+  abbrev m : ℕ
+  m = c .before .before .before .before .before .scale-of .result
+
+  -- the scale of any index that is kept
+  scaled : {stored : List Stored} (K : Keeps (s .args .store .now) (s .args .index .now) (s .args .used) stored) → K .scale ≡ m
+  scaled K = K .size ∙ sym (c .before .before .before .before .before .scale-of .ensures .0)
 
   abbrev keeps : Keeps (s .args .store .now) (s .args .index .now) (s .args .used) (s .pre .0)
   keeps = s .pre .1
 
-  start : Start (front keeps) x key
+  abbrev key : ℕ
+  key = keyOf (keeps .scale) (s .args .literals .now)
+
+  start : Start (keeps .scale) (front keeps) x key
   start = c .before .loop .inv (s .pre .0) keeps .ahead x is
 
-  room : (endAt (s .args .store .now) x ≤ length (s .args .store .now)) × (x < reach)
+  room : (endAt (s .args .store .now) x ≤ length (s .args .store .now)) × (x < reach (keeps .scale))
   room = start-room keeps x key start
 
-  less : beforeOf (s .args .index .now) x < c .before .loop .p
-  less = step-less (keeps .covers .chains) x is (c .before .loop .inv (s .pre .0) keeps)
+  less : beforeOf m (s .args .index .now) x < c .before .loop .p
+  less = subst (λ (k : ℕ). beforeOf k (s .args .index .now) x < c .before .loop .p) (scaled keeps) (step-less (keeps .covers .chains) x is (c .before .loop .inv (s .pre .0) keeps))
 
 entry-after-requires : tie.Need-entry-after-requires Inv-loop μ-loop
-entry-after-requires c κs = (keeps c .size, room c .1)
+entry-after-requires c κs =
+    let t = scaled c (keeps c) in
+    let x = room c .1 in
+    (roomy (s c .args .index .now) (m c) (sym t ∙ keeps c .size) (omega (arith, x, t)), omega (arith, x, t))
 
 is-target-requires : tie.Need-is-target-requires Inv-loop μ-loop
 is-target-requires c κs = room (c .before) .0
@@ -72,8 +95,8 @@ loop-again : tie.Need-loop-again Inv-loop μ-loop
 loop-again c stored K =
     let i = c .before .before .before in
     let w = i .before .loop .inv stored K in
-    rw (c .before .before .entry-after .ensures)
-    (step-found (K .covers .chains) (x i) (is i) w (is-wanted K _ (x i) (key i) (w .ahead (x i) (is i)) (sym (c .before .is-target .ensures) ∙ c .if1 .taken)))
+    rw (c .before .before .entry-after .ensures ∙ ap (λ (k : ℕ). beforeOf k (s i .args .index .now) (x i)) (sym (scaled i K)))
+    (step-found (K .covers .chains) (x i) (is i) w (is-wanted K _ (x i) (keyOf (K .scale) (s i .args .literals .now)) (w .ahead (x i) (is i)) (sym (c .before .is-target .ensures) ∙ c .if2 .taken)))
 
 loop-less-2 : tie.Need-loop-less-2 Inv-loop μ-loop
 loop-less-2 c = rw (c .before .before .entry-after .ensures) (less (c .before .before .before))
@@ -82,25 +105,25 @@ loop-again-2 : tie.Need-loop-again-2 Inv-loop μ-loop
 loop-again-2 c stored K =
     let i = c .before .before .before in
     let w = i .before .loop .inv stored K in
-    rw (c .before .before .entry-after .ensures)
-    (step-past (K .covers .chains) (x i) (is i) w (not-wanted K _ (x i) (sym (c .before .is-target .ensures) ∙ c .if1 .left)))
-
-returns : tie.Need-returns Inv-loop μ-loop
-returns c stored K y t =
-    let w = c .before .before .loop .inv stored K in
-    elim (w .seen y (target-member (front K) _ y t) t) [
-      | inl h ↦ omega (arith, c .before .loop-test .left)
-      | inr h ↦ omega (arith, c .if2 .taken)
-    ]
+    rw (c .before .before .entry-after .ensures ∙ ap (λ (k : ℕ). beforeOf k (s i .args .index .now) (x i)) (sym (scaled i K)))
+    (step-past (K .covers .chains) (x i) (is i) w (not-wanted K _ (x i) (sym (c .before .is-target .ensures) ∙ c .if2 .left)))
 
 returns-2 : tie.Need-returns-2 Inv-loop μ-loop
-returns-2 c stored K =
+returns-2 c stored K y t =
+    let w = c .before .before .loop .inv stored K in
+    elim (w .seen y (target-member (K .scale) (front K) _ y t) t) [
+      | inl h ↦ omega (arith, c .before .loop-test .left)
+      | inr h ↦ omega (arith, c .if3 .taken)
+    ]
+
+returns-3 : tie.Need-returns-3 Inv-loop μ-loop
+returns-3 c stored K =
     let f = c .before .before .loop .found in
     let w = c .before .before .loop .inv stored K in
-    let is : f ≡ suc (f - 1) = omega (arith, c .if2 .left) in
+    let is : f ≡ suc (f - 1) = omega (arith, c .if3 .left) in
     let g = w .good (f - 1) is in (
       g .1,
-      λ y t. elim (w .seen y (target-member (front K) _ y t) t) [
+      λ y t. elim (w .seen y (target-member (K .scale) (front K) _ y t) t) [
         | inl h ↦ absurd (omega (arith, c .before .loop-test .left))
         | inr h ↦ omega (arith, h .1)
       ],
@@ -114,6 +137,8 @@ walk-spec =
     Inv-loop
     μ-loop
     (λ c κs. search needs)
+    returns
+    key-of-requires
     (λ c. search needs)
     shared-slice-read-p
     cast-p
@@ -126,6 +151,6 @@ walk-spec =
     loop-again
     loop-less-2
     loop-again-2
-    returns
+    returns-2
     (λ c. search needs)
-    returns-2)
+    returns-3)

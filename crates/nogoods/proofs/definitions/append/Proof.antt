@@ -19,7 +19,7 @@ use Rattle.nogoods.proofs.definitions.append.Tie as tie
 -- what is held once there is room
 module _ (c : tie.After-make-room) where
   abbrev s : tie.Start
-  s = c .before .before .before
+  s = c .before .before .before .before
 
   abbrev l : List ℤ
   l = s .args .numbers .now
@@ -38,18 +38,18 @@ module _ (c : tie.After-make-room) where
   end-in = held (s .pre .0 .0) (s .pre .0 .1) .holds .fits
 
 sub-if1 : tie.Need-sub-if1
-sub-if1 c = end-in (c .before)
+sub-if1 c = end-in (c .before .before .before)
 
 returns : tie.Need-returns
 returns c =
     λ stored K.
-    let m = c .before .before in
+    let m = c .before .before .before .before in
     full (K .holds) (new m) (size m) (closed-added (s m .args .origin) (defined (l m))) (m .make-room .kept .0) (held m stored K .holds) (c .if1 .taken)
 
 write-definition-requires : tie.Need-write-definition-requires
 write-definition-requires c κs =
     let e = c .before .before in
-    let m = e .before .before in
+    let m = e .before .before .before .before in
     let p = s m .pre .1 in
     (p .0 .1, (p .1, rw (tail-of (m .make-room .result) (m .make-room .last .0), length-drop) (omega (arith, e .if1 .left, p .1))))
 
@@ -57,13 +57,14 @@ returns-2 : tie.Need-returns-2
 returns-2 c =
     λ stored K.
     let w = c .before .before .write-definition in
-    let m = c .before .before .before .before .before .before .before in
+    let m = c .before .before .before .before .before .before .before .before .before in
     let o = s m .args .origin in
     let p = s m .pre .1 in
     let G = held m stored K in
     record {
       holds = added (G .holds) (new m) (size m) (defined-literals o (l m) (p .1 .1) (p .1 .0)) (added-origins o (p .0 .0) (defined (l m)))
           (w .last .0) (w .ensures);
+      scale = G .scale;
       size = G .size;
       covers = covers-more (new m) (G .covers);
     }
@@ -79,12 +80,14 @@ append-spec =
     (λ c κs. search needs)
     sub-if1
     (λ c. search needs)
+    (λ c. search needs)
     returns
     (λ c. search needs)
     (λ c. search needs)
     (λ c. search needs)
     (λ c. search needs)
     write-definition-requires
+    (λ c. search needs)
     (λ c. search needs)
     (λ c. search needs)
     (λ c. search needs)

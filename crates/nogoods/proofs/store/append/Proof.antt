@@ -20,7 +20,7 @@ size o g = ap length (append-nil (storedWords (recordOf o g))) ∙ stored-size (
 -- what is held once there is room
 module _ (c : tie.After-make-room) where
   abbrev s : tie.Start
-  s = c .before .before .before
+  s = c .before .before .before .before
 
   abbrev L : List ℤ
   L = s .args .literals .now
@@ -36,25 +36,26 @@ module _ (c : tie.After-make-room) where
   end-in = held (s .pre .0 .0) (s .pre .0 .1) .holds .fits
 
 sub-if1 : tie.Need-sub-if1
-sub-if1 c = end-in (c .before)
+sub-if1 c = end-in (c .before .before .before)
 
 returns : tie.Need-returns
 returns c =
     λ stored K.
-    let m = c .before .before in
+    let m = c .before .before .before .before in
     full (K .holds) (new m) (size (s m .args .origin) (L m)) (closed-added (s m .args .origin) (L m ∷ [])) (m .make-room .kept .0) (held m stored K .holds)
     (omega (arith, c .if1 .taken))
 
 returns-2 : tie.Need-returns-2
 returns-2 c =
     λ stored K.
-    let m = c .before .before .before .before .before in
+    let m = c .before .before .before .before .before .before .before in
     let o = s m .args .origin in
     let p = s m .pre .1 in
     let G = held m stored K in
     record {
       holds = added (G .holds) (new m) (size o (L m)) (added-literals o (L m ∷ []) (λ g u. rw (List·Memᴰ·eq-of-singleton u) (p .1 .0)))
           (added-origins o (p .0 .0) (L m ∷ [])) (c .before .write .last .0) (rw (append-nil (L m)) (c .before .write .ensures));
+      scale = G .scale;
       size = G .size;
       covers = covers-more (new m) (G .covers);
     }
@@ -67,12 +68,14 @@ append-spec =
     (λ c κs. search needs)
     sub-if1
     (λ c. search needs)
+    (λ c. search needs)
     returns
     (λ c. search needs)
     (λ c. search needs)
     (λ c. search needs)
     (λ c. search needs)
     (λ c κs. search needs)
+    (λ c. search needs)
     (λ c. search needs)
     (λ c. search needs)
     returns-2)

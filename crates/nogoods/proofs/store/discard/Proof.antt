@@ -28,8 +28,8 @@ module _ (c : tie.After-walk) where
   d = c .before .before .before .before .before
 
   said : (t : Spot) → c .walk .result ≡ t → (stored : List Stored) (K : Keeps (s d .args .store .now) (d .cover .last .1 .1 .0) (s d .args .used) stored)
-      → Spotted (K .covers .front) (s d .args .literals .now) (d .cover .last .1 .1 .0) t
-  said t e stored K = spotted (K .covers .front) (s d .args .literals .now) (d .cover .last .1 .1 .0) (c .walk .result) t e (c .walk .ensures stored K)
+      → Spotted (K .scale) (K .covers .front) (s d .args .literals .now) (d .cover .last .1 .1 .0) t
+  said t e stored K = spotted (K .scale) (K .covers .front) (s d .args .literals .now) (d .cover .last .1 .1 .0) (c .walk .result) t e (c .walk .ensures stored K)
 
 delete-near-requires : tie.Need-delete-near-requires
 delete-near-requires c κs =
@@ -44,7 +44,7 @@ module _ (c : tie.After-enum-told) where
   w = c .before .before
 
   none : (stored : List Stored) (K : Keeps (s (d w) .args .store .now) (s (d w) .args .index .now) (s (d w) .args .used) stored)
-      → Spotted (covered (d w) stored K .covers .front) (s (d w) .args .literals .now) (d w .cover .last .1 .1 .0) Nowhere
+      → Spotted (covered (d w) stored K .scale) (covered (d w) stored K .covers .front) (s (d w) .args .literals .now) (d w .cover .last .1 .1 .0) Nowhere
   none stored K = said w _ (c .enum-told .given .1) stored (covered (d w) stored K)
 
 delete-far-requires : tie.Need-delete-far-requires
@@ -70,6 +70,7 @@ returns-2 c =
     let G = covered (d (w e)) stored K in
     record {
       holds = c .before .delete-far .ensures stored (G .holds) (skips _ G _ (a .before .covered .ensures) (none e stored K));
+      scale = G .scale;
       size = G .size;
       covers = covers-far _ G (none e stored K);
     }

@@ -1,5 +1,5 @@
 -- All is kept; or the index is blank, the search has its own cells, and the store is closed up.
-use mathlib.Core.Path.{_∙_}
+use Rattle.nogoods.specs.Index.{BlankIndex}
 use Rattle.nogoods.proofs.Stored.{kept-all, kept-live}
 use Rattle.nogoods.proofs.Indexing.{keeps-blank, keeps-part}
 use native.Mathlib.Omega.{arith}
@@ -13,11 +13,13 @@ returns c = λ stored K. rw (kept-all (K .holds) (c .before .before .args .size)
 returns-2 : tie.Need-returns-2
 returns-2 c stored K =
     let r = c .before .before .before .before .before .reset in
-    let k = c .before .before .before .before .before .before .before .before .before in
+    let o = c .before .before .before .before .before .before .before in
+    let k = o .before .before .before in
     let e = k .before .before in
-    let n = k .clear .kept .0 ∙ K .size in
+    let blank : BlankIndex (k .clear .last .0) = rw (k .clear .kept .0) (k .clear .ensures) in
     rw (kept-live (K .holds) (e .before .before .args .size) (omega (arith, e .if1 .left)))
-    (keeps-part (k .clear .last .0) (r .last .0) n (r .kept .0) (keeps-blank (c .before .close .ensures stored (K .holds)) n (k .clear .ensures)))
+    (keeps-part (o .start-of .result) (k .clear .last .0) (r .last .0) (o .start-of .ensures .1) (r .kept .0) (o .start-of .ensures .0)
+    (keeps-blank (c .before .close .ensures stored (K .holds)) blank))
 
 pub make-room-spec : {M : Type 1} → statement M
 make-room-spec =
@@ -26,6 +28,8 @@ make-room-spec =
     (λ c. search needs)
     returns
     (λ c κs. search needs)
+    (λ c κs. search needs)
+    (λ c. search needs)
     (λ c. search needs)
     (λ c. search needs)
     (λ c. search needs)

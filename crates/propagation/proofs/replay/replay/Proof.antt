@@ -1,13 +1,14 @@
 -- The loop: the assignment grows by what follows, and the entries from the end on are free.
-use mathlib.Core.Path.{_≡_, _∙_}
+use mathlib.Core.Path.{_≡_, sym, subst, _∙_}
 use mathlib.Core.List.{List}
-use Prim.Native.Nat.{ℕ, _+_, _-_, _≤_, _<_}
+use Prim.Native.Nat.{ℕ, _+_, _*_, _-_, _≤_, _<_}
 use native.Mathlib.Omega.{arith}
 use borrow.Author.Needs.{needs}
 use lib.IntN.{ℤ}
 use lib.ListN.{length, getD}
 use Rattle.words.specs.Limits.{entries}
-use Rattle.nogoods.specs.Index.{provedCells}
+use Rattle.nogoods.specs.Index.{fixedCells, cellsPerChain, scaleOf, provedCells, Marked}
+use Rattle.nogoods.proofs.Indexing.{scale-room, roomy}
 use Rattle.nogoods.specs.Records.{Readable, Stands}
 use Rattle.propagation.specs.Propagate.{BlankFrom, Grows, DerivesAt}
 use Rattle.propagation.specs.declared.units.Derived.{Derived}
@@ -19,50 +20,71 @@ use Rattle.propagation.proofs.replay.replay.Statement.{statement}
 use Rattle.propagation.proofs.replay.replay.Tie as tie
 
 -- the first cell of the search's literals in their order, at whose end the path stands
-abbrev trailAt : ℕ
-trailAt = provedCells + 65536
+abbrev trailAt : ℕ → ℕ
+trailAt m = provedCells m + 32768
 
 -- the cell that says where the path begins
-abbrev firstAt : ℕ
-firstAt = provedCells + 82051
+abbrev firstAt : ℕ → ℕ
+firstAt m = provedCells m + 49283
 
 abbrev Inv-loop : tie.InvT-loop
-Inv-loop nogoods index start assignment₀ end₀ k₀ assignment end k = Grows nogoods assignment₀ assignment × ((end ≤ entries) × BlankFrom end assignment)
+Inv-loop nogoods index start assignment₀ m at end₀ k₀ assignment end k = Grows nogoods assignment₀ assignment × ((end ≤ entries) × BlankFrom end assignment)
 
 abbrev μ-loop : tie.MeasureT-loop
-μ-loop nogoods index start assignment₀ end₀ k₀ assignment end k = 8192 - k
+μ-loop nogoods index start assignment₀ m at end₀ k₀ assignment end k = 8192 - k
+
+-- the cells of an index whose scale is not 0
+cells : (index : List ℕ) (m : ℕ) → m ≡ scaleOf (length index) → (m ≡ 0 → ⊥) → cellsPerChain * m + fixedCells ≤ length index
+cells index m e h = rw e (scale-room (length index) (omega (arith, h, e)))
+
+module _ (c : tie.Else1 Inv-loop μ-loop) where
+  abbrev scale : ℕ
+  scale = c .before .scale-of .result
+
+  abbrev started : tie.Start Inv-loop μ-loop
+  started = c .before .before .before
+
+  enough : cellsPerChain * scale + fixedCells ≤ length (started .args .index .now)
+  enough = cells (started .args .index .now) scale (c .before .scale-of .ensures .0) (c .if1 .left)
 
 shared-slice-read-k : tie.Need-shared-slice-read-k Inv-loop μ-loop
-shared-slice-read-k c = omega (arith, c .before .before .pre .1 .0)
+shared-slice-read-k c = omega (arith, enough (c .before))
 
 cast-k : tie.Need-cast-k Inv-loop μ-loop
-cast-k c = omega (arith, c .shared-slice-known2 .given firstAt)
+cast-k c = omega (arith, c .shared-slice-known2 .given (firstAt (scale (c .before))))
 
 shared-slice-read-x : tie.Need-shared-slice-read-x Inv-loop μ-loop
-shared-slice-read-x c = omega (arith, c .before .loop-test .taken, c .before .before .before .before .before .pre .1 .0)
+shared-slice-read-x c = omega (arith, c .before .loop-test .taken, enough (c .before .before .before .before))
 
 cast-x : tie.Need-cast-x Inv-loop μ-loop
-cast-x c = omega (arith, c .shared-slice-known3 .given (trailAt + c .before .before .loop .k))
+cast-x c = omega (arith, c .shared-slice-known3 .given (trailAt (scale (c .before .before .before .before)) + c .before .before .loop .k))
 
 is-start-requires : tie.Need-is-start-requires Inv-loop μ-loop
-is-start-requires c κs = c .before .before .before .before .before .pre .1 .0 .0
+is-start-requires c κs =
+    let e = c .before .before .before .before in
+    roomy (started e .args .index .now) (scale e) (e .before .scale-of .ensures .0) (omega (arith, e .if1 .left))
 
 -- the nogood at the place
-module _ (d : tie.Then1 Inv-loop μ-loop) where
+module _ (d : tie.Then2 Inv-loop μ-loop) where
   abbrev l : tie.At-loop Inv-loop μ-loop
   l = d .before .before .before .before
 
+  abbrev e : tie.Else1 Inv-loop μ-loop
+  e = l .before .before
+
   abbrev s : tie.Start Inv-loop μ-loop
-  s = l .before .before .before
+  s = started e
 
   abbrev words : List ℤ
   words = s .args .nogoods .now
 
   abbrev x : ℕ
-  x = getD (s .args .index .now) (trailAt + l .loop .k) 0
+  x = getD (s .args .index .now) (trailAt (scale e) + l .loop .k) 0
 
   stands : Stands words x
-  stands = let e = d .before .is-start .ensures (d .if1 .taken) in s .pre .1 .0 .1 x (e .0) (e .1)
+  stands =
+      let t = d .before .is-start .ensures (d .if2 .taken) in
+      subst (λ (n : ℕ). Marked n words (s .args .index .now)) (sym (e .before .scale-of .ensures .0)) (s .pre .1 .0) x (t .0) (t .1)
 
   read : Readable words x
   read = readable words x (s .pre .0) stands
@@ -75,14 +97,14 @@ derive-at-requires c κs = let d = c .before in (read d, size d)
 
 -- what it gave
 module _ (c : tie.After-derive-at Inv-loop μ-loop) where
-  abbrev at : tie.Then1 Inv-loop μ-loop
+  abbrev at : tie.Then2 Inv-loop μ-loop
   at = c .before .before
 
   told : (y : Derived) → c .derive-at .result ≡ y → DerivesAt (words at) (x at) (l at .loop .assignment) (c .derive-at .last .1 .1 .0) y
   told y e = rw e at (c .derive-at .ensures)
 
-returns : tie.Need-returns Inv-loop μ-loop
-returns c =
+returns-2 : tie.Need-returns-2 Inv-loop μ-loop
+returns-2 c =
     let o = c .before .before in
     let d = at o in
     let t = told o _ (c .enum-told .given .1) in
@@ -139,11 +161,15 @@ replay-spec =
     (tie.spec
     Inv-loop
     μ-loop
+    (λ c κs. search needs)
+    (λ c. grows-not)
+    (λ c. search needs)
+    (λ c. search needs)
     (λ c. search needs)
     (λ c. search needs)
     shared-slice-read-k
     cast-k
-    (λ c. (grows-not, c .before .before .pre .1 .1 .1))
+    (λ c. (grows-not, c .before .before .before .before .pre .1 .1 .1))
     (λ c. search needs)
     (λ c. search needs)
     (λ c. search needs)
@@ -153,7 +179,7 @@ replay-spec =
     is-start-requires
     derive-at-requires
     (λ c. search needs)
-    returns
+    returns-2
     (λ c. search needs)
     past-requires
     loop-less

@@ -22,44 +22,44 @@ use Rattle.steps.proofs.naming.body.Statement.{statement}
 use Rattle.steps.proofs.naming.body.Tie as tie
 
 sub-all-marked : tie.Need-sub-all-marked
-sub-all-marked c = some-number Body refl (c .before .before .before .pre .1 .1 .1)
+sub-all-marked c = some-number Body refl (c .before .before .before .before .pre .1 .1 .1)
 
 part-all-marked-start : tie.Need-part-all-marked-start
-part-all-marked-start c = search (needs, some-number Body refl (c .before .before .before .before .pre .1 .1 .1))
+part-all-marked-start c = search (needs, some-number Body refl (c .before .before .before .before .before .pre .1 .1 .1))
 
 returns : tie.Need-returns
 returns c =
     λ N ws p z stored T K.
-    let s = c .before .before .before .before .before .before .before .before in
+    let s = c .before .before .before .before .before .before .before .before .before in
     rw (introduced z T Body _ (s .pre .1 .1 .1) refl refl (sym (c .before .all-marked .ensures) ∙ not-true _ (c .if1 .taken)) refl) refl
 
 slice-copy-out-variable-of : tie.Need-slice-copy-out-variable-of
-slice-copy-out-variable-of c = search (needs, some-number Body refl (c .before .before .before .before .before .before .before .before .pre .1 .1 .1))
+slice-copy-out-variable-of c = search (needs, some-number Body refl (c .before .before .before .before .before .before .before .before .before .pre .1 .1 .1))
 
-name : (c : tie.After-variable-of) → c .variable-of .result ≡ variable (first (c .before .before .before .before .before .before .before .before .before .before .args .numbers .now))
+name : (c : tie.After-variable-of) → c .variable-of .result ≡ variable (first (c .before .before .before .before .before .before .before .before .before .before .before .args .numbers .now))
 name c = rw (back _ (c .before .variable-of-arg .given)) at (c .variable-of .ensures)
 
 -- question 27
-named : (c : tie.After-is-marked) → let a = c .before .before .before .before .before .before .before .before .before .before .before .before .args in c .is-marked .result ≡ marked (a .known .now) (variable (first (a .numbers .now)))
+named : (c : tie.After-is-marked) → let a = c .before .before .before .before .before .before .before .before .before .before .before .before .before .args in c .is-marked .result ≡ marked (a .known .now) (variable (first (a .numbers .now)))
 named c = rw (name (c .before .before)) at (c .is-marked .ensures)
 
 returns-2 : tie.Need-returns-2
 returns-2 c =
     λ N ws p z stored T K.
     let k = c .before .before .before .before .before in
-    let s = k .before .before .before .before .before .before .before .before in
+    let s = k .before .before .before .before .before .before .before .before .before in
     rw (introduced z T Body _ (s .pre .1 .1 .1) refl refl (sym (k .before .all-marked .ensures) ∙ not-false _ (k .if1 .left)) (sym (named (c .before)) ∙ c .if2 .taken)) refl
 
 sub-name-body : tie.Need-sub-name-body
-sub-name-body c = some-number Body refl (c .before .before .before .before .before .before .before .before .before .before .before .before .before .before .before .before .before .before .before .pre .1 .1 .1)
+sub-name-body c = some-number Body refl (c .before .before .before .before .before .before .before .before .before .before .before .before .before .before .before .before .before .before .before .before .pre .1 .1 .1)
 
 part-row-start : tie.Need-part-row-start
-part-row-start c = search (needs, some-number Body refl (c .before .before .before .before .before .before .before .before .before .before .before .before .before .before .before .before .before .before .before .pre .1 .1 .1))
+part-row-start c = search (needs, some-number Body refl (c .before .before .before .before .before .before .before .before .before .before .before .before .before .before .before .before .before .before .before .before .pre .1 .1 .1))
 
 name-body-requires : tie.Need-name-body-requires
 name-body-requires c κs =
     let v = c .before .before .before .before .before .before .before .before .before .before in
-    let s = v .before .before .before .before .before .before .before .before .before .before in
+    let s = v .before .before .before .before .before .before .before .before .before .before .before in
     let l = s .pre .1 .1 .1 in (
       s .pre .0,
       (
@@ -74,7 +74,7 @@ name-body-requires c κs =
 
 module _ (c : tie.After-name-body) where
   abbrev start : tie.Start
-  start = c .before .before .before .before .before .before .before .before .before .before .before .before .before .before .before .before .before .before .before .before .before
+  start = c .before .before .before .before .before .before .before .before .before .before .before .before .before .before .before .before .before .before .before .before .before .before
 
   abbrev numbers : List ℤ
   numbers = start .args .numbers .now
@@ -102,24 +102,24 @@ returns-3 c =
     let b = c .before .before .before .before .before in
     let m = b .before .before .before .before .before .before .before .before in
     let k = m .before .before .before .before .before in
-    let s = k .before .before .before .before .before .before .before .before in
+    let s = k .before .before .before .before .before .before .before .before .before in
     rw (introduced z T Body _ (s .pre .1 .1 .1) refl refl (sym (k .before .all-marked .ensures) ∙ not-false _ (k .if1 .left)) (sym (named (m .before)) ∙ m .if2 .left), sym (answer b N ws p z T) ∙ not-true _ (c .if3 .taken)) refl
 
 define-requires : tie.Need-define-requires
 define-requires c κs =
-    let s = c .before .before .before .before .before .before .before .before .before .before .before .before .before .before .before .before .before .before .before .before .before .before .before .before .before .before .before .before .before .before in
+    let s = c .before .before .before .before .before .before .before .before .before .before .before .before .before .before .before .before .before .before .before .before .before .before .before .before .before .before .before .before .before .before .before in
     let l = s .pre .1 .1 .1 in
     (s .pre .1 .1 .0, (l .literals, some-number Body refl l, l .few))
 
 returns-4 : tie.Need-returns-4
 returns-4 c =
     λ N ws p z stored T K.
-    let d = c .before .before .before .before in
+    let d = c .before .before .before .before .before .before in
     let e = d .before .before .before .before .before in
     let b = e .before .before .before .before .before in
     let m = b .before .before .before .before .before .before .before .before in
     let k = m .before .before .before .before .before in
-    let s = k .before .before .before .before .before .before .before .before in
+    let s = k .before .before .before .before .before .before .before .before .before in
     let f = sym (named (m .before)) ∙ m .if2 .left in
     let u = not-false _ (e .if3 .left) in
     let q = sym (answer b N ws p z T) ∙ u in
@@ -155,6 +155,7 @@ body-spec =
     (λ c. search needs)
     returns-3
     define-requires
+    (λ c. search needs)
     (λ c. search needs)
     (λ c. search needs)
     (λ c. search needs)

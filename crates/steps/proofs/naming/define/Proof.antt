@@ -8,10 +8,10 @@ use Rattle.steps.proofs.naming.define.Tie as tie
 
 returns : tie.Need-returns
 returns c =
-    let a = c .before .before .before in
+    let a = c .before .before .before .before .before in
     let m = a .before .before .before .before .before .before in
     let v = m .before in
-    let x = getD (v .before .before .before .before .args .numbers .now) 0 (pos 0) in (
+    let x = getD (v .before .before .before .before .before .args .numbers .now) 0 (pos 0) in (
       rw (v .variable-of .ensures, back x (v .before .variable-of-arg .given)) at (m .mark .ensures .marks),
       λ b H. rw (c .fitted .ensures) (kept-fits _ _ _ (a .append .result) (a .append .ensures b H)),
     )
@@ -25,6 +25,7 @@ define-spec =
     (λ c κs. search needs)
     (λ c κs. search needs)
     (λ c κs. search needs)
+    (λ c. search needs)
     (λ c. search needs)
     (λ c. search needs)
     (λ c. search needs)

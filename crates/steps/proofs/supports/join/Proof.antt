@@ -11,14 +11,14 @@ use Rattle.steps.proofs.supports.join.Tie as tie
 
 complement-all-requires : tie.Need-complement-all-requires
 complement-all-requires c κs =
-    let s = c .before in
+    let s = c .before .before in
     let l = s .args .numbers .now in
     rw (tail-of 1 l) (literals-tail (getD l 0 (pos 0)) (drop 1 l) (name-and-literals l (s .pre .1 .1) (s .pre .1 .0)) .high)
 
 -- the numbers as they are added
 module _ (c : tie.After-sort) where
   abbrev s : tie.Start
-  s = c .before .before .before .before .before
+  s = c .before .before .before .before .before .before
 
   added : Joined (s .args .numbers .now) (c .sort .last .0)
   added =
@@ -33,7 +33,7 @@ append-requires c κs =
 
 returns : tie.Need-returns
 returns c =
-    let a = c .before .before in
+    let a = c .before .before .before .before in
     let o = a .before .before .before .before .before in
     λ b H. kept-one b (s o .args .origin) _ _ _ (a .append .result) (c .fitted .ensures) (added o .is) (a .append .ensures b H)
 
@@ -48,6 +48,7 @@ join-spec =
     (λ c κs. search needs)
     append-requires
     (λ c κs. search needs)
+    (λ c. search needs)
     (λ c. search needs)
     (λ c. search needs)
     returns)

@@ -12,12 +12,12 @@ use Rattle.steps.proofs.unfounded.add_by_index.Statement.{statement}
 use Rattle.steps.proofs.unfounded.add_by_index.Tie as tie
 
 look-up-requires : tie.Need-look-up-requires
-look-up-requires c κs = let p = c .before .before .before .before .pre in (p .0, (p .1 .0, (p .1 .1 .0, refl)))
+look-up-requires c κs = let p = c .before .before .before .before .before .pre in (p .0, (p .1 .0, (p .1 .1 .0, refl)))
 
 -- what was found
 module _ (c : tie.After-look-up) where
   abbrev s : tie.Start
-  s = c .before .before .before .before .before
+  s = c .before .before .before .before .before .before
 
   abbrev h : ℤ
   h = getD (s .args .numbers .now) 0 (pos 0)
@@ -37,7 +37,7 @@ add-found-requires c κs =
     ((asked k (t .0) (t .1), h k, gives k (t .0) (t .1) (t .2)), p .1 .1 .1)
 
 returns : tie.Need-returns
-returns c = let k = c .before .before .before .before .before .before in λ ws called A b K. c .before .add-found .ensures (asked k ws called) (h k) (gives k ws called A) b K
+returns c = let k = c .before .before .before .before .before .before .before .before in λ ws called A b K. c .before .before .before .add-found .ensures (asked k ws called) (h k) (gives k ws called A) b K
 
 pub add-by-index-spec : {M : Type 1} → statement M
 add-by-index-spec =
@@ -47,5 +47,6 @@ add-by-index-spec =
     look-up-requires
     (λ c. search needs)
     add-found-requires
+    (λ c. search needs)
     (λ c. search needs)
     returns)

@@ -13,7 +13,7 @@ use Rattle.steps.proofs.unfounded.add_by_rules.Tie as tie
 -- what was found
 module _ (c : tie.After-scan) where
   abbrev s : tie.Start
-  s = c .before .before .before .before
+  s = c .before .before .before .before .before
 
   abbrev asked : List InputRule → (List ℤ → ℕ) → List ℕ
   asked ws called = askedNames External (s .args .inside .now) called (expand ws)
@@ -30,7 +30,7 @@ add-found-requires c κs =
     ((asked k (t .0) (t .1), s k .args .h, gives k (t .0) (t .1) (t .2)), p .1)
 
 returns : tie.Need-returns
-returns c = let k = c .before .before .before .before .before .before in λ ws called A b K. c .before .add-found .ensures (asked k ws called) (s k .args .h) (gives k ws called A) b K
+returns c = let k = c .before .before .before .before .before .before .before .before in λ ws called A b K. c .before .before .before .add-found .ensures (asked k ws called) (s k .args .h) (gives k ws called A) b K
 
 pub add-by-rules-spec : {M : Type 1} → statement M
 add-by-rules-spec =
@@ -40,5 +40,6 @@ add-by-rules-spec =
     (λ c κs. search needs)
     (λ c. search needs)
     add-found-requires
+    (λ c. search needs)
     (λ c. search needs)
     returns)

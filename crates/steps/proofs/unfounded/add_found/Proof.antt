@@ -20,7 +20,7 @@ use Rattle.steps.proofs.unfounded.add_found.Tie as tie
 -- the nogood in the row
 module _ (c : tie.After-found) where
   abbrev s : tie.Start
-  s = c .before .before
+  s = c .before .before .before
 
   abbrev row : List ℤ
   row = s .args .row .now
@@ -55,13 +55,13 @@ append-requires c κs =
 
 returns : tie.Need-returns
 returns c =
-    let s = c .before .before in
+    let s = c .before .before .before in
     λ l h L b K. inl (subst (LoopNogood l h (s .args .row .now)) (c .enum-told .given .1) L, refl)
 
 returns-2 : tie.Need-returns-2
 returns-2 c =
-    let a = c .before .before in
-    let f = c .before .before .before .before .before .before .before in
+    let a = c .before .before .before .before in
+    let f = c .before .before .before .before .before .before .before .before .before in
     λ l h L b K.
     let g = gives f l h L in
     inr (g .2, kept-one b (s f .args .origin) _ _ _ (a .append .result) (c .fitted .ensures) (g .1) (a .append .ensures b K))
@@ -76,5 +76,6 @@ add-found-spec =
     append-requires
     (λ c κs. search needs)
     returns
+    (λ c. search needs)
     (λ c. search needs)
     returns-2)

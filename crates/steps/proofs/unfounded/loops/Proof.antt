@@ -22,7 +22,7 @@ use Rattle.steps.proofs.unfounded.loops.Tie as tie
 -- what the first two tests leave
 module _ (c : tie.Else2) where
   abbrev s : tie.Start
-  s = c .before .before .before .before .before .before .before .before
+  s = c .before .before .before .before .before .before .before .before .before
 
   abbrev U : List ℤ
   U = s .args .numbers .now
@@ -38,13 +38,13 @@ module _ (c : tie.Else2) where
 
 returns : tie.Need-returns
 returns c =
-    let s = c .before .before .before .before .before .before in
+    let s = c .before .before .before .before .before .before .before in
     λ ws p z b tracks K. rw (cited z tracks Loop (s .args .numbers .now) (s .pre .1 .1 .1 .1) refl (sym (c .before .all-marked .ensures) ∙ not-true _ (c .if1 .taken))) refl
 
 returns-2 : tie.Need-returns-2
 returns-2 c =
     let d = c .before .before in
-    let s = d .before .before .before .before .before .before in
+    let s = d .before .before .before .before .before .before .before in
     λ ws p z b tracks K.
     loop-atoms z tracks (s .args .origin) _ b _ _ (s .args .numbers .now) (s .pre .1 .1 .1 .1) (sym (d .before .all-marked .ensures) ∙ not-false _ (d .if1 .left))
     (omega (arith, c .if2 .taken, c .before .largest-variable .ensures))
@@ -73,8 +73,8 @@ add-nogood-requires c κs =
 
 returns-4 : tie.Need-returns-4
 returns-4 c =
-    let g = c .before .add-nogood in
-    let m = c .before .before .before .before .before in
+    let g = c .before .before .before .add-nogood in
+    let m = c .before .before .before .before .before .before .before in
     let a = m .before in
     let d = a .before .before in
     λ ws p z b tracks K.
@@ -95,5 +95,6 @@ loops-spec =
     (λ c κs. search needs)
     (λ c. search needs)
     add-nogood-requires
+    (λ c. search needs)
     (λ c. search needs)
     returns-4)

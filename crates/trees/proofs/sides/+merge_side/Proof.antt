@@ -11,7 +11,7 @@ use borrow.Fn.Kinds.{In}
 use borrow.Fn.PlainCycle.{Measures, is, falls, and}
 use borrow.Author.Needs.{needs}
 use Rattle.words.proofs.Laws.{zeros}
-use Rattle.words.specs.Limits.{largest, longest}
+use Rattle.words.specs.Limits.{largest, longest, largestSize}
 use Rattle.words.specs.Literals.{variable}
 use Rattle.words.proofs.Literals.{complement-twice, variable-complement}
 use Rattle.words.proofs.Parts.{tail-of}
@@ -19,7 +19,6 @@ use Rattle.aspif.specs.Rules.{InputRule}
 use Rattle.derivation.specs.States.{isAtom}
 use Rattle.merging.specs.Claims.{demandingAsWritten}
 use Rattle.shapes.specs.Tree.{Shape}
-use Rattle.shapes.specs.Walks.{largestSize}
 use Rattle.trees.specs.Service.{Side}
 use Rattle.trees.specs.Sides.{Standing, placeBelow, Subtree, Takes, pending, joinedSides, sideOf, Merged}
 use Rattle.trees.specs.declared.sides.Place.{Place}

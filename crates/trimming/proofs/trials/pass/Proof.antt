@@ -3,6 +3,7 @@ use Prim.Native.Nat.{ℕ, _<_, _≤_}
 use native.Mathlib.Omega.{arith}
 use lib.IntN.{pos}
 use lib.ListN.{length, take, replicate}
+use Rattle.words.specs.Limits.{longest}
 use Rattle.words.proofs.Laws.{zeros}
 use Rattle.drupe.proofs.Texts.{steps-exact}
 use Rattle.trimming.proofs.Turns.{Passing, try-start, try-on, try-end, try-reads}
@@ -27,7 +28,7 @@ loop-holds c =
       zeros = s .pre .1 .1 .1 .0;
       ahead = omega arith;
       within = omega arith;
-      trying = λ ws ts p r. try-start (length (a .store .now)) ws ts (s .pre .1 .0) (steps-exact (take (a .len) (a .text .now)) ts .0 r .0);
+      trying = λ ws ts p r. try-start (length (a .store .now)) ws ts (s .pre .1 .0) (steps-exact longest (take (a .len) (a .text .now)) ts .0 r .0);
     }
 
 -- a turn
@@ -76,7 +77,7 @@ loop-again c =
       ahead = e .0 .0;
       within = omega (arith, e .0 .1, I .within);
       trying = λ ws ts p r.
-          let x = steps-exact (take (a .len) (a .text .now)) ts .0 r in
+          let x = steps-exact longest (take (a .len) (a .text .now)) ts .0 r in
           try-on (length (a .store .now)) ws ts (x .2) (rw (← x .0) (x .1)) (l d .loop .text) (t .try-without .last .0) (l d .loop .at) (l d .loop .left)
           (b .line-start .result) (t .try-without .result) (some d) (inside d) (b .line-start .ensures .1) (rw (I .same-store) at (e .1 .1 ws p)) (I .trying ws ts p r);
     }
