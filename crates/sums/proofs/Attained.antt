@@ -12,15 +12,10 @@ use Rattle.words.specs.Lists.{_∈_}
 use Rattle.words.proofs.Lists.{by-test}
 use Rattle.weights.specs.Weights.{Weighted, sum}
 use Rattle.weights.specs.Claims.{_⊑_, none, with-it, without}
-use Rattle.sums.specs.Levels.{merge, raised, further, sumsOf}
+use Rattle.sums.specs.Levels.{Ascending, merge, raised, further, sumsOf}
 use Rattle.sums.proofs.Nodes.{both-parts, sum-both}
 
 -- Numbers that ascend
-
--- each above the one before, the first at least `low`
-abbrev pub Ascending : (low : ℕ) → List ℕ → Type 0
-Ascending low [] = Unit {0}
-Ascending low (u ∷ us) = (low ≤ u) × Ascending (suc u) us
 
 pub ascending-low : {low x : ℕ} {us : List ℕ} → Ascending low us → x ∈ us → low ≤ x
 ascending-low a (List·Memᴰ·head e) = let h = a .0 in omega arith
@@ -129,10 +124,10 @@ module _ (b w : ℕ) where
       List·Memᴰ·head s)
 
   -- what a number was raised from
-  abbrev From : (y : ℕ) (us : List ℕ) → Type 0
+  abbrev pub From : (y : ℕ) (us : List ℕ) → Type 0
   From y us = (u : ℕ) × (u ∈ us) × (y ≡ min b (u + w))
 
-  raised-of : {y : ℕ} (us : List ℕ) → y ∈ raised b w us → From y us
+  pub raised-of : {y : ℕ} (us : List ℕ) → y ∈ raised b w us → From y us
   unfolding raised
   raised-of {y} (u ∷ us) i =
       by-test (λ l. y ∈ l → From y (u ∷ us)) (ltb (u + w) b)
@@ -142,7 +137,7 @@ module _ (b w : ℕ) where
       (λ e j. let h = ltb-false (u + w) b e in let f = List·Memᴰ·eq-of-singleton j in (u, List·Memᴰ·head refl, omega arith))
       i
 
-  raised-short : (us : List ℕ) → length (raised b w us) ≤ length us
+  pub raised-short : (us : List ℕ) → length (raised b w us) ≤ length us
   unfolding raised
   raised-short [] = omega arith
   raised-short (u ∷ us) =

@@ -2,7 +2,7 @@
 -- Assumes nothing.
 use mathlib.Core.Bool.{Bool, cond, _&&_, _||_}
 use mathlib.Core.List.{List, [], _∷_, _++_, map}
-use Prim.Native.Nat.{ℕ, zero, suc, _+_}
+use Prim.Native.Nat.{ℕ, zero, suc, _+_, _≤_}
 use lib.Dec.{leb, ltb}
 use lib.ListN.{length, take, drop}
 use Rattle.words.specs.Lists.{any, all, filter}
@@ -19,6 +19,11 @@ pub data SumShape : Type 0 where
 abbrev pub pairsIn : SumShape → List Weighted
 pairsIn (few l) = l
 pairsIn (both s t) = pairsIn s ++ pairsIn t
+
+-- numbers that ascend: each above the one before, the first at least `low`
+abbrev pub Ascending : (low : ℕ) → List ℕ → Type 0
+Ascending low [] = Unit {0}
+Ascending low (u ∷ us) = (low ≤ u) × Ascending (suc u) us
 
 -- two ascending lists in one, each number once; as many turns as there are numbers are enough
 unfoldable pub merge : (turns : ℕ) → List ℕ → List ℕ → List ℕ

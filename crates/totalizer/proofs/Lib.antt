@@ -1,0 +1,2 @@
+-- What the proofs of the splitting share.
+pub mod Merging

@@ -1,0 +1,2 @@
+-- What the splitting of long sums answers and leaves.
+pub mod Lists
