@@ -1,2 +1,4 @@
 -- What the proofs of the splitting share.
 pub mod Merging
+pub mod Below
+pub mod Adding

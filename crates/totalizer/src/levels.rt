@@ -1,12 +1,16 @@
 // What the weights of some literals can add up to, and which of these sums make a difference: `sumsOf` and `levelsFor` of
 // crates/sums/specs/Levels.antt. A list of sums ascends, and none is above the bound.
 ghost use mathlib.Core.Path.{_≡_};
-ghost use mathlib.Core.Bool.{Bool, cond};
-ghost use Prim.Native.Nat.{ℕ, suc, _+_, _≤_, min};
+ghost use mathlib.Core.Bool.{Bool, true, cond};
+ghost use Prim.Native.Nat.{ℕ, suc, _+_, _<_, _≤_, min};
 ghost use lib.ListN.{length, take, drop, getD};
 ghost use Rattle.weights.specs.Weights.{mostWeight};
-ghost use Rattle.sums.specs.Levels.{raised, further};
-ghost use Rattle.totalizer.specs.Lists.{SumsUpTo, headOr};
+ghost use mathlib.Core.List.{_++_};
+ghost use lib.IntN.{ℤ};
+ghost use Rattle.weights.specs.Weights.{paired};
+ghost use Rattle.aspif.specs.Reading.{allWeights};
+ghost use Rattle.sums.specs.Levels.{isUseful, useful, raised, further};
+ghost use Rattle.totalizer.specs.Lists.{SumsUpTo, headOr, sumsOver, below};
 
 // The smaller of two numbers.
 fn smaller(a: usize, b: usize) -> usize
@@ -59,6 +63,112 @@ fn add_weight(sums: &[usize], weight: usize, bound: usize, to: &mut [usize]) -> 
         k += 1;
         i = after_if(u == x, i, i + 1);
         j = after_if(v == x, j, after_if(v < bound, sums.len(), j + 1));
+    }
+    k
+}
+
+// The source's numbers, from the destination's first on.
+fn copy_sums(destination: &mut [usize], source: &[usize])
+    requires { ⌜ length (now source) ≤ length (now destination) ⌝ }
+    ensures { λ _. ⌜ now (destination .exit) ≡ now (source .entry)
+        ++ drop (length (now (source .entry))) (now (destination .entry)) ⌝ }
+{
+    let mut i = 0;
+    while i < source.len() {
+        destination[i] = source[i];
+        i += 1;
+    }
+}
+
+// The sums, of which there are n, with a literal of that weight more.
+fn add_literal(
+    sums: &mut [usize],
+    n: usize,
+    weight: usize,
+    bound: usize,
+    spare: &mut [usize],
+) -> usize
+    requires sums { ⌜ SumsUpTo bound (take n (now sums)) × (bound ≤ mostWeight) × (weight ≤ mostWeight) ⌝ }
+    requires room { ⌜ (n ≤ length (now sums)) × (suc bound ≤ length (now sums)) × (suc bound ≤ length (now spare)) ⌝ }
+    ensures within { λ r. ⌜ r ≤ length (now (sums .exit)) ⌝ }
+    ensures sums { λ r. ⌜ take r (now (sums .exit)) ≡ further bound weight (take n (now (sums .entry))) ⌝ }
+{
+    let count = add_weight(&sums[..n], weight, bound, spare);
+    copy_sums(sums, &spare[..count]);
+    count
+}
+
+// The sums, of which there are n, with each of the pairs more.
+fn add_pairs(
+    pairs: &[i32],
+    bound: usize,
+    sums: &mut [usize],
+    n: usize,
+    spare: &mut [usize],
+) -> usize
+    requires pairs { ⌜ (allWeights (now pairs) ≡ true) × (bound ≤ mostWeight) ⌝ }
+    requires sums { ⌜ SumsUpTo bound (take n (now sums)) × (n ≤ length (now sums)) ⌝ }
+    requires room { ⌜ (suc bound ≤ length (now sums)) × (suc bound ≤ length (now spare)) ⌝ }
+    ensures within { λ r. ⌜ r ≤ length (now (sums .exit)) ⌝ }
+    ensures sums { λ r. ⌜ take r (now (sums .exit)) ≡ sumsOver bound (take n (now (sums .entry))) (paired (now (pairs .entry))) ⌝ }
+{
+    let mut left = pairs.len() / 2;
+    let mut count = n;
+    while 0 < left {
+        left -= 1;
+        let weight = words::variable_of(pairs[2 * left + 1]);
+        count = add_literal(sums, count, weight, bound, spare);
+    }
+    count
+}
+
+// How many sums stand before the first that is at least `need`.
+fn below_of(sums: &[usize], need: usize) -> usize
+    ensures { λ r. ⌜ r ≡ below need (now (sums .entry)) ⌝ }
+{
+    let mut i = 0;
+    while i < sums.len() {
+        if need <= sums[i] {
+            return i;
+        }
+        i += 1;
+    }
+    i
+}
+
+// Sum i makes a difference: beside the lowest sum of the others with which it reaches the bound, the sum before it does not.
+fn is_useful(inside: &[usize], i: usize, outside: &[usize], bound: usize) -> bool
+    requires sums { ⌜ SumsUpTo bound (now inside) × SumsUpTo bound (now outside) × (bound ≤ mostWeight) ⌝ }
+    requires there { ⌜ i < length (now inside) ⌝ }
+    ensures { λ r. ⌜ r ≡ isUseful bound (now (outside .entry)) (now (inside .entry)) (getD (now (inside .entry)) i 0) ⌝ }
+{
+    let u = inside[i];
+    if u == 0 {
+        return false;
+    }
+    let j = below_of(outside, bound - u);
+    if outside.len() <= j {
+        return false;
+    }
+    if i == 0 {
+        return true;
+    }
+    inside[i - 1] + outside[j] < bound
+}
+
+// The sums that make a difference, at the front of the levels.
+fn useful_levels(inside: &[usize], outside: &[usize], bound: usize, levels: &mut [usize]) -> usize
+    requires sums { ⌜ SumsUpTo bound (now inside) × SumsUpTo bound (now outside) × (bound ≤ mostWeight) ⌝ }
+    requires room { ⌜ length (now inside) ≤ length (now levels) ⌝ }
+    ensures within { λ r. ⌜ r ≤ length (now (levels .exit)) ⌝ }
+    ensures levels { λ r. ⌜ take r (now (levels .exit)) ≡ useful bound (now (outside .entry)) (now (inside .entry)) ⌝ }
+{
+    let mut i = 0;
+    let mut k = 0;
+    while i < inside.len() {
+        levels[k] = inside[i];
+        k = after_if(is_useful(inside, i, outside, bound), k, k + 1);
+        i += 1;
     }
     k
 }
