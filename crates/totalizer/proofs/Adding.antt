@@ -1,12 +1,12 @@
 -- Sums with pairs more, one after another from the last. Assumes nothing.
 use mathlib.Core.Path.{_≡_, refl, sym, ap, subst, _∙_}
 use mathlib.Core.Bool.{true, _&&_}
-use mathlib.Core.List.{List, [], _∷_, _++_}
+use mathlib.Core.List.{List, [], _∷_, _++_, append-nil}
 use Prim.Native.Nat.{ℕ, zero, suc, _+_, _*_, _-_, _/_, _≤_, _<_}
 use native.Mathlib.Nat.{div-add-mod'}
 use native.Mathlib.Omega.{arith}
 use lib.IntN.{ℤ, pos}
-use lib.ListN.{length, take, drop, getD}
+use lib.ListN.{length, take, drop, getD, set}
 use Rattle.words.specs.Literals.{variable}
 use Rattle.words.proofs.Lists.{and-left, and-right}
 use Rattle.weights.specs.Weights.{Weighted, paired, mostWeight}
@@ -15,6 +15,7 @@ use Rattle.aspif.specs.Rules.{isWeight}
 use Rattle.aspif.specs.Reading.{allWeights}
 use Rattle.aspif.proofs.PairWords.{up-to}
 use Rattle.sums.specs.Levels.{further, sumsOf}
+use Rattle.sums.proofs.Attained.{sums-ascend, sums-low}
 use Rattle.totalizer.specs.Lists.{SumsUpTo, sumsOver}
 use Rattle.totalizer.proofs.Merging.{further-up-to}
 
@@ -77,3 +78,17 @@ adding-on {ws} {b} {us} {left = left} A h {w} {r} {sums′} ew k e l s =
 pub adding-done : {ws : List ℤ} {b : ℕ} {us sums₀ spare₀ sums spare : List ℕ} {left count : ℕ} → Adding ws b us sums₀ spare₀ sums spare left count → left ≤ 0
     → take count sums ≡ sumsOver b us (paired ws)
 adding-done {left = left} A h = let e : left ≡ 0 = omega arith in rw e at (A .is)
+
+-- The sums of pairs
+
+pub sums-up-to : (b : ℕ) (l : List Weighted) → SumsUpTo b (sumsOf b l)
+sums-up-to b l = record { ascend = sums-ascend b l; low = λ u i. sums-low b l i }
+
+pub first-sum : (b : ℕ) (sums : List ℕ) → 0 < length sums → take 1 (set sums 0 0) ≡ sumsOf b []
+unfolding sumsOf
+first-sum b [] h = absurd (omega arith)
+first-sum b (u ∷ us) h = refl
+
+-- from 0 alone
+pub over-first : (b : ℕ) (sums : List ℕ) (l : List Weighted) → 0 < length sums → sumsOver b (take 1 (set sums 0 0)) l ≡ sumsOf b l
+over-first b sums l h = ap (λ us. sumsOver b us l) (first-sum b sums h) ∙ over-sums b [] l ∙ ap (sumsOf b) (append-nil l)

@@ -2,14 +2,14 @@
 // crates/sums/specs/Levels.antt. A list of sums ascends, and none is above the bound.
 ghost use mathlib.Core.Path.{_≡_};
 ghost use mathlib.Core.Bool.{Bool, true, cond};
-ghost use Prim.Native.Nat.{ℕ, suc, _+_, _<_, _≤_, min};
+ghost use Prim.Native.Nat.{ℕ, suc, _+_, _*_, _-_, _<_, _≤_, min};
 ghost use lib.ListN.{length, take, drop, getD};
 ghost use Rattle.weights.specs.Weights.{mostWeight};
 ghost use mathlib.Core.List.{_++_};
 ghost use lib.IntN.{ℤ};
 ghost use Rattle.weights.specs.Weights.{paired};
 ghost use Rattle.aspif.specs.Reading.{allWeights};
-ghost use Rattle.sums.specs.Levels.{isUseful, useful, raised, further};
+ghost use Rattle.sums.specs.Levels.{isUseful, useful, raised, further, sumsOf, levelsFor};
 ghost use Rattle.totalizer.specs.Lists.{SumsUpTo, headOr, sumsOver, below};
 
 // The smaller of two numbers.
@@ -171,4 +171,56 @@ fn useful_levels(inside: &[usize], outside: &[usize], bound: usize, levels: &mut
         i += 1;
     }
     k
+}
+
+// The sums of the pairs.
+fn sums_of(pairs: &[i32], bound: usize, sums: &mut [usize], spare: &mut [usize]) -> usize
+    requires pairs { ⌜ (allWeights (now pairs) ≡ true) × (bound ≤ mostWeight) ⌝ }
+    requires room { ⌜ (suc bound ≤ length (now sums)) × (suc bound ≤ length (now spare)) ⌝ }
+    ensures within { λ r. ⌜ r ≤ length (now (sums .exit)) ⌝ }
+    ensures sums { λ r. ⌜ take r (now (sums .exit)) ≡ sumsOf bound (paired (now (pairs .entry))) ⌝ }
+{
+    sums[0] = 0;
+    add_pairs(pairs, bound, sums, 1, spare)
+}
+
+// The sums of the pairs of two parts.
+fn sums_of_both(
+    first: &[i32],
+    second: &[i32],
+    bound: usize,
+    sums: &mut [usize],
+    spare: &mut [usize],
+) -> usize
+    requires pairs { ⌜ (allWeights (now first) ≡ true) × (allWeights (now second) ≡ true) × (bound ≤ mostWeight) ⌝ }
+    requires room { ⌜ (suc bound ≤ length (now sums)) × (suc bound ≤ length (now spare)) ⌝ }
+    ensures within { λ r. ⌜ r ≤ length (now (sums .exit)) ⌝ }
+    ensures sums { λ r. ⌜ take r (now (sums .exit)) ≡ sumsOf bound (paired (now (first .entry)) ++ paired (now (second .entry))) ⌝ }
+{
+    let n = sums_of(second, bound, sums, spare);
+    add_pairs(first, bound, sums, n, spare)
+}
+
+// The levels of some pairs beside those before and behind them, at the front of `levels`. The other lists are for sums.
+pub fn levels_of(
+    before: &[i32],
+    pairs: &[i32],
+    behind: &[i32],
+    bound: usize,
+    inside: &mut [usize],
+    outside: &mut [usize],
+    spare: &mut [usize],
+    levels: &mut [usize],
+) -> usize
+    requires pairs { ⌜ (allWeights (now before) ≡ true) × (allWeights (now pairs) ≡ true) × (allWeights (now behind) ≡ true)
+        × (bound ≤ mostWeight) ⌝ }
+    requires room { ⌜ (suc bound ≤ length (now inside)) × (suc bound ≤ length (now outside)) × (suc bound ≤ length (now spare))
+        × (suc bound ≤ length (now levels)) ⌝ }
+    ensures within { λ r. ⌜ r ≤ length (now (levels .exit)) ⌝ }
+    ensures levels { λ r. ⌜ take r (now (levels .exit)) ≡ levelsFor bound (paired (now (before .entry)) ++ paired (now (behind .entry)))
+        (paired (now (pairs .entry))) ⌝ }
+{
+    let n = sums_of(pairs, bound, inside, spare);
+    let m = sums_of_both(before, behind, bound, outside, spare);
+    useful_levels(&inside[..n], &outside[..m], bound, levels)
 }
