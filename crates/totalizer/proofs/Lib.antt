@@ -2,3 +2,4 @@
 pub mod Merging
 pub mod Below
 pub mod Adding
+pub mod Emitted
