@@ -3,3 +3,4 @@ pub mod Merging
 pub mod Below
 pub mod Adding
 pub mod Emitted
+pub mod RuleTexts

@@ -3,13 +3,15 @@
 use mathlib.Core.Path.{_≡_}
 use mathlib.Core.List.{List, [], _∷_, _++_, map}
 use Prim.Native.Nat.{ℕ, suc, _+_, _*_, _≤_, min}
-use lib.IntN.{ℤ}
-use lib.ListN.{length}
+use mathlib.Core.Bool.{cond}
+use lib.IntN.{ℤ, pos}
+use lib.ListN.{length, take, getD}
 use Rattle.words.specs.Limits.{mostRules, mostLiterals}
 use Rattle.words.specs.Lists.{concat}
 use Rattle.text.specs.Decimals.{spaced}
 use Rattle.text.specs.Writing.{Put}
 use Rattle.aspif.specs.Rules.{InputRule}
+use Rattle.aspif.specs.Tables.{isWeighted, headsAt, bodyWordsAt}
 use Rattle.aspif.specs.Text.{ruleText}
 use Rattle.totalizer.specs.declared.texts.Place.{Place}
 
@@ -20,6 +22,20 @@ mostLine = 5 + mostLiterals + 2 * mostLiterals
 -- the line of a rule with these numbers
 unfoldable pub lineOf : List ℤ → List ℕ
 lineOf zs = 49 ∷ (spaced zs ++ (10 ∷ []))
+
+-- the numbers of a rule's line, of the words of the rule at the front
+module _ (ws : List ℤ) where
+  -- up to its heads
+  abbrev pub headNumbers : List ℤ
+  headNumbers = take 2 ws ++ headsAt ws
+
+  -- its bound, with a weight body
+  abbrev pub boundNumbers : List ℤ
+  boundNumbers = cond (isWeighted ws) (getD ws 4 (pos 0) ∷ []) []
+
+  -- behind its heads
+  abbrev pub bodyNumbersAt : List ℤ
+  bodyNumbersAt = getD ws 2 (pos 0) ∷ (boundNumbers ++ (getD ws 3 (pos 0) ∷ bodyWordsAt ws))
 
 -- the rules' lines
 abbrev pub textsOf : List InputRule → List ℕ

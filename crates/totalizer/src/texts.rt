@@ -8,7 +8,15 @@ ghost use Rattle.text.specs.Decimals.{spaced};
 ghost use Rattle.text.specs.Writing.{Put, farthest};
 ghost use Rattle.aspif.specs.Rules.{InputRule};
 ghost use Rattle.aspif.specs.Text.{ruleNumbers};
-ghost use Rattle.totalizer.specs.Emitting.{mostLine, lineOf, Bounded, Emits};
+ghost use mathlib.Core.Bool.{true};
+ghost use mathlib.Core.List.{List, _++_};
+ghost use lib.IntN.{ℤ};
+ghost use Prim.Native.Nat.{ℕ};
+ghost use Rattle.aspif.specs.Rules.{ruleWords};
+ghost use Rattle.aspif.specs.Claims.{FormedWithin};
+ghost use Rattle.aspif.specs.Tables.{shapeSound};
+ghost use Rattle.totalizer.specs.Emitting.{mostLine, lineOf, headNumbers, boundNumbers, bodyNumbersAt, Bounded, Emits};
+use aspif::tables;
 use text::writing;
 use words::MOST_RULES;
 
@@ -65,4 +73,43 @@ pub fn emit(output: &mut [u8], place: Place, numbers: &[i32]) -> Place
         at,
         rules: place.rules + 1,
     }
+}
+
+// The bound of a rule with a weight body, of the rule at the front of some words.
+fn put_bound(output: &mut [u8], at: usize, words: &[i32]) -> usize
+    requires rule { ⌜ shapeSound (now words) ≡ true ⌝ }
+    requires room { ⌜ at + 22 ≤ farthest ⌝ }
+    ensures written { λ r. ⌜ Put (spaced (boundNumbers (now (words .entry)))) (now (output .entry)) (now (output .exit)) at r ⌝ }
+    ensures within { λ r. ⌜ r ≤ at + 22 ⌝ }
+{
+    if tables::is_weighted(words) {
+        return writing::put_number(output, at, words[4]);
+    }
+    at
+}
+
+// What stands in a rule's line up to its heads.
+fn put_head(output: &mut [u8], at: usize, words: &[i32]) -> usize
+    requires rule { ⌜ shapeSound (now words) ≡ true ⌝ }
+    requires room { ⌜ at + (22 * mostLine + 2) ≤ farthest ⌝ }
+    ensures written { λ r. ⌜ Put (49 ∷ spaced (headNumbers (now (words .entry)))) (now (output .entry)) (now (output .exit)) at r ⌝ }
+    ensures within { λ r. ⌜ r ≤ at + (1 + 22 * 66) ⌝ }
+{
+    let from = writing::put_bytes(output, at, b"1");
+    let end = put_numbers(output, from, &words[..2]);
+    put_numbers(output, end, tables::heads_of(words))
+}
+
+// What stands in a rule's line behind its heads.
+fn put_body(output: &mut [u8], at: usize, words: &[i32]) -> usize
+    requires rule { ⌜ shapeSound (now words) ≡ true ⌝ }
+    requires room { ⌜ at + (1 + 22 * 131) ≤ farthest ⌝ }
+    ensures written { λ r. ⌜ Put (spaced (bodyNumbersAt (now (words .entry))) ++ (10 ∷ [])) (now (output .entry)) (now (output .exit)) at r ⌝ }
+    ensures within { λ r. ⌜ r ≤ at + (1 + 22 * 131) ⌝ }
+{
+    let kind = writing::put_number(output, at, words[2]);
+    let bound = put_bound(output, kind, words);
+    let count = writing::put_number(output, bound, words[3]);
+    let end = put_numbers(output, count, tables::body_of(words));
+    writing::put_bytes(output, end, b"\n")
 }
