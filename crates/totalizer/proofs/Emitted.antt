@@ -45,15 +45,23 @@ module _ (before : List ℕ) (p : Place) (b : Bounded p) where
     bounded = record { counted = omega arith; low = omega (arith, b .low, h) };
   }
 
+  -- one rule
+  pub emits-put : (r : InputRule) → p .rules < mostRules → {after : List ℕ} {next : ℕ}
+      → Put (lineOf (ruleNumbers r)) before after (p .at) next → next ≤ p .at + (22 * mostLine + 2) → length after ≡ length before
+      → Emits (r ∷ []) before after p (record { at = next; rules = p .rules + 1 })
+  emits-put r h {after} {next} q k l = record {
+    rules = omega (arith, h);
+    text = λ m. subst (λ (t : List ℕ). Put t before after (p .at) next) (sym (rule-line r)) q;
+    long = l;
+    bounded = record { counted = omega (arith, h); low = omega (arith, b .low, k) };
+  }
+
+  -- of which the numbers are at hand
   pub emits-one : (r : InputRule) (zs : List ℤ) → ruleNumbers r ≡ zs → length zs ≤ mostLine → p .rules < mostRules → {after : List ℕ} {next : ℕ}
       → Put (lineOf zs) before after (p .at) next → next ≤ p .at + (22 * length zs + 2) → length after ≡ length before
       → Emits (r ∷ []) before after p (record { at = next; rules = p .rules + 1 })
-  emits-one r zs e few h {after} {next} q k l = record {
-    rules = omega (arith, h);
-    text = λ m. subst (λ (t : List ℕ). Put t before after (p .at) next) (sym (rule-line r ∙ ap lineOf e)) q;
-    long = l;
-    bounded = record { counted = omega (arith, h); low = omega (arith, b .low, k, few) };
-  }
+  emits-one r zs e few h {after} {next} q k l =
+      emits-put r h (subst (λ (t : List ℤ). Put (lineOf t) before after (p .at) next) (sym e) q) (omega (arith, k, few)) l
 
 -- one list of rules after another
 pub emits-on : {rs ss : List InputRule} {before between after : List ℕ} {p q s : Place} → Emits rs before between p q → Emits ss between after q s

@@ -2,7 +2,7 @@
 -- Assumes nothing.
 use mathlib.Core.Path.{_≡_}
 use mathlib.Core.List.{List, [], _∷_, _++_, map}
-use Prim.Native.Nat.{ℕ, suc, _+_, _*_, _≤_, min}
+use Prim.Native.Nat.{ℕ, suc, _+_, _*_, _/_, _≤_, min}
 use mathlib.Core.Bool.{cond}
 use lib.IntN.{ℤ, pos}
 use lib.ListN.{length, take, getD}
@@ -36,6 +36,10 @@ module _ (ws : List ℤ) where
   -- behind its heads
   abbrev pub bodyNumbersAt : List ℤ
   bodyNumbersAt = getD ws 2 (pos 0) ∷ (boundNumbers ++ (getD ws 3 (pos 0) ∷ bodyWordsAt ws))
+
+-- the numbers of the line of a rule that gives an atom where the pairs weigh at least the level
+abbrev pub sumNumbers : (atom level : ℕ) → (pairs : List ℤ) → List ℤ
+sumNumbers atom level ws = pos 0 ∷ pos 1 ∷ pos atom ∷ pos 1 ∷ pos level ∷ pos (length ws / 2) ∷ ws
 
 -- the rules' lines
 abbrev pub textsOf : List InputRule → List ℕ

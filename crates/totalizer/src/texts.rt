@@ -4,18 +4,17 @@ ghost use mathlib.Core.Path.{_≡_};
 ghost use mathlib.Core.List.{[], _∷_};
 ghost use Prim.Native.Nat.{_+_, _*_, _≤_};
 ghost use lib.ListN.{length};
-ghost use Rattle.text.specs.Decimals.{spaced};
+ghost use Rattle.text.specs.Decimals.{numberBytes, spaced};
 ghost use Rattle.text.specs.Writing.{Put, farthest};
 ghost use Rattle.aspif.specs.Rules.{InputRule};
 ghost use Rattle.aspif.specs.Text.{ruleNumbers};
 ghost use mathlib.Core.Bool.{true};
 ghost use mathlib.Core.List.{List, _++_};
-ghost use lib.IntN.{ℤ};
+ghost use lib.IntN.{ℤ, pos};
 ghost use Prim.Native.Nat.{ℕ};
 ghost use Rattle.aspif.specs.Rules.{ruleWords};
-ghost use Rattle.aspif.specs.Claims.{FormedWithin};
 ghost use Rattle.aspif.specs.Tables.{shapeSound};
-ghost use Rattle.totalizer.specs.Emitting.{mostLine, lineOf, headNumbers, boundNumbers, bodyNumbersAt, Bounded, Emits};
+ghost use Rattle.totalizer.specs.Emitting.{sumNumbers, mostLine, lineOf, headNumbers, boundNumbers, bodyNumbersAt, Bounded, Emits};
 use aspif::tables;
 use text::writing;
 use words::MOST_RULES;
@@ -111,5 +110,65 @@ fn put_body(output: &mut [u8], at: usize, words: &[i32]) -> usize
     let bound = put_bound(output, kind, words);
     let count = writing::put_number(output, bound, words[3]);
     let end = put_numbers(output, count, tables::body_of(words));
+    writing::put_bytes(output, end, b"\n")
+}
+
+// The line of the rule at the front of some words.
+fn put_rule(output: &mut [u8], at: usize, words: &[i32]) -> usize
+    requires rule { ⌜ shapeSound (now words) ≡ true ⌝ }
+    requires room { ⌜ at + (22 * mostLine + 2) ≤ farthest ⌝ }
+    ensures written { λ r. ⌜ ((x : InputRule) (rest : List ℤ) → now (words .entry) ≡ ruleWords x ++ rest
+        → Put (lineOf (ruleNumbers x)) (now (output .entry)) (now (output .exit)) at r) ⌝ }
+    ensures within { λ r. ⌜ r ≤ at + (22 * mostLine + 2) ⌝ }
+{
+    let heads = put_head(output, at, words);
+    put_body(output, heads, words)
+}
+
+// The line of the rule at the front of some words, and one rule more.
+pub fn emit_rule(output: &mut [u8], place: Place, words: &[i32]) -> Place
+    requires rule { ⌜ shapeSound (now words) ≡ true ⌝ }
+    requires place { ⌜ Bounded place ⌝ }
+    ensures { λ r. ⌜ ((x : InputRule) (rest : List ℤ) → now (words .entry) ≡ ruleWords x ++ rest
+        → Emits (x ∷ []) (now (output .entry)) (now (output .exit)) place r) ⌝ }
+{
+    if MOST_RULES < place.rules {
+        return place;
+    }
+    if place.rules == MOST_RULES {
+        return Place {
+            at: place.at,
+            rules: MOST_RULES + 1,
+        };
+    }
+    let at = put_rule(output, place.at, words);
+    Place {
+        at,
+        rules: place.rules + 1,
+    }
+}
+
+// A number after a space.
+fn put_size(output: &mut [u8], at: usize, n: usize) -> usize
+    requires { ⌜ at + 1 ≤ farthest ⌝ }
+    ensures written { λ r. ⌜ Put (32 ∷ numberBytes (pos n)) (now (output .entry)) (now (output .exit)) at r ⌝ }
+    ensures within { λ r. ⌜ r ≤ at + 21 ⌝ }
+{
+    let from = writing::put_bytes(output, at, b" ");
+    writing::put_digits(output, from, n)
+}
+
+// The line of a rule that gives an atom where the pairs weigh at least the level.
+fn put_sum(output: &mut [u8], at: usize, atom: usize, level: usize, pairs: &[i32]) -> usize
+    requires room { ⌜ at + (22 * (5 + length (now pairs)) + 2) ≤ farthest ⌝ }
+    ensures written { λ r. ⌜ Put (lineOf (sumNumbers atom level (now (pairs .entry)))) (now (output .entry)) (now (output .exit)) at r ⌝ }
+    ensures within { λ r. ⌜ r ≤ at + (22 * (5 + length (now (pairs .entry))) + 2) ⌝ }
+{
+    let first = writing::put_bytes(output, at, b"1 0 1");
+    let head = put_size(output, first, atom);
+    let kind = writing::put_bytes(output, head, b" 1");
+    let bound = put_size(output, kind, level);
+    let count = put_size(output, bound, pairs.len() / 2);
+    let end = put_numbers(output, count, pairs);
     writing::put_bytes(output, end, b"\n")
 }
