@@ -1,20 +1,20 @@
 -- The first number of an ascending list that is at least another, and levels that make a difference. Assumes nothing.
 use mathlib.Core.Path.{_≡_, refl, sym, ap, subst, _∙_}
-use mathlib.Core.Bool.{Bool, true, false, cond, not, _&&_, _||_}
+use mathlib.Core.Bool.{Bool, true, false, cond}
 use mathlib.Core.List.{List, [], _∷_, _++_, append-nil, List·Memᴰ·head, List·Memᴰ·tail}
 use mathlib.Core.Logic.{_⊎_, inl, inr}
 use Prim.Native.Nat.{ℕ, zero, suc, _+_, _-_, _≤_, _<_}
 use native.Mathlib.Numerals.{add-one}
 use native.Mathlib.Omega.{arith}
 use borrow.Author.Tests.{lt-ltb, le-ltb, ltb-true, ltb-false}
-use lib.Dec.{ltb, leb}
-use lib.ListN.{length, take, drop, getD, set, length-append, length-set, drop-of-length-le}
+use lib.Dec.{ltb}
+use lib.ListN.{length, take, drop, getD, set, length-set, drop-of-length-le}
 use lib.Seq.{drop-cons, take-suc, take-suc-set, take-set-le}
-use Rattle.words.specs.Lists.{_∈_, any, all, filter}
+use Rattle.words.specs.Lists.{_∈_, filter}
 use Rattle.words.proofs.Lists.{Decides, failed, is-true, same-test, leb-decides, and-decides, or-decides, not-decides, any-decides, all-decides, one-less}
 use Rattle.weights.proofs.Minimal.{ltb-decides}
-use Rattle.words.proofs.Places.{in-at, place-of}
-use Rattle.sums.specs.Levels.{Ascending, isUseful, useful}
+use Rattle.words.proofs.Places.{in-at}
+use Rattle.sums.specs.Levels.{Ascending, isUseful}
 use Rattle.sums.proofs.Attained.{ascending-low}
 use Rattle.totalizer.specs.Lists.{SumsUpTo, below}
 

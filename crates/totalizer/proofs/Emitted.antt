@@ -1,7 +1,7 @@
 -- Rules' lines one after another: none, one, and two lists of them. Assumes nothing.
-use mathlib.Core.Path.{_≡_, refl, sym, ap, subst, _∙_}
+use mathlib.Core.Path.{_≡_, refl, sym, subst, _∙_}
 use mathlib.Core.List.{List, [], _∷_, _++_, append-nil}
-use Prim.Native.Nat.{ℕ, suc, _+_, _*_, _≤_, _<_, min}
+use Prim.Native.Nat.{ℕ, _+_, _*_, _≤_, _<_}
 use native.Mathlib.Omega.{arith}
 use lib.IntN.{ℤ}
 use lib.ListN.{length, length-append}
@@ -12,7 +12,7 @@ use Rattle.text.proofs.Puts.{put-on, put-none}
 use Rattle.aspif.specs.Rules.{InputRule}
 use Rattle.aspif.specs.Text.{ruleNumbers, ruleText}
 use Rattle.totalizer.specs.declared.texts.Place.{Place}
-use Rattle.totalizer.specs.Emitting.{mostLine, lineOf, textsOf, tooMany, Bounded, Emits}
+use Rattle.totalizer.specs.Emitting.{mostLine, lineOf, textsOf, Bounded, Emits}
 
 -- the line of a rule is that of its numbers
 rule-line : (r : InputRule) → textsOf (r ∷ []) ≡ lineOf (ruleNumbers r)

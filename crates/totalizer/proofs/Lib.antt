@@ -4,3 +4,4 @@ pub mod Below
 pub mod Adding
 pub mod Emitted
 pub mod RuleTexts
+pub mod Groups

@@ -1,11 +1,11 @@
 -- The parts of the line of a rule whose words stand at the front. Assumes nothing.
 use mathlib.Core.Path.{_≡_, refl, sym, ap, ap₂, subst, _∙_}
-use mathlib.Core.Bool.{Bool, true, false, cond}
+use mathlib.Core.Bool.{true, cond}
 use mathlib.Core.List.{List, [], _∷_, _++_, append-nil, append-assoc}
-use Prim.Native.Nat.{ℕ, _+_, _*_, _/_, _≤_, min}
+use Prim.Native.Nat.{ℕ, _+_, _/_, _≤_}
 use native.Mathlib.Omega.{arith}
 use lib.IntN.{ℤ, pos}
-use lib.ListN.{length, take, drop, getD, length-take, length-map}
+use lib.ListN.{length, drop, getD, length-take, length-map}
 use Rattle.words.proofs.Lists.{by-test}
 use Rattle.text.specs.Decimals.{decimals, decimal, numberBytes, spaced}
 use Rattle.text.specs.Writing.{Put}

@@ -1,12 +1,11 @@
 // What the weights of some literals can add up to, and which of these sums make a difference: `sumsOf` and `levelsFor` of
 // crates/sums/specs/Levels.antt. A list of sums ascends, and none is above the bound.
 ghost use mathlib.Core.Path.{_≡_};
-ghost use mathlib.Core.Bool.{Bool, true, cond};
-ghost use Prim.Native.Nat.{ℕ, suc, _+_, _*_, _-_, _<_, _≤_, min};
+ghost use mathlib.Core.Bool.{true, cond};
+ghost use Prim.Native.Nat.{suc, _+_, _*_, _-_, _<_, _≤_, min};
 ghost use lib.ListN.{length, take, drop, getD};
 ghost use Rattle.weights.specs.Weights.{mostWeight};
 ghost use mathlib.Core.List.{_++_};
-ghost use lib.IntN.{ℤ};
 ghost use Rattle.weights.specs.Weights.{paired};
 ghost use Rattle.aspif.specs.Reading.{allWeights};
 ghost use Rattle.sums.specs.Levels.{isUseful, useful, raised, further, sumsOf, levelsFor};

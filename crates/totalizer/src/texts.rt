@@ -11,9 +11,13 @@ ghost use Rattle.aspif.specs.Text.{ruleNumbers};
 ghost use mathlib.Core.Bool.{true};
 ghost use mathlib.Core.List.{List, _++_};
 ghost use lib.IntN.{ℤ, pos};
-ghost use Prim.Native.Nat.{ℕ};
 ghost use Rattle.aspif.specs.Rules.{ruleWords};
+ghost use mathlib.Core.List.{map};
+ghost use Prim.Native.Nat.{_/_};
+ghost use Rattle.weights.specs.Weights.{paired};
+ghost use Rattle.aspif.specs.Reading.{allWeights};
 ghost use Rattle.aspif.specs.Tables.{shapeSound};
+ghost use Rattle.sums.specs.Plans.{numbered, groupRule};
 ghost use Rattle.totalizer.specs.Emitting.{sumNumbers, mostLine, lineOf, headNumbers, boundNumbers, bodyNumbersAt, Bounded, Emits};
 use aspif::tables;
 use text::writing;
@@ -171,4 +175,50 @@ fn put_sum(output: &mut [u8], at: usize, atom: usize, level: usize, pairs: &[i32
     let count = put_size(output, bound, pairs.len() / 2);
     let end = put_numbers(output, count, pairs);
     writing::put_bytes(output, end, b"\n")
+}
+
+// The line of a rule that gives an atom where the pairs weigh at least the level, and one rule more.
+fn emit_sum(output: &mut [u8], place: Place, atom: usize, level: usize, pairs: &[i32]) -> Place
+    requires place { ⌜ Bounded place ⌝ }
+    requires pairs { ⌜ (allWeights (now pairs) ≡ true) × (length (now pairs) ≤ 24) ⌝ }
+    ensures { λ r. ⌜ Emits (groupRule (record { atom = atom; pairs = paired (now (pairs .entry)); bound = level }) ∷ [])
+        (now (output .entry)) (now (output .exit)) place r ⌝ }
+{
+    if MOST_RULES < place.rules {
+        return place;
+    }
+    if place.rules == MOST_RULES {
+        return Place {
+            at: place.at,
+            rules: MOST_RULES + 1,
+        };
+    }
+    let at = put_sum(output, place.at, atom, level, pairs);
+    Place {
+        at,
+        rules: place.rules + 1,
+    }
+}
+
+// A rule for each level of a group of pairs, whose atoms are numbered from `atom` on.
+pub fn emit_group(
+    output: &mut [u8],
+    place: Place,
+    atom: usize,
+    levels: &[usize],
+    pairs: &[i32],
+) -> Place
+    requires place { ⌜ Bounded place ⌝ }
+    requires pairs { ⌜ (allWeights (now pairs) ≡ true) × (length (now pairs) ≤ 24) ⌝ }
+    requires atoms { ⌜ atom + length (now levels) ≤ farthest ⌝ }
+    ensures { λ r. ⌜ Emits (map groupRule (numbered atom (paired (now (pairs .entry))) (now (levels .entry))))
+        (now (output .entry)) (now (output .exit)) place r ⌝ }
+{
+    let mut here = place;
+    let mut i = 0;
+    while i < levels.len() {
+        here = emit_sum(output, here, atom + i, levels[i], pairs);
+        i += 1;
+    }
+    here
 }

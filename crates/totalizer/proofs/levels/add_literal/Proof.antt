@@ -7,32 +7,13 @@ use lib.Seq.{length-take-le, take-at}
 use Rattle.totalizer.proofs.Merging.{few-sums, further-up-to}
 use Rattle.totalizer.proofs.levels.add_literal.Statement.{statement}
 use Rattle.totalizer.proofs.levels.add_literal.Tie as tie
-use Rattle.totalizer.proofs.levels.add_literal.Reads as reads
-use Rattle.totalizer.proofs.levels.add_literal.Lts as lts
-use Rattle.totalizer.proofs.levels.add_weight.Reads as add-weight-reads
-use Rattle.totalizer.proofs.levels.copy_sums.Reads as copy-sums-reads
 
--- src/levels.rt:90:28
-slice-reshare-prefix-add-weight : tie.Need-slice-reshare-prefix-add-weight
-slice-reshare-prefix-add-weight c = search needs
-
--- src/levels.rt:90:28
 slice-aggregate-add-weight : tie.Need-slice-aggregate-add-weight
 slice-aggregate-add-weight c = let s = c .before .before .before in sym (length-take-le _ _ (s .pre .1 .0))
 
--- src/levels.rt:90:9
-add-weight-requires : tie.Need-add-weight-requires
-add-weight-requires c κs = search needs
-
--- src/levels.rt:91:21
-slice-reshare-prefix-copy-sums : tie.Need-slice-reshare-prefix-copy-sums
-slice-reshare-prefix-copy-sums c = search needs
-
--- src/levels.rt:91:21
 slice-aggregate-copy-sums : tie.Need-slice-aggregate-copy-sums
 slice-aggregate-copy-sums c = sym (length-take-le _ _ (c .before .before .before .before .add-weight .ensures .0))
 
--- src/levels.rt:91:5
 copy-sums-requires : tie.Need-copy-sums-requires
 copy-sums-requires c κs =
     let s = c .before .before .before .before .before .before .before .before .before in
@@ -42,15 +23,6 @@ copy-sums-requires c κs =
     let f = few-sums (further-up-to (s .args .weight) (s .pre .0 .0)) in
     omega (arith, e, ap length (w .1), f, s .pre .1 .1)
 
--- src/levels.rt:84:1
-same-length : tie.Need-same-length
-same-length c = search needs
-
--- src/levels.rt:84:1
-same-length-2 : tie.Need-same-length-2
-same-length-2 c = search needs
-
--- src/levels.rt:84:1
 returns : tie.Need-returns
 returns c =
     let s = c .before .before .before .before .before .before .before .before .before .before .before .before in
@@ -66,12 +38,12 @@ pub add-literal-spec : {M : Type 1} → statement M
 add-literal-spec =
     tie.close
     (tie.spec
-    slice-reshare-prefix-add-weight
+    (λ c. search needs)
     slice-aggregate-add-weight
-    add-weight-requires
-    slice-reshare-prefix-copy-sums
+    (λ c κs. search needs)
+    (λ c. search needs)
     slice-aggregate-copy-sums
     copy-sums-requires
-    same-length
-    same-length-2
+    (λ c. search needs)
+    (λ c. search needs)
     returns)

@@ -1,13 +1,12 @@
 use mathlib.Core.Path.{_≡_, sym, subst}
 use Prim.Native.Nat.{_+_, _*_, _-_, _≤_, _<_}
-use native.Mathlib.Nat.{div-add-mod'}
 use native.Mathlib.Omega.{arith}
 use lib.IntN.{pos}
-use lib.ListN.{length, take, drop, getD}
+use lib.ListN.{length, take, getD}
 use borrow.Author.Needs.{needs}
 use Rattle.words.specs.Literals.{variable}
 use Rattle.words.proofs.Words.{back}
-use Rattle.weights.specs.Weights.{paired, mostWeight}
+use Rattle.weights.specs.Weights.{mostWeight}
 use Rattle.totalizer.specs.Lists.{SumsUpTo}
 use Rattle.totalizer.proofs.Adding.{weight-at, over-up-to, Adding, adding-start, adding-on, adding-done}
 use Rattle.totalizer.proofs.levels.add_pairs.Statement.{statement}
@@ -25,9 +24,6 @@ loop-holds c = let s = c .before .before in adding-start _ _ (s .args .n) _ _ (s
 -- there is a pair left
 there : (c : tie.In-loop Inv-loop μ-loop) → 2 * (c .before .loop .left - 1) + 1 < length (c .before .before .before .before .args .pairs .now)
 there c = omega (arith, c .before .loop .inv .few, c .loop-test .taken)
-
-sub-left : tie.Need-sub-left Inv-loop μ-loop
-sub-left c = search needs
 
 mul-variable-of : tie.Need-mul-variable-of Inv-loop μ-loop
 mul-variable-of c = record { fits = omega (arith, there c, c .before .before .before .before .good .0) }
@@ -86,7 +82,7 @@ add-pairs-spec =
     Inv-loop
     μ-loop
     loop-holds
-    sub-left
+    (λ c. search needs)
     mul-variable-of
     add-variable-of
     mul-variable-of-2

@@ -1,6 +1,5 @@
-use mathlib.Core.Path.{_≡_, sym, subst, ap, ap₂, _∙_}
+use mathlib.Core.Path.{sym, subst, ap₂, _∙_}
 use native.Mathlib.Omega.{arith}
-use lib.ListN.{length, take}
 use lib.Seq.{length-take-le}
 use Rattle.sums.specs.Levels.{useful, levelsFor}
 use Rattle.totalizer.specs.Lists.{SumsUpTo}

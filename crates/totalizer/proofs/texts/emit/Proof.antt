@@ -1,4 +1,3 @@
-use mathlib.Core.Path.{sym}
 use native.Mathlib.Omega.{arith}
 use Rattle.totalizer.proofs.Emitted.{emits-full, emits-last, emits-one}
 use borrow.Author.Needs.{needs}

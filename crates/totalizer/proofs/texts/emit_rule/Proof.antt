@@ -1,6 +1,4 @@
 use native.Mathlib.Omega.{arith}
-use mathlib.Core.Path.{refl}
-use Rattle.aspif.specs.Text.{ruleNumbers}
 use Rattle.totalizer.proofs.Emitted.{emits-full, emits-last, emits-put}
 use borrow.Author.Needs.{needs}
 use Rattle.totalizer.proofs.texts.emit_rule.Statement.{statement}

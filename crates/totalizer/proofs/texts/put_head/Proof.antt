@@ -1,8 +1,7 @@
-use mathlib.Core.Path.{_≡_, sym, ap, _∙_}
+use mathlib.Core.Path.{_≡_, sym, ap}
 use native.Mathlib.Omega.{arith}
 use lib.ListN.{length, take}
 use lib.Seq.{length-take-le}
-use Rattle.text.specs.Decimals.{spaced}
 use Rattle.text.proofs.Puts.{put-on, spaced-append}
 use Rattle.aspif.specs.Tables.{headsAt}
 use Rattle.totalizer.proofs.RuleTexts.{sized}
