@@ -98,10 +98,12 @@ fn noise(repetitions: usize) -> bool {
     good
 }
 
-/// Draws nanoseconds a byte over megabytes; whether it is written.
+/// Draws nanoseconds a byte over megabytes, both in powers of ten, of one family of inputs, since a line through several would join what has
+/// nothing to do with one another; whether it is written.
 fn drawn(inputs: &[Input], measured: &[Measured]) -> bool {
     let series = |class, label, kept: bool, time: fn(&Measured) -> Duration| {
-        let shown = inputs.iter().zip(measured).filter(|(input, _)| input.name.ends_with("-no-d") != kept);
+        let family = inputs.iter().zip(measured).filter(|(input, _)| input.name.starts_with(DRAWN));
+        let shown = family.filter(|(input, _)| input.name.ends_with("-no-d") != kept);
         let mut points: Vec<(f64, f64)> = shown.map(|(input, measured)| point(input, time(measured))).collect();
         points.sort_by(|one, other| one.0.total_cmp(&other.0));
         Series { class, label, points }
@@ -110,24 +112,28 @@ fn drawn(inputs: &[Input], measured: &[Measured]) -> bool {
         series("after", "verified, with deletions", true, |measured| measured.verified_times.least),
         series("before", "verified, without", false, |measured| measured.verified_times.least),
         series("unverified", "unverified, with deletions", true, |measured| measured.unverified_times.least),
+        series("other", "unverified, without", false, |measured| measured.unverified_times.least),
     ];
     let labels = Labels {
         about: "Time a byte against the length of the proof",
-        title: "Nanoseconds a byte",
+        title: "Nanoseconds a byte, pigeons, in powers of ten",
         across: "megabytes of the proof, in powers of ten",
     };
-    let highest = lines.iter().flat_map(|line| &line.points).map(|point| point.1).fold(0.0, f64::max);
-    let written = std::fs::write(PICTURE, picture::draw_in(&lines, &labels, Axis::powers(LEAST_POWER, 2), Axis::to(highest)));
+    let picture = picture::draw_in(&lines, &labels, Axis::powers(LEAST_POWER, 2), Axis::powers(0, 4));
+    let written = std::fs::write(PICTURE, picture);
     if let Err(error) = &written {
         println!("FAILED: {PICTURE}: {error}");
     }
     written.is_ok()
 }
 
+/// The inputs that are drawn.
+const DRAWN: &str = "pigeons-";
+
 /// The picture begins at so many megabytes, as a power of ten.
 const LEAST_POWER: i32 = -2;
 
 fn point(input: &Input, time: Duration) -> (f64, f64) {
     let bytes = input.texts.proof.len() as f64;
-    ((bytes / 1e6).log10() - f64::from(LEAST_POWER), time.as_secs_f64() * 1e9 / bytes)
+    ((bytes / 1e6).log10() - f64::from(LEAST_POWER), (time.as_secs_f64() * 1e9 / bytes).log10().max(0.0))
 }

@@ -19,12 +19,12 @@ const BOTTOM: f64 = 370.0;
 const STYLE: &str = "\
 text { font: 13px sans-serif; fill: #24292f } .title { font-size: 15px; font-weight: bold } .up { text-anchor: end } .across { text-anchor: middle }
 .paper { fill: #ffffff } .grid { stroke: #d8dee4 } .axis { stroke: #57606a } polyline { fill: none; stroke-width: 2 }
-.before { stroke: #c2410c; stroke-dasharray: 7 4 } .after { stroke: #1d4ed8 } .unverified { stroke: #15803d; stroke-dasharray: 2 3 }
-.before-dot { fill: #c2410c } .after-dot { fill: #1d4ed8 } .unverified-dot { fill: #15803d }
+.before { stroke: #c2410c; stroke-dasharray: 7 4 } .after { stroke: #1d4ed8 } .unverified { stroke: #15803d; stroke-dasharray: 2 3 } .other { stroke: #7c3aed; stroke-dasharray: 1 5 }
+.before-dot { fill: #c2410c } .after-dot { fill: #1d4ed8 } .unverified-dot { fill: #15803d } .other-dot { fill: #7c3aed }
 @media (prefers-color-scheme: dark) {
 text { fill: #e6edf3 } .paper { fill: #0d1117 } .grid { stroke: #30363d } .axis { stroke: #8b949e }
-.before { stroke: #fb923c } .after { stroke: #60a5fa } .unverified { stroke: #4ade80 }
-.before-dot { fill: #fb923c } .after-dot { fill: #60a5fa } .unverified-dot { fill: #4ade80 }
+.before { stroke: #fb923c } .after { stroke: #60a5fa } .unverified { stroke: #4ade80 } .other { stroke: #c4b5fd }
+.before-dot { fill: #fb923c } .after-dot { fill: #60a5fa } .unverified-dot { fill: #4ade80 } .other-dot { fill: #c4b5fd }
 }
 ";
 

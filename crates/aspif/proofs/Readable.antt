@@ -105,11 +105,11 @@ module _ (r : InputRule) (t : List ℤ) where
   from-body : drop (headStart ws + h) ws ≡ bodyWords (r .body) ++ t
   from-body = sym (drop-drop h (headStart ws) ws) ∙ ap (drop h) from-heads ∙ drop-append-seam (r .heads) (bodyWords (r .body) ++ t)
 
-  heads-at : headsAt ws ≡ r .heads
+  pub heads-at : headsAt ws ≡ r .heads
   unfolding headsAt
   heads-at = ap (take h) from-heads ∙ take-append-seam (r .heads) (bodyWords (r .body) ++ t)
 
-  body-words-at : bodyWordsAt ws ≡ bodyWords (r .body)
+  pub body-words-at : bodyWordsAt ws ≡ bodyWords (r .body)
   unfolding bodyWordsAt
   body-words-at = ap₂ take (size-is (r .body)) from-body ∙ take-append-seam (bodyWords (r .body)) t
 

@@ -183,24 +183,9 @@ readTextWithin most size text = cond (leb (length text) longest) (readLinesWithi
 
 -- The reader of the documents: "at most 12 literals"
 
-abbrev pub few : List ℤ → Kind → (heads body : ℕ) → Shape
-few = fewWithin mostWeighted
-
-abbrev pub weighedShape : List ℤ → ℕ → Kind → ℕ → Shape
-weighedShape = weighedWithin mostWeighted
-
-abbrev pub bodyShape : List ℤ → ℕ → Kind → ℕ → Shape
-bodyShape = bodyWithin mostWeighted
-
-abbrev pub headShape : List ℤ → ℕ → Kind → Shape
-headShape = headWithin mostWeighted
-
 unfoldable pub shapeOf : List ℤ → ℕ → Shape
 unfolding shapeWithin
 shapeOf zs count = shapeWithin mostWeighted zs count
-
-abbrev pub turnOf : (rules free left : ℕ) → Line → Turn
-turnOf = turnWithin mostWeighted
 
 unfoldable pub linesFrom : (size turns : ℕ) → List ℕ → (line : ℕ) → List InputRule → Reading
 unfolding linesWithin
@@ -227,13 +212,13 @@ tableOf size (refused k line) = replicate size (pos 0)
 tableOf size (program rs) = tableWords size rs
 
 -- the answer and every word of the table
-pub record Told (x : Reading) (before after : List ℤ) (r : ProgramReading) : Type 0 where
+pub record ReadingLeft (x : Reading) (before after : List ℤ) (r : ProgramReading) : Type 0 where
   pub answer : r ≡ programAnswer x
   pub table : after ≡ tableOf (length before) x
 
 abbrev pub ProgramReadWithin : (most : ℕ) → (text : List ℕ) (before after : List ℤ) (r : ProgramReading) → Type 0
-ProgramReadWithin most text before after r = Told (readTextWithin most (length before) text) before after r
+ProgramReadWithin most text before after r = ReadingLeft (readTextWithin most (length before) text) before after r
 
 -- the public contract
 abbrev pub ProgramRead : (text : List ℕ) (before after : List ℤ) (r : ProgramReading) → Type 0
-ProgramRead text before after r = Told (readText (length before) text) before after r
+ProgramRead text before after r = ReadingLeft (readText (length before) text) before after r

@@ -787,15 +787,6 @@ pub fn forget(x: usize, cells: &mut [u32]) {
     withdraw(cells, x, opposite(second));
 }
 
-// The cells become 0.
-fn clear(cells: &mut [u32]) {
-    let mut i = 0;
-    while i < cells.len() {
-        cells[i] = 0;
-        i += 1;
-    }
-}
-
 // The place before which no nogood died; 0 where none did at all.
 fn front(cells: &[u32]) -> usize {
     let dead = get(cells, DEAD);
@@ -833,6 +824,6 @@ pub fn reset(cells: &mut [u32]) {
     cut_root(cells, kept);
     clear_hint(cells);
     if ORDER <= cells.len() {
-        clear(&mut cells[..ORDER]);
+        words::zero_cells(&mut cells[..ORDER]);
     }
 }

@@ -15,7 +15,7 @@ use Rattle.aspif.specs.Text.{programText}
 use Rattle.aspif.specs.Reading.{program, readLines}
 use Rattle.aspif.specs.declared.Kind.the-variants.{Normal}
 use Rattle.sums.specs.Plans.{split, inTurn, nodeRules, joinBodies}
-use Rattle.sums.specs.Levels.{few, both, once, together, sumsOf, attained, levelled, dividedBy, splitProgram, chunks, inGroups, insertBy, insertAllBy, sortedGroups}
+use Rattle.sums.specs.Levels.{few, both, merge, raised, further, sumsOf, levelsFor, levelled, dividedBy, splitProgram, chunks, inGroups, insertBy, insertAllBy, sortedGroups}
 use Rattle.aspif.specs.Claims.{FormedWithin}
 use Rattle.sums.proofs.Formed.{split-read}
 
@@ -36,7 +36,7 @@ small : split (dividedBy (rule 4 (weights 2 pairs)) 2 pairs (both (few (w (pos 1
     ∷ rule 7 (weights 1 (w (negsuc 2) 1 ∷ []))
     ∷ rule 8 (plain (pos 5 ∷ pos 7 ∷ []))
     ∷ rule 8 (plain (pos 6 ∷ [])) ∷ []
-unfolding inTurn nodeRules joinBodies once together sumsOf attained levelled
+unfolding inTurn nodeRules joinBodies merge raised further sumsOf levelsFor levelled
 small = refl
 
 -- 13 literals of weight 1 and bound 7, in groups of 7 and 6: 21 rules over 14 new atoms
@@ -49,11 +49,11 @@ abbrev thirteen : List InputRule
 thirteen = rule 14 (weights 7 units) ∷ []
 
 counted : length (splitProgram (inGroups 6) thirteen) ≡ 21
-unfolding inTurn nodeRules joinBodies once together sumsOf attained levelled chunks
+unfolding inTurn nodeRules joinBodies merge raised further sumsOf levelsFor levelled chunks
 counted = refl
 
 named : atoms (splitProgram (inGroups 6) thirteen) ≡ 28
-unfolding inTurn nodeRules joinBodies once together sumsOf attained levelled chunks
+unfolding inTurn nodeRules joinBodies merge raised further sumsOf levelsFor levelled chunks
 named = refl
 
 -- it is as a reader would leave it, were sums of 64 literals taken, and the reader that takes 12 reads the text of the split program
@@ -74,7 +74,7 @@ formed r i =
     })
 
 read : readLines 1000 (programText (splitProgram (sortedGroups 6) thirteen)) ≡ program (splitProgram (sortedGroups 6) thirteen)
-unfolding inTurn nodeRules joinBodies once together sumsOf attained levelled chunks insertBy insertAllBy
+unfolding inTurn nodeRules joinBodies merge raised further sumsOf levelsFor levelled chunks insertBy insertAllBy
 read = split-read 6 (omega arith) thirteen formed 1000 (leb-true _ _ refl) (leb-true _ _ refl) (leb-true _ _ refl)
 
 -- 14 literals of the weights 1, 2 and 5 by turns and bound 18, in groups of five: 163 rules as they stand and 27 sorted by weight
@@ -85,9 +85,9 @@ mixed =
     ∷ []
 
 as-it-stands : length (splitProgram (inGroups 4) mixed) ≡ 163
-unfolding inTurn nodeRules joinBodies once together sumsOf attained levelled chunks
+unfolding inTurn nodeRules joinBodies merge raised further sumsOf levelsFor levelled chunks
 as-it-stands = refl
 
 by-weight : length (splitProgram (sortedGroups 4) mixed) ≡ 27
-unfolding inTurn nodeRules joinBodies once together sumsOf attained levelled chunks insertBy insertAllBy
+unfolding inTurn nodeRules joinBodies merge raised further sumsOf levelsFor levelled chunks insertBy insertAllBy
 by-weight = refl

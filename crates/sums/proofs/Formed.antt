@@ -103,10 +103,10 @@ abbrev FormedPlan : ℕ → Plan → Type 0
 FormedPlan b (group ts l) = Grouped (few l) × Fine l × ((t : ℕ) → t ∈ ts → t ≤ b)
 FormedPlan b (joined ts p q) = FormedPlan b p × FormedPlan b q
 
-levelled-formed : (b : ℕ) (others : List ℕ) (s : SumShape) → Grouped s → Fine (pairsIn s) → FormedPlan b (levelled b others s)
+levelled-formed : (b : ℕ) (rest : List Weighted) (s : SumShape) → Grouped s → Fine (pairsIn s) → FormedPlan b (levelled b rest s)
 unfolding levelled
-levelled-formed b others (few l) g f = (g, f, λ t i. levels-within b others (few l) t (unfold levelled in i) .1)
-levelled-formed b others (both s t) g f = (
+levelled-formed b rest (few l) g f = (g, f, λ t i. levels-within b rest (few l) t (unfold levelled in i) .1)
+levelled-formed b rest (both s t) g f = (
   levelled-formed b _ s (g .0) (λ x i. f x (Memᴰ·append-left (pairsIn t) i)),
   levelled-formed b _ t (g .1) (λ x i. f x (Memᴰ·append-right (pairsIn s) i)),
 )

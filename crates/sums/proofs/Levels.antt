@@ -2,15 +2,15 @@
 use mathlib.Core.Path.{_≡_, refl, sym, ap, ap₂, subst, _∙_}
 use mathlib.Core.Logic.{_⊎_, inl, inr, _↔_}
 use mathlib.Core.Bool.{not}
-use mathlib.Core.List.{List, [], _∷_, _++_, map, append-assoc, append-nil, List·Memᴰ·eq-of-singleton, List·Memᴰ·head, List·Memᴰ·tail, Memᴰ·map, Memᴰ·of-map}
+use mathlib.Core.List.{List, [], _∷_, _++_, append-assoc, append-nil, List·Memᴰ·eq-of-singleton, List·Memᴰ·head, List·Memᴰ·tail, Memᴰ·of-map}
 use Prim.Native.Nat.{ℕ, zero, suc, _+_, _≤_, _<_, min}
 use native.Mathlib.Omega.{arith}
-use lib.Dec.{T, leb, ltb, eqb}
+use lib.Dec.{T, leb, ltb}
 use lib.ListN.{length, take, drop, take-append-drop, length-drop}
-use Rattle.words.specs.Lists.{_∈_, concat, filter}
-use Rattle.words.proofs.Lists.{Decides, answered, leb-decides, eqb-decides, not-decides, and-decides, or-decides, any-decides, all-decides, keep→, keep←, joinAll→, joinAll←, by-test}
+use Rattle.words.specs.Lists.{_∈_, concat}
+use Rattle.words.proofs.Lists.{Decides, answered, leb-decides, not-decides, and-decides, or-decides, any-decides, all-decides, keep→, keep←, by-test}
 use Rattle.weights.specs.Weights.{Weighted, sum}
-use Rattle.weights.specs.Claims.{_⊑_, none, with-it, without, Reorder}
+use Rattle.weights.specs.Claims.{_⊑_, Reorder}
 use Rattle.weights.proofs.Sublists as sub
 use Rattle.weights.proofs.Minimal.{ltb-decides}
 use Rattle.weights.proofs.Reordered.{as-it-was}
@@ -19,79 +19,25 @@ use Rattle.aspif.specs.AnswerSets.{AnswerSet}
 use Rattle.derivation.specs.Claims.{NoneAsWritten}
 use Rattle.derivation.proofs.AsWritten.{soundness-as-written}
 use Rattle.sums.specs.Plans.{joined, pairsOf, levelsOf, Item, written, allNeeds, program, allDefinitions}
-use Rattle.sums.specs.Levels.{SumShape, few, both, pairsIn, once, together, sumsOf, attained, isUseful, useful, levelled, dividedBy, isShort, chain, chained, planBody, planned, splitProgram, chunks}
+use Rattle.sums.specs.Levels.{SumShape, few, both, pairsIn, sumsOf, levelsFor, isUseful, useful, levelled, dividedBy, isShort, chain, chained, planBody, planned, splitProgram, chunks}
 use Rattle.sums.specs.Extension.{UpTo, Extended}
 use Rattle.sums.specs.Claims.{ReachedByLevels, EnoughLevels, WellPlanned, LevelledEnough, LevelsWithin, Shaping, InGroups, PlannedIs, ProgramSound, ProofOfSplit, ProgramKeeps, ProgramConserves, ProgramDetermines, ProgramAtoms}
 use Rattle.sums.proofs.Lowest.{Lowest, lowest-at}
-use Rattle.sums.proofs.Nodes.{Cut, cut, sum-both}
+use Rattle.sums.proofs.Attained.{sums-in, sums-low, sums-both}
 use Rattle.sums.proofs.Split.{split-keeps, split-conserves, split-determines, split-sound, split-within}
-
--- Sums that can come about
-
-once-in : {x : ℕ} {l : List ℕ} → x ∈ l → x ∈ once l
-unfolding once
-once-in (List·Memᴰ·head e) = List·Memᴰ·head e
-once-in {x} (List·Memᴰ·tail {x = y} {xs = l} i) = go (answered (eqb y x)) (once-in i)
-  where
-    go : T (eqb y x) ⊎ T (not (eqb y x)) → x ∈ once l → x ∈ y ∷ filter (λ z. not (eqb y z)) (once l)
-    go (inl t) j = List·Memᴰ·head (sym (eqb-decides y x .to t))
-    go (inr t) j = List·Memᴰ·tail (keep← (λ z. not (eqb y z)) j t)
-
-once-of : {x : ℕ} (l : List ℕ) → x ∈ once l → x ∈ l
-unfolding once
-once-of [] i = i
-once-of (y ∷ l) (List·Memᴰ·head e) = List·Memᴰ·head e
-once-of (y ∷ l) (List·Memᴰ·tail i) = List·Memᴰ·tail (once-of l (keep→ (λ z. not (eqb y z)) (once l) i .0))
-
-module _ (b : ℕ) (us vs : List ℕ) where
-  together-in : {u v : ℕ} → u ∈ us → v ∈ vs → min b (u + v) ∈ together b us vs
-  unfolding together
-  together-in {u} i j = once-in (joinAll← (Memᴰ·map (λ u. map (λ v. min b (u + v)) vs) i) (Memᴰ·map (λ v. min b (u + v)) j))
-
-  together-low : {x : ℕ} → x ∈ together b us vs → x ≤ b
-  unfolding together
-  together-low {x} i =
-      let r = joinAll→ (map (λ u. map (λ v. min b (u + v)) vs) us) (once-of _ i) in
-      let u = Memᴰ·of-map (λ u. map (λ v. min b (u + v)) vs) us (r .1) in
-      let v = Memᴰ·of-map (λ v. min b (u .0 + v)) vs (subst (λ l. x ∈ l) (sym (u .2)) (r .2)) in
-      let e = v .2 in
-      omega arith
-
-sums-in : (b : ℕ) {s l : List Weighted} → s ⊑ l → min b (sum s) ∈ sumsOf b l
-unfolding sumsOf
-sums-in b none = let e : min b 0 ≡ 0 = omega arith in List·Memᴰ·head e
-sums-in b (with-it {x = x} {s = s} {l = l} h) =
-    let e : min b (x .weight + min b (sum s)) ≡ min b (x .weight + sum s) = omega arith in
-    subst (λ n. n ∈ together b (0 ∷ x .weight ∷ []) (sumsOf b l)) e (together-in b (0 ∷ x .weight ∷ []) (sumsOf b l) (List·Memᴰ·tail (List·Memᴰ·head refl)) (sums-in b h))
-sums-in b (without {x = x} {s = s} {l = l} h) =
-    let e : min b (0 + min b (sum s)) ≡ min b (sum s) = omega arith in
-    subst (λ n. n ∈ together b (0 ∷ x .weight ∷ []) (sumsOf b l)) e (together-in b (0 ∷ x .weight ∷ []) (sumsOf b l) (List·Memᴰ·head refl) (sums-in b h))
-
-attained-in : (b : ℕ) (s : SumShape) {t : List Weighted} → t ⊑ pairsIn s → min b (sum t) ∈ attained b s
-unfolding attained
-attained-in b (few l) h = sums-in b h
-attained-in b (both p q) {t} h = go (cut (pairsIn p) (pairsIn q) h) (λ u o. attained-in b p o) (λ u o. attained-in b q o)
-  where
-    go : Cut t (pairsIn p) (pairsIn q) → ((u : List Weighted) → u ⊑ pairsIn p → min b (sum u) ∈ attained b p)
-        → ((u : List Weighted) → u ⊑ pairsIn q → min b (sum u) ∈ attained b q) → min b (sum t) ∈ together b (attained b p) (attained b q)
-    go c left right =
-        let d : sum t ≡ sum (c .first) + sum (c .second) = ap sum (c .is) ∙ sum-both (c .first) (c .second) in
-        let e : min b (min b (sum (c .first)) + min b (sum (c .second))) ≡ min b (sum t) = omega arith in
-        subst (λ n. n ∈ together b (attained b p) (attained b q)) e
-        (together-in b (attained b p) (attained b q) (left (c .first) (c .of-first)) (right (c .second) (c .of-second)))
 
 -- Levels
 
-pub levelled-pairs : (b : ℕ) (others : List ℕ) (s : SumShape) → pairsOf (levelled b others s) ≡ pairsIn s
+pub levelled-pairs : (b : ℕ) (rest : List Weighted) (s : SumShape) → pairsOf (levelled b rest s) ≡ pairsIn s
 unfolding levelled
-levelled-pairs b others (few l) = refl
-levelled-pairs b others (both s t) =
-    ap₂ (λ (k l : List Weighted). k ++ l) (levelled-pairs b (together b others (attained b t)) s) (levelled-pairs b (together b others (attained b s)) t)
+levelled-pairs b rest (few l) = refl
+levelled-pairs b rest (both s t) =
+    ap₂ (λ (k l : List Weighted). k ++ l) (levelled-pairs b (pairsIn t ++ rest) s) (levelled-pairs b (pairsIn s ++ rest) t)
 
-levelled-levels : (b : ℕ) (others : List ℕ) (s : SumShape) → levelsOf (levelled b others s) ≡ useful b others (attained b s)
-unfolding levelled
-levelled-levels b others (few l) = refl
-levelled-levels b others (both s t) = refl
+levelled-levels : (b : ℕ) (rest : List Weighted) (s : SumShape) → levelsOf (levelled b rest s) ≡ useful b (sumsOf b rest) (sumsOf b (pairsIn s))
+unfolding levelled levelsFor
+levelled-levels b rest (few l) = refl
+levelled-levels b rest (both s t) = refl
 
 -- u reaches the bound beside o, and nothing lower of us does
 abbrev Differs : (b o : ℕ) (us : List ℕ) (u : ℕ) → Type 0
@@ -105,35 +51,29 @@ useful-decides b others us u =
 
 -- Levels are within the bound
 
-sums-low : (b : ℕ) (l : List Weighted) {u : ℕ} → u ∈ sumsOf b l → u ≤ b
-unfolding sumsOf
-sums-low b [] i = let e = List·Memᴰ·eq-of-singleton i in omega arith
-sums-low b (x ∷ l) i = together-low b (0 ∷ x .weight ∷ []) (sumsOf b l) i
-
-attained-low : (b : ℕ) (s : SumShape) {u : ℕ} → u ∈ attained b s → u ≤ b
-unfolding attained
-attained-low b (few l) i = sums-low b l i
-attained-low b (both s t) i = together-low b (attained b s) (attained b t) i
-
 pub levels-within : LevelsWithin
-levels-within b others s t i =
-    let x = keep→ (isUseful b others (attained b s)) (attained b s) (subst (λ l. t ∈ l) (levelled-levels b others s) i) in
-    (useful-decides b others (attained b s) t .to (x .1) .0, attained-low b s (x .0))
+levels-within b rest s t i =
+    let us = sumsOf b (pairsIn s) in
+    let x = keep→ (isUseful b (sumsOf b rest) us) us (subst (λ l. t ∈ l) (levelled-levels b rest s) i) in
+    (useful-decides b (sumsOf b rest) us t .to (x .1) .0, sums-low b (pairsIn s) (x .0))
 
 -- The levels are enough
 
 -- the level of a side that is enough beside o, where a is
-record Level (b : ℕ) (others : List ℕ) (s : SumShape) (o a : ℕ) : Type 0 where
+record Level (b : ℕ) (rest : List Weighted) (s : SumShape) (o a : ℕ) : Type 0 where
   at : ℕ
-  came : at ∈ attained b s
-  among : at ∈ 0 ∷ levelsOf (levelled b others s)
+  came : at ∈ sumsOf b (pairsIn s)
+  among : at ∈ 0 ∷ levelsOf (levelled b rest s)
   lower : at ≤ a
   reaches : b ≤ at + o
 
-level-at : (b : ℕ) (others : List ℕ) (s : SumShape) (o a : ℕ) → o ∈ others → a ∈ attained b s → b ≤ a + o → Level b others s o a
-level-at b others s o a i j h = go (lowest-at (λ n. n) (λ v. leb b (v + o)) (attained b s) a j (leb-decides b (a + o) .from h))
+level-at : (b : ℕ) (rest : List Weighted) (s : SumShape) (o a : ℕ) → o ∈ sumsOf b rest → a ∈ sumsOf b (pairsIn s) → b ≤ a + o → Level b rest s o a
+level-at b rest s o a i j h = go (lowest-at (λ n. n) (λ v. leb b (v + o)) us a j (leb-decides b (a + o) .from h))
   where
-    go : Lowest (λ n. n) (λ v. leb b (v + o)) (attained b s) → Level b others s o a
+    us : List ℕ
+    us = sumsOf b (pairsIn s)
+
+    go : Lowest (λ n. n) (λ v. leb b (v + o)) us → Level b rest s o a
     go d =
         record {
           at = d .one;
@@ -146,32 +86,33 @@ level-at b others s o a i j h = go (lowest-at (λ n. n) (λ v. leb b (v + o)) (a
         reach : b ≤ d .one + o
         reach = leb-decides b (d .one + o) .to (d .passes)
 
-        lowest-one : (v : ℕ) → v ∈ attained b s → (d .one ≤ v) ⊎ (v + o < b)
+        lowest-one : (v : ℕ) → v ∈ us → (d .one ≤ v) ⊎ (v + o < b)
         lowest-one v k = pick (answered (leb b (v + o)))
           where
             pick : T (leb b (v + o)) ⊎ T (not (leb b (v + o))) → (d .one ≤ v) ⊎ (v + o < b)
             pick (inl t) = inl (d .least v k t)
             pick (inr t) = inr (let n = not-decides (leb-decides b (v + o)) .to t in omega arith)
 
-        place : T (ltb 0 (d .one)) ⊎ T (not (ltb 0 (d .one))) → d .one ∈ 0 ∷ levelsOf (levelled b others s)
+        place : T (ltb 0 (d .one)) ⊎ T (not (ltb 0 (d .one))) → d .one ∈ 0 ∷ levelsOf (levelled b rest s)
         place (inl t) =
-            List·Memᴰ·tail (subst (λ l. d .one ∈ l) (sym (levelled-levels b others s))
-            (keep← (isUseful b others (attained b s)) (d .among)
-            (useful-decides b others (attained b s) (d .one) .from (ltb-decides 0 (d .one) .to t, (o, i, (reach, lowest-one))))))
+            List·Memᴰ·tail (subst (λ l. d .one ∈ l) (sym (levelled-levels b rest s))
+            (keep← (isUseful b (sumsOf b rest) us) (d .among)
+            (useful-decides b (sumsOf b rest) us (d .one) .from (ltb-decides 0 (d .one) .to t, (o, i, (reach, lowest-one))))))
         place (inr t) = let n = not-decides (ltb-decides 0 (d .one)) .to t in let e : d .one ≡ 0 = omega arith in List·Memᴰ·head e
 
-module _ (b : ℕ) (others : List ℕ) (s t : SumShape) where
-  abbrev lefts : List ℕ
-  lefts = together b others (attained b t)
+module _ (b : ℕ) (rest : List Weighted) (s t : SumShape) where
+  abbrev lefts : List Weighted
+  lefts = pairsIn t ++ rest
 
-  abbrev rights : List ℕ
-  rights = together b others (attained b s)
+  abbrev rights : List Weighted
+  rights = pairsIn s ++ rest
 
   -- a level of the node that makes a difference beside o is reached by levels of the two sides
-  reached-by-levels : (n o : ℕ) → o ∈ others → b ≤ n + o → ((v : ℕ) → v ∈ together b (attained b s) (attained b t) → (n ≤ v) ⊎ (v + o < b))
+  reached-by-levels : (n o : ℕ) → o ∈ sumsOf b rest → b ≤ n + o → ((v : ℕ) → v ∈ sumsOf b (pairsIn s ++ pairsIn t) → (n ≤ v) ⊎ (v + o < b))
       → (u v : List Weighted) → u ⊑ pairsIn s → v ⊑ pairsIn t → n ≤ sum u + sum v
       → ReachedByLevels n (levelsOf (levelled b lefts s)) (levelsOf (levelled b rights t)) (sum u) (sum v)
-  reached-by-levels n o i h f u v p q g = first (level-at b lefts s (min b (o + c)) a (together-in b others (attained b t) i (attained-in b t q)) (attained-in b s p) (omega arith))
+  reached-by-levels n o i h f u v p q g =
+      first (level-at b lefts s (min b (c + o)) a (sums-both b (pairsIn t) rest (sums-in b q) i) (sums-in b p) (omega arith))
     where
       a : ℕ
       a = min b (sum u)
@@ -179,22 +120,22 @@ module _ (b : ℕ) (others : List ℕ) (s t : SumShape) where
       c : ℕ
       c = min b (sum v)
 
-      first : Level b lefts s (min b (o + c)) a → ReachedByLevels n (levelsOf (levelled b lefts s)) (levelsOf (levelled b rights t)) (sum u) (sum v)
+      first : Level b lefts s (min b (c + o)) a → ReachedByLevels n (levelsOf (levelled b lefts s)) (levelsOf (levelled b rights t)) (sum u) (sum v)
       first x =
           let r = x .reaches in
-          second (level-at b rights t (min b (o + x .at)) c (together-in b others (attained b s) i (x .came)) (attained-in b t q) (omega arith))
+          second (level-at b rights t (min b (x .at + o)) c (sums-both b (pairsIn s) rest (x .came) i) (sums-in b q) (omega arith))
         where
-          second : Level b rights t (min b (o + x .at)) c → ReachedByLevels n (levelsOf (levelled b lefts s)) (levelsOf (levelled b rights t)) (sum u) (sum v)
+          second : Level b rights t (min b (x .at + o)) c → ReachedByLevels n (levelsOf (levelled b lefts s)) (levelsOf (levelled b rights t)) (sum u) (sum v)
           second y =
               let k = x .lower in
               let l = y .lower in
-              (x .at, x .among, omega arith, (y .at, y .among, omega arith, last (f (min b (x .at + y .at)) (together-in b (attained b s) (attained b t) (x .came) (y .came)))))
+              (x .at, x .among, omega arith, (y .at, y .among, omega arith, last (f (min b (x .at + y .at)) (sums-both b (pairsIn s) (pairsIn t) (x .came) (y .came)))))
             where
               last : (n ≤ min b (x .at + y .at)) ⊎ (min b (x .at + y .at) + o < b) → n ≤ x .at + y .at
               last (inl m) = omega arith
               last (inr m) = let r = y .reaches in absurd (omega arith)
 
-  joined-enough : (ts : List ℕ) → ((n : ℕ) → n ∈ ts → (o : ℕ) × (o ∈ others) × Differs b o (together b (attained b s) (attained b t)) n)
+  joined-enough : (ts : List ℕ) → ((n : ℕ) → n ∈ ts → (o : ℕ) × (o ∈ sumsOf b rest) × Differs b o (sumsOf b (pairsIn s ++ pairsIn t)) n)
       → EnoughLevels (levelled b lefts s) → EnoughLevels (levelled b rights t) → EnoughLevels (joined ts (levelled b lefts s) (levelled b rights t))
   joined-enough ts f c d = (
     c,
@@ -204,13 +145,13 @@ module _ (b : ℕ) (others : List ℕ) (s t : SumShape) where
   )
 
 pub levelled-enough : LevelledEnough
-unfolding levelled attained
-levelled-enough b others (few l) = tt
-levelled-enough b others (both s t) =
-    joined-enough b others s t (useful b others (attained b (both s t)))
-    (λ n i. let x = keep→ (isUseful b others (attained b (both s t))) (attained b (both s t)) i in
-    useful-decides b others (attained b (both s t)) n .to (x .1) .1)
-    (levelled-enough b (together b others (attained b t)) s) (levelled-enough b (together b others (attained b s)) t)
+unfolding levelled levelsFor
+levelled-enough b rest (few l) = tt
+levelled-enough b rest (both s t) =
+    let others = sumsOf b rest in
+    let us = sumsOf b (pairsIn s ++ pairsIn t) in
+    joined-enough b rest s t (useful b others us) (λ n i. let x = keep→ (isUseful b others us) us i in useful-decides b others us n .to (x .1) .1)
+    (levelled-enough b (pairsIn t ++ rest) s) (levelled-enough b (pairsIn s ++ rest) t)
 
 -- Items
 
@@ -219,17 +160,18 @@ record Covers (r : InputRule) (i : Item) : Type 0 where
   well-planned : WellPlanned i
 
 divided-covers : (r : InputRule) (b : ℕ) (l : List Weighted) → r .body ≡ weights b l → (s : SumShape) → Reorder l (pairsIn s) → Covers r (dividedBy r b l s)
+unfolding sumsOf
 divided-covers r b l e (few k) o = record { is = refl; well-planned = tt }
 divided-covers r b l e (both s t) o =
     record {
       is = ap (λ c. record { kind = r .kind; heads = r .heads; body = c }) (sym e);
       well-planned = (
         subst (Reorder l) (sym (ap₂ (λ (k l : List Weighted). k ++ l) (levelled-pairs b _ s) (levelled-pairs b _ t))) o,
-        joined-enough b (0 ∷ []) s t (b ∷ []) bound-differs (levelled-enough b _ s) (levelled-enough b _ t),
+        joined-enough b [] s t (b ∷ []) bound-differs (levelled-enough b _ s) (levelled-enough b _ t),
       );
     }
   where
-    bound-differs : (n : ℕ) → n ∈ b ∷ [] → (o : ℕ) × (o ∈ 0 ∷ []) × Differs b o (together b (attained b s) (attained b t)) n
+    bound-differs : (n : ℕ) → n ∈ b ∷ [] → (o : ℕ) × (o ∈ sumsOf b []) × Differs b o (sumsOf b (pairsIn s ++ pairsIn t)) n
     bound-differs n i = let e = List·Memᴰ·eq-of-singleton i in (0, List·Memᴰ·head refl, (omega arith, λ v j. pick v (answered (leb n v))))
       where
         pick : (v : ℕ) → T (leb n v) ⊎ T (not (leb n v)) → (n ≤ v) ⊎ (v + 0 < b)

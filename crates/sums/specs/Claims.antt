@@ -69,7 +69,7 @@ SplitSound = (is : List Item) → ((i : Item) → i ∈ is → WellPlanned i) �
 
 -- the levels of Levels.antt are enough
 abbrev pub LevelledEnough : Type 0
-LevelledEnough = (b : ℕ) (others : List ℕ) (s : SumShape) → EnoughLevels (levelled b others s)
+LevelledEnough = (b : ℕ) (rest : List Weighted) (s : SumShape) → EnoughLevels (levelled b rest s)
 
 -- shapes of the literals, in any order
 abbrev pub Shaping : (List Weighted → SumShape) → Type 0
@@ -118,7 +118,7 @@ ProofOfSplit =
 
 -- every level of a node is above 0 and at most the bound of the sum, so within 4,095 where the bound is
 abbrev pub LevelsWithin : Type 0
-LevelsWithin = (b : ℕ) (others : List ℕ) (s : SumShape) (t : ℕ) → t ∈ levelsOf (levelled b others s) → (0 < t) × (t ≤ b)
+LevelsWithin = (b : ℕ) (rest : List Weighted) (s : SumShape) (t : ℕ) → t ∈ levelsOf (levelled b rest s) → (0 < t) × (t ≤ b)
 
 -- groups of at most 12 literals that ascend by atom
 abbrev pub Grouped : SumShape → Type 0

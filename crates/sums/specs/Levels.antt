@@ -1,11 +1,11 @@
 -- Which levels a plan has, and how a program is split. A node has a level for each sum of its literals that makes a difference to the bound.
 -- Assumes nothing.
-use mathlib.Core.Bool.{Bool, cond, not, _&&_, _||_}
+use mathlib.Core.Bool.{Bool, cond, _&&_, _||_}
 use mathlib.Core.List.{List, [], _∷_, _++_, map}
-use Prim.Native.Nat.{ℕ, zero, suc, _+_, min}
-use lib.Dec.{leb, ltb, eqb}
+use Prim.Native.Nat.{ℕ, zero, suc, _+_, _≤_}
+use lib.Dec.{leb, ltb}
 use lib.ListN.{length, take, drop}
-use Rattle.words.specs.Lists.{concat, any, all, filter}
+use Rattle.words.specs.Lists.{any, all, filter}
 use Rattle.words.specs.Literals.{variable}
 use Rattle.weights.specs.Weights.{Weighted, mostWeighted}
 use Rattle.aspif.specs.Rules.{Body, plain, weights, InputRule}
@@ -20,23 +20,32 @@ abbrev pub pairsIn : SumShape → List Weighted
 pairsIn (few l) = l
 pairsIn (both s t) = pairsIn s ++ pairsIn t
 
--- each number once
-unfoldable pub once : List ℕ → List ℕ
-once [] = []
-once (x ∷ l) = x ∷ filter (λ y. not (eqb x y)) (once l)
+-- numbers that ascend: each above the one before, the first at least `low`
+abbrev pub Ascending : (low : ℕ) → List ℕ → Type 0
+Ascending low [] = Unit {0}
+Ascending low (u ∷ us) = (low ≤ u) × Ascending (suc u) us
 
--- a number of each list, added up, and no more than b
-unfoldable pub together : (b : ℕ) → List ℕ → List ℕ → List ℕ
-together b us vs = once (concat (map (λ u. map (λ v. min b (u + v)) vs) us))
+-- two ascending lists in one, each number once; as many turns as there are numbers are enough
+unfoldable pub merge : (turns : ℕ) → List ℕ → List ℕ → List ℕ
+merge zero us vs = []
+merge (suc n) [] vs = vs
+merge (suc n) (u ∷ us) [] = u ∷ us
+merge (suc n) (u ∷ us) (v ∷ vs) =
+    cond (ltb u v) (u ∷ merge n us (v ∷ vs)) (cond (ltb v u) (v ∷ merge n (u ∷ us) vs) (u ∷ merge n us vs))
 
--- what the weights of some of the pairs can add up to, and no more than b
+-- numbers that ascend, each w more and no more than b: the first that comes to b is the last
+unfoldable pub raised : (b w : ℕ) → List ℕ → List ℕ
+raised b w [] = []
+raised b w (u ∷ us) = cond (ltb (u + w) b) ((u + w) ∷ raised b w us) (b ∷ [])
+
+-- the sums with a literal of weight w more: without it and with it
+unfoldable pub further : (b w : ℕ) → List ℕ → List ℕ
+further b w us = merge (length us + length us) us (raised b w us)
+
+-- what the weights of some of the pairs can add up to, and no more than b, ascending
 unfoldable pub sumsOf : (b : ℕ) → List Weighted → List ℕ
 sumsOf b [] = 0 ∷ []
-sumsOf b (x ∷ l) = together b (0 ∷ x .weight ∷ []) (sumsOf b l)
-
-unfoldable pub attained : (b : ℕ) → SumShape → List ℕ
-attained b (few l) = sumsOf b l
-attained b (both s t) = together b (attained b s) (attained b t)
+sumsOf b (x ∷ l) = further b (x .weight) (sumsOf b l)
 
 -- u is above 0 and makes a difference: there is a sum of the other literals with which u reaches the bound, and nothing lower of us does
 abbrev pub isUseful : (b : ℕ) → (others us : List ℕ) → ℕ → Bool
@@ -45,18 +54,22 @@ isUseful b others us u = ltb 0 u && any (λ o. leb b (u + o) && all (λ v. leb u
 abbrev pub useful : (b : ℕ) → (others us : List ℕ) → List ℕ
 useful b others us = filter (isUseful b others us) us
 
--- the plan of a shape, for the bound b and what the literals outside it can add up to
-unfoldable pub levelled : (b : ℕ) → (others : List ℕ) → SumShape → Plan
-levelled b others (few l) = group (useful b others (attained b (few l))) l
-levelled b others (both s t) =
-    joined (useful b others (attained b (both s t))) (levelled b (together b others (attained b t)) s) (levelled b (together b others (attained b s)) t)
+-- the levels of some pairs, where the rest of the sum is `rest`
+unfoldable pub levelsFor : (b : ℕ) → (rest l : List Weighted) → List ℕ
+levelsFor b rest l = useful b (sumsOf b rest) (sumsOf b l)
+
+-- the plan of a shape, for the bound b and the pairs outside it
+unfoldable pub levelled : (b : ℕ) → (rest : List Weighted) → SumShape → Plan
+levelled b rest (few l) = group (levelsFor b rest l) l
+levelled b rest (both s t) =
+    joined (levelsFor b rest (pairsIn s ++ pairsIn t)) (levelled b (pairsIn t ++ rest) s) (levelled b (pairsIn s ++ rest) t)
 
 -- A rule whose sum is split in two: outside each side there is just the other. A shape of one group leaves the rule as
 -- it is, however long its sum: `Grouped` (Claims.antt) is what rules that out.
 abbrev pub dividedBy : InputRule → (b : ℕ) → List Weighted → SumShape → Item
 dividedBy r b l (few k) = whole r
 dividedBy r b l (both s t) =
-    divided (r .kind) (r .heads) b l (levelled b (together b (0 ∷ []) (attained b t)) s) (levelled b (together b (0 ∷ []) (attained b s)) t)
+    divided (r .kind) (r .heads) b l (levelled b (pairsIn t ++ []) s) (levelled b (pairsIn s ++ []) t)
 
 -- "at most 12 literals" (document 02, Change 3)
 abbrev pub isShort : List Weighted → Bool

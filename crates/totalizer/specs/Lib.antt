@@ -1,0 +1,3 @@
+-- What the splitting of long sums answers and leaves.
+pub mod Lists
+pub mod Emitting
