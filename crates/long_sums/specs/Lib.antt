@@ -1,0 +1,2 @@
+-- What the splitting of a program's long sums answers and leaves.
+pub mod Service
