@@ -96,6 +96,12 @@ ProgramKeeps =
     (shape : List Weighted → SumShape) → Shaping shape → (ws : List InputRule) → (M : ℕ → Type 0)
     → AnswerSet M (expand ws) → AnswerSet (Extended (atoms ws) (allDefinitions (planned shape ws)) M M) (expand (splitProgram shape ws))
 
+-- with the same old atoms,
+abbrev pub ProgramAgrees : Type 1
+ProgramAgrees =
+    (shape : List Weighted → SumShape) → Shaping shape → (ws : List InputRule) → (M : ℕ → Type 0)
+    → AnswerSet M (expand ws) → (a : ℕ) → M a ↔ UpTo (atoms ws) (Extended (atoms ws) (allDefinitions (planned shape ws)) M M) a
+
 -- of each of those the old atoms are one of the program,
 abbrev pub ProgramConserves : Type 1
 ProgramConserves =
