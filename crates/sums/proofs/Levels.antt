@@ -18,13 +18,13 @@ use Rattle.aspif.specs.Rules.{Body, plain, weights, InputRule, expand, atoms}
 use Rattle.aspif.specs.AnswerSets.{AnswerSet}
 use Rattle.derivation.specs.Claims.{NoneAsWritten}
 use Rattle.derivation.proofs.AsWritten.{soundness-as-written}
-use Rattle.sums.specs.Plans.{joined, pairsOf, levelsOf, Item, written, allNeeds, program, allDefinitions}
+use Rattle.sums.specs.Plans.{joined, pairsOf, levelsOf, Item, written, allNeeds, program, split, allDefinitions}
 use Rattle.sums.specs.Levels.{SumShape, few, both, pairsIn, sumsOf, levelsFor, isUseful, useful, levelled, dividedBy, isShort, chain, chained, planBody, planned, splitProgram, chunks}
 use Rattle.sums.specs.Extension.{UpTo, Extended}
 use Rattle.sums.specs.Claims.{ReachedByLevels, EnoughLevels, WellPlanned, LevelledEnough, LevelsWithin, Shaping, InGroups, PlannedIs, ProgramSound, ProofOfSplit, ProgramKeeps, ProgramConserves, ProgramDetermines, ProgramAtoms}
 use Rattle.sums.proofs.Lowest.{Lowest, lowest-at}
 use Rattle.sums.proofs.Attained.{sums-in, sums-low, sums-both}
-use Rattle.sums.proofs.Split.{split-keeps, split-conserves, split-determines, split-sound, split-within}
+use Rattle.sums.proofs.Split.{split-keeps, split-conserves, split-determines, split-sound, split-within, split-reaches}
 
 -- Levels
 
@@ -218,7 +218,10 @@ program-determines shape g ws K s =
     (split-determines (planned shape ws) (all-well-planned shape g ws) K s)
 
 pub program-atoms : ProgramAtoms
-program-atoms shape g ws = subst (λ us. atoms (splitProgram shape ws) ≤ atoms us + allNeeds (planned shape ws)) (planned-is shape g ws) (split-within (planned shape ws) (all-well-planned shape g ws))
+program-atoms shape g ws =
+    let is = planned shape ws in
+    let e : atoms (split is) ≡ atoms (program is) + allNeeds is = omega (arith, split-within is (all-well-planned shape g ws), split-reaches is) in
+    subst (λ us. atoms (splitProgram shape ws) ≡ atoms us + allNeeds is) (planned-is shape g ws) e
 
 -- Groups of one size
 
