@@ -25,7 +25,7 @@ use Rattle.sums.specs.Claims.{ReachedByLevels, EnoughLevels, WellPlanned
 use Rattle.sums.proofs.Lowest.{Lowest, lowest-at}
 use Rattle.sums.proofs.Attained.{sums-in, sums-low, sums-both}
 use Rattle.sums.proofs.Extension.{extension-agrees}
-use Rattle.sums.proofs.Split.{extends, split-keeps, split-conserves, split-determines, split-sound, split-within}
+use Rattle.sums.proofs.Split.{extends, split-keeps, split-conserves, split-determines, split-sound, split-within, split-reaches}
 
 -- Levels
 
@@ -226,7 +226,10 @@ program-determines shape g ws K s =
     (split-determines (planned shape ws) (all-well-planned shape g ws) K s)
 
 pub program-atoms : ProgramAtoms
-program-atoms shape g ws = subst (λ us. atoms (splitProgram shape ws) ≤ atoms us + allNeeds (planned shape ws)) (planned-is shape g ws) (split-within (planned shape ws) (all-well-planned shape g ws))
+program-atoms shape g ws =
+    let is = planned shape ws in
+    let e : atoms (split is) ≡ atoms (program is) + allNeeds is = omega (arith, split-within is (all-well-planned shape g ws), split-reaches is) in
+    subst (λ us. atoms (splitProgram shape ws) ≡ atoms us + allNeeds is) (planned-is shape g ws) e
 
 -- Groups of one size
 

@@ -142,10 +142,10 @@ SplitFormed =
     → (ws : List InputRule) → ((r : InputRule) → r ∈ ws → FormedWithin mostLiterals r)
     → atoms (splitProgram shape ws) ≤ largest → (r : InputRule) → r ∈ splitProgram shape ws → FormedWithin mostWeighted r
 
--- no atom is above those of the program and as many new ones as the plans have levels
+-- the largest atom: as many new ones as the plans have levels stand above those of the program
 abbrev pub ProgramAtoms : Type 0
 ProgramAtoms =
-    (shape : List Weighted → SumShape) → Shaping shape → (ws : List InputRule) → atoms (splitProgram shape ws) ≤ atoms ws + allNeeds (planned shape ws)
+    (shape : List Weighted → SumShape) → Shaping shape → (ws : List InputRule) → atoms (splitProgram shape ws) ≡ atoms ws + allNeeds (planned shape ws)
 
 -- so the reader takes the text of the split program and reads just that program, where it has not too many atoms, rules and words: nothing is
 -- claimed of how many it has. Question 1, of the length of the text, is not put by `readLines`.
