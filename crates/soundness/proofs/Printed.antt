@@ -13,15 +13,16 @@ use Rattle.words.specs.Limits.{longest, widest, entries}
 use Rattle.words.specs.Lists.{_∈_, ascends}
 use Rattle.words.proofs.Lists.{zero-one}
 use Rattle.text.specs.Strings.{bytes}
+use Rattle.weights.specs.Weights.{mostWeighted}
 use Rattle.aspif.specs.Rules.{InputRule, expand, atoms}
 use Rattle.aspif.specs.AnswerSets.{AnswerSet}
-use Rattle.aspif.specs.Reading.{Reading, refused, program, readText, programAnswer, tableOf}
+use Rattle.aspif.specs.Reading.{Reading, refused, program, readTextWithin, readText, programAnswer, tableOf}
 use Rattle.aspif.specs.Tables.{rulesOf}
 use Rattle.aspif.specs.Text.{programText}
 use Rattle.aspif.specs.declared.ProgramReading.the-variants.{Read}
 use Rattle.aspif.proofs.Formed.{read-fits}
 use Rattle.aspif.proofs.Readable.{table-back, table-read}
-use Rattle.aspif.proofs.Spelled.{sortedRule, Once, read-spelled}
+use Rattle.aspif.proofs.Spelled.{sortedRule, Once, within-spelled, read-spelled}
 use Rattle.answer_set.specs.declared.SetAnswer.the-variants.{Yes}
 use Rattle.answer_set.proofs.Service.{service-yes}
 use Rattle.derivation.specs.Claims.{NoneAsWritten}
@@ -42,11 +43,15 @@ pub record InOrder (ws rs : List InputRule) : Type 0 where
   pub rules : rs ≡ map sortedRule ws
   pub once : (w : InputRule) → w ∈ ws → Once w
 
-pub read-in-order : (size : ℕ) (ws rs : List InputRule) → readText size (programText ws) ≡ program rs → InOrder ws rs
-read-in-order size ws rs e =
-    let s = read-spelled size (programText ws) rs e in
+pub within-in-order : (most size : ℕ) (ws rs : List InputRule) → readTextWithin most size (programText ws) ≡ program rs → InOrder ws rs
+within-in-order most size ws rs e =
+    let s = within-spelled most size (programText ws) rs e in
     let q : s .ws ≡ ws = sym (printed-once ws (s .ws) (s .is)) in
     record { rules = s .rules ∙ ap (map sortedRule) q; once = subst (λ (l : List InputRule). (w : InputRule) → w ∈ l → Once w) q (s .once) }
+
+pub read-in-order : (size : ℕ) (ws rs : List InputRule) → readText size (programText ws) ≡ program rs → InOrder ws rs
+unfolding readText
+read-in-order size ws rs e = within-in-order mostWeighted size ws rs e
 
 -- the rules have none where those that were read have none: by the plain rules, and by the rules as they are written
 pub none-printed : {ws rs : List InputRule} → InOrder ws rs → NoneAsWritten rs → NoneAsWritten ws
@@ -54,19 +59,24 @@ none-printed {ws} o n =
     let m = subst NoneAsWritten (o .rules) n in
     (λ M S. m .0 M (sorted-set ws (o .once) M S), λ us f M S. m .1 us f M (sorted-with ws (o .once) M us S))
 
-has-none : {ws rs : List InputRule} → InOrder ws rs → NoneAsWritten rs → HasNone ws
-has-none {ws} o n =
-    let m = none-printed o n in
-    (λ M S. m .0 M (plain-set M ws S), λ us f M S. m .1 us f M (plain-set M (ws ++ us) S))
+as-printed : (ws : List InputRule) → NoneAsWritten ws → HasNone ws
+as-printed ws m = (λ M S. m .0 M (plain-set M ws S), λ us f M S. m .1 us f M (plain-set M (ws ++ us) S))
+
+pub has-none : {ws rs : List InputRule} → InOrder ws rs → NoneAsWritten rs → HasNone ws
+has-none {ws} o n = as-printed ws (none-printed o n)
 
 -- The whole check
 
 -- under every limit of question 21
+pub none-within : (limit : ℕ) (ws : List InputRule) (proof : List ℕ) (table store table′ store′ : List ℤ) (c : Counts)
+    → CheckedWithin limit (programText ws) proof table store table′ store′ (Inconsistent c) → NoneAsWritten ws
+none-within limit ws proof table store table′ store′ c e =
+    let s = service-sound limit (programText ws) proof table store table′ store′ c e in
+    none-printed (read-in-order (length table) ws (s .0) (s .1)) (s .2)
+
 sound-within : (limit : ℕ) (ws : List InputRule) (proof : List ℕ) (table store table′ store′ : List ℤ) (c : Counts)
     → CheckedWithin limit (programText ws) proof table store table′ store′ (Inconsistent c) → HasNone ws
-sound-within limit ws proof table store table′ store′ c e =
-    let s = service-sound limit (programText ws) proof table store table′ store′ c e in
-    has-none (read-in-order (length table) ws (s .0) (s .1)) (s .2)
+sound-within limit ws proof table store table′ store′ c e = as-printed ws (none-within limit ws proof table store table′ store′ c e)
 
 pub sound-printed : SoundPrinted
 sound-printed = sound-within longest

@@ -1,7 +1,8 @@
 -- The answer sets of a program as it is written, and what the services say of it by their contracts,
 -- over its text (specs/Text.antt of `aspif`). No reader and no table is spoken of, and no plain rules.
 -- docs/READING.md leads here. The claims are proved in proofs/Printed.antt, Once.antt
--- (`PrintedOnce`), Direct.antt (`SameAnswerSets`), Cheapest.antt and Returned.antt (services for C).
+-- (`PrintedOnce`), Direct.antt (`SameAnswerSets`), Split.antt, Cheapest.antt and Returned.antt
+-- (services for C).
 -- Assumes nothing.
 use mathlib.Core.Path.{_≡_}
 use mathlib.Core.Logic.{_↔_}
@@ -9,7 +10,7 @@ use mathlib.Core.Bool.{true}
 use mathlib.Core.List.{List, _∷_, _++_}
 use Prim.Native.Nat.{ℕ, suc, _≤_}
 use lib.IntN.{ℤ, pos, negsuc}
-use lib.ListN.{length}
+use lib.ListN.{length, take}
 use Rattle.words.specs.Limits.{entries}
 use Rattle.words.specs.Lists.{_∈_, ascends}
 use Rattle.text.specs.Strings.{bytes}
@@ -29,6 +30,8 @@ use Rattle.checker.specs.Check.{CheckedTexts, CheckedLong}
 use Rattle.checker.specs.Report.{printed}
 use Rattle.checker.specs.declared.Counts.{Counts}
 use Rattle.checker.specs.declared.Verdict.the-variants.{Inconsistent}
+use Rattle.long_sums.specs.Service.{SplitSums}
+use Rattle.long_sums.specs.declared.SplitAnswer.the-variants.{Split}
 use Rattle.costs.specs.Costs.{Costs}
 use Rattle.cheapest.specs.Service.{CheckedCheapest}
 use Rattle.cheapest.specs.declared.CheapestAnswer.the-variants.{Cheapest}
@@ -170,6 +173,51 @@ YesReturned =
     → SetService table′ R l marks marks′ answer answer′ code
     → (code ≡ 0)
     ↔ ((ascends 0 N l ≡ true) × (length marks ≡ entries) × IsAnswerSet (λ v. v ∈ l) ws)
+
+-- Sums of up to 64 literals
+
+-- Where `split_sums`, by its contract, wrote so many bytes of the text of a program, and the whole
+-- check answers "inconsistent" of them, then the program as written has no answer set. Any group size,
+-- table, output, proof and store are meant.
+abbrev pub SoundSplit : Type 1
+SoundSplit =
+    (ws : List InputRule) (group : ℕ) (table table′ : List ℤ) (output output′ : List ℕ)
+    (bytes atoms rules N : ℕ)
+    → SplitSums (programText ws) group table table′ output output′ (Split bytes atoms rules N)
+    → (proof : List ℕ) (words store words′ store′ : List ℤ) (c : Counts)
+    → CheckedTexts (take bytes output′) proof words store words′ store′ (Inconsistent c) → HasNone ws
+
+-- The same where the long check answers it
+abbrev pub SoundSplitLong : Type 1
+SoundSplitLong =
+    (ws : List InputRule) (group : ℕ) (table table′ : List ℤ) (output output′ : List ℕ)
+    (bytes atoms rules N : ℕ)
+    → SplitSums (programText ws) group table table′ output output′ (Split bytes atoms rules N)
+    → (proof : List ℕ) (words store words′ store′ : List ℤ) (memory memory′ : List ℕ) (c : Counts)
+    → CheckedLong (take bytes output′) proof words store words′ store′ memory memory′ (Inconsistent c)
+    → HasNone ws
+
+-- Where the reader took what `split_sums` wrote, and the set test says yes of a set: the atoms of the
+-- set up to N, as `split_sums` told it, are an answer set of the program as written
+abbrev pub YesSplit : Type 0
+YesSplit =
+    (ws : List InputRule) (group : ℕ) (table table′ : List ℤ) (output output′ : List ℕ)
+    (bytes atoms rules N : ℕ)
+    → SplitSums (programText ws) group table table′ output output′ (Split bytes atoms rules N)
+    → (words words′ : List ℤ) (A R : ℕ) → ProgramRead (take bytes output′) words words′ (Read A R)
+    → (l marks marks′ : List ℕ) → SetTested words′ R l marks marks′ Yes
+    → IsAnswerSet (λ v. (v ≤ N) × (v ∈ l)) ws
+
+-- And every answer set is found so: what was written is the text of a program, of which each answer
+-- set of the program as written has an extension that is one, with the same atoms up to N
+abbrev pub FoundSplit : Type 1
+FoundSplit =
+    (ws : List InputRule) (group : ℕ) (table table′ : List ℤ) (output output′ : List ℕ)
+    (bytes atoms rules N : ℕ)
+    → SplitSums (programText ws) group table table′ output output′ (Split bytes atoms rules N)
+    → (vs : List InputRule) × (take bytes output′ ≡ programText vs)
+    × ((M : ℕ → Type 0) → IsAnswerSet M ws
+    → (K : ℕ → Type 0) × IsAnswerSet K vs × ((a : ℕ) → M a ↔ ((a ≤ N) × K a)))
 
 -- The cheapest answer set: document 02, Change 12
 
