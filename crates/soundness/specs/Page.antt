@@ -35,7 +35,7 @@ use Rattle.long_sums.specs.declared.SplitAnswer.the-variants.{Split}
 use Rattle.costs.specs.Costs.{Costs}
 use Rattle.cheapest.specs.Service.{CheckedCheapest}
 use Rattle.cheapest.specs.declared.CheapestAnswer.the-variants.{Cheapest}
-use Rattle.exports.specs.Services.{ProgramService, SetService, CheckService, LongService, CheapestService}
+use Rattle.exports.specs.Services.{ProgramService, SetService, CheckService, LongService, CheapestService, SplitService}
 
 -- Answer sets: document 01, 'Answer sets', of rules as they are written. A set is any predicate on
 -- numbers.
@@ -215,6 +215,49 @@ FoundSplit =
     (ws : List InputRule) (group : ℕ) (table table′ : List ℤ) (output output′ : List ℕ)
     (bytes atoms rules N : ℕ)
     → SplitSums (programText ws) group table table′ output output′ (Split bytes atoms rules N)
+    → (vs : List InputRule) × (take bytes output′ ≡ programText vs)
+    × ((M : ℕ → Type 0) → IsAnswerSet M ws
+    → (K : ℕ → Type 0) × IsAnswerSet K vs × ((a : ℕ) → M a ↔ ((a ≤ N) × K a)))
+
+-- The same of the services for C and Rust: where `aspdrupe_split_sums` returned 0, and its buffer
+-- then begins with the bytes, two numbers and N, and another service returns 0 of what was written
+abbrev pub SoundSplitReturned : Type 1
+SoundSplitReturned =
+    (ws : List InputRule) (group : ℕ) (table table′ : List ℤ) (output output′ before more : List ℕ)
+    (bytes atoms rules N : ℕ)
+    → SplitService (programText ws) group table table′ output output′ before
+    (bytes ∷ atoms ∷ rules ∷ N ∷ more) 0
+    → (proof : List ℕ) (words store words′ store′ : List ℤ) (answer answer′ : List ℕ)
+    → CheckService (take bytes output′) proof words store words′ store′ answer answer′ 0
+    → HasNone ws
+
+abbrev pub SoundSplitLongReturned : Type 1
+SoundSplitLongReturned =
+    (ws : List InputRule) (group : ℕ) (table table′ : List ℤ) (output output′ before more : List ℕ)
+    (bytes atoms rules N : ℕ)
+    → SplitService (programText ws) group table table′ output output′ before
+    (bytes ∷ atoms ∷ rules ∷ N ∷ more) 0
+    → (proof : List ℕ) (words store words′ store′ : List ℤ) (memory memory′ answer answer′ : List ℕ)
+    → LongService (take bytes output′) proof words store words′ store′ memory memory′ answer answer′ 0
+    → HasNone ws
+
+abbrev pub YesSplitReturned : Type 0
+YesSplitReturned =
+    (ws : List InputRule) (group : ℕ) (table table′ : List ℤ) (output output′ before more : List ℕ)
+    (bytes atoms rules N : ℕ)
+    → SplitService (programText ws) group table table′ output output′ before
+    (bytes ∷ atoms ∷ rules ∷ N ∷ more) 0
+    → (words words′ : List ℤ) (first rest : List ℕ) (A R : ℕ)
+    → ProgramService (take bytes output′) words words′ first (A ∷ R ∷ rest) 0
+    → (l marks marks′ answer answer′ : List ℕ) → SetService words′ R l marks marks′ answer answer′ 0
+    → IsAnswerSet (λ v. (v ≤ N) × (v ∈ l)) ws
+
+abbrev pub FoundSplitReturned : Type 1
+FoundSplitReturned =
+    (ws : List InputRule) (group : ℕ) (table table′ : List ℤ) (output output′ before more : List ℕ)
+    (bytes atoms rules N : ℕ)
+    → SplitService (programText ws) group table table′ output output′ before
+    (bytes ∷ atoms ∷ rules ∷ N ∷ more) 0
     → (vs : List InputRule) × (take bytes output′ ≡ programText vs)
     × ((M : ℕ → Type 0) → IsAnswerSet M ws
     → (K : ℕ → Type 0) × IsAnswerSet K vs × ((a : ℕ) → M a ↔ ((a ≤ N) × K a)))
