@@ -69,7 +69,8 @@ fn least_model(rules: &[InputRule], set: &Marks, model: &mut Marks) {
     while changed {
         changed = false;
         for rule in rules {
-            let mut heads = rule.heads.iter().map(|head| *head as usize).filter(|head| !model[*head] && (!rule.choice || set[*head])).peekable();
+            let mut heads =
+                rule.heads.iter().map(|head| *head as usize).filter(|head| !model[*head] && (!rule.choice || set[*head])).peekable();
             if heads.peek().is_some() && holds(&rule.body, model, set) {
                 let heads: Vec<usize> = heads.collect();
                 heads.into_iter().for_each(|head| model[head] = true);

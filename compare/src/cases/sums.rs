@@ -74,7 +74,14 @@ fn worked() -> Vec<Case> {
     let any: Vec<String> = any.collect();
     vec![
         written("no rules", &[], 7, &[], 0, 0),
-        written("no long sum, any order", &["1 1 2 5 3 0 2 4 -2", "1 0 0 1 3 2 9 1 -2 2"], 2, &["1 1 2 3 5 0 2 -2 4", "1 0 0 1 3 2 -2 2 9 1"], 9, 9),
+        written(
+            "no long sum, any order",
+            &["1 1 2 5 3 0 2 4 -2", "1 0 0 1 3 2 9 1 -2 2"],
+            2,
+            &["1 1 2 3 5 0 2 -2 4", "1 0 0 1 3 2 -2 2 9 1"],
+            9,
+            9,
+        ),
         written("twelve literals", &[&format!("1 0 0 1 6 {}", units(1..=12, 1))], 2, &[&format!("1 0 0 1 6 {}", units(1..=12, 1))], 12, 12),
         written(
             "all of thirteen",
@@ -111,7 +118,10 @@ fn refused_programs() -> Vec<Case> {
     let refused = |(number, line, text): (u8, usize, Vec<u8>)| {
         let answer = RefusedProgram { number, line };
         let lent = Rooms { output: 0, ..PLENTY };
-        [case(format!("program {number}"), &text, 7, answer), Case { rooms: lent, ..case(format!("program {number}, and more"), &text, 1, answer) }]
+        [
+            case(format!("program {number}"), &text, 7, answer),
+            Case { rooms: lent, ..case(format!("program {number}, and more"), &text, 1, answer) },
+        ]
     };
     let mut cases: Vec<Case> = texts.into_iter().flat_map(refused).collect();
     let words = 5 + 2 * 13;
@@ -158,7 +168,11 @@ fn at_the_limits() -> Vec<Case> {
 
 /// A program with a long sum whose split text has just so many bytes.
 fn splitting_into(bytes: usize) -> Vec<u8> {
-    let sum = rule_line(&Rule { choice: false, heads: Vec::new(), body: Body::Weights { bound: 13, pairs: (1..=13).map(|atom| (atom, 1)).collect() } });
+    let sum = rule_line(&Rule {
+        choice: false,
+        heads: Vec::new(),
+        body: Body::Weights { bound: 13, pairs: (1..=13).map(|atom| (atom, 1)).collect() },
+    });
     let with_sum = |length| {
         let mut program = program_of_length(length);
         program.truncate(length - 2);

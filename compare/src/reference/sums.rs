@@ -38,13 +38,7 @@ pub struct Splitting {
 
 /// "Refusals, asked in this order: the program's own (1 to 11, 54, 55 at 64); a group size outside 2 to 12: 65; .. 66."
 pub fn split_sums(text: &[u8], group: usize, rooms: Rooms) -> Splitting {
-    let refused = |answer, over| Splitting {
-        answer,
-        table: vec![0; rooms.table],
-        output: vec![0; rooms.output],
-        rules: Vec::new(),
-        over,
-    };
+    let refused = |answer, over| Splitting { answer, table: vec![0; rooms.table], output: vec![0; rooms.output], rules: Vec::new(), over };
     let rules = match rules_within(text, rooms.table, PART_LIMIT as usize) {
         Ok(rules) => rules,
         Err((number, line)) => return refused(Answer::RefusedProgram { number, line }, Vec::new()),
