@@ -117,8 +117,10 @@ pub fn run_random(comparison: &mut Comparison, _: u64) {
     compare_lengths(comparison, &text, group, &found);
     let other = *comparison.random.pick(&[0, 1, 13, 14, 300]);
     comparison.split_sums(&text, other, PLENTY);
-    if let Answer::Split { old_atoms, .. } = found.answer {
+    if let Answer::Split { bytes, old_atoms, .. } = found.answer {
         compare_answer_sets(comparison, &text, &found.rules, old_atoms as i32);
+        let read_back = read(&found.output[..bytes], usize::MAX).map(|program| program.rules);
+        comparison.settle(read_back.as_ref() == Ok(&found.rules), || format!("what is written is not read so: {}", cut(&text)));
     }
 }
 
@@ -136,7 +138,7 @@ fn compare_answer_sets(comparison: &mut Comparison, text: &[u8], split: &[InputR
     compare_set_test(comparison, split, &of_split);
 }
 
-/// The set test of two of the sets, read back from the text.
+/// The set test of two of the sets.
 fn compare_set_test(comparison: &mut Comparison, split: &[InputRule], sets: &[Marks]) {
     let table = table_words(split);
     for set in sets.iter().take(2) {
