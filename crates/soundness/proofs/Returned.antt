@@ -183,7 +183,14 @@ yes-split-returned ws g table table′ output output′ before more b a r N s wo
     yes-split ws g table table′ output output′ b a r N (split-so s) words words′ A R (read-so p) l marks marks′ (record { answer = sym y; marks = t .left })
 
 pub found-split-returned : FoundSplitReturned
-found-split-returned ws g table table′ output output′ before more b a r N s = found-split ws g table table′ output output′ b a r N (split-so s)
+found-split-returned ws g table table′ output output′ before more b a r N s words words′ first rest A R p l S =
+    let f = found-split ws g table table′ output output′ b a r N (split-so s) words words′ A R (read-so p) l S in (
+      f .0,
+      f .1,
+      λ marks marks′ answer answer′ code e t.
+          t .told .returned
+          ∙ ap setCode (f .2 marks marks′ (setAnswer (f .0) (asked words′ R (f .0) (length marks))) e (record { answer = refl; marks = t .left })),
+    )
 
 -- The cheapest answer set
 

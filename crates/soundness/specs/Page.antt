@@ -208,10 +208,22 @@ YesSplit =
     → (l marks marks′ : List ℕ) → SetTested words′ R l marks marks′ Yes
     → IsAnswerSet (λ v. (v ≤ N) × (v ∈ l)) ws
 
--- And every answer set is found so: what was written is the text of a program, of which each answer
--- set of the program as written has an extension that is one, with the same atoms up to N
-abbrev pub FoundSplit : Type 1
+-- And every answer set is found so: the set test says yes of some set with the same atoms up to N
+abbrev pub FoundSplit : Type 0
 FoundSplit =
+    (ws : List InputRule) (group : ℕ) (table table′ : List ℤ) (output output′ : List ℕ)
+    (bytes atoms rules N : ℕ)
+    → SplitSums (programText ws) group table table′ output output′ (Split bytes atoms rules N)
+    → (words words′ : List ℤ) (A R : ℕ) → ProgramRead (take bytes output′) words words′ (Read A R)
+    → (l : List ℕ) → IsAnswerSet (λ v. v ∈ l) ws
+    → (k : List ℕ) × ((v : ℕ) → v ∈ l ↔ ((v ≤ N) × (v ∈ k)))
+    × ((marks marks′ : List ℕ) (r : SetAnswer) → length marks ≡ entries
+    → SetTested words′ R k marks marks′ r → r ≡ Yes)
+
+-- The same of any sets, listed or not: what was written is the text of a program, of which each answer
+-- set of the program as written has an extension that is one, with the same atoms up to N
+abbrev pub ExtendsSplit : Type 1
+ExtendsSplit =
     (ws : List InputRule) (group : ℕ) (table table′ : List ℤ) (output output′ : List ℕ)
     (bytes atoms rules N : ℕ)
     → SplitSums (programText ws) group table table′ output output′ (Split bytes atoms rules N)
@@ -252,15 +264,18 @@ YesSplitReturned =
     → (l marks marks′ answer answer′ : List ℕ) → SetService words′ R l marks marks′ answer answer′ 0
     → IsAnswerSet (λ v. (v ≤ N) × (v ∈ l)) ws
 
-abbrev pub FoundSplitReturned : Type 1
+abbrev pub FoundSplitReturned : Type 0
 FoundSplitReturned =
     (ws : List InputRule) (group : ℕ) (table table′ : List ℤ) (output output′ before more : List ℕ)
     (bytes atoms rules N : ℕ)
     → SplitService (programText ws) group table table′ output output′ before
     (bytes ∷ atoms ∷ rules ∷ N ∷ more) 0
-    → (vs : List InputRule) × (take bytes output′ ≡ programText vs)
-    × ((M : ℕ → Type 0) → IsAnswerSet M ws
-    → (K : ℕ → Type 0) × IsAnswerSet K vs × ((a : ℕ) → M a ↔ ((a ≤ N) × K a)))
+    → (words words′ : List ℤ) (first rest : List ℕ) (A R : ℕ)
+    → ProgramService (take bytes output′) words words′ first (A ∷ R ∷ rest) 0
+    → (l : List ℕ) → IsAnswerSet (λ v. v ∈ l) ws
+    → (k : List ℕ) × ((v : ℕ) → v ∈ l ↔ ((v ≤ N) × (v ∈ k)))
+    × ((marks marks′ answer answer′ : List ℕ) (code : ℕ) → length marks ≡ entries
+    → SetService words′ R k marks marks′ answer answer′ code → code ≡ 0)
 
 -- The cheapest answer set: document 02, Change 12
 
