@@ -140,9 +140,10 @@ static void make_full(void) {
 /* How many rules with twelve weights and one head fill the table. */
 #define WEIGHT_RULES (WORDS / (6 + 2 * WEIGHTED))
 
-/* Rules with as many weights as there may be, whose bodies are all of their literals but one, the last of them put aside for one by which
- * their head is a loop, and steps that go through all of them; and a line with more weights, as many as are read before it is refused. Two sums
- * of as many literals: one whose partial sums have many levels, and one with so many that the program split would have too many rules. */
+/* Rules with as many weights as there may be, whose bodies are all of their literals but one, the last of them put
+ * aside for one by which their head is a loop, and steps that go through all of them; and a line with more weights, as
+ * many as are read before it is refused. Two sums of as many literals: one whose partial sums have many levels, and one
+ * with so many that the program split would have too many rules. */
 static void make_weights(void) {
     put(&weight_rules, "asp 1 0 0\n");
     for (int i = 1; i < WEIGHT_RULES; i++) {

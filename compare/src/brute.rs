@@ -1,5 +1,5 @@
-//! Every set of atoms of a small program, tried on the plain rules that it stands for or on its sums as they are, and programs with further
-//! constraints.
+//! Every set of atoms of a small program, tried on the plain rules that it stands for or on its sums as they are, and
+//! programs with further constraints.
 
 use inputs::programs;
 use inputs::random::Random;
@@ -62,7 +62,8 @@ fn holds(body: &Body, model: &Marks, set: &Marks) -> bool {
     }
 }
 
-/// The least model of the reduct for a set, of rules as they are written: a sum of 20 literals stands for too many plain rules.
+/// The least model of the reduct for a set, of rules as they are written: a sum of 20 literals stands for too many
+/// plain rules.
 fn least_model(rules: &[InputRule], set: &Marks, model: &mut Marks) {
     model.fill(false);
     let mut changed = true;
@@ -85,8 +86,8 @@ fn keeps(rules: &[InputRule], set: &Marks) -> bool {
     rules.iter().all(|rule| rule.choice || !rule.heads.is_empty() || !holds(&rule.body, set, set))
 }
 
-/// Every answer set of a program of whose atoms only those up to `old` are negated or chosen, by its atoms up to there. A set of those decides
-/// the reduct, so each is tried with the other atoms that it makes true.
+/// Every answer set of a program of whose atoms only those up to `old` are negated or chosen, by its atoms up to there.
+/// A set of those decides the reduct, so each is tried with the other atoms that it makes true.
 pub fn answer_sets(rules: &[InputRule], old: i32) -> Vec<Marks> {
     let length = 1 + largest_atom(rules).max(old) as usize;
     let (mut set, mut model) = (vec![false; length], vec![false; length]);

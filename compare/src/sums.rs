@@ -1,5 +1,5 @@
-//! The families of long sums: cases, and random programs whose answer sets are found by trying every set of their atoms. Those of the split
-//! program, cut down to the atoms of the program as written, must be the same.
+//! The families of long sums: cases, and random programs whose answer sets are found by trying every set of their
+//! atoms. Those of the split program, cut down to the atoms of the program as written, must be the same.
 
 use crate::brute::{answer_sets, Marks};
 use crate::cases::sums::{cases, random_text, PLENTY};
@@ -124,7 +124,8 @@ pub fn run_random(comparison: &mut Comparison, _: u64) {
     }
 }
 
-/// The answer sets of both programs by the atoms of the program as written, and the set test of those of the split program.
+/// The answer sets of both programs by the atoms of the program as written, and the set test of those of the split
+/// program.
 fn compare_answer_sets(comparison: &mut Comparison, text: &[u8], split: &[InputRule], old: i32) {
     let Ok(rules) = rules_within(text, usize::MAX, PART_LIMIT as usize) else { return };
     count_kinds(comparison, &rules);

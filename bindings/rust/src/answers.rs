@@ -182,7 +182,8 @@ pub enum Splitting {
         atoms: usize,
         /// The number of its rules.
         rules: usize,
-        /// The largest atom of the program as written. An answer set of what is written has, up to there, the atoms of one of it.
+        /// The largest atom of the program as written. An answer set of what is written has, up to there, the atoms of
+        /// one of it.
         old_atoms: usize,
     },
     /// The program is refused.

@@ -211,7 +211,8 @@ questions! {
 }
 
 questions! {
-    /// A question put by the splitting of long sums, after those put to the program. A refusal names the first that is answered no.
+    /// A question put by the splitting of long sums, after those put to the program. A refusal names the first that is
+    /// answered no.
     SplitQuestion, "question put by the splitting of sums" {
         Group = 65, "Is the group size from 2 to 12?",
             "the call";

@@ -578,7 +578,8 @@ mod tests {
         });
     }
 
-    /// Thirteen literals of weight 1 that must not all hold, in groups of so many: the code, and what is left in an answer of so many numbers.
+    /// Thirteen literals of weight 1 that must not all hold, in groups of so many: the code, and what is left in an
+    /// answer of so many numbers.
     fn split(group: u64, table: usize, output: usize, size: usize) -> (u32, [u64; 6]) {
         let pairs: String = (1..=13).map(|atom| format!(" {atom} 1")).collect();
         let program = format!("asp 1 0 0\n1 0 0 1 13 13{pairs}\n0\n");

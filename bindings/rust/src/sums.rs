@@ -7,13 +7,15 @@ use crate::{codes, raw};
 /// The most bytes of a program text. As many words hold every table: no rule has more words than bytes.
 const TEXT_LIMIT: usize = 65_535;
 
-/// Writes a program with its long sums split into short ones. A sum may have 64 literals; one of more than 12 is added up in groups of so many
-/// literals, 2 to 12, those of like weight together, with new atoms above those of the program. All other rules are written as they are read. What
-/// is written has the answer sets of the program: each of its answer sets has, up to [`Splitting::Split::old_atoms`], the atoms of one of the
-/// program, and each of the program is found so once. So an 'inconsistent' for what is written is one for the program.
+/// Writes a program with its long sums split into short ones. A sum may have 64 literals; one of more than 12 is added
+/// up in groups of so many literals, 2 to 12, those of like weight together, with new atoms above those of the program.
+/// All other rules are written as they are read. What is written has the answer sets of the program: each of its answer
+/// sets has, up to [`Splitting::Split::old_atoms`], the atoms of one of the program, and each of the program is found
+/// so once. So an 'inconsistent' for what is written is one for the program.
 ///
-/// The output then begins with the text and has 0 after it, and the table holds the rules of the program as written, as [`read_program`] would
-/// leave them; both are 0 throughout where anything is refused. 65,535 bytes hold every text that is written.
+/// The output then begins with the text and has 0 after it, and the table holds the rules of the program as written, as
+/// [`read_program`] would leave them; both are 0 throughout where anything is refused. 65,535 bytes hold every text
+/// that is written.
 ///
 /// [`read_program`]: crate::read_program
 ///
@@ -26,8 +28,8 @@ const TEXT_LIMIT: usize = 65_535;
 /// let splitting = split_sums(program, 7, &mut table, &mut output)?;
 /// assert_eq!(splitting, Splitting::Split { bytes: 130, atoms: 16, rules: 4, old_atoms: 13 });
 /// // 14 where all of 1 to 7 hold, 15 where all of 8 to 13 do, 16 where both do
-/// assert!(output.starts_with(b"asp 1 0 0\n1 0 1 14 1 7 7 1 1 2 1 3 1 4 1 5 1 6 1 7 1\n1 0 1 15 1 6 6 8 1 9 1 10 1 11 1 12 1 13 1\n"));
-/// assert!(output.ends_with(b"1 0 1 16 0 2 14 15\n1 0 0 0 1 16\n0\n"));
+/// assert!(output.starts_with(b"asp 1 0 0\n1 0 1 14 1 7 7 1 1 2 1 3 1 4 1 5 1 6 1 7 1\n1 0 1 15 1 6 6 8 1 9 1 10 1"));
+/// assert!(output.ends_with(b"13 1\n1 0 1 16 0 2 14 15\n1 0 0 0 1 16\n0\n"));
 /// # Ok::<(), aspdrupe::UnknownAnswer>(())
 /// ```
 pub fn split_sums(program: &[u8], group: usize, table: &mut [i32], output: &mut [u8]) -> Result<Splitting, UnknownAnswer> {
@@ -49,8 +51,8 @@ pub fn split_sums(program: &[u8], group: usize, table: &mut [i32], output: &mut 
     codes::splitting(code, answer)
 }
 
-/// The same with a table and an output that are as long as any program needs, and the text that is written; it is empty where anything is
-/// refused. So 10 is refused of no program.
+/// The same with a table and an output that are as long as any program needs, and the text that is written; it is empty
+/// where anything is refused. So 10 is refused of no program.
 ///
 /// ```
 /// use aspdrupe::{split_program, Splitting};

@@ -1,4 +1,5 @@
-//! The fourteen services on document 01's starred examples, on rules with weights, and on buffers that are too small or empty.
+//! The fourteen services on document 01's starred examples, on rules with weights, and on buffers that are too small or
+//! empty.
 
 use aspdrupe::*;
 

@@ -1,5 +1,5 @@
-//! Programs with long sums: cases with the answer or the text that they must lead to, cases at the limits, and random programs of which all
-//! answer sets can be found by trying.
+//! Programs with long sums: cases with the answer or the text that they must lead to, cases at the limits, and random
+//! programs of which all answer sets can be found by trying.
 
 use inputs::programs::literals;
 use inputs::random::Random;
@@ -108,8 +108,8 @@ fn group_sizes() -> Vec<Case> {
     sizes.into_iter().chain(large).map(sized).collect()
 }
 
-/// Every refusal of a program, also where the group size is none and nothing is lent for the output. 55 is never given: more than 64
-/// literals are 6.
+/// Every refusal of a program, also where the group size is none and nothing is lent for the output. 55 is never given:
+/// more than 64 literals are 6.
 fn refused_programs() -> Vec<Case> {
     let mut texts: Vec<(u8, usize, Vec<u8>)> = refused_texts().into_iter().filter(|(number, ..)| *number != 55).collect();
     texts.push((6, 2, text(&[&format!("1 0 0 1 6 {}", units(1..=65, 1))]).into_bytes()));
@@ -200,8 +200,8 @@ fn text_limits() -> Vec<Case> {
     ]
 }
 
-/// A random program of 13 to 16 atoms, now and then of more: atoms that are chosen, facts, a few short rules, and sums of 13 literals or
-/// more.
+/// A random program of 13 to 16 atoms, now and then of more: atoms that are chosen, facts, a few short rules, and sums
+/// of 13 literals or more.
 pub fn random_rules(random: &mut Random) -> Vec<Rule> {
     let atoms = if random.percent(6) { random.between(17, 20) } else { random.between(13, 16) };
     let mut rules = Vec::new();
@@ -232,8 +232,8 @@ fn long_rule(random: &mut Random, atoms: i32) -> Rule {
     Rule { choice, heads, body: long_body(random, atoms) }
 }
 
-/// A sum of 13 literals or more: weights that are equal, small, of few kinds or large, some of them 0; a bound of 0, one that is just reached or
-/// just not, or any between.
+/// A sum of 13 literals or more: weights that are equal, small, of few kinds or large, some of them 0; a bound of 0,
+/// one that is just reached or just not, or any between.
 fn long_body(random: &mut Random, atoms: i32) -> Body {
     let length = random.between(13, atoms) as usize;
     let negated = *random.pick(&[0, 0, 20, 50, 100]);

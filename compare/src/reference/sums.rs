@@ -1,5 +1,6 @@
-//! Programs whose long sums are split into short ones: a tree of partial sums, a new atom for each level of each of them that makes a
-//! difference, and the rules that define the new atoms. The levels are found by trying every sum that can be reached.
+//! Programs whose long sums are split into short ones: a tree of partial sums, a new atom for each level of each of
+//! them that makes a difference, and the rules that define the new atoms. The levels are found by trying every sum that
+//! can be reached.
 
 use super::program::{largest_atom, rules_within, table_words, Body, InputRule};
 use super::{filled, LARGEST, PART_LIMIT, RULE_LIMIT, TEXT_LIMIT, WEIGHTED_LIMIT};
@@ -27,7 +28,8 @@ pub enum Limit {
     Output,
 }
 
-/// The answer, every word and byte that is left, the rules that were written, and which limits the split program is over.
+/// The answer, every word and byte that is left, the rules that were written, and which limits the split program is
+/// over.
 pub struct Splitting {
     pub answer: Answer,
     pub table: Vec<i32>,
@@ -112,7 +114,8 @@ fn split_rules(rules: &[InputRule], group: usize) -> Vec<InputRule> {
     writer.rules
 }
 
-/// A partial sum: its literals with their weights, the levels that have an atom, and the two sums that it adds up, if it is no group.
+/// A partial sum: its literals with their weights, the levels that have an atom, and the two sums that it adds up, if
+/// it is no group.
 struct Node {
     pairs: Vec<(i32, i32)>,
     levels: Vec<i32>,
@@ -207,8 +210,8 @@ impl Writer {
     }
 }
 
-/// The bodies of a level: each two shares that are enough together, but not with the next lower one in place of either. Level 0 of a side
-/// needs no atom.
+/// The bodies of a level: each two shares that are enough together, but not with the next lower one in place of either.
+/// Level 0 of a side needs no atom.
 fn joined_bodies(level: i32, left: &[Share], right: &[Share]) -> Vec<Body> {
     let with_none = |shares: &[Share]| [&[Share { level: 0, atom: 0 }], shares].concat();
     let (left, right) = (with_none(left), with_none(right));
@@ -239,7 +242,8 @@ mod tests {
         String::from_utf8(splitting.output[..bytes].to_vec()).unwrap()
     }
 
-    /// Worked by hand: of 13 literals of weight 1, 7 stand in the first group. With the bound 12 these must be 6 or 7, and the others 6 or 5.
+    /// Worked by hand: of 13 literals of weight 1, 7 stand in the first group. With the bound 12 these must be 6 or 7,
+    /// and the others 6 or 5.
     #[test]
     fn thirteen_literals() {
         let (first, second) = (format!("7{}", units(1..=7)), format!("6{}", units(8..=13)));
@@ -261,7 +265,8 @@ mod tests {
         assert_eq!(over, "asp 1 0 0\n1 0 0 0 1 14\n0\n");
     }
 
-    /// The counts of crates/sums: 13 literals of weight 1 and bound 7, and 14 of the weights 1, 2 and 5 by turns and bound 18.
+    /// The counts of crates/sums: 13 literals of weight 1 and bound 7, and 14 of the weights 1, 2 and 5 by turns and
+    /// bound 18.
     #[test]
     fn counts_as_computed() {
         let lines = |text: String| text.lines().count() - 2;

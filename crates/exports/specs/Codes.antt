@@ -146,8 +146,8 @@ cheapestNumbers (Cheapest.Cheapest C) = C ∷ []
 cheapestNumbers (Cheapest.RefusedProgram r) = r .line ∷ 0 ∷ []
 cheapestNumbers (Cheapest.Refused k) = []
 
--- The splitting of long sums: 0 with the bytes, the atoms and the rules of what is written and the atoms of the program as written; the program's
--- number and line, as its reader tells them; 65 and 66
+-- The splitting of long sums: 0 with the bytes, the atoms and the rules of what is written and the atoms of the program
+-- as written; the program's number and line, as its reader tells them; 65 and 66
 
 abbrev pub splitCode : SplitAnswer → ℕ
 splitCode (Split.Split bytes atoms rules old) = 0

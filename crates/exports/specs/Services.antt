@@ -1,7 +1,7 @@
--- What the fourteen functions for C return and leave: an answer told by its code and numbers. Of the program reader, of the whole check,
--- of the merges, of trimming, of the cheapest answer set and of the splitting of sums it is the one for which the service's own contract
--- holds, which is an equation; of the others it is said outright. A primed name is what a lent slice holds afterwards; `answer` is the
--- buffer for the numbers.
+-- What the fourteen functions for C return and leave: an answer told by its code and numbers. Of the program reader, of
+-- the whole check, of the merges, of trimming, of the cheapest answer set and of the splitting of sums it is the one
+-- for which the service's own contract holds, which is an equation; of the others it is said outright. A primed name is
+-- what a lent slice holds afterwards; `answer` is the buffer for the numbers.
 -- Assumes nothing.
 use mathlib.Core.Path.{_≡_}
 use mathlib.Core.List.{List}

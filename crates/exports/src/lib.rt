@@ -1,6 +1,7 @@
-// The fourteen services for programs in C and Rust, on numbers and slices. An answer's case is the code that is returned, and its
-// numbers are put at the front of the lent `answer`, as many as fit; what the codes and numbers are is specs/Codes.antt, and what
-// each function returns and leaves is specs/Services.antt. bindings/c/aspdrupe.h declares the functions for C.
+// The fourteen services for programs in C and Rust, on numbers and slices. An answer's case is the code that is
+// returned, and its numbers are put at the front of the lent `answer`, as many as fit; what the codes and numbers are
+// is specs/Codes.antt, and what each function returns and leaves is specs/Services.antt. bindings/c/aspdrupe.h declares
+// the functions for C.
 mod answers;
 
 ghost use Rattle.packets.specs.Packets.{up, down};

@@ -1,4 +1,5 @@
--- The number of a refused program is never 0: `within-numbered`, `read-numbered`. Codes for C tell a program that is read by 0.
+-- The number of a refused program is never 0: `within-numbered`, `read-numbered`. Codes for C tell a program that is
+-- read by 0.
 -- Assumes nothing.
 use mathlib.Core.Bool.{Bool, cond, _&&_}
 use mathlib.Core.List.{List, [], _∷_, _++_}

@@ -1,6 +1,7 @@
--- What the services for C say of a program over its text: each returns 0 of its passing answer and of no other, and the numbers at the
--- front of the lent buffer are that answer's. `sound-returned`, `sound-long-returned`, `yes-returned`,
--- `sound-split-returned`, `yes-split-returned`, `cheapest-returned`, and of no other text do they: `only-returned`, `only-long-returned`, `only-cheapest-returned`.
+-- What the services for C say of a program over its text: each returns 0 of its passing answer and of no other, and the
+-- numbers at the front of the lent buffer are that answer's. `sound-returned`, `sound-long-returned`, `yes-returned`,
+-- `sound-split-returned`, `yes-split-returned`, `cheapest-returned`, and of no other text do they: `only-returned`,
+-- `only-long-returned`, `only-cheapest-returned`.
 -- Assumes nothing.
 use mathlib.Core.Path.{_≡_, refl, sym, _∙_, ap, subst}
 use mathlib.Core.Option.{Option, none, some}

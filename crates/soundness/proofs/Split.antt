@@ -1,5 +1,5 @@
--- What a program whose long sums were split says of the program as written: `sound-split`, `sound-split-long`, `yes-split`, `found-split`,
--- `extends-split`.
+-- What a program whose long sums were split says of the program as written: `sound-split`, `sound-split-long`,
+-- `yes-split`, `found-split`, `extends-split`.
 -- Assumes nothing.
 use mathlib.Core.Path.{_≡_, refl, sym, _∙_, ap, ap₂, subst}
 use mathlib.Core.Bool.{Bool, true, false, cond, _&&_, _||_}
