@@ -1,2 +1,3 @@
 -- What the splitting of a program's long sums answers and leaves.
+pub mod Ordering
 pub mod Service

@@ -1,5 +1,7 @@
 // A program text whose long sums are split into short ones. The service is `split_sums`; what it writes is specs/Service.antt, and that
 // it keeps the answer sets is proved in crate sums.
+mod ordering;
+
 use aspif::ProgramRefusal;
 
 // How many bytes are written, the atoms and the rules of the split program, and the atoms of the program as written; the question that

@@ -12,7 +12,7 @@ ghost use Rattle.sums.specs.Levels.{isUseful, useful, raised, further, sumsOf, 
 ghost use Rattle.totalizer.specs.Lists.{SumsUpTo, headOr, sumsOver, below};
 
 // The smaller of two numbers.
-fn smaller(a: usize, b: usize) -> usize
+pub fn smaller(a: usize, b: usize) -> usize
     ensures { λ r. ⌜ r ≡ min a b ⌝ }
 {
     if a < b { a } else { b }
