@@ -1,0 +1,2 @@
+-- What the proofs of joining and chaining share.
+pub mod Partners

@@ -1,0 +1,2 @@
+-- What the private functions of joining and chaining say.
+pub mod Joining

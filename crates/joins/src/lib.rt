@@ -1,0 +1,3 @@
+// Partial sums joined two by two: the rules of a joined node, and of a whole sum that is split, as text.
+pub mod joining;
+pub mod pairing;
