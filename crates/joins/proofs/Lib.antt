@@ -1,2 +1,3 @@
 -- What the proofs of joining and chaining share.
 pub mod Partners
+pub mod Joins

@@ -39,10 +39,10 @@ fn put_said(output: &mut [u8], at: usize, first: usize, i: usize) -> usize
 
 // The line of the rule that gives an atom from two shares.
 fn put_join(output: &mut [u8], at: usize, atom: usize, first: usize, i: usize, second: usize, j: usize) -> usize
-    requires room { ⌜ at + 93 ≤ farthest ⌝ }
+    requires room { ⌜ at + 92 ≤ farthest ⌝ }
     requires atoms { ⌜ (first + i ≤ farthest) × (second + j ≤ farthest) ⌝ }
     ensures written { λ r. ⌜ Put (lineOf (plainNumbers atom (saidAt first i ++ saidAt second j))) (now (output .entry)) (now (output .exit)) at r ⌝ }
-    ensures within { λ r. ⌜ r ≤ at + 93 ⌝ }
+    ensures within { λ r. ⌜ r ≤ at + 92 ⌝ }
 {
     let head = writing::put_bytes(output, at, b"1 0 1");
     let kind = texts::put_size(output, head, atom);

@@ -1,38 +1,23 @@
+use mathlib.Core.Path.{refl}
+use native.Mathlib.Omega.{arith}
+use Rattle.totalizer.proofs.Emitted.{emits-full, emits-last, emits-put}
 use borrow.Author.Needs.{needs}
 use Rattle.joins.proofs.joining.emit_join.Statement.{statement}
 use Rattle.joins.proofs.joining.emit_join.Tie as tie
-use Rattle.joins.proofs.joining.emit_join.Reads as reads
-use Rattle.joins.proofs.joining.emit_join.Lts as lts
-use Rattle.joins.proofs.joining.put_join.Reads as put-join-reads
 
--- src/joining.rt:63:9
 returns : tie.Need-returns
-returns c = ?
+returns c = let s = c .before .before .before in emits-full _ (s .args .place) (s .pre .0) _ (c .if1 .taken)
 
--- src/joining.rt:68:20
-add-t10 : tie.Need-add-t10
-add-t10 c = search needs
-
--- src/joining.rt:66:9
 returns-2 : tie.Need-returns-2
-returns-2 c = ?
+returns-2 c = let s = c .before .before .before .before .before in emits-last _ (s .args .place) (s .pre .0) _ (c .if2 .taken)
 
--- src/joining.rt:71:9
-put-join-requires : tie.Need-put-join-requires
-put-join-requires c κs = search needs
-
--- src/joining.rt:74:16
-add-t13 : tie.Need-add-t13
-add-t13 c = search needs
-
--- src/joining.rt:57:1
-same-length : tie.Need-same-length
-same-length c = search needs
-
--- src/joining.rt:57:1
 returns-3 : tie.Need-returns-3
-returns-3 c = ?
+returns-3 c =
+    let s = c .before .before .before .before .before .before .before .before .before .before in
+    let l = c .before .before .before .put-join in
+    emits-put _ (s .args .place) (s .pre .0) _ (omega (arith, c .before .before .before .before .before .before .before .if1 .left, c .before .before .before .before .before .if2 .left))
+    (l .ensures .0) (omega (arith, l .ensures .1)) (l .kept .0)
 
 pub emit-join-spec : {M : Type 1} → statement M
 emit-join-spec =
-    tie.close (tie.spec returns add-t10 returns-2 put-join-requires add-t13 same-length returns-3)
+    tie.close (tie.spec returns (λ c. search needs) returns-2 (λ c κs. search needs) (λ c. search needs) (λ c. search needs) returns-3)

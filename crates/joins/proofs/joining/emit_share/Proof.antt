@@ -1,31 +1,25 @@
+use native.Mathlib.Omega.{arith}
 use borrow.Author.Needs.{needs}
+use Rattle.totalizer.proofs.Emitted.{emits-none}
+use Rattle.joins.proofs.Joins.{share-none, share-one}
 use Rattle.joins.proofs.joining.emit_share.Statement.{statement}
 use Rattle.joins.proofs.joining.emit_share.Tie as tie
-use Rattle.joins.proofs.joining.emit_share.Reads as reads
-use Rattle.joins.proofs.joining.emit_share.Lts as lts
-use Rattle.joins.proofs.joining.emit_join.Reads as emit-join-reads
-use Rattle.joins.proofs.pairing.partner_of.Reads as partner-of-reads
 
--- src/joining.rt:97:9
-partner-of-requires : tie.Need-partner-of-requires
-partner-of-requires c κs = search needs
-
--- src/joining.rt:99:9
 returns : tie.Need-returns
-returns c = ?
+returns c =
+    let s = c .before .before .before .before .before in
+    let a = s .args in
+    rw (share-none (a .level) (a .left .now) (a .right .now) (a .i) (c .before .partner-of .ensures) (c .if1 .taken) (a .atom) (a .first) (a .second))
+    (emits-none _ (a .place) (s .pre .0))
 
--- src/joining.rt:101:5
-emit-join-requires : tie.Need-emit-join-requires
-emit-join-requires c κs = search needs
-
--- src/joining.rt:79:1
-same-length : tie.Need-same-length
-same-length c = search needs
-
--- src/joining.rt:79:1
 returns-2 : tie.Need-returns-2
-returns-2 c = ?
+returns-2 c =
+    let b = c .before .before .before .before .before in
+    let s = b .before .before .before .before in
+    let a = s .args in
+    rw (share-one (a .level) (a .left .now) (a .right .now) (a .i) (b .partner-of .ensures) (c .before .before .before .before .if1 .left) (a .atom) (a .first) (a .second))
+    (c .before .before .emit-join .ensures)
 
 pub emit-share-spec : {M : Type 1} → statement M
 emit-share-spec =
-    tie.close (tie.spec partner-of-requires returns emit-join-requires same-length returns-2)
+    tie.close (tie.spec (λ c κs. search needs) returns (λ c κs. search needs) (λ c. search needs) returns-2)

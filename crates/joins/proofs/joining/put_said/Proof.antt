@@ -1,34 +1,26 @@
+use mathlib.Core.Path.{ap, _∙_}
+use native.Mathlib.Omega.{arith}
 use borrow.Author.Needs.{needs}
+use Rattle.text.specs.Decimals.{spaced}
+use Rattle.text.proofs.Puts.{put-none}
+use Rattle.totalizer.proofs.RuleTexts.{spaced-one}
+use Rattle.joins.proofs.Joins.{said-none, said-some}
 use Rattle.joins.proofs.joining.put_said.Statement.{statement}
 use Rattle.joins.proofs.joining.put_said.Tie as tie
-use Rattle.joins.proofs.joining.put_said.Reads as reads
-use Rattle.joins.proofs.joining.put_said.Lts as lts
-use Rattle.totalizer.proofs.texts.put_size.Reads as put-size-reads
 
--- src/joining.rt:35:9
 returns : tie.Need-returns
-returns c = ?
+unfolding spaced
+returns c =
+    let s = c .before .before in
+    (rw (said-none (s .args .first) (c .if1 .taken)) (put-none _ _), omega arith)
 
--- src/joining.rt:37:42
-sub-put-size : tie.Need-sub-put-size
-sub-put-size c = search needs
-
--- src/joining.rt:37:33
-add-put-size : tie.Need-add-put-size
-add-put-size c = search needs
-
--- src/joining.rt:37:5
-put-size-requires : tie.Need-put-size-requires
-put-size-requires c κs = search needs
-
--- src/joining.rt:28:1
-same-length : tie.Need-same-length
-same-length c = search needs
-
--- src/joining.rt:28:1
 returns-2 : tie.Need-returns-2
-returns-2 c = ?
+returns-2 c =
+    let s = c .before .before .before .before .before .before in
+    let e = c .before .before .put-size .ensures in
+    (rw (said-some (s .args .first) (s .args .i) (c .before .before .before .before .if1 .left), spaced-one) (e .0), e .1)
 
 pub put-said-spec : {M : Type 1} → statement M
 put-said-spec =
-    tie.close (tie.spec returns sub-put-size add-put-size put-size-requires same-length returns-2)
+    tie.close
+    (tie.spec returns (λ c. search needs) (λ c. search needs) (λ c κs. search needs) (λ c. search needs) returns-2)
