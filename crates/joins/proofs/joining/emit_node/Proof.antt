@@ -1,54 +1,64 @@
+use mathlib.Core.Path.{_≡_, sym}
+use Prim.Native.Nat.{_-_, _≤_}
+use native.Mathlib.Omega.{arith}
+use lib.ListN.{length, take}
+use lib.Seq.{take-length}
+use Rattle.totalizer.specs.Emitting.{Emits}
+use Rattle.totalizer.proofs.Emitted.{emits-none}
+use Rattle.joins.specs.Joining.{nodeJoins}
+use Rattle.joins.proofs.Joins.{joins-none, joins-more}
 use Rattle.joins.proofs.joining.emit_node.Statement.{statement}
 use Rattle.joins.proofs.joining.emit_node.Tie as tie
-use Rattle.joins.proofs.joining.emit_node.Reads as reads
-use Rattle.joins.proofs.joining.emit_node.Lts as lts
-use Rattle.joins.proofs.joining.emit_level.Reads as emit-level-reads
 
 abbrev Inv-loop : tie.InvT-loop
-Inv-loop output₀ atom levels left first right second here₀ k₀ output here k = ?
+Inv-loop output₀ atom levels left first right second here₀ k₀ output here k =
+    (k ≤ length levels) × Emits (nodeJoins atom (take k levels) first left second right) output₀ output here₀ here
 
 abbrev μ-loop : tie.MeasureT-loop
-μ-loop output₀ atom levels left first right second here₀ k₀ output here k = ?
+μ-loop output₀ atom levels left first right second here₀ k₀ output here k = length levels - k
 
--- src/joining.rt:152:5
 loop-holds : tie.Need-loop-holds Inv-loop μ-loop
-loop-holds c = ?
+loop-holds c =
+    let s = c .before .before .before .before in
+    let a = s .args in
+    (omega arith, rw (joins-none (a .atom) (a .first) (a .left .now) (a .second) (a .right .now)) (emits-none _ (a .place) (s .pre .0)))
 
--- src/joining.rt:153:41
 add-emit-level : tie.Need-add-emit-level Inv-loop μ-loop
-add-emit-level c = ?
+add-emit-level c = let s = c .before .before .before .before .before .before .before in record { fits = omega (arith, c .before .loop-test .taken, s .pre .1 .1 .2) }
 
--- src/joining.rt:153:51
 mul-emit-level : tie.Need-mul-emit-level Inv-loop μ-loop
-mul-emit-level c = ?
+mul-emit-level c = let s = c .before .before .before .before .before .before .before in record { fits = omega (arith, c .before .loop-test .taken, s .pre .1 .1 .2) }
 
--- src/joining.rt:153:51
 shared-slice-read-emit-level : tie.Need-shared-slice-read-emit-level Inv-loop μ-loop
-shared-slice-read-emit-level c = ?
+shared-slice-read-emit-level c = c .before .before .loop-test .taken
 
--- src/joining.rt:153:9
 emit-level-requires : tie.Need-emit-level-requires Inv-loop μ-loop
-emit-level-requires c κs = ?
+emit-level-requires c κs =
+    let s = c .before .before .before .before .before .before .before .before in
+    (c .before .before .before .loop .inv .1 .bounded, (s .pre .1 .0, (s .pre .1 .1 .0, s .pre .1 .1 .1)))
 
--- src/joining.rt:154:9
 add-k : tie.Need-add-k Inv-loop μ-loop
-add-k c = ?
+add-k c = let s = c .before .before .before .before .before .before .before .before .before .before .before in record { fits = omega (arith, c .before .before .before .before .before .loop-test .taken, s .pre .1 .1 .2) }
 
--- src/joining.rt:152:5
 loop-less : tie.Need-loop-less Inv-loop μ-loop
-loop-less c = ?
+loop-less c = omega (arith, c .before .before .before .before .before .loop-test .taken)
 
--- src/joining.rt:152:5
 loop-again : tie.Need-loop-again Inv-loop μ-loop
-loop-again c = ?
+loop-again c =
+    let a = c .before .before .before .before .before .before .before .before .before .before .before .args in
+    let l = c .before .before .before .before .before .before .loop in
+    let h = c .before .before .before .before .before .loop-test .taken in
+    (omega (arith, h), joins-more (a .atom) (a .levels .now) (a .first) (a .left .now) (a .second) (a .right .now) (l .k) h (l .inv .1) (c .before .before .emit-level .ensures))
 
--- src/joining.rt:134:1
 same-length : tie.Need-same-length Inv-loop μ-loop
-same-length c = ?
+same-length c = c .before .loop .inv .1 .long
 
--- src/joining.rt:134:1
 returns : tie.Need-returns Inv-loop μ-loop
-returns c = ?
+returns c =
+    let a = c .before .before .before .before .before .before .args in
+    let l = c .before .loop in
+    let e : l .k ≡ length (a .levels .now) = omega (arith, l .inv .0, c .loop-test .left) in
+    rw (e, take-length (a .levels .now)) at (l .inv .1)
 
 pub emit-node-spec : {M : Type 1} → statement M
 emit-node-spec =
