@@ -13,6 +13,7 @@ ghost use Rattle.sums.specs.Plans.{numbered, groupRule, root, size, nodeRules};
 ghost use Rattle.sums.specs.Levels.{SumShape, both, pairsIn, levelsFor, levelled, inGroups};
 ghost use Rattle.totalizer.specs.Lists.{SumsUpTo};
 ghost use Rattle.totalizer.specs.Emitting.{Bounded, Emits};
+ghost use Rattle.joins.specs.Joining.{nodeJoins};
 ghost use Rattle.joins.specs.Chaining.{groupLevels, prefixLevels, pairsWithin, turnRules, after, longPlan};
 use crate::joining;
 use totalizer::levels;
@@ -130,4 +131,55 @@ fn prefix_levels(
 {
     let end = 2 * to;
     levels::levels_of(&pairs[..0], &pairs[..end], &pairs[end..], bound, inside, outside, spare, levels)
+}
+
+// The rules of the node that joins a side to a node before it, and the levels of what is joined, the pairs before `to`, at the front of
+// `left` in place of the node's.
+fn emit_prefix(
+    output: &mut [u8],
+    node: Node,
+    side: Node,
+    pairs: &[i32],
+    to: usize,
+    bound: usize,
+    inside: &mut [usize],
+    outside: &mut [usize],
+    spare: &mut [usize],
+    left: &mut [usize],
+    right: &[usize],
+    next: &mut [usize],
+) -> Node
+    requires place { ⌜ Bounded (side .place) ⌝ }
+    requires pairs { ⌜ (allWeights (now pairs) ≡ true) × (bound ≤ mostWeight) × (2 * to ≤ length (now pairs)) ⌝ }
+    requires room { ⌜ (suc bound ≤ length (now inside)) × (suc bound ≤ length (now outside)) × (suc bound ≤ length (now spare))
+        × (suc bound ≤ length (now left)) × (suc bound ≤ length (now next)) ⌝ }
+    requires within { ⌜ (node .count ≤ length (now left)) × (side .count ≤ length (now right)) ⌝ }
+    requires levels { ⌜ SumsUpTo mostWeight (0 ∷ take (node .count) (now left)) × SumsUpTo mostWeight (0 ∷ take (side .count) (now right)) ⌝ }
+    requires atoms { ⌜ (after node ≤ farthest) × (after side + 4096 ≤ farthest) ⌝ }
+    ensures rules { λ r. ⌜ Emits (nodeJoins (after side) (prefixLevels bound to (now (pairs .entry)))
+        (node .first) (take (node .count) (now (left .entry))) (side .first) (take (side .count) (now (right .entry))))
+        (now (output .entry)) (now (output .exit)) (side .place) (r .place) ⌝ }
+    ensures levels { λ r. ⌜ take (r .count) (now (left .exit)) ≡ prefixLevels bound to (now (pairs .entry)) ⌝ }
+    ensures within { λ r. ⌜ (r .first ≡ after side) × (r .count ≤ length (now (left .exit))) ⌝ }
+{
+    let n = prefix_levels(pairs, to, bound, inside, outside, spare, next);
+    let atom = side.first + side.count;
+    let count = node.count;
+    let m = side.count;
+    let place = joining::emit_node(
+        output,
+        side.place,
+        atom,
+        &next[..n],
+        &left[..count],
+        node.first,
+        &right[..m],
+        side.first,
+    );
+    levels::copy_sums(left, &next[..n]);
+    Node {
+        place,
+        first: atom,
+        count: n,
+    }
 }
