@@ -1,0 +1,4 @@
+-- What the proofs of joining and chaining share.
+pub mod Partners
+pub mod Joins
+pub mod Linked

@@ -1,0 +1,185 @@
+// The rules of a long sum: group after group, each joined to what stands before it. Once there are more rules than a program may have,
+// nothing further is computed.
+ghost use mathlib.Core.Path.{_≡_};
+ghost use mathlib.Core.Bool.{true};
+ghost use mathlib.Core.List.{[], _∷_, _++_, map};
+ghost use Prim.Native.Nat.{suc, _+_, _*_, _-_, _≤_, _<_};
+ghost use lib.ListN.{length, take};
+ghost use Rattle.words.specs.Limits.{mostRules};
+ghost use Rattle.text.specs.Writing.{farthest};
+ghost use Rattle.weights.specs.Weights.{mostWeight, paired};
+ghost use Rattle.aspif.specs.Reading.{allWeights};
+ghost use Rattle.sums.specs.Plans.{numbered, groupRule, root, size, nodeRules};
+ghost use Rattle.sums.specs.Levels.{SumShape, both, pairsIn, levelsFor, levelled, inGroups};
+ghost use Rattle.totalizer.specs.Lists.{SumsUpTo};
+ghost use Rattle.totalizer.specs.Emitting.{Bounded, Emits};
+ghost use Rattle.joins.specs.Joining.{nodeJoins};
+ghost use Rattle.joins.specs.Chaining.{groupLevels, prefixLevels, pairsWithin, turnRules, after, longPlan};
+use crate::joining;
+use totalizer::levels;
+use totalizer::texts;
+use totalizer::texts::Place;
+use words::MOST_RULES;
+
+// Where the next line begins, with how many rules are written, and the atoms of a node: so many from the first on. The next new atom
+// is the one after them.
+pub struct Node {
+    pub place: Place,
+    pub first: usize,
+    pub count: usize,
+}
+
+// Where the next line begins, with how many rules are written, and the next new atom.
+pub struct Numbered {
+    pub place: Place,
+    pub atom: usize,
+}
+
+// The rules of a group beside the pairs before and behind it, and its levels at the front of `levels`.
+fn emit_side(
+    output: &mut [u8],
+    place: Place,
+    atom: usize,
+    before: &[i32],
+    pairs: &[i32],
+    behind: &[i32],
+    bound: usize,
+    inside: &mut [usize],
+    outside: &mut [usize],
+    spare: &mut [usize],
+    levels: &mut [usize],
+) -> Node
+    requires place { ⌜ Bounded place ⌝ }
+    requires pairs { ⌜ (allWeights (now before) ≡ true) × (allWeights (now pairs) ≡ true) × (allWeights (now behind) ≡ true)
+        × (bound ≤ mostWeight) × (length (now pairs) ≤ 24) ⌝ }
+    requires room { ⌜ (suc bound ≤ length (now inside)) × (suc bound ≤ length (now outside)) × (suc bound ≤ length (now spare))
+        × (suc bound ≤ length (now levels)) ⌝ }
+    requires atoms { ⌜ atom + 4096 ≤ farthest ⌝ }
+    ensures rules { λ r. ⌜ Emits (map groupRule (numbered atom (paired (now (pairs .entry)))
+        (levelsFor bound (paired (now (before .entry)) ++ paired (now (behind .entry))) (paired (now (pairs .entry))))))
+        (now (output .entry)) (now (output .exit)) place (r .place) ⌝ }
+    ensures levels { λ r. ⌜ take (r .count) (now (levels .exit))
+        ≡ levelsFor bound (paired (now (before .entry)) ++ paired (now (behind .entry))) (paired (now (pairs .entry))) ⌝ }
+    ensures within { λ r. ⌜ (r .first ≡ atom) × (r .count ≤ length (now (levels .exit))) ⌝ }
+{
+    let count = levels::levels_of(before, pairs, behind, bound, inside, outside, spare, levels);
+    let end = texts::emit_group(output, place, atom, &levels[..count], pairs);
+    Node {
+        place: end,
+        first: atom,
+        count,
+    }
+}
+
+// The rules of the group of pairs `from` up to `to`, and its levels at the front of `levels`.
+fn emit_part(
+    output: &mut [u8],
+    place: Place,
+    atom: usize,
+    pairs: &[i32],
+    from: usize,
+    to: usize,
+    bound: usize,
+    inside: &mut [usize],
+    outside: &mut [usize],
+    spare: &mut [usize],
+    levels: &mut [usize],
+) -> Node
+    requires place { ⌜ Bounded place ⌝ }
+    requires pairs { ⌜ (allWeights (now pairs) ≡ true) × (bound ≤ mostWeight) ⌝ }
+    requires part { ⌜ (from ≤ to) × (to ≤ from + 12) × (2 * to ≤ length (now pairs)) ⌝ }
+    requires room { ⌜ (suc bound ≤ length (now inside)) × (suc bound ≤ length (now outside)) × (suc bound ≤ length (now spare))
+        × (suc bound ≤ length (now levels)) ⌝ }
+    requires atoms { ⌜ atom + 4096 ≤ farthest ⌝ }
+    ensures rules { λ r. ⌜ Emits (map groupRule (numbered atom (pairsWithin from to (now (pairs .entry)))
+        (groupLevels bound from to (now (pairs .entry))))) (now (output .entry)) (now (output .exit)) place (r .place) ⌝ }
+    ensures levels { λ r. ⌜ take (r .count) (now (levels .exit)) ≡ groupLevels bound from to (now (pairs .entry)) ⌝ }
+    ensures within { λ r. ⌜ (r .first ≡ atom) × (r .count ≤ length (now (levels .exit))) ⌝ }
+{
+    let start = 2 * from;
+    let end = 2 * to;
+    emit_side(
+        output,
+        place,
+        atom,
+        &pairs[..start],
+        &pairs[start..end],
+        &pairs[end..],
+        bound,
+        inside,
+        outside,
+        spare,
+        levels,
+    )
+}
+
+// The levels of the pairs before `to`, at the front of `levels`.
+fn prefix_levels(
+    pairs: &[i32],
+    to: usize,
+    bound: usize,
+    inside: &mut [usize],
+    outside: &mut [usize],
+    spare: &mut [usize],
+    levels: &mut [usize],
+) -> usize
+    requires pairs { ⌜ (allWeights (now pairs) ≡ true) × (bound ≤ mostWeight) × (2 * to ≤ length (now pairs)) ⌝ }
+    requires room { ⌜ (suc bound ≤ length (now inside)) × (suc bound ≤ length (now outside)) × (suc bound ≤ length (now spare))
+        × (suc bound ≤ length (now levels)) ⌝ }
+    ensures levels { λ r. ⌜ take r (now (levels .exit)) ≡ prefixLevels bound to (now (pairs .entry)) ⌝ }
+    ensures within { λ r. ⌜ r ≤ length (now (levels .exit)) ⌝ }
+{
+    let end = 2 * to;
+    levels::levels_of(&pairs[..0], &pairs[..end], &pairs[end..], bound, inside, outside, spare, levels)
+}
+
+// The rules of the node that joins a side to a node before it, and the levels of what is joined, the pairs before `to`, at the front of
+// `left` in place of the node's.
+fn emit_prefix(
+    output: &mut [u8],
+    node: Node,
+    side: Node,
+    pairs: &[i32],
+    to: usize,
+    bound: usize,
+    inside: &mut [usize],
+    outside: &mut [usize],
+    spare: &mut [usize],
+    left: &mut [usize],
+    right: &[usize],
+    next: &mut [usize],
+) -> Node
+    requires place { ⌜ Bounded (side .place) ⌝ }
+    requires pairs { ⌜ (allWeights (now pairs) ≡ true) × (bound ≤ mostWeight) × (2 * to ≤ length (now pairs)) ⌝ }
+    requires room { ⌜ (suc bound ≤ length (now inside)) × (suc bound ≤ length (now outside)) × (suc bound ≤ length (now spare))
+        × (suc bound ≤ length (now left)) × (suc bound ≤ length (now next)) ⌝ }
+    requires within { ⌜ (node .count ≤ length (now left)) × (side .count ≤ length (now right)) ⌝ }
+    requires levels { ⌜ SumsUpTo mostWeight (0 ∷ take (node .count) (now left)) × SumsUpTo mostWeight (0 ∷ take (side .count) (now right)) ⌝ }
+    requires atoms { ⌜ (after node ≤ farthest) × (after side + 4096 ≤ farthest) ⌝ }
+    ensures rules { λ r. ⌜ Emits (nodeJoins (after side) (prefixLevels bound to (now (pairs .entry)))
+        (node .first) (take (node .count) (now (left .entry))) (side .first) (take (side .count) (now (right .entry))))
+        (now (output .entry)) (now (output .exit)) (side .place) (r .place) ⌝ }
+    ensures levels { λ r. ⌜ take (r .count) (now (left .exit)) ≡ prefixLevels bound to (now (pairs .entry)) ⌝ }
+    ensures within { λ r. ⌜ (r .first ≡ after side) × (r .count ≤ length (now (left .exit))) ⌝ }
+{
+    let n = prefix_levels(pairs, to, bound, inside, outside, spare, next);
+    let atom = side.first + side.count;
+    let count = node.count;
+    let m = side.count;
+    let place = joining::emit_node(
+        output,
+        side.place,
+        atom,
+        &next[..n],
+        &left[..count],
+        node.first,
+        &right[..m],
+        side.first,
+    );
+    levels::copy_sums(left, &next[..n]);
+    Node {
+        place,
+        first: atom,
+        count: n,
+    }
+}
