@@ -92,7 +92,7 @@ fn put_bound(output: &mut [u8], at: usize, words: &[i32]) -> usize
 }
 
 // What stands in a rule's line up to its heads.
-fn put_head(output: &mut [u8], at: usize, words: &[i32]) -> usize
+pub fn put_head(output: &mut [u8], at: usize, words: &[i32]) -> usize
     requires rule { ⌜ shapeSound (now words) ≡ true ⌝ }
     requires room { ⌜ at + (22 * mostLine + 2) ≤ farthest ⌝ }
     ensures written { λ r. ⌜ Put (49 ∷ spaced (headNumbers (now (words .entry)))) (now (output .entry)) (now (output .exit)) at r ⌝ }
