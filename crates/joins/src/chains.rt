@@ -183,3 +183,84 @@ fn emit_prefix(
         count: n,
     }
 }
+
+// The rules of the next group, of pairs `from` up to `to`, and of the node that joins it to what stands before it.
+fn emit_next(
+    output: &mut [u8],
+    node: Node,
+    pairs: &[i32],
+    from: usize,
+    to: usize,
+    bound: usize,
+    inside: &mut [usize],
+    outside: &mut [usize],
+    spare: &mut [usize],
+    left: &mut [usize],
+    right: &mut [usize],
+    next: &mut [usize],
+) -> Node
+    requires node { ⌜ Bounded (node .place) × (node .count ≤ length (now left))
+        × (take (node .count) (now left) ≡ prefixLevels bound from (now pairs)) × (after node + 8192 ≤ farthest) ⌝ }
+    requires pairs { ⌜ (allWeights (now pairs) ≡ true) × (bound ≤ mostWeight) ⌝ }
+    requires part { ⌜ (from ≤ to) × (to ≤ from + 12) × (2 * to ≤ length (now pairs)) ⌝ }
+    requires room { ⌜ (suc bound ≤ length (now inside)) × (suc bound ≤ length (now outside)) × (suc bound ≤ length (now spare))
+        × (suc bound ≤ length (now left)) × (suc bound ≤ length (now right)) × (suc bound ≤ length (now next)) ⌝ }
+    ensures rules { λ r. ⌜ Emits (turnRules (node .first) (prefixLevels bound from (now (pairs .entry))) (after node)
+        (pairsWithin from to (now (pairs .entry))) (groupLevels bound from to (now (pairs .entry)))
+        (prefixLevels bound to (now (pairs .entry)))) (now (output .entry)) (now (output .exit)) (node .place) (r .place) ⌝ }
+    ensures levels { λ r. ⌜ take (r .count) (now (left .exit)) ≡ prefixLevels bound to (now (pairs .entry)) ⌝ }
+    ensures within { λ r. ⌜ (r .first ≡ after node + length (groupLevels bound from to (now (pairs .entry))))
+        × (r .count ≤ length (now (left .exit))) ⌝ }
+{
+    let atom = node.first + node.count;
+    let place = node.place;
+    let side = emit_part(output, place, atom, pairs, from, to, bound, inside, outside, spare, right);
+    emit_prefix(output, node, side, pairs, to, bound, inside, outside, spare, left, right, next)
+}
+
+// The rules of the last group, of pairs `from` up to `to`, and of the last node, which has the bound alone as its level.
+fn emit_last(
+    output: &mut [u8],
+    node: Node,
+    pairs: &[i32],
+    from: usize,
+    to: usize,
+    bound: usize,
+    inside: &mut [usize],
+    outside: &mut [usize],
+    spare: &mut [usize],
+    left: &[usize],
+    right: &mut [usize],
+) -> Numbered
+    requires node { ⌜ Bounded (node .place) × (node .count ≤ length (now left))
+        × (take (node .count) (now left) ≡ prefixLevels bound from (now pairs)) × (after node + 8192 ≤ farthest) ⌝ }
+    requires pairs { ⌜ (allWeights (now pairs) ≡ true) × (bound ≤ mostWeight) ⌝ }
+    requires part { ⌜ (from ≤ to) × (to ≤ from + 12) × (2 * to ≤ length (now pairs)) ⌝ }
+    requires room { ⌜ (suc bound ≤ length (now inside)) × (suc bound ≤ length (now outside)) × (suc bound ≤ length (now spare))
+        × (suc bound ≤ length (now right)) ⌝ }
+    ensures rules { λ r. ⌜ Emits (turnRules (node .first) (prefixLevels bound from (now (pairs .entry))) (after node)
+        (pairsWithin from to (now (pairs .entry))) (groupLevels bound from to (now (pairs .entry))) (bound ∷ []))
+        (now (output .entry)) (now (output .exit)) (node .place) (r .place) ⌝ }
+    ensures atom { λ r. ⌜ r .atom ≡ after node + length (groupLevels bound from to (now (pairs .entry))) + 1 ⌝ }
+{
+    let atom = node.first + node.count;
+    let count = node.count;
+    let here = node.place;
+    let side = emit_part(output, here, atom, pairs, from, to, bound, inside, outside, spare, right);
+    let m = side.count;
+    let level = [bound];
+    let place = joining::emit_node(
+        output,
+        side.place,
+        atom + m,
+        &level,
+        &left[..count],
+        node.first,
+        &right[..m],
+        atom,
+    );
+    Numbered {
+        place,
+        atom: atom + m + 1,
+    }
+}
