@@ -14,7 +14,7 @@ ghost use Rattle.sums.specs.Levels.{SumShape, both, pairsIn, levelsFor, levelle
 ghost use Rattle.totalizer.specs.Lists.{SumsUpTo};
 ghost use Rattle.totalizer.specs.Emitting.{Bounded, Emits};
 ghost use Rattle.joins.specs.Joining.{nodeJoins};
-ghost use Rattle.joins.specs.Chaining.{groupLevels, prefixLevels, pairsWithin, turnRules, after, longPlan};
+ghost use Rattle.joins.specs.Chaining.{groupLevels, prefixLevels, pairsWithin, turnRules, after, Written};
 use crate::joining;
 use totalizer::levels;
 use totalizer::texts;
