@@ -318,3 +318,14 @@ chained-start {g} {b} {ws} {n} {before} {after′} {p} node left weighed some mo
       low = omega (arith, f, count-is left w lv, few-levels b (pairsFrom g ws) (pairsWithin 0 g ws));
       there = more;
     }
+
+-- What the turns keep: the chain, whatever it began with, and the lengths of the lists
+pub record Turned (g b : ℕ) (ws : List ℤ) (n : ℕ) (output₀ inside₀ outside₀ spare₀ left₀ right₀ next₀ : List ℕ) (node₀ : Node) (from₀ : ℕ)
+    (output inside outside spare left right next : List ℕ) (node : Node) (from : ℕ) : Type 0 where
+  pub linked : (before : List ℕ) (p : Place) → Chained g b ws n before output₀ p node₀ left₀ from₀ → Chained g b ws n before output p node left from
+  pub inside-long : length inside ≡ length inside₀
+  pub outside-long : length outside ≡ length outside₀
+  pub spare-long : length spare ≡ length spare₀
+  pub left-long : length left ≡ length left₀
+  pub right-long : length right ≡ length right₀
+  pub next-long : length next ≡ length next₀

@@ -264,3 +264,55 @@ fn emit_last(
         atom: atom + m + 1,
     }
 }
+
+// The rules of the groups of a long sum, one after another.
+fn emit_chain(
+    output: &mut [u8],
+    place: Place,
+    atom: usize,
+    pairs: &[i32],
+    group: usize,
+    bound: usize,
+    inside: &mut [usize],
+    outside: &mut [usize],
+    spare: &mut [usize],
+    left: &mut [usize],
+    right: &mut [usize],
+    next: &mut [usize],
+) -> Numbered
+    requires place { ⌜ Bounded place ⌝ }
+    requires pairs { ⌜ (allWeights (now pairs) ≡ true) × (bound ≤ mostWeight) × (24 < length (now pairs)) × (length (now pairs) ≤ 128) ⌝ }
+    requires group { ⌜ (2 ≤ group) × (group ≤ 12) ⌝ }
+    requires atoms { ⌜ atom ≤ 2000000000 ⌝ }
+    requires room { ⌜ (suc bound ≤ length (now inside)) × (suc bound ≤ length (now outside)) × (suc bound ≤ length (now spare))
+        × (suc bound ≤ length (now left)) × (suc bound ≤ length (now right)) × (suc bound ≤ length (now next)) ⌝ }
+    ensures { λ r. ⌜ Written group bound (now (pairs .entry)) atom (now (output .entry)) (now (output .exit)) place r ⌝ }
+{
+    let mut node = emit_part(output, place, atom, pairs, 0, group, bound, inside, outside, spare, left);
+    let mut from = group;
+    while 2 * (from + group) < pairs.len() {
+        let here = node.place;
+        if MOST_RULES < here.rules {
+            return Numbered {
+                place: here,
+                atom: node.first + node.count,
+            };
+        }
+        node = emit_next(
+            output,
+            node,
+            pairs,
+            from,
+            from + group,
+            bound,
+            inside,
+            outside,
+            spare,
+            left,
+            right,
+            next,
+        );
+        from += group;
+    }
+    emit_last(output, node, pairs, from, pairs.len() / 2, bound, inside, outside, spare, left, right)
+}
