@@ -12,7 +12,7 @@ use lib.Seq.{drop-drop, take-all, take-add}
 use Rattle.words.specs.Limits.{mostRules}
 use Rattle.words.specs.Lists.{concat}
 use Rattle.words.proofs.Lists.{one-less}
-use Rattle.weights.specs.Weights.{Weighted, paired, mostWeight}
+use Rattle.weights.specs.Weights.{Weighted, paired, mostWeight, mostWeighted}
 use Rattle.aspif.specs.Rules.{InputRule}
 use Rattle.aspif.specs.Reading.{allWeights}
 use Rattle.aspif.proofs.PairWords.{length-paired}
@@ -329,3 +329,31 @@ pub record Turned (g b : ℕ) (ws : List ℤ) (n : ℕ) (output₀ inside₀ out
   pub left-long : length left ≡ length left₀
   pub right-long : length right ≡ length right₀
   pub next-long : length next ≡ length next₀
+
+-- What is written, by the two sides of the shape
+
+module _ {g b : ℕ} {ws : List ℤ} {n : ℕ} {before after′ : List ℕ} {p : Place} {r : Numbered} (W : Written g b ws n before after′ p r)
+    (s t : SumShape) (e : inGroups (g - 1) (paired ws) ≡ both s t) where
+  pub written-rules : Emits (nodeRules n (sumPlan b (both s t))) before after′ p (r .place)
+  unfolding longPlan
+  written-rules = subst (λ q. Emits (nodeRules n (sumPlan b q)) before after′ p (r .place)) e (W .rules)
+
+  pub written-atoms : r .place .rules ≤ mostRules → r .atom ≡ n + size (sumPlan b (both s t))
+  unfolding longPlan
+  written-atoms h = subst (λ q. r .atom ≡ n + size (sumPlan b q)) e (W .atoms h)
+
+-- Long sums have two sides
+
+chain-both : (s t : SumShape) (gs : List (List Weighted)) → (k : SumShape) × (l : SumShape) × (chain (both s t) gs ≡ both k l)
+chain-both s t [] = (s, t, refl)
+chain-both s t (g ∷ gs) = chain-both (both s t) (few g) gs
+
+pub two-sides : (k : ℕ) → k < mostWeighted → (l : List Weighted) → mostWeighted < length l → (s : SumShape) × (t : SumShape) × (inGroups k l ≡ both s t)
+two-sides k h l m =
+    let f = length l - 2 in
+    let d = drop (suc k) l in
+    let e : length l ≡ suc (suc f) = omega arith in
+    let p = ap (λ (n : ℕ). chunks n k l) e ∙ chunks-on (suc f) k l (omega arith) in
+    let q = chunks-on f k d (omega (arith, length-drop (suc k) l)) in
+    let r = chain-both (few (take (suc k) l)) (few (take (suc k) d)) (chunks f k (drop (suc k) d)) in
+    (r .0, r .1, ap chained (p ∙ ap (λ (ks : List (List Weighted)). take (suc k) l ∷ ks) q) ∙ r .2)

@@ -130,7 +130,16 @@ fn prefix_levels(
     ensures within { λ r. ⌜ r ≤ length (now (levels .exit)) ⌝ }
 {
     let end = 2 * to;
-    levels::levels_of(&pairs[..0], &pairs[..end], &pairs[end..], bound, inside, outside, spare, levels)
+    levels::levels_of(
+        &pairs[..0],
+        &pairs[..end],
+        &pairs[end..],
+        bound,
+        inside,
+        outside,
+        spare,
+        levels,
+    )
 }
 
 // The rules of the node that joins a side to a node before it, and the levels of what is joined, the pairs before `to`, at the front of
@@ -214,8 +223,33 @@ fn emit_next(
 {
     let atom = node.first + node.count;
     let place = node.place;
-    let side = emit_part(output, place, atom, pairs, from, to, bound, inside, outside, spare, right);
-    emit_prefix(output, node, side, pairs, to, bound, inside, outside, spare, left, right, next)
+    let side = emit_part(
+        output,
+        place,
+        atom,
+        pairs,
+        from,
+        to,
+        bound,
+        inside,
+        outside,
+        spare,
+        right,
+    );
+    emit_prefix(
+        output,
+        node,
+        side,
+        pairs,
+        to,
+        bound,
+        inside,
+        outside,
+        spare,
+        left,
+        right,
+        next,
+    )
 }
 
 // The rules of the last group, of pairs `from` up to `to`, and of the last node, which has the bound alone as its level.
@@ -246,7 +280,19 @@ fn emit_last(
     let atom = node.first + node.count;
     let count = node.count;
     let here = node.place;
-    let side = emit_part(output, here, atom, pairs, from, to, bound, inside, outside, spare, right);
+    let side = emit_part(
+        output,
+        here,
+        atom,
+        pairs,
+        from,
+        to,
+        bound,
+        inside,
+        outside,
+        spare,
+        right,
+    );
     let m = side.count;
     let level = [bound];
     let place = joining::emit_node(
@@ -288,7 +334,19 @@ fn emit_chain(
         × (suc bound ≤ length (now left)) × (suc bound ≤ length (now right)) × (suc bound ≤ length (now next)) ⌝ }
     ensures { λ r. ⌜ Written group bound (now (pairs .entry)) atom (now (output .entry)) (now (output .exit)) place r ⌝ }
 {
-    let mut node = emit_part(output, place, atom, pairs, 0, group, bound, inside, outside, spare, left);
+    let mut node = emit_part(
+        output,
+        place,
+        atom,
+        pairs,
+        0,
+        group,
+        bound,
+        inside,
+        outside,
+        spare,
+        left,
+    );
     let mut from = group;
     while 2 * (from + group) < pairs.len() {
         let here = node.place;
@@ -314,5 +372,63 @@ fn emit_chain(
         );
         from += group;
     }
-    emit_last(output, node, pairs, from, pairs.len() / 2, bound, inside, outside, spare, left, right)
+    emit_last(
+        output,
+        node,
+        pairs,
+        from,
+        pairs.len() / 2,
+        bound,
+        inside,
+        outside,
+        spare,
+        left,
+        right,
+    )
+}
+
+// The rules of a long sum whose pairs stand in the order of their groups: the atoms are numbered from `atom` on, and no more than a
+// million of them.
+pub fn emit_long(
+    output: &mut [u8],
+    place: Place,
+    atom: usize,
+    pairs: &[i32],
+    group: usize,
+    bound: usize,
+) -> Numbered
+    requires place { ⌜ Bounded place ⌝ }
+    requires pairs { ⌜ (allWeights (now pairs) ≡ true) × (bound ≤ mostWeight) × (24 < length (now pairs)) × (length (now pairs) ≤ 128) ⌝ }
+    requires group { ⌜ (2 ≤ group) × (group ≤ 12) ⌝ }
+    requires atoms { ⌜ atom ≤ 2000000000 ⌝ }
+    ensures rules { λ r. ⌜ ((s t : SumShape) → inGroups (group - 1) (paired (now (pairs .entry))) ≡ both s t
+        → Emits (nodeRules atom (root bound (levelled bound (pairsIn t ++ []) s) (levelled bound (pairsIn s ++ []) t)))
+        (now (output .entry)) (now (output .exit)) place (r .place)) ⌝ }
+    ensures atoms { λ r. ⌜ ((s t : SumShape) → inGroups (group - 1) (paired (now (pairs .entry))) ≡ both s t → r .place .rules ≤ mostRules
+        → r .atom ≡ atom + size (root bound (levelled bound (pairsIn t ++ []) s) (levelled bound (pairsIn s ++ []) t))) ⌝ }
+    ensures low { λ r. ⌜ r .atom ≤ atom + 1000000 ⌝ }
+{
+    if MOST_RULES < place.rules {
+        return Numbered { place, atom };
+    }
+    let mut inside = [0usize; 4096];
+    let mut outside = [0usize; 4096];
+    let mut spare = [0usize; 4096];
+    let mut left = [0usize; 4096];
+    let mut right = [0usize; 4096];
+    let mut next = [0usize; 4096];
+    emit_chain(
+        output,
+        place,
+        atom,
+        pairs,
+        group,
+        bound,
+        &mut inside,
+        &mut outside,
+        &mut spare,
+        &mut left,
+        &mut right,
+        &mut next,
+    )
 }

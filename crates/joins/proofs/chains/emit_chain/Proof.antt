@@ -141,8 +141,7 @@ emit-next-requires c κs =
     let d = c .before .before .before .before .before .before .before .before .before .before .before in
     let C = stands d in
     let p = start d .pre .1 .0 in
-    let g = start d .pre .1 .1 .0 in
-    (
+    let g = start d .pre .1 .1 .0 in (
       (C .rules .bounded, C .within, C .levels, atoms d),
       ((p .0, p .1), ((omega arith, omega (arith, g), omega (arith, c .before .before .before .before .before .before .before .before .before .before .loop-test .taken)), room d)),
     )
@@ -180,8 +179,7 @@ emit-last-requires c κs =
     let p = start d .pre .1 .0 in
     let g = start d .pre .1 .1 .0 in
     let r = room d in
-    let h = div-add-mod' (length (start d .args .pairs .now)) 2 in
-    (
+    let h = div-add-mod' (length (start d .args .pairs .now)) 2 in (
       (C .rules .bounded, C .within, C .levels, atoms d),
       (
         (p .0, p .1),
