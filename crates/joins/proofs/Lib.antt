@@ -2,3 +2,4 @@
 pub mod Partners
 pub mod Joins
 pub mod Linked
+pub mod Chained

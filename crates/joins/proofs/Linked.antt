@@ -6,6 +6,7 @@ use Prim.Native.Nat.{ℕ, zero, suc, _+_, _*_, _-_, _≤_, _<_}
 use native.Mathlib.Omega.{arith}
 use lib.IntN.{ℤ}
 use lib.ListN.{length, take, drop}
+use lib.Seq.{length-take-le}
 use Rattle.words.specs.Lists.{_∈_, concat, filter}
 use Rattle.words.specs.Literals.{variable}
 use Rattle.words.proofs.Lists.{by-test, and-left, and-right, and-both, length-keep}
@@ -15,10 +16,15 @@ use Rattle.aspif.specs.Reading.{allWeights}
 use Rattle.sums.specs.Levels.{Ascending, SumShape, few, both, pairsIn, sumsOf, isUseful, levelsFor, levelled}
 use Rattle.sums.proofs.Attained.{ascending-low}
 use Rattle.sums.proofs.Levels.{levels-within}
+use Rattle.sums.specs.Plans.{numbered, groupRule}
 use Rattle.totalizer.specs.Lists.{SumsUpTo}
+use Rattle.totalizer.specs.declared.texts.Place.{Place}
+use Rattle.totalizer.specs.Emitting.{Emits}
+use Rattle.totalizer.proofs.Emitted.{emits-on}
+use Rattle.joins.specs.Joining.{nodeJoins}
 use Rattle.totalizer.proofs.Merging.{few-sums}
 use Rattle.totalizer.proofs.Adding.{sums-up-to}
-use Rattle.joins.specs.Chaining.{pairsTo, pairsFrom}
+use Rattle.joins.specs.Chaining.{pairsTo, pairsFrom, turnRules}
 
 -- Levels
 
@@ -93,3 +99,16 @@ within-twice n m = omega arith
 
 pub weights-within : (n m : ℕ) (ws : List ℤ) → allWeights ws ≡ true → allWeights (take (2 * m - 2 * n) (drop (2 * n) ws)) ≡ true
 weights-within n m ws e = rw (within-twice n m) (weights-take (m - n) (drop (2 * n) ws) (weights-drop n ws e))
+
+-- One turn
+
+-- how many levels there are
+pub count-is : {r : ℕ} (l : List ℕ) {ls : List ℕ} → r ≤ length l → take r l ≡ ls → r ≡ length ls
+count-is {r} l h e = sym (length-take-le r l h) ∙ ap length e
+
+-- a group's rules, and those of the node that joins it
+pub turn-emits : (first : ℕ) {us us′ : List ℕ} (second : ℕ) (l : List Weighted) {vs vs′ : List ℕ} {s k : ℕ} (ts : List ℕ) {before between after : List ℕ}
+    {p q r : Place} → us′ ≡ us → vs′ ≡ vs → s ≡ second → k ≡ length vs → Emits (map groupRule (numbered second l vs)) before between p q
+    → Emits (nodeJoins (s + k) ts first us′ s vs′) between after q r → Emits (turnRules first us second l vs ts) before after p r
+unfolding turnRules
+turn-emits first second l ts eu ev es ek e f = emits-on e (rw (eu, ev, ek, es) at f)

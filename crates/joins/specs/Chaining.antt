@@ -8,11 +8,14 @@ use lib.IntN.{ℤ}
 use lib.ListN.{length, take, drop}
 use Rattle.weights.specs.Weights.{Weighted, paired}
 use Rattle.aspif.specs.Rules.{InputRule}
-use Rattle.sums.specs.Plans.{Plan, group, joined, size, numbered, groupRule, root}
+use Rattle.sums.specs.Plans.{Plan, group, joined, size, numbered, groupRule, root, nodeRules}
 use Rattle.sums.specs.Levels.{SumShape, few, both, pairsIn, levelsFor, levelled, inGroups}
 use Rattle.totalizer.specs.Emitting.{Emits}
 use Rattle.joins.specs.Joining.{nodeJoins}
+use Rattle.words.specs.Limits.{mostRules}
+use Rattle.totalizer.specs.declared.texts.Place.{Place}
 use Rattle.joins.specs.declared.chains.Node.{Node}
+use Rattle.joins.specs.declared.chains.Numbered.{Numbered}
 
 -- the pairs before one, from one up to another, and from one on, of the words of all
 abbrev pub pairsTo : (n : ℕ) → List ℤ → List Weighted
@@ -39,11 +42,17 @@ turnRules first us second l vs ts = map groupRule (numbered second l vs) ++ node
 abbrev pub after : Node → ℕ
 after p = p .first + p .count
 
--- the rules of the plan of a whole sum: the last node has the bound alone as its level
+-- the plan of a whole sum: the last node has the bound alone as its level
 abbrev pub sumPlan : (b : ℕ) → SumShape → Plan
 sumPlan b (few l) = group [] l
 sumPlan b (both s t) = root b (levelled b (pairsIn t ++ []) s) (levelled b (pairsIn s ++ []) t)
 
--- the plan of the sum of pairs that stand in the order of their groups
+-- that of the sum of pairs that stand in the order of their groups
 unfoldable pub longPlan : (g b : ℕ) → List Weighted → Plan
 longPlan g b l = sumPlan b (inGroups (g - 1) l)
+
+-- the rules of the sum of these words are written, and its atoms are numbered from n on, where there are not too many rules
+pub record Written (g b : ℕ) (ws : List ℤ) (n : ℕ) (before after : List ℕ) (p : Place) (r : Numbered) : Type 0 where
+  pub rules : Emits (nodeRules n (longPlan g b (paired ws))) before after p (r .place)
+  pub atoms : r .place .rules ≤ mostRules → r .atom ≡ n + size (longPlan g b (paired ws))
+  pub low : r .atom ≤ n + 1000000

@@ -38,7 +38,15 @@ fn put_said(output: &mut [u8], at: usize, first: usize, i: usize) -> usize
 }
 
 // The line of the rule that gives an atom from two shares.
-fn put_join(output: &mut [u8], at: usize, atom: usize, first: usize, i: usize, second: usize, j: usize) -> usize
+fn put_join(
+    output: &mut [u8],
+    at: usize,
+    atom: usize,
+    first: usize,
+    i: usize,
+    second: usize,
+    j: usize,
+) -> usize
     requires room { ⌜ at + 92 ≤ farthest ⌝ }
     requires atoms { ⌜ (first + i ≤ farthest) × (second + j ≤ farthest) ⌝ }
     ensures written { λ r. ⌜ Put (lineOf (plainNumbers atom (saidAt first i ++ saidAt second j))) (now (output .entry)) (now (output .exit)) at r ⌝ }
@@ -54,7 +62,15 @@ fn put_join(output: &mut [u8], at: usize, atom: usize, first: usize, i: usize, s
 }
 
 // The line of the rule that gives an atom from two shares, and one rule more.
-fn emit_join(output: &mut [u8], place: Place, atom: usize, first: usize, i: usize, second: usize, j: usize) -> Place
+fn emit_join(
+    output: &mut [u8],
+    place: Place,
+    atom: usize,
+    first: usize,
+    i: usize,
+    second: usize,
+    j: usize,
+) -> Place
     requires place { ⌜ Bounded place ⌝ }
     requires atoms { ⌜ (first + i ≤ farthest) × (second + j ≤ farthest) ⌝ }
     ensures { λ r. ⌜ Emits (plainRule atom (saidAt first i ++ saidAt second j) ∷ []) (now (output .entry)) (now (output .exit)) place r ⌝ }
@@ -150,7 +166,16 @@ pub fn emit_node(
     let mut here = place;
     let mut k = 0;
     while k < levels.len() {
-        here = emit_level(output, here, atom + k, levels[k], left, first, right, second);
+        here = emit_level(
+            output,
+            here,
+            atom + k,
+            levels[k],
+            left,
+            first,
+            right,
+            second,
+        );
         k += 1;
     }
     here

@@ -29,8 +29,8 @@ returns c =
     let head = c .before .before .before .before .before .before .before .before .before .before .before .before .before .before .before .before .before .before .before .before .before .before .before .before .before .before .before .before .before .before .put-bytes .ensures in
     let a = s .args in (
       join-put (a .atom) _ (saidAt (a .first) (a .i)) (saidAt (a .second) (a .j))
-      (omega (arith, said1 .0 (a .first), said2 .0 (a .second), length-append (saidAt (a .first) (a .i)) (saidAt (a .second) (a .j))))
-      (put-on head (put-on (atom .0) (put-on kind (put-on (count .0) (put-on (left .0) (put-on (right .0) last)))))),
+          (omega (arith, said1 .0 (a .first), said2 .0 (a .second), length-append (saidAt (a .first) (a .i)) (saidAt (a .second) (a .j))))
+          (put-on head (put-on (atom .0) (put-on kind (put-on (count .0) (put-on (left .0) (put-on (right .0) last)))))),
       omega (arith, last .ends, right .1, left .1, count .1, kind .ends, atom .1, head .ends),
     )
 
