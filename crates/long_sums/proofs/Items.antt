@@ -24,7 +24,7 @@ use Rattle.aspif.specs.Claims.{WeighingWithin}
 use Rattle.aspif.proofs.PairWords.{light-decides, length-paired, length-pairs}
 use Rattle.aspif.proofs.Readable.{body-words-at}
 use Rattle.sums.specs.Plans.{Plan, Item, whole, divided, size, root, nodeRules, headRule, splitItem, needs}
-use Rattle.sums.specs.Levels.{SumShape, few, both, pairsIn, levelled, dividedBy, isShort, planBody, chain, chained, chunks, inGroups, sortedGroups}
+use Rattle.sums.specs.Levels.{SumShape, both, pairsIn, levelled, planBody, sortedGroups}
 use Rattle.totalizer.specs.declared.texts.Place.{Place}
 use Rattle.totalizer.specs.Emitting.{lineOf, headNumbers, Bounded, Emits}
 use Rattle.totalizer.proofs.Emitted.{emits-on, emits-full}
@@ -95,33 +95,6 @@ module _ (n : ℕ) (xs ys : List ℤ) (fits : n ≤ length xs) (size : length ys
 
   pub front-there : n ≤ length (ys ++ drop n xs)
   front-there = omega (arith, length-append ys (drop n xs), size, length-take-le n xs fits)
-
--- More than one group makes two sides
-
-pub record TwoSides (u : SumShape) : Type 0 where
-  pub left : SumShape
-  pub right : SumShape
-  pub is : u ≡ both left right
-
-chain-both : (s t : SumShape) (gs : List (List Weighted)) → TwoSides (chain (both s t) gs)
-chain-both s t [] = record { left = s; right = t; is = refl }
-chain-both s t (g ∷ gs) = chain-both (both s t) (few g) gs
-
--- a group and at least one behind it
-group-more : (f k : ℕ) (x m : List Weighted) → 0 < length m → 0 < f → TwoSides (chained (x ∷ chunks f k m))
-unfolding chunks
-group-more f k x [] p q = absurd (omega arith)
-group-more zero k x (y ∷ m) p q = absurd (omega arith)
-group-more (suc f) k x (y ∷ m) p q = chain-both (few x) (few (y ∷ take k m)) (chunks f k (drop k m))
-
-groups-both : (f k : ℕ) (l : List Weighted) → suc k < length l → length l ≤ f → TwoSides (chained (chunks f k l))
-unfolding chunks
-groups-both zero k l p q = absurd (omega arith)
-groups-both (suc f) k [] p q = absurd (omega arith)
-groups-both (suc f) k (x ∷ l) p q = group-more f k (x ∷ take k l) (drop k l) (omega (arith, length-drop k l)) (omega arith)
-
-pub two-sides : (k : ℕ) (l : List Weighted) → suc k < length l → TwoSides (inGroups k l)
-two-sides k l h = groups-both (length l) k l h (omega arith)
 
 -- The lines
 

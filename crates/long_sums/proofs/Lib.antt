@@ -5,3 +5,4 @@ pub mod Held
 pub mod Items
 pub mod InTurn
 pub mod Programs
+pub mod Answers

@@ -9,10 +9,10 @@ use lib.Dec.{ltb}
 use lib.IntN.{ℤ}
 use lib.ListN.{length}
 use Rattle.words.specs.Lists.{_∈_}
-use Rattle.words.specs.Limits.{mostLiterals, mostRules}
+use Rattle.words.specs.Limits.{largest, mostLiterals, mostRules}
 use Rattle.weights.specs.Weights.{mostWeighted}
 use Rattle.text.specs.Writing.{Put}
-use Rattle.aspif.specs.Rules.{Body, plain, weights, InputRule, ruleWords, programWords, atoms}
+use Rattle.aspif.specs.Rules.{Body, plain, weights, InputRule, ruleWords, programWords, tableWords, atoms}
 use Rattle.aspif.specs.Tables.{ruleAt, rulesAt}
 use Rattle.aspif.specs.Text.{programText}
 use Rattle.aspif.specs.Claims.{FormedWithin}
@@ -33,6 +33,14 @@ pub record RulesHeld (n : ℕ) (ws : List ℤ) : Type 0 where
   pub rest : List ℤ
   pub words : ws ≡ programWords (rulesAt n ws) ++ rest
   pub formed : (r : InputRule) → r ∈ rulesAt n ws → FormedWithin mostLiterals r
+
+-- a table that was read with sums of 64 literals
+pub record ReadLong (rules top : ℕ) (table : List ℤ) : Type 0 where
+  pub held : RulesHeld rules table
+  pub few : rules ≤ mostRules
+  pub atom : top ≡ atoms (rulesAt rules table)
+  pub low : top ≤ largest
+  pub words : table ≡ tableWords (length table) (rulesAt rules table)
 
 -- a sum of more than 12 literals
 abbrev pub isLong : Body → Bool
