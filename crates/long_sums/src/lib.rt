@@ -61,15 +61,10 @@ fn refuse(table: &mut [i32], output: &mut [u8], answer: SplitAnswer) -> SplitAns
 }
 
 // The answer where the text of a split program was written.
-fn finish(
-    table: &mut [i32],
-    output: &mut [u8],
-    written: Numbered,
-    old_atoms: usize,
-) -> SplitAnswer
+fn finish(table: &mut [i32], output: &mut [u8], written: Numbered, old: usize) -> SplitAnswer
     requires { ⌜ (written .place .rules ≤ mostRules → 1 ≤ written .atom) ⌝ }
     ensures { λ r. ⌜ ((ws rs : List InputRule) (before : List ℕ) → ProgramWritten rs before (now (output .entry)) written
-        → length before ≡ length (now (output .entry)) → now (table .entry) ≡ tableWords (length (now (table .entry))) ws → old_atoms ≡ atoms ws
+        → length before ≡ length (now (output .entry)) → now (table .entry) ≡ tableWords (length (now (table .entry))) ws → old ≡ atoms ws
         → record { answer = r; table = now (table .exit); output = now (output .exit) }
         ≡ splitTo (length (now (table .entry))) (length (now (output .entry))) ws rs) ⌝ }
 {
@@ -83,7 +78,7 @@ fn finish(
         bytes,
         atoms: written.atom - 1,
         rules: place.rules,
-        old_atoms,
+        old_atoms: old,
     }
 }
 
@@ -107,12 +102,7 @@ fn split_table(
 }
 
 // Splits a program text's sums of more than 12 literals, in groups of that size, and writes the program that is left.
-pub fn split_sums(
-    text: &[u8],
-    group: usize,
-    table: &mut [i32],
-    output: &mut [u8],
-) -> SplitAnswer
+pub fn split_sums(text: &[u8], group: usize, table: &mut [i32], output: &mut [u8]) -> SplitAnswer
     ensures { λ r. ⌜ SplitSums (now (text .entry)) group (now (table .entry)) (now (table .exit)) (now (output .entry)) (now (output .exit)) r ⌝ }
 {
     let read = aspif::read_within(text, table, MOST_LITERALS);

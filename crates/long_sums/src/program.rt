@@ -17,9 +17,9 @@ ghost use Rattle.sums.specs.Levels.{planned, splitProgram, inGroups, sortedGrou
 ghost use Rattle.totalizer.specs.Emitting.{mostLine, lineOf, Bounded, Emits};
 ghost use Rattle.long_sums.specs.Program.{RuleHeld, RulesHeld, isLong, itemOf, ItemEmitted, ItemsEmitted, ProgramWritten};
 use crate::ordering;
+use aspif::tables;
 use joins::chains;
 use joins::chains::Numbered;
-use aspif::tables;
 use text::writing;
 use totalizer::texts;
 use totalizer::texts::Place;
@@ -121,13 +121,7 @@ fn emit_split(
 }
 
 // What stands for the rule at the front.
-fn emit_item(
-    output: &mut [u8],
-    place: Place,
-    atom: usize,
-    words: &[i32],
-    group: usize,
-) -> Numbered
+fn emit_item(output: &mut [u8], place: Place, atom: usize, words: &[i32], group: usize) -> Numbered
     requires rule { ⌜ RuleHeld (now words) ⌝ }
     requires place { ⌜ Bounded place × (atom ≤ 2000000000) ⌝ }
     requires group { ⌜ (2 ≤ group) × (group ≤ 12) ⌝ }
@@ -187,7 +181,14 @@ pub fn write_program(
         (now (output .entry)) (now (output .exit)) r ⌝ }
 {
     let from = writing::put_bytes(output, 0, b"asp 1 0 0\n");
-    let end = emit_rules(table, rules, group, Place { at: from, rules: 0 }, top + 1, output);
+    let end = emit_rules(
+        table,
+        rules,
+        group,
+        Place { at: from, rules: 0 },
+        top + 1,
+        output,
+    );
     let place = end.place;
     let at = writing::put_bytes(output, place.at, b"0\n");
     Numbered {

@@ -1,68 +1,53 @@
+use mathlib.Core.Path.{sym, refl, _∙_}
+use lib.ListN.{length}
+use Rattle.words.specs.Limits.{mostLiterals}
+use Rattle.aspif.specs.Reading.{readTextWithin}
+use Rattle.long_sums.proofs.Answers.{LongRead, long-read, refused-left, read-left}
 use borrow.Author.Needs.{needs}
 use Rattle.long_sums.proofs.split_sums.Statement.{statement}
 use Rattle.long_sums.proofs.split_sums.Tie as tie
-use Rattle.long_sums.proofs.split_sums.Reads as reads
-use Rattle.long_sums.proofs.split_sums.Lts as lts
-use Rattle.aspif.proofs.read_within.Reads as read-within-reads
-use Rattle.long_sums.proofs.refuse.Reads as refuse-reads
-use Rattle.long_sums.proofs.split_table.Reads as split-table-reads
 
--- src/lib.rt:118:9
-read-within-requires : tie.Need-read-within-requires
-read-within-requires c κs = search needs
+-- what was read, and what it leaves in the table
+told : (c : tie.After-read2)
+    → (let r = c .before .before .before in
+    let s = r .before .before .before .before in
+    LongRead (readTextWithin mostLiterals (length (s .args .table .now)) (s .args .text .now)) (c .read2 .given .0 .1 .0) (c .read2 .given .0 .0) (r .read-within .last .1 .0))
+told c =
+    let r = c .before .before .before in
+    let s = r .before .before .before .before in
+    let l = r .read-within .ensures in
+    long-read (length (s .args .table .now)) (s .args .text .now) _ refl (sym (l .answer) ∙ c .read2 .given .1) (r .read-within .last .1 .0) (l .table) (r .read-within .kept .1 .0)
 
--- src/lib.rt:120:33
-enum-known-read : tie.Need-enum-known-read
-enum-known-read c = search needs
-
--- src/lib.rt:121:13
-refuse-requires : tie.Need-refuse-requires
-refuse-requires c κs = search needs
-
--- src/lib.rt:123:32
-enum-known-read-2 : tie.Need-enum-known-read-2
-enum-known-read-2 c = search needs
-
--- src/lib.rt:123:50
 split-table-requires : tie.Need-split-table-requires
-split-table-requires c κs = ?
+split-table-requires c κs = told (c .before .before .before) .long
 
--- src/lib.rt:110:1
-same-length : tie.Need-same-length
-same-length c = search needs
-
--- src/lib.rt:110:1
-same-length-2 : tie.Need-same-length-2
-same-length-2 c = search needs
-
--- src/lib.rt:110:1
 returns : tie.Need-returns
-returns c = ?
+returns c =
+    let e = c .before .before .before .before .before .before .before in
+    let r = e .before .before .before in
+    let a = r .before .before .before .before .args in
+    refused-left (length (a .table .now)) (length (a .output .now)) (a .text .now) (a .group) (r .read-within .kept .1 .0) _ _
+    (sym (r .read-within .ensures .answer) ∙ e .read .given .1) (c .before .before .before .refuse .ensures)
 
--- src/lib.rt:110:1
-same-length-3 : tie.Need-same-length-3
-same-length-3 c = search needs
-
--- src/lib.rt:110:1
-same-length-4 : tie.Need-same-length-4
-same-length-4 c = search needs
-
--- src/lib.rt:110:1
 returns-2 : tie.Need-returns-2
-returns-2 c = ?
+returns-2 c =
+    let e = c .before .before .before .before .before .before .before in
+    let r = e .before .before .before in
+    let a = r .before .before .before .before .args in
+    read-left (length (a .table .now)) (length (a .output .now)) (a .text .now) (a .group) (r .read-within .kept .1 .0) _ (told e) (c .before .before .before .split-table .ensures)
 
 pub split-sums-spec : {M : Type 1} → statement M
 split-sums-spec =
     tie.close
     (tie.spec
-    read-within-requires
-    enum-known-read
-    refuse-requires
-    enum-known-read-2
+    (λ c κs. search needs)
+    (λ c. search needs)
+    (λ c κs. search needs)
+    (λ c. search needs)
     split-table-requires
-    same-length
-    same-length-2
+    (λ c. search needs)
+    (λ c. search needs)
     returns
-    same-length-3
-    same-length-4
+    (λ c. search needs)
+    (λ c. search needs)
     returns-2)

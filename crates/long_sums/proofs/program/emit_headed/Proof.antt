@@ -8,7 +8,7 @@ returns : tie.Need-returns
 returns c = let s = c .before .before .before in emits-last _ (s .args .place) (s .pre .1 .0) _ (c .if1 .taken)
 
 returns-2 : tie.Need-returns-2
-returns-2 c = 
+returns-2 c =
     let s = c .before .before .before .before .before .before .before .before in
     let l = c .before .before .before .put-headed in
     emits-put _ (s .args .place) (s .pre .1 .0) _ (omega (arith, s .pre .1 .1, c .before .before .before .before .before .if1 .left)) (l .ensures .0) (l .ensures .1) (l .kept .0)

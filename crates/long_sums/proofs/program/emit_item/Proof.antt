@@ -7,18 +7,18 @@ use Rattle.long_sums.proofs.program.emit_item.Statement.{statement}
 use Rattle.long_sums.proofs.program.emit_item.Tie as tie
 
 emit-split-requires : tie.Need-emit-split-requires
-emit-split-requires c κs = 
+emit-split-requires c κs =
     let i = c .before .before .before in
     let s = i .before .before in
     ((s .pre .0, sym (i .is-long .ensures) ∙ c .before .before .if1 .taken), (s .pre .1 .0, (s .pre .1 .1, refl)))
 
 emit-rule-requires : tie.Need-emit-rule-requires
-emit-rule-requires c κs = 
+emit-rule-requires c κs =
     let s = c .before .before .before .before in
     (held-shape (s .args .words .now) (s .pre .0), s .pre .1 .0 .0)
 
 returns-2 : tie.Need-returns-2
-returns-2 c = 
+returns-2 c =
     let i = c .before .before .before .before .before in
     let s = i .before .before in
     let r = ruleAt (s .args .words .now) in

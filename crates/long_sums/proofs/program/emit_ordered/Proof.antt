@@ -27,7 +27,7 @@ as-sorted : (s : tie.Start) → sortedGroups (s .args .group - 1) (paired (bodyW
 as-sorted s = sym (s .pre .1 .1 .1 .2) ∙ sides s .2
 
 emit-long-requires : tie.Need-emit-long-requires
-emit-long-requires c κs = 
+emit-long-requires c κs =
     let s = c .before .before .before in
     let p = s .pre .1 .1 .1 in
     let h = s .pre .0 in
@@ -36,7 +36,7 @@ emit-long-requires c κs =
     (s .pre .1 .0 .0, ((p .0, omega (arith, c .before .bound-of .ensures, b), omega (arith, p .1, n .0), omega (arith, p .1, n .1)), (s .pre .1 .1 .0, s .pre .1 .0 .1)))
 
 returns : tie.Need-returns
-returns c = 
+returns c =
     let s = c .before .before .before .before .before .before .before .before .before in
     let e = c .before .before .before .before .before .emit-long in
     let t = sides s in
@@ -54,14 +54,14 @@ sub-emit-headed : tie.Need-sub-emit-headed
 sub-emit-headed c = omega (arith, next (c .before))
 
 emit-headed-requires : tie.Need-emit-headed-requires
-emit-headed-requires c κs = 
+emit-headed-requires c κs =
     let s = c .before .before .before .before .before .before .before .before .before .before in
     let e = c .before .before .before .before .before .before .emit-long in
     let t = sides s in
     (s .pre .0 .0, (e .ensures .0 (t .0) (t .1) (t .2) .bounded, c .before .if1 .left))
 
 returns-2 : tie.Need-returns-2
-returns-2 c = 
+returns-2 c =
     let s = c .before .before .before .before .before .before .before .before .before .before .before .before .before in
     let e = c .before .before .before .before .before .before .before .before .before .emit-long in
     let t = sides s in

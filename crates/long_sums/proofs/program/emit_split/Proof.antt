@@ -30,26 +30,26 @@ slice-aggregate-order : tie.Need-slice-aggregate-order
 slice-aggregate-order c = let s = c .before .before .before in sym (length-take-le _ (s .args .sorted .now) (few (c .before)))
 
 order-requires : tie.Need-order-requires
-order-requires c κs = 
+order-requires c κs =
     let s = c .before .before .before in
     let g = s .pre .1 .1 .0 in
     let e = c .before .body-of .ensures in
     ((rw e (pairs-light (s .args .words .now) (s .pre .0 .0) (s .pre .0 .1)), length-take-le _ (s .args .sorted .now) (few (c .before))), (omega (arith, g .0), g .1))
 
 slice-reshare-prefix-emit-ordered : tie.Need-slice-reshare-prefix-emit-ordered
-slice-reshare-prefix-emit-ordered c = 
+slice-reshare-prefix-emit-ordered c =
     let o = c .before .before in
     let s = o .before .before .before .before in
     front-there _ (s .args .sorted .now) (o .order .last .1 .1 .0) (few (o .before .before)) (o .order .kept .1 .1 .0)
 
 slice-aggregate-emit-ordered : tie.Need-slice-aggregate-emit-ordered
-slice-aggregate-emit-ordered c = 
+slice-aggregate-emit-ordered c =
     let o = c .before .before .before in
     let s = o .before .before .before .before in
     sym (length-take-le _ _ (front-there _ (s .args .sorted .now) (o .order .last .1 .1 .0) (few (o .before .before)) (o .order .kept .1 .1 .0)))
 
 emit-ordered-requires : tie.Need-emit-ordered-requires
-emit-ordered-requires c κs = 
+emit-ordered-requires c κs =
     let o = c .before .before .before in
     let y = o .before .before in
     let s = y .before .before in

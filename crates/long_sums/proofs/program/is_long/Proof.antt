@@ -17,7 +17,7 @@ shared-slice-copy-out-variable-of : tie.Need-shared-slice-copy-out-variable-of
 shared-slice-copy-out-variable-of c = let s = c .before in omega (arith, shaped (s .args .words .now) (held-shape (s .args .words .now) (s .pre)) .long)
 
 returns : tie.Need-returns
-returns c = 
+returns c =
     let s = c .before .before .before in
     let n = rw (back (getD (s .args .words .now) 3 (pos 0)) (c .before .variable-of-arg .given)) at (c .variable-of .ensures) in
     ap₂ (λ (w : Bool) (n : ℕ). w && ltb 12 n) (c .before .before .is-weighted .ensures) n ∙ long-told (s .args .words .now) (s .pre)

@@ -10,7 +10,7 @@ put-head-requires : tie.Need-put-head-requires
 put-head-requires c κs = let s = c .before .before in (held-shape (s .args .words .now) (s .pre .0), s .pre .1)
 
 returns : tie.Need-returns
-returns c = 
+returns c =
     let s = c .before .before .before .before .before .before .before .before .before .before .before .before .before .before .before .before .before .before .before in
     let heads = c .before .before .before .before .before .before .before .before .before .before .before .before .before .before .before .before .put-head .ensures in
     let count = c .before .before .before .before .before .before .before .before .before .before .before .put-bytes .ensures in

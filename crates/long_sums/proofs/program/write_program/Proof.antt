@@ -6,7 +6,7 @@ use Rattle.long_sums.proofs.program.write_program.Statement.{statement}
 use Rattle.long_sums.proofs.program.write_program.Tie as tie
 
 returns : tie.Need-returns
-returns c = 
+returns c =
     let s = c .before .before .before .before .before .before .before .before .before .before .before .before .before .before .before .before in
     program-emitted (s .args .group) (rulesAt (s .args .rules) (s .args .table .now)) (omega (arith, s .pre .1 .0 .0))
     (c .before .before .before .before .before .before .before .before .before .before .before .before .put-bytes .ensures) (c .before .before .before .before .before .before .before .before .emit-rules .ensures) (c .before .before .put-bytes2 .ensures)
