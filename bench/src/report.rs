@@ -1,5 +1,5 @@
-//! What is printed: a row for each input, lines on the packets, on the merge, on trimming, on a cheapest set and on reading, the rows of two programs side by side,
-//! and those on growth.
+//! What is printed: a row for each input, lines on the packets, on the merge, on trimming, on a cheapest set, on long sums and on reading, the
+//! rows of two programs side by side, and those on growth.
 
 use crate::cases::{Goal, Input};
 use crate::costs::Certified;
@@ -8,6 +8,7 @@ use crate::measure::{Answer, Measured, Times};
 use crate::merging::Merged;
 use crate::packets::Packed;
 use crate::reading::{Amount, Reading};
+use crate::sums::Split;
 use crate::trees;
 use crate::trimming::Trimmed;
 use aspdrupe::{Counts, Verdict};
@@ -171,6 +172,26 @@ pub fn certified(certified: Option<&Certified>) {
         milliseconds(certified.certifying.least),
         milliseconds(certified.checking.median),
         milliseconds(certified.checking.least),
+    );
+}
+
+/// The line on a program whose long sums were split.
+pub fn split(split: &Result<Split, &str>) {
+    let split = match split {
+        Ok(split) => split,
+        Err(name) => {
+            println!("FAILED: {name} is split into other rules than it must be");
+            return;
+        }
+    };
+    let written = split.written.map_or(String::from("refused with 66"), |(rules, bytes)| format!("split into {rules} of {bytes} bytes"));
+    println!(
+        "sums of {}: rules {} of {} bytes, {written} in {:.3} ms (least {:.3})",
+        split.name,
+        split.rules,
+        split.bytes,
+        milliseconds(split.splitting.median),
+        milliseconds(split.splitting.least),
     );
 }
 

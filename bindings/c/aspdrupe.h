@@ -1,7 +1,8 @@
-/* The thirteen services of the proof checker for C: the program reader, the set test, the proof-line reader, the whole check over two texts,
- * the same for proofs of any length, the writer and the reader of packets, their moves from one version to the other, the merge of two halves'
- * proofs, the trimming of a proof, the certificate of a cheapest answer set, and the merge of the proofs at the ends of a tree of splits. The
- * functions are in target/staticlib/libexports.a, which `rt staticlib exports` writes, for x86-64 Linux.
+/* The fourteen services of the proof checker for C: the program reader, the set test, the proof-line reader, the whole
+ * check over two texts, the same for proofs of any length, the writer and the reader of packets, their moves from one
+ * version to the other, the merge of two halves' proofs, the trimming of a proof, the certificate of a cheapest answer
+ * set, the merge of the proofs at the ends of a tree of splits, and the splitting of long sums. The functions are in
+ * target/staticlib/libexports.a, which `rt staticlib exports` writes, for x86-64 Linux.
  *
  * Each function is proved to meet its contract (crates/exports/src/lib.rt and crates/exports/specs/) on every input: no text, no
  * number and no length is asked to be good. What the caller must see to is what C cannot say:
@@ -228,6 +229,24 @@ uint32_t aspdrupe_check_cheapest(const uint8_t *program, size_t program_len, con
 uint32_t aspdrupe_merge_tree(const uint8_t *program, size_t program_len, const uint16_t *tree, size_t tree_len, const uint8_t *texts,
                              size_t texts_len, const uint64_t *lengths, size_t lengths_len, int32_t *table, size_t table_len,
                              int32_t *store, size_t store_len, uint8_t *output, size_t output_len, uint64_t *answer, size_t answer_len);
+
+/* Writes a program with its long sums split into short ones. A sum may have 64 literals. One of more than 12 is added
+ * up in groups of `group` literals, 2 to 12, those of like weight together, by rules over new atoms above N; the rules
+ * that define them stand before the rule itself. All other rules are written as they are read, their numbers in order.
+ * What is written has the program's answer sets: each of its answer sets has, up to N, the atoms of one of the program,
+ * and each of the program is found so once. So where a check of what is written comes to ASPDRUPE_INCONSISTENT, the
+ * program has no answer set. An output of 65,535 bytes holds every text that is written.
+ * Returns 0 where it is written: answer[0] to answer[3] are its bytes, its largest atom, the number of its rules, and
+ * N, the largest atom of the program as written; the output holds the text and 0 after it, and the table the words of
+ * the program as written and 0 after them.
+ * Returns the number of the question that the program fails, 1 to 11 or 54: answer[0] is the line and answer[1] is 0,
+ * as aspdrupe_read_program has them. 55 would be more than 64 literals, which are 6 before it.
+ * Otherwise returns 65 (the group size is not 2 to 12) or 66 (what would be written has more than 1,024 rules, an atom
+ * above 8,191, or a text that is longer than 65,535 bytes or than the output), asked in this order: `answer` stays as
+ * it was.
+ * After a refusal, the program's too, table and output are 0 throughout. */
+uint32_t aspdrupe_split_sums(const uint8_t *program, size_t program_len, uint64_t group, int32_t *table, size_t table_len, uint8_t *output,
+                             size_t output_len, uint64_t *answer, size_t answer_len);
 
 #ifdef __cplusplus
 }

@@ -72,7 +72,7 @@ static void put_range(struct text *text, int first, int last) {
 /* ---- The inputs ---- */
 
 static struct text newlines, long_line, one_rule, chain, wide_rules, wide_steps, big_rules, full_rules, full_steps;
-static struct text weight_rules, weight_steps, many_weights;
+static struct text weight_rules, weight_steps, many_weights, long_sum, scattered_sum;
 static int32_t weight_table[WORDS];
 static uint8_t long_steps[LONG];
 static size_t long_size;
@@ -140,8 +140,10 @@ static void make_full(void) {
 /* How many rules with twelve weights and one head fill the table. */
 #define WEIGHT_RULES (WORDS / (6 + 2 * WEIGHTED))
 
-/* Rules with as many weights as there may be, whose bodies are all of their literals but one, the last of them put aside for one by which
- * their head is a loop, and steps that go through all of them; and a line with more weights, as many as are read before it is refused. */
+/* Rules with as many weights as there may be, whose bodies are all of their literals but one, the last of them put
+ * aside for one by which their head is a loop, and steps that go through all of them; and a line with more weights, as
+ * many as are read before it is refused. Two sums of as many literals: one whose partial sums have many levels, and one
+ * with so many that the program split would have too many rules. */
 static void make_weights(void) {
     put(&weight_rules, "asp 1 0 0\n");
     for (int i = 1; i < WEIGHT_RULES; i++) {
@@ -165,6 +167,12 @@ static void make_weights(void) {
     put(&many_weights, " 1 4095 64");
     for (int atom = 1; atom <= PART; atom++) put(&many_weights, " %d 4095", -atom);
     put(&many_weights, "\n0\n");
+    for (int scattered = 0; scattered <= 1; scattered++) {
+        struct text *sum = scattered ? &scattered_sum : &long_sum;
+        put(sum, "asp 1 0 0\n1 0 0 1 %d 64", scattered ? 4095 : 100);
+        for (int atom = 1; atom <= PART; atom++) put(sum, " %d %d", atom, scattered ? atom * 997 % 1009 : atom % 5);
+        put(sum, "\n0\n");
+    }
     uint64_t read[2];
     if (aspdrupe_read_program(weight_rules.bytes, weight_rules.size, weight_table, WORDS, read, 2) != 0) stop("a program is refused");
 }
@@ -436,6 +444,10 @@ static uint32_t merge_tree(const struct tree *tree, size_t numbers_size, size_t 
                                tree->lengths, ENDS, table, WORDS, store, store_size, bytes, size, answer, ASPDRUPE_ANSWER);
 }
 
+static uint32_t split_sums(const struct text *program, uint64_t group, size_t size) {
+    return aspdrupe_split_sums(program->bytes, program->size, group, table, WORDS, bytes, size, answer, ASPDRUPE_ANSWER);
+}
+
 static uint32_t read_full(void) { return read_program(&full_rules); }
 static uint32_t read_big(void) { return read_program(&big_rules); }
 static uint32_t read_wide(void) { return read_program(&wide_rules); }
@@ -554,6 +566,18 @@ static uint32_t tree_many(void) {
                                full_tree.lengths, ENDS, table, WORDS, store, WORDS, bytes, TEXT, answer, ASPDRUPE_ANSWER);
 }
 
+/* The bytes of the text with the sum of 64 negated literals split. */
+#define MANY_SPLIT 1294
+
+static uint32_t split_many(void) { return split_sums(&many_weights, 6, MANY_SPLIT); }
+static uint32_t split_levels(void) { return split_sums(&long_sum, 6, TEXT); }
+static uint32_t split_scattered(void) { return split_sums(&scattered_sum, 2, TEXT); }
+static uint32_t split_short(void) { return split_sums(&many_weights, 6, MANY_SPLIT - 1); }
+static uint32_t split_weights(void) { return split_sums(&weight_rules, 6, TEXT); }
+static uint32_t split_full(void) { return split_sums(&full_rules, 12, TEXT); }
+static uint32_t split_large(void) { return split_sums(&full_rules, 13, TEXT); }
+static uint32_t split_newlines(void) { return split_sums(&newlines, 6, TEXT); }
+
 /* A chain of rules against their order: the least model takes as many rounds as there are rules. It is the set that is tested. */
 static uint32_t test_chain(void) {
     static uint16_t set[RULES];
@@ -631,6 +655,14 @@ static const struct call calls[] = {
     {"packet_down: full table and text", down_new, 0, {106331, 0, 0, 0}},
     {"packet_down: rules with weights", down_weights, 61, {0, 0, 0, 0}},
     {"packet_down: a packet of version 1", down_old, 51, {0, 0, 0, 0}},
+    {"split_sums: 64 heads, 64 weights", split_many, 0, {MANY_SPLIT, 85, 32, 64}},
+    {"split_sums: 64 weights, many levels", split_levels, 0, {22886, 279, 998, 64}},
+    {"split_sums: 64 weights, too many rules", split_scattered, 66, {0, 0, 0, 0}},
+    {"split_sums: an output too short", split_short, 66, {0, 0, 0, 0}},
+    {"split_sums: rules with 12 weights", split_weights, 0, {43628, 13, WEIGHT_RULES, 13}},
+    {"split_sums: 1,024 rules", split_full, 0, {34828, 8, RULES, 8}},
+    {"split_sums: groups of 13", split_large, 65, {0, 0, 0, 0}},
+    {"split_sums: newlines", split_newlines, 2, {1, 0, 0, 0}},
 };
 
 static const struct call merges[] = {

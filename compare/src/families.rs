@@ -16,6 +16,7 @@ use crate::reference::check::{check, store_lengths, verdict_line};
 use crate::reference::models::{self, every_set};
 use crate::reference::program::{read, table_words, Program};
 use crate::reference::{filled, MARKS};
+use crate::sums;
 use crate::tables;
 use crate::trees;
 use crate::trims;
@@ -68,6 +69,8 @@ pub fn families() -> Vec<Family> {
         listed("trees", cases::trees::cases().len(), trees::run_worked),
         listed("tree-faults", 1, trees::run_faulty),
         family("split-trees", 30, trees::run_random),
+        listed("sums", cases::sums::cases().len(), sums::run_worked),
+        family("long-sums", 5, sums::run_random),
     ]
 }
 

@@ -23,6 +23,7 @@ mod packets;
 mod prove;
 mod reference;
 mod shrink;
+mod sums;
 mod tables;
 mod tally;
 mod trees;

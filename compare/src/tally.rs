@@ -8,6 +8,7 @@ use crate::one_rate;
 use crate::packets;
 use crate::reference::check::{verdict_line, Verdict};
 use crate::reference::merge::Turn;
+use crate::sums;
 use crate::trees;
 use crate::trims;
 
@@ -102,6 +103,9 @@ fn wanted(with_binary: bool) -> Vec<String> {
     wanted.extend(PROGRAM_QUESTIONS.map(|number| format!("check_cheapest: refused program {number:02}")));
     wanted.extend(trees::WANTED.map(|what| format!("merge_tree: {what}")));
     wanted.extend(PROGRAM_QUESTIONS.map(|number| format!("merge_tree: refused program {number:02}")));
+    wanted.extend(sums::WANTED.map(|what| format!("split_sums: {what}")));
+    let asked = PROGRAM_QUESTIONS.iter().filter(|number| **number != 55);
+    wanted.extend(asked.map(|number| format!("split_sums: refused program {number:02}")));
     wanted.extend(Turn::ALL.map(|turn| format!("merge_halves: {}", turn.told())));
     wanted.extend("abcdels".chars().map(|letter| format!("inconsistent by a proof with {letter}")));
     wanted.extend(["refuted", "answer set"].map(|word| format!("search: {word}")));

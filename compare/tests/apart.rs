@@ -24,7 +24,7 @@ fn reference_stands_apart() {
         }
         files += 1;
     }
-    assert_eq!(files, 15);
+    assert_eq!(files, 16);
 }
 
 #[test]

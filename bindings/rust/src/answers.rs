@@ -1,7 +1,7 @@
 //! What the services answer.
 
 use crate::questions::{
-    CheapestQuestion, Letter, MergeQuestion, PacketQuestion, ProgramQuestion, ProofQuestion, SetQuestion, TrimQuestion,
+    CheapestQuestion, Letter, MergeQuestion, PacketQuestion, ProgramQuestion, ProofQuestion, SetQuestion, SplitQuestion, TrimQuestion,
 };
 use std::fmt;
 
@@ -169,6 +169,27 @@ pub enum Cheapest {
     RefusedProgram(ProgramRefusal),
     /// The set, the costs or the proof are refused.
     Refused(CheapestQuestion),
+}
+
+/// What is said of a program whose long sums are to be split.
+#[derive(Debug, Clone, Copy, PartialEq, Eq, Hash)]
+pub enum Splitting {
+    /// The program with its long sums split is written.
+    Split {
+        /// The bytes of its text.
+        bytes: usize,
+        /// Its largest atom.
+        atoms: usize,
+        /// The number of its rules.
+        rules: usize,
+        /// The largest atom of the program as written. An answer set of what is written has, up to there, the atoms of
+        /// one of it.
+        old_atoms: usize,
+    },
+    /// The program is refused.
+    RefusedProgram(ProgramRefusal),
+    /// The group size is refused, or the program that would be written.
+    Refused(SplitQuestion),
 }
 
 impl fmt::Display for ProgramRefusal {

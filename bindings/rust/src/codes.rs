@@ -1,11 +1,12 @@
 //! From what a function of the library returns and leaves, a code and numbers, to the answer of its service.
 
 use crate::answers::{
-    Cheapest, Counts, LineAnswer, Merging, PacketReading, PacketWriting, ProgramReading, ProgramRefusal, ProofRefusal, SetAnswer, Trimming,
-    Verdict,
+    Cheapest, Counts, LineAnswer, Merging, PacketReading, PacketWriting, ProgramReading, ProgramRefusal, ProofRefusal, SetAnswer,
+    Splitting, Trimming, Verdict,
 };
 use crate::questions::{
-    CheapestQuestion, Letter, MergeQuestion, PacketQuestion, ProgramQuestion, ProofQuestion, SetQuestion, TrimQuestion, UnknownAnswer,
+    CheapestQuestion, Letter, MergeQuestion, PacketQuestion, ProgramQuestion, ProofQuestion, SetQuestion, SplitQuestion, TrimQuestion,
+    UnknownAnswer,
 };
 
 /// What the program reader returns.
@@ -89,6 +90,14 @@ enum CheapestCode {
     Certified,
     RefusedProgram(ProgramQuestion),
     Refused(CheapestQuestion),
+}
+
+/// What the splitting of long sums returns.
+#[derive(Debug, Clone, Copy, PartialEq, Eq)]
+enum SplitCode {
+    Split,
+    RefusedProgram(ProgramQuestion),
+    Refused(SplitQuestion),
 }
 
 fn unknown(wanted: &'static str, code: u32) -> UnknownAnswer {
@@ -247,6 +256,19 @@ impl TryFrom<u32> for CheapestCode {
     }
 }
 
+impl TryFrom<u32> for SplitCode {
+    type Error = UnknownAnswer;
+
+    fn try_from(code: u32) -> Result<Self, UnknownAnswer> {
+        match code {
+            0 => Ok(SplitCode::Split),
+            1..=11 | 54 | 55 => ProgramQuestion::try_from(u64::from(code)).map(SplitCode::RefusedProgram),
+            65 | 66 => SplitQuestion::try_from(u64::from(code)).map(SplitCode::Refused),
+            _ => Err(unknown("code of the splitting of sums", code)),
+        }
+    }
+}
+
 /// The program reader's answer.
 pub fn program_reading(code: u32, answer: [u64; 2]) -> Result<ProgramReading, UnknownAnswer> {
     let [first, second] = answer.map(|number| number as usize);
@@ -364,6 +386,16 @@ pub fn cheapest(code: u32, answer: u64) -> Result<Cheapest, UnknownAnswer> {
     })
 }
 
+/// The answer of the splitting of long sums.
+pub fn splitting(code: u32, answer: [u64; 4]) -> Result<Splitting, UnknownAnswer> {
+    let [bytes, atoms, rules, old_atoms] = answer.map(|number| number as usize);
+    Ok(match SplitCode::try_from(code)? {
+        SplitCode::Split => Splitting::Split { bytes, atoms, rules, old_atoms },
+        SplitCode::RefusedProgram(question) => Splitting::RefusedProgram(ProgramRefusal { question, line: bytes }),
+        SplitCode::Refused(question) => Splitting::Refused(question),
+    })
+}
+
 #[cfg(test)]
 mod tests {
     use super::*;
@@ -390,6 +422,7 @@ mod tests {
         assert_eq!(known::<TreeCode>(), (0..=11).chain([54, 55, 57, 58, 59, 64]).collect::<Vec<_>>());
         assert_eq!(known::<TrimCode>(), (0..=11).chain([54, 55, 60]).collect::<Vec<_>>());
         assert_eq!(known::<CheapestCode>(), (0..=11).chain([42, 54, 55, 62, 63]).collect::<Vec<_>>());
+        assert_eq!(known::<SplitCode>(), (0..=11).chain([54, 55, 65, 66]).collect::<Vec<_>>());
     }
 
     #[test]
@@ -406,6 +439,7 @@ mod tests {
         assert_eq!(merging(64, 0), Err(UnknownAnswer { wanted: "code of the merge", number: 64 }));
         assert_eq!(tree_merging(63, 0), Err(UnknownAnswer { wanted: "code of the merge of a tree", number: 63 }));
         assert_eq!(trimming(57, 0), Err(UnknownAnswer { wanted: "code of trimming", number: 57 }));
+        assert_eq!(splitting(64, [0; 4]), Err(UnknownAnswer { wanted: "code of the splitting of sums", number: 64 }));
     }
 
     #[test]
@@ -443,6 +477,10 @@ mod tests {
         assert_eq!(cheapest(0, 3), Ok(Cheapest::Certified(3)));
         assert_eq!(cheapest(5, 7), Ok(Cheapest::RefusedProgram(refusal)));
         assert_eq!(cheapest(62, 9), Ok(Cheapest::Refused(CheapestQuestion::Costs)));
+        assert_eq!(splitting(0, [130, 16, 4, 13]), Ok(Splitting::Split { bytes: 130, atoms: 16, rules: 4, old_atoms: 13 }));
+        assert_eq!(splitting(5, [7, 0, 9, 9]), Ok(Splitting::RefusedProgram(refusal)));
+        assert_eq!(splitting(65, [9; 4]), Ok(Splitting::Refused(SplitQuestion::Group)));
+        assert_eq!(splitting(66, [9; 4]), Ok(Splitting::Refused(SplitQuestion::Room)));
         for (code, answer, line) in
             [(0, [1, 2, 3, 4], "inconsistent 1 2 3 4"), (1, [5, 6, 7, 8], "open 5 6 7 8"), (2, [10, 3, 0, 0], "refused program 10 3")]
         {

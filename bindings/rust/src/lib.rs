@@ -1,8 +1,9 @@
-//! The thirteen services of the proof checker for Rust: the program reader, the set test, the proof-line reader, the whole check over two
-//! texts, the same for proofs of any length, the writer and the reader of packets, their moves from one version to the other, the merge of
-//! two halves' proofs, the trimming of a proof, the certificate of a cheapest answer set, and the merge of the proofs at the ends of a tree of
-//! splits. The work is done by functions that are proved to meet their contracts on every input (`crates/exports`); here they are declared and
-//! wrapped, and their codes become enums. No input panics.
+//! The fourteen services of the proof checker for Rust: the program reader, the set test, the proof-line reader, the
+//! whole check over two texts, the same for proofs of any length, the writer and the reader of packets, their moves
+//! from one version to the other, the merge of two halves' proofs, the trimming of a proof, the certificate of a
+//! cheapest answer set, the merge of the proofs at the ends of a tree of splits, and the splitting of long sums. The
+//! work is done by functions that are proved to meet their contracts on every input (`crates/exports`); here they are
+//! declared and wrapped, and their codes become enums. No input panics.
 //!
 //! Each function answers an [`UnknownAnswer`] where the library returns what its contract does not allow, which a library of the
 //! same version never does.
@@ -27,15 +28,18 @@ mod codes;
 mod long;
 mod questions;
 mod raw;
+mod sums;
 
 pub use answers::{
-    Cheapest, Counts, LineAnswer, Merging, PacketReading, PacketWriting, ProgramReading, ProgramRefusal, ProofRefusal, SetAnswer, Trimming,
-    Verdict, Version,
+    Cheapest, Counts, LineAnswer, Merging, PacketReading, PacketWriting, ProgramReading, ProgramRefusal, ProofRefusal, SetAnswer,
+    Splitting, Trimming, Verdict, Version,
 };
 pub use long::{check_long, check_long_in, check_long_with, memory_for, store_for, LongFailure};
 pub use questions::{
-    CheapestQuestion, Letter, MergeQuestion, PacketQuestion, ProgramQuestion, ProofQuestion, SetQuestion, TrimQuestion, UnknownAnswer,
+    CheapestQuestion, Letter, MergeQuestion, PacketQuestion, ProgramQuestion, ProofQuestion, SetQuestion, SplitQuestion, TrimQuestion,
+    UnknownAnswer,
 };
+pub use sums::{split_program, split_sums};
 
 /// The most numbers of a proof line.
 pub const MOST_NUMBERS: usize = 65;

@@ -210,6 +210,17 @@ questions! {
     }
 }
 
+questions! {
+    /// A question put by the splitting of long sums, after those put to the program. A refusal names the first that is
+    /// answered no.
+    SplitQuestion, "question put by the splitting of sums" {
+        Group = 65, "Is the group size from 2 to 12?",
+            "the call";
+        Room = 66, "Has the split program at most 1,024 rules, atoms up to 8,191, and a text within 65,535 bytes and the output?",
+            "another group size, or a longer output; a smaller program; weights with fewer different sums";
+    }
+}
+
 numbered! {
     /// The letter of a proof line; its number is its byte.
     Letter, "letter of a proof line" {
@@ -242,6 +253,7 @@ mod tests {
         assert_eq!(known(MergeQuestion::number), [57, 58, 59, 64]);
         assert_eq!(known(TrimQuestion::number), [60]);
         assert_eq!(known(CheapestQuestion::number), [42, 62, 63]);
+        assert_eq!(known(SplitQuestion::number), [65, 66]);
         assert_eq!(known(Letter::number), b"abcdels".map(u64::from));
         assert_eq!(Letter::ALL.iter().map(Letter::to_string).collect::<String>(), "abcdels");
     }
@@ -273,7 +285,8 @@ mod tests {
             + &rows("packet", PacketQuestion::ALL, PacketQuestion::number, PacketQuestion::mend)
             + &rows("merge", MergeQuestion::ALL, MergeQuestion::number, MergeQuestion::mend)
             + &rows("trim", TrimQuestion::ALL, TrimQuestion::number, TrimQuestion::mend)
-            + &rows("cheapest", CheapestQuestion::ALL, CheapestQuestion::number, CheapestQuestion::mend);
+            + &rows("cheapest", CheapestQuestion::ALL, CheapestQuestion::number, CheapestQuestion::mend)
+            + &rows("sums", SplitQuestion::ALL, SplitQuestion::number, SplitQuestion::mend);
         let readme = std::fs::read_to_string(concat!(env!("CARGO_MANIFEST_DIR"), "/../../README.md")).unwrap();
         let head = "| number | question that is answered no | what to mend |\n|---|---|---|\n";
         let (_, after) = readme.split_once(head).expect("README has the table's head");

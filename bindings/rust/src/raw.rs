@@ -157,6 +157,17 @@ extern "C" {
         answer: *mut u64,
         answer_len: usize,
     ) -> u32;
+    pub fn aspdrupe_split_sums(
+        program: *const u8,
+        program_len: usize,
+        group: u64,
+        table: *mut i32,
+        table_len: usize,
+        output: *mut u8,
+        output_len: usize,
+        answer: *mut u64,
+        answer_len: usize,
+    ) -> u32;
 }
 
 // What does not fit is not written, and what stands after an answer stays.
@@ -565,5 +576,54 @@ mod tests {
                 assert_eq!(merged_tree(atom, 6, store, output, 3), (code, [9; 3]));
             }
         });
+    }
+
+    /// Thirteen literals of weight 1 that must not all hold, in groups of so many: the code, and what is left in an
+    /// answer of so many numbers.
+    fn split(group: u64, table: usize, output: usize, size: usize) -> (u32, [u64; 6]) {
+        let pairs: String = (1..=13).map(|atom| format!(" {atom} 1")).collect();
+        let program = format!("asp 1 0 0\n1 0 0 1 13 13{pairs}\n0\n");
+        let (mut table, mut output, mut answer) = (vec![7; table], vec![7; output], [9u64; 6]);
+        // SAFETY: as above.
+        let code = unsafe {
+            aspdrupe_split_sums(
+                program.as_ptr(),
+                program.len(),
+                group,
+                table.as_mut_ptr(),
+                table.len(),
+                output.as_mut_ptr(),
+                output.len(),
+                answer.as_mut_ptr(),
+                size,
+            )
+        };
+        if code != 0 {
+            assert!(table.iter().all(|word| *word == 0) && output.iter().all(|byte| *byte == 0));
+        }
+        (code, answer)
+    }
+
+    #[test]
+    fn split_counts_that_do_not_fit() {
+        for size in 0..=6 {
+            let mut left = [SPLIT as u64, 16, 4, 13, 9, 9];
+            left[size.min(4)..].fill(9);
+            assert_eq!(split(7, 31, SPLIT, size), (0, left));
+            let mut left = [2, 0, 9, 9, 9, 9];
+            left[size.min(2)..].fill(9);
+            assert_eq!(split(7, 30, SPLIT, size), (10, left));
+        }
+    }
+
+    /// The bytes of that program with its sum split.
+    const SPLIT: usize = 130;
+
+    #[test]
+    fn split_refusals_tell_no_numbers() {
+        for group in [0, 1, 13, 1 << 32 | 2, u64::MAX] {
+            assert_eq!(split(group, 31, 0, 6), (65, [9; 6]));
+        }
+        assert_eq!(split(7, 31, SPLIT - 1, 6), (66, [9; 6]));
     }
 }

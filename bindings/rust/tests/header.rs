@@ -23,7 +23,7 @@ fn same_constants() {
 }
 
 /// Every service that needs no more stack than a check, once. The inputs that go deepest are those of bindings/c/stack.c.
-fn call_all() -> [String; 9] {
+fn call_all() -> [String; 10] {
     let program = b"asp 1 0 0\n1 0 1 1 0 1 2\n1 0 1 2 0 1 1\n1 0 0 0 1 -1\n0\n";
     let proof = b"b 3 -1 0\nb 4 2 0\ns 1 4 0\nc 3 0\nl 1 2 0\na 0\n";
     let (mut table, mut store) = ([0; 20], [0; 32]);
@@ -37,9 +37,21 @@ fn call_all() -> [String; 9] {
     let back = read_packet(Version::One, &packet, &mut table, &mut [0; 43]);
     let up = packet_up(&packet, &mut moved);
     let down = packet_down(&moved, &mut packet);
+    let split = split_program(program, 6).unwrap().0;
     let verdict = verdict.unwrap().to_string();
     let [written, up, down] = [written, up, down].map(|answer| format!("{answer:?}"));
-    [format!("{read:?}"), format!("{set:?}"), format!("{line:?}"), verdict, long, written, format!("{back:?}"), up, down]
+    [
+        format!("{read:?}"),
+        format!("{set:?}"),
+        format!("{line:?}"),
+        verdict,
+        long,
+        written,
+        format!("{back:?}"),
+        up,
+        down,
+        format!("{split:?}"),
+    ]
 }
 
 // The header's macro is written out here.
@@ -64,6 +76,7 @@ fn stack_of_a_thread() {
         "Ok(Read { rules: 3, bytes: 43 })",
         "Ok(Written(111))",
         "Ok(Written(99))",
+        "Split { bytes: 53, atoms: 2, rules: 3, old_atoms: 2 }",
     ];
     assert_eq!(thread.join().unwrap(), expected);
 }

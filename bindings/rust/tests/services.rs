@@ -1,4 +1,5 @@
-//! The thirteen services on document 01's starred examples, on rules with weights, and on buffers that are too small or empty.
+//! The fourteen services on document 01's starred examples, on rules with weights, and on buffers that are too small or
+//! empty.
 
 use aspdrupe::*;
 
@@ -713,4 +714,61 @@ fn root_ends() {
         assert_eq!(answer(proof, 18, 42), Merging::Refused(MergeQuestion::Halves));
         assert_eq!(answer(&[&proof[..], b"d 0\n"].concat(), 25, 0), Merging::Refused(MergeQuestion::Halves));
     });
+}
+
+/// Rules of each kind with a long sum: a choice over 1 to 13, 14 where twelve of them hold, and not 14.
+fn with_sums() -> String {
+    let pairs: String = (1..=13).map(|atom| format!(" {atom} 1")).collect();
+    let heads: String = (1..=13).map(|atom| format!(" {atom}")).collect();
+    format!("asp 1 0 0\n1 1 13{heads} 0 0\n1 0 1 14 1 12 13{pairs}\n1 0 0 0 1 14\n0\n")
+}
+
+/// What the splitting says of those rules, with every word of a table and every byte of an output of so many.
+fn split(group: usize, words: usize, bytes: usize) -> (Splitting, Vec<i32>, Vec<u8>) {
+    let (mut table, mut output) = (vec![7; words], vec![7; bytes]);
+    let splitting = split_sums(with_sums().as_bytes(), group, &mut table, &mut output).unwrap();
+    (splitting, table, output)
+}
+
+#[test]
+fn sums_that_are_split() {
+    let (splitting, text) = split_program(with_sums().as_bytes(), 7).unwrap();
+    let Splitting::Split { bytes, atoms, rules, old_atoms } = splitting else { panic!("{splitting:?}") };
+    assert_eq!((bytes, atoms, rules, old_atoms), (text.len(), 19, 9, 14));
+    let lines: Vec<&str> = std::str::from_utf8(&text).unwrap().lines().collect();
+    assert_eq!(lines[2], "1 0 1 15 1 6 7 1 1 2 1 3 1 4 1 5 1 6 1 7 1");
+    assert_eq!(lines[5], "1 0 1 18 1 6 6 8 1 9 1 10 1 11 1 12 1 13 1");
+    assert_eq!(lines[6..], ["1 0 1 19 0 2 15 18", "1 0 1 19 0 2 16 17", "1 0 1 14 0 1 19", "1 0 0 0 1 14", "0"]);
+    // the table is the program's as written, and nothing stands behind the text
+    let words = 17 + 32 + 5;
+    let (again, table, output) = split(7, words + 2, bytes + 3);
+    assert_eq!((again, &output[..bytes], &output[bytes..]), (splitting, &text[..], &[0; 3][..]));
+    assert_eq!((&table[17..23], &table[words..]), (&[0, 1, 1, 13, 12, 14][..], &[0; 2][..]));
+    // what is written is read, and has the program's answer sets
+    let mut table = vec![7; text.len()];
+    assert_eq!(read_program(&text, &mut table), Ok(ProgramReading::Read { atoms: 19, rules: 9 }));
+    let eleven: Vec<u16> = (1..=11).chain([16]).collect();
+    let six: Vec<u16> = (1..=6).chain([15]).collect();
+    for set in [&[][..], &eleven, &six] {
+        let mut marks = [7; MARKS];
+        let answer = test_set(&table, 9, set, &mut marks).unwrap();
+        assert_eq!(answer == SetAnswer::Yes, set != eleven.as_slice(), "{set:?}: {answer:?}");
+    }
+}
+
+#[test]
+fn sums_that_are_not_split() {
+    let (Splitting::Split { bytes, .. }, ..) = split(7, 99, 999) else { panic!("not split") };
+    let refused = |question, words, bytes| (Splitting::Refused(question), vec![0; words], vec![0; bytes]);
+    for group in [0, 1, 13, 258, usize::MAX] {
+        assert_eq!(split(group, 54, 3), refused(SplitQuestion::Group, 54, 3));
+    }
+    for size in [0, bytes - 1] {
+        assert_eq!(split(7, 54, size), refused(SplitQuestion::Room, 54, size));
+    }
+    let refusal = ProgramRefusal { question: ProgramQuestion::Table, line: 4 };
+    assert_eq!(split(0, 53, 2), (Splitting::RefusedProgram(refusal), vec![0; 53], vec![0; 2]));
+    let short = split_program(b"asp 1 0 0\n1 0 0 1 1 65\n0\n", 7).unwrap();
+    let refusal = ProgramRefusal { question: ProgramQuestion::Counts, line: 2 };
+    assert_eq!(short, (Splitting::RefusedProgram(refusal), Vec::new()));
 }

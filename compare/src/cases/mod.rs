@@ -17,6 +17,7 @@ pub mod moves;
 pub mod noise;
 pub mod packets;
 pub mod refutations;
+pub mod sums;
 pub mod trees;
 pub mod trims;
 pub mod weights;

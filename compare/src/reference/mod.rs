@@ -1,5 +1,5 @@
 //! The slow and plain reference: every service of document 01, and the packets of both versions, the merges, the trimming and the cheapest
-//! answer set of document 02, once more, written from their words.
+//! answer set of document 02, once more, written from their words; and the splitting of long sums.
 //!
 //! Where its words left room for doubt, this is how they are read here:
 //! - A refused proof zeroes the table too: the whole check "is lent both texts and a table and a store to fill", and every refusal
@@ -55,6 +55,7 @@ pub mod numbers;
 pub mod packets;
 pub mod program;
 pub mod steps;
+pub mod sums;
 pub mod tree;
 pub mod trim;
 pub mod weights;

@@ -113,6 +113,11 @@ pub fn table_words(rules: &[InputRule]) -> Vec<i32> {
 
 /// The program reader, lent a table of `room` words.
 pub fn read(text: &[u8], room: usize) -> Result<Program, Refusal> {
+    rules_within(text, room, WEIGHTED_LIMIT).map(Program::of)
+}
+
+/// The rules that are read where question 55 is put with so many literals.
+pub fn rules_within(text: &[u8], room: usize, most: usize) -> Result<Vec<InputRule>, Refusal> {
     if text.len() > TEXT_LIMIT {
         return Err((1, 0));
     }
@@ -120,10 +125,10 @@ pub fn read(text: &[u8], room: usize) -> Result<Program, Refusal> {
     if !text.starts_with(header) {
         return Err((2, 1));
     }
-    read_rules(text, header.len(), room)
+    read_rules(text, header.len(), room, most)
 }
 
-fn read_rules(text: &[u8], start: usize, room: usize) -> Result<Program, Refusal> {
+fn read_rules(text: &[u8], start: usize, room: usize, most: usize) -> Result<Vec<InputRule>, Refusal> {
     let mut rules = Vec::new();
     let mut used = 0;
     let mut position = start;
@@ -131,9 +136,9 @@ fn read_rules(text: &[u8], start: usize, room: usize) -> Result<Program, Refusal
     loop {
         let (row, next) = row_at(text, position).map_err(|number| (number, line))?;
         if row == [0] {
-            return if next == text.len() { Ok(Program::of(rules)) } else { Err((11, line)) };
+            return if next == text.len() { Ok(rules) } else { Err((11, line)) };
         }
-        let rule = rule_of(&row).map_err(|number| (number, line))?;
+        let rule = rule_of(&row, most).map_err(|number| (number, line))?;
         if rules.len() >= RULE_LIMIT {
             return Err((9, line));
         }
@@ -159,7 +164,7 @@ fn row_at(text: &[u8], position: usize) -> Result<(Vec<i32>, usize), u8> {
 }
 
 /// Questions 5 to 8, with 54 and 55 right after 6, reading left to right.
-fn rule_of(row: &[i32]) -> Result<InputRule, u8> {
+fn rule_of(row: &[i32], most: usize) -> Result<InputRule, u8> {
     let mut rest = row;
     if take(&mut rest) != Some(1) {
         return Err(5);
@@ -180,7 +185,7 @@ fn rule_of(row: &[i32]) -> Result<InputRule, u8> {
         return Err(6);
     }
     if let Body::Weights { bound, pairs } = &body {
-        weights_good(*bound, pairs)?;
+        weights_good(*bound, pairs, most)?;
     }
     if !count_suits(choice, heads.len()) {
         return Err(7);
@@ -207,12 +212,12 @@ fn weight_body(rest: &mut &[i32]) -> Result<Body, u8> {
     Ok(Body::Weights { bound, pairs: numbers.chunks_exact(2).map(|pair| (pair[0], pair[1])).collect() })
 }
 
-/// "a weight or bound out of its range is 54, more than 12 literals 55"
-fn weights_good(bound: i32, pairs: &[(i32, i32)]) -> Result<(), u8> {
+/// "a weight or bound out of its range is 54, more than 12 literals 55", or more than the number given
+fn weights_good(bound: i32, pairs: &[(i32, i32)], most: usize) -> Result<(), u8> {
     if !in_range(bound) || !pairs.iter().all(|(_, weight)| in_range(*weight)) {
         return Err(54);
     }
-    if pairs.len() > WEIGHTED_LIMIT {
+    if pairs.len() > most {
         return Err(55);
     }
     Ok(())

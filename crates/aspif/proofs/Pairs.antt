@@ -60,7 +60,7 @@ module _ (ws : List ℤ) (i : ℕ) (h : i + 1 < length ws) where
 pub weighted-words : (ws ls : List ℤ) → length (pairWords (weighted ws ls)) ≡ 2 * length ls
 weighted-words ws ls = length-pairs (weighted ws ls) ∙ ap (λ (n : ℕ). 2 * n) (length-map ls _)
 
-words-append : (k l : List Weighted) → pairWords (k ++ l) ≡ pairWords k ++ pairWords l
+pub words-append : (k l : List Weighted) → pairWords (k ++ l) ≡ pairWords k ++ pairWords l
 words-append [] l = refl
 words-append (x ∷ k) l = ap (λ (t : List ℤ). x .literal ∷ pos (x .weight) ∷ t) (words-append k l)
 

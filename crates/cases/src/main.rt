@@ -1,4 +1,4 @@
-// Worked cases of the thirteen services, and of a proof that one `ProofReader` reads. A case on standard input is
+// Worked cases of the fourteen services, and of a proof that one `ProofReader` reads. A case on standard input is
 //   NAME: [WORD NUMBERS; LIST; LIST
 //   TEXT|TEXT|TEXT]
 // with a word for the service, up to five numbers, two lists of numbers and three texts; what is left out is 0 or empty. The numbers are the lengths of

@@ -12,6 +12,7 @@
 //   write     the rule count and the version; the table's words; the proof. The output is the packet
 //   cheapest  the costs; the set; program | proof
 //   splits    the lengths of the ends; the tree; program | the ends' texts, one right after the other
+//   groups    the group size; the program whose long sums are split
 use crate::stepping;
 use notation::reading;
 use notation::reading::head;
@@ -28,7 +29,7 @@ const MEMORY: usize = 60000;
 // Whether the output of the line's service is a text.
 pub fn is_text(line: &[u8]) -> bool {
     match reading::first_of(line) {
-        b'r' | b'h' | b't' | b's' => true,
+        b'r' | b'h' | b't' | b's' | b'g' => true,
         _ => false,
     }
 }
@@ -218,6 +219,7 @@ pub fn serve(
         b'p' => exports::aspdrupe_read_program(texts, table, answer),
         b'l' => exports::aspdrupe_read_line(texts, number, table, answer),
         b'n' => stepping::read_steps(texts),
+        b'g' => exports::aspdrupe_split_sums(texts, number, table, output, answer),
         b'r' | b'u' | b'd' => serve_packet(service, version, texts, table, output, answer),
         b'v' | b'm' | b'h' | b't' => serve_texts(
             service,

@@ -140,14 +140,17 @@ module _ (table : List ℤ) (rules : ℕ) (ws : List InputRule) (read : rulesOf 
     pub tried : set ∈ sets
     pub same : (v : ℕ) → M v ↔ Listed set v
 
-  pub seen : (M : ℕ → Type 0) → AnswerSet M (expand ws) → ¬ (¬ Seen M)
-  seen M S f =
-      shift (λ v. M v ⊎ (¬ M v)) (numbers (atoms ws) 1) (λ v i g. g (inr (λ m. g (inl m)))) (λ d.
+  -- and one of them where of each atom it is decided
+  pub seen-by : (M : ℕ → Type 0) → AnswerSet M (expand ws) → ((v : ℕ) → v ∈ numbers (atoms ws) 1 → M v ⊎ (¬ M v)) → Seen M
+  seen-by M S d =
       let p = part-of M (numbers (atoms ws) 1) d in
-      f (record { set = p .part; tried = sub.listed (p .of); same = λ v. (λ m. p .all v (atom v m) m, p .in-set v) }))
+      record { set = p .part; tried = sub.listed (p .of); same = λ v. (λ m. p .all v (atom v m) m, p .in-set v) }
     where
       atom : (v : ℕ) → M v → v ∈ numbers (atoms ws) 1
       atom v m = let w = model-within table rules ws read M (S .least v .0 m) in in-numbers (atoms ws) 1 v (w .0) (omega (arith, w .1))
+
+  pub seen : (M : ℕ → Type 0) → AnswerSet M (expand ws) → ¬ (¬ Seen M)
+  seen M S f = shift (λ v. M v ⊎ (¬ M v)) (numbers (atoms ws) 1) (λ v i g. g (inr (λ m. g (inl m)))) (λ d. f (seen-by M S d))
 
   pub answers-seen : (M : ℕ → Type 0) → AnswerSet M (expand ws) → (s : Seen M) → Answers (s .set)
   answers-seen M S s = answer-under (expand ws) M (Listed (s .set)) (λ v. s .same v .0) (λ v. s .same v .1) S

@@ -24,6 +24,8 @@ use Rattle.trimming.specs.declared.TrimAnswer.{TrimAnswer}
 use Rattle.trimming.specs.declared.TrimAnswer.the-variants as Trim
 use Rattle.cheapest.specs.declared.CheapestAnswer.{CheapestAnswer}
 use Rattle.cheapest.specs.declared.CheapestAnswer.the-variants as Cheapest
+use Rattle.long_sums.specs.declared.SplitAnswer.{SplitAnswer}
+use Rattle.long_sums.specs.declared.SplitAnswer.the-variants as Split
 
 -- the code is returned, and the numbers stand at the front of the lent buffer, as many as fit; no other number of it has changed
 pub record Told (code : ℕ) (numbers before after : List ℕ) (result : ℕ) : Type 0 where
@@ -143,3 +145,16 @@ abbrev pub cheapestNumbers : CheapestAnswer → List ℕ
 cheapestNumbers (Cheapest.Cheapest C) = C ∷ []
 cheapestNumbers (Cheapest.RefusedProgram r) = r .line ∷ 0 ∷ []
 cheapestNumbers (Cheapest.Refused k) = []
+
+-- The splitting of long sums: 0 with the bytes, the atoms and the rules of what is written and the atoms of the program
+-- as written; the program's number and line, as its reader tells them; 65 and 66
+
+abbrev pub splitCode : SplitAnswer → ℕ
+splitCode (Split.Split bytes atoms rules old) = 0
+splitCode (Split.RefusedProgram r) = r .number
+splitCode (Split.Refused k) = k
+
+abbrev pub splitNumbers : SplitAnswer → List ℕ
+splitNumbers (Split.Split bytes atoms rules old) = bytes ∷ atoms ∷ rules ∷ old ∷ []
+splitNumbers (Split.RefusedProgram r) = r .line ∷ 0 ∷ []
+splitNumbers (Split.Refused k) = []

@@ -1,7 +1,7 @@
--- What the thirteen functions for C return and leave: an answer told by its code and numbers. Of the program reader, of the whole check,
--- of the merges, of trimming and of the cheapest answer set it is the one for which the service's own contract holds, which is an
--- equation; of the others it is said outright. A primed name is what a lent slice holds afterwards; `answer` is the buffer for the
--- numbers.
+-- What the fourteen functions for C return and leave: an answer told by its code and numbers. Of the program reader, of
+-- the whole check, of the merges, of trimming, of the cheapest answer set and of the splitting of sums it is the one
+-- for which the service's own contract holds, which is an equation; of the others it is said outright. A primed name is
+-- what a lent slice holds afterwards; `answer` is the buffer for the numbers.
 -- Assumes nothing.
 use mathlib.Core.Path.{_≡_}
 use mathlib.Core.List.{List}
@@ -23,7 +23,9 @@ use Rattle.trimming.specs.Service.{TrimmedProof}
 use Rattle.trimming.specs.declared.TrimAnswer.{TrimAnswer}
 use Rattle.cheapest.specs.Service.{CheckedCheapest}
 use Rattle.cheapest.specs.declared.CheapestAnswer.{CheapestAnswer}
-use Rattle.exports.specs.Codes.{Told, programCode, programNumbers, setCode, setNumbers, lineCode, lineNumbers, writingCode, writingNumbers, readingCode, readingNumbers, verdictCode, verdictNumbers, mergeCode, mergeNumbers, trimCode, trimNumbers, cheapestCode, cheapestNumbers}
+use Rattle.long_sums.specs.Service.{SplitSums}
+use Rattle.long_sums.specs.declared.SplitAnswer.{SplitAnswer}
+use Rattle.exports.specs.Codes.{Told, programCode, programNumbers, setCode, setNumbers, lineCode, lineNumbers, writingCode, writingNumbers, readingCode, readingNumbers, verdictCode, verdictNumbers, mergeCode, mergeNumbers, trimCode, trimNumbers, cheapestCode, cheapestNumbers, splitCode, splitNumbers}
 
 -- the program reader's answer and every word of the table
 pub record ProgramService (text : List ℕ) (table table′ : List ℤ) (answer answer′ : List ℕ) (result : ℕ) : Type 0 where
@@ -97,3 +99,9 @@ pub record TreeService (program tree texts lengths : List ℕ) (table store tabl
   pub answered : MergeAnswer
   pub merged : MergedTree program tree texts lengths table store table′ store′ output output′ answered
   pub told : Told (mergeCode answered) (mergeNumbers answered) answer answer′ result
+
+-- the answer of the splitting of long sums, every word of the table and every byte of the output
+pub record SplitService (program : List ℕ) (group : ℕ) (table table′ : List ℤ) (output output′ answer answer′ : List ℕ) (result : ℕ) : Type 0 where
+  pub answered : SplitAnswer
+  pub split : SplitSums program group table table′ output output′ answered
+  pub told : Told (splitCode answered) (splitNumbers answered) answer answer′ result

@@ -6,6 +6,7 @@ use cheapest::CheapestAnswer;
 use checker::Counts;
 use checker::Verdict;
 use drupe::LineAnswer;
+use long_sums::SplitAnswer;
 use packets::PacketReading;
 use packets::PacketWriting;
 use splits::MergeAnswer;
@@ -15,7 +16,7 @@ ghost use mathlib.Core.Path.{_≡_};
 ghost use mathlib.Core.List.{[], _∷_};
 ghost use lib.ListN.{set};
 ghost use lib.Seq.{sets};
-ghost use Rattle.exports.specs.Codes.{Told, programCode, programNumbers, setCode, setNumbers, lineCode, lineNumbers, writingCode, writingNumbers, readingCode, readingNumbers, verdictCode, verdictNumbers, countNumbers, mergeCode, mergeNumbers, trimCode, trimNumbers, cheapestCode, cheapestNumbers};
+ghost use Rattle.exports.specs.Codes.{Told, programCode, programNumbers, setCode, setNumbers, lineCode, lineNumbers, writingCode, writingNumbers, readingCode, readingNumbers, verdictCode, verdictNumbers, countNumbers, mergeCode, mergeNumbers, trimCode, trimNumbers, cheapestCode, cheapestNumbers, splitCode, splitNumbers};
 
 // The codes of the cases to which document 01 gives no number.
 const READ: u32 = 0;
@@ -56,13 +57,25 @@ fn put_two(answer: &mut [u64], a: usize, b: usize)
     put(answer, 1, b);
 }
 
+fn put_four(answer: &mut [u64], a: usize, b: usize, c: usize, d: usize)
+    ensures { λ _. ⌜ now (answer .exit) ≡ sets (now (answer .entry)) 0 (a ∷ b ∷ c ∷ d ∷ []) ⌝ }
+{
+    put(answer, 0, a);
+    put(answer, 1, b);
+    put(answer, 2, c);
+    put(answer, 3, d);
+}
+
 fn put_counts(answer: &mut [u64], counts: Counts)
     ensures { λ _. ⌜ now (answer .exit) ≡ sets (now (answer .entry)) 0 (countNumbers counts) ⌝ }
 {
-    put(answer, 0, counts.atoms);
-    put(answer, 1, counts.rules);
-    put(answer, 2, counts.steps);
-    put(answer, 3, counts.nogoods);
+    put_four(
+        answer,
+        counts.atoms,
+        counts.rules,
+        counts.steps,
+        counts.nogoods,
+    );
 }
 
 // The program reader's answer.
@@ -215,5 +228,27 @@ pub fn tell_cheapest(checked: CheapestAnswer, answer: &mut [u64]) -> u32
             refusal.number as u32
         }
         CheapestAnswer::Refused(number) => number as u32,
+    }
+}
+
+// The answer of the splitting of long sums.
+pub fn tell_split(split: SplitAnswer, answer: &mut [u64]) -> u32
+    ensures { λ r. ⌜ Told (splitCode split) (splitNumbers split) (now (answer .entry)) (now (answer .exit)) r ⌝ }
+{
+    match split {
+        SplitAnswer::Split {
+            bytes,
+            atoms,
+            rules,
+            old_atoms,
+        } => {
+            put_four(answer, bytes, atoms, rules, old_atoms);
+            WRITTEN
+        }
+        SplitAnswer::RefusedProgram(refusal) => {
+            put_two(answer, refusal.line, 0);
+            refusal.number as u32
+        }
+        SplitAnswer::Refused(number) => number as u32,
     }
 }

@@ -1,10 +1,11 @@
-// The thirteen services for programs in C and Rust, on numbers and slices. An answer's case is the code that is returned, and its
-// numbers are put at the front of the lent `answer`, as many as fit; what the codes and numbers are is specs/Codes.antt, and what
-// each function returns and leaves is specs/Services.antt. bindings/c/aspdrupe.h declares the functions for C.
+// The fourteen services for programs in C and Rust, on numbers and slices. An answer's case is the code that is
+// returned, and its numbers are put at the front of the lent `answer`, as many as fit; what the codes and numbers are
+// is specs/Codes.antt, and what each function returns and leaves is specs/Services.antt. bindings/c/aspdrupe.h declares
+// the functions for C.
 mod answers;
 
 ghost use Rattle.packets.specs.Packets.{up, down};
-ghost use Rattle.exports.specs.Services.{ProgramService, SetService, LineService, WriteService, ReadService, MoveService, CheckService, LongService, MergeService, TrimService, CheapestService, TreeService};
+ghost use Rattle.exports.specs.Services.{ProgramService, SetService, LineService, WriteService, ReadService, MoveService, CheckService, LongService, MergeService, TrimService, CheapestService, TreeService, SplitService};
 
 // Reads a program text into the table.
 #[no_mangle]
@@ -208,4 +209,20 @@ pub extern "C" fn aspdrupe_merge_tree(
 {
     let merged = trees::merge_tree(program, tree, texts, lengths, table, store, output);
     answers::tell_merge(merged, answer)
+}
+
+// Writes the text of a program with its long sums split into short ones.
+#[no_mangle]
+pub extern "C" fn aspdrupe_split_sums(
+    program: &[u8],
+    group: u64,
+    table: &mut [i32],
+    output: &mut [u8],
+    answer: &mut [u64],
+) -> u32
+    ensures { λ r. ⌜ SplitService (now (program .entry)) group (now (table .entry)) (now (table .exit)) (now (output .entry))
+        (now (output .exit)) (now (answer .entry)) (now (answer .exit)) r ⌝ }
+{
+    let split = long_sums::split_sums(program, group as usize, table, output);
+    answers::tell_split(split, answer)
 }

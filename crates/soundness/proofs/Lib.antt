@@ -3,6 +3,7 @@ pub mod Once
 pub mod Orders
 pub mod Direct
 pub mod Printed
+pub mod Split
 pub mod Cheapest
 pub mod Numbers
 pub mod Returned

@@ -1,4 +1,5 @@
--- The number of a refused program is never 0: `read-numbered`. Codes for C tell a program that is read by 0.
+-- The number of a refused program is never 0: `within-numbered`, `read-numbered`. Codes for C tell a program that is
+-- read by 0.
 -- Assumes nothing.
 use mathlib.Core.Bool.{Bool, cond, _&&_}
 use mathlib.Core.List.{List, [], _∷_, _++_}
@@ -14,7 +15,7 @@ use Rattle.text.specs.Line.{Line, broken, numbers, lineOf, anyOutside}
 use Rattle.text.specs.Strings.{startsWith}
 use Rattle.weights.specs.Weights.{literals, paired, mostWeighted}
 use Rattle.aspif.specs.Rules.{Body, plain, weights, InputRule, suits, ruleWords, programWords}
-use Rattle.aspif.specs.Reading.{suited, ranged, fewWithin, isAt, isCountAt, plainShape, weighedWithin, bodyWithin, headWithin, shapeOf, headsGood, bodyGood, arranged, RuleRead, fails, reads, ruleWith, ruleOf, Turn, refuses, ends, adds, isLast, room, turnWithin, Reading, refused, program, linesFrom, header, readLines, readText}
+use Rattle.aspif.specs.Reading.{suited, ranged, fewWithin, isAt, isCountAt, plainShape, weighedWithin, bodyWithin, headWithin, shapeWithin, headsGood, bodyGood, arranged, RuleRead, fails, reads, ruleWith, ruleOf, Turn, refuses, ends, adds, isLast, room, turnWithin, Reading, refused, program, linesWithin, header, readLinesWithin, readTextWithin, readText}
 use Rattle.aspif.specs.declared.Kind.{Kind}
 use Rattle.aspif.specs.declared.Kind.the-variants.{Normal, Choice}
 use Rattle.aspif.specs.declared.rules.Shape.{Shape}
@@ -47,38 +48,38 @@ or-wrong w h t x p = by-test ShapeNumbered t (λ e. p) (λ e. h)
 suited-numbered : (k : Kind) (heads : ℕ) (x : Shape) → ShapeNumbered x → ShapeNumbered (suited k heads x)
 suited-numbered k heads x p = or-wrong 7 (omega arith) (suits k heads) x p
 
-module _ (zs : List ℤ) (count : ℕ) where
-  few-numbered : (k : Kind) (heads body : ℕ) → ShapeNumbered (fewWithin mostWeighted zs k heads body)
+module _ (most : ℕ) (zs : List ℤ) (count : ℕ) where
+  few-numbered : (k : Kind) (heads body : ℕ) → ShapeNumbered (fewWithin most zs k heads body)
   few-numbered k heads body =
-      or-wrong 54 (omega arith) (ranged zs heads body) (cond (leb body mostWeighted) (suited k heads (Weighed k heads body)) (Wrong 55))
-      (or-wrong 55 (omega arith) (leb body mostWeighted) (suited k heads (Weighed k heads body)) (suited-numbered k heads (Weighed k heads body) tt))
+      or-wrong 54 (omega arith) (ranged zs heads body) (cond (leb body most) (suited k heads (Weighed k heads body)) (Wrong 55))
+      (or-wrong 55 (omega arith) (leb body most) (suited k heads (Weighed k heads body)) (suited-numbered k heads (Weighed k heads body) tt))
 
   plain-numbered : (k : Kind) (heads : ℕ) → ShapeNumbered (plainShape zs count k heads)
   plain-numbered k heads =
       let body = variable (getD zs (4 + heads) (pos 0)) in
       or-wrong 6 (omega arith) (isCountAt zs count (4 + heads) && eqb (5 + heads + body) count) (suited k heads (Shaped k heads body)) (suited-numbered k heads (Shaped k heads body) tt)
 
-  weighed-numbered : (k : Kind) (heads : ℕ) → ShapeNumbered (weighedWithin mostWeighted zs count k heads)
+  weighed-numbered : (k : Kind) (heads : ℕ) → ShapeNumbered (weighedWithin most zs count k heads)
   weighed-numbered k heads =
       let body = variable (getD zs (5 + heads) (pos 0)) in
-      or-wrong 6 (omega arith) (isCountAt zs count (5 + heads) && eqb (6 + heads + 2 * body) count) (fewWithin mostWeighted zs k heads body) (few-numbered k heads body)
+      or-wrong 6 (omega arith) (isCountAt zs count (5 + heads) && eqb (6 + heads + 2 * body) count) (fewWithin most zs k heads body) (few-numbered k heads body)
 
-  body-numbered : (k : Kind) (heads : ℕ) → ShapeNumbered (bodyWithin mostWeighted zs count k heads)
+  body-numbered : (k : Kind) (heads : ℕ) → ShapeNumbered (bodyWithin most zs count k heads)
   body-numbered k heads =
       by-test ShapeNumbered (isAt zs count (3 + heads) (pos 0)) (λ e. plain-numbered k heads)
-      (λ e. or-wrong 5 (omega arith) (isAt zs count (3 + heads) (pos 1)) (weighedWithin mostWeighted zs count k heads) (weighed-numbered k heads))
+      (λ e. or-wrong 5 (omega arith) (isAt zs count (3 + heads) (pos 1)) (weighedWithin most zs count k heads) (weighed-numbered k heads))
 
-  head-numbered : (k : Kind) → ShapeNumbered (headWithin mostWeighted zs count k)
+  head-numbered : (k : Kind) → ShapeNumbered (headWithin most zs count k)
   head-numbered k =
       let heads = variable (getD zs 2 (pos 0)) in
-      or-wrong 6 (omega arith) (isCountAt zs count 2 && leb (3 + heads) count) (bodyWithin mostWeighted zs count k heads) (body-numbered k heads)
+      or-wrong 6 (omega arith) (isCountAt zs count 2 && leb (3 + heads) count) (bodyWithin most zs count k heads) (body-numbered k heads)
 
-  shape-numbered : ShapeNumbered (shapeOf zs count)
-  unfolding shapeOf
+  shape-numbered : ShapeNumbered (shapeWithin most zs count)
+  unfolding shapeWithin
   shape-numbered =
-      or-wrong 5 (omega arith) (isAt zs count 0 (pos 1)) (cond (isAt zs count 1 (pos 0)) (headWithin mostWeighted zs count Normal) (cond (isAt zs count 1 (pos 1)) (headWithin mostWeighted zs count Choice) (Wrong 5)))
+      or-wrong 5 (omega arith) (isAt zs count 0 (pos 1)) (cond (isAt zs count 1 (pos 0)) (headWithin most zs count Normal) (cond (isAt zs count 1 (pos 1)) (headWithin most zs count Choice) (Wrong 5)))
       (by-test ShapeNumbered (isAt zs count 1 (pos 0)) (λ e. head-numbered Normal)
-      (λ e. or-wrong 5 (omega arith) (isAt zs count 1 (pos 1)) (headWithin mostWeighted zs count Choice) (head-numbered Choice)))
+      (λ e. or-wrong 5 (omega arith) (isAt zs count 1 (pos 1)) (headWithin most zs count Choice) (head-numbered Choice)))
 
 with-numbered : (k : Kind) (hs ls : List ℤ) (b : Body) → RuleNumbered (ruleWith k hs ls b)
 with-numbered k hs ls b = by-test RuleNumbered (headsGood hs && bodyGood ls) (λ e. tt) (λ e. omega arith)
@@ -97,29 +98,34 @@ room-numbered rules free (fails k) n p = p
 room-numbered rules free (reads r) n p =
     by-test TurnNumbered (ltb rules mostRules) (λ e. by-test TurnNumbered (leb (length (ruleWords r)) free) (λ e. tt) (λ e. omega arith)) (λ e. omega arith)
 
-turn-numbered : (rules free left : ℕ) (l : Line) → TurnNumbered (turnWithin mostWeighted rules free left l)
-unfolding shapeOf
-turn-numbered rules free left broken = omega arith
-turn-numbered rules free left (numbers zs n) =
-    by-test TurnNumbered (anyOutside zs) (λ e. omega arith) (λ e. by-test TurnNumbered (isLast zs)
-    (λ e. by-test TurnNumbered (eqb n left) (λ e. tt) (λ e. omega arith))
-    (λ e. room-numbered rules free (ruleOf zs (shapeOf zs (length zs))) n (rule-numbered zs (shapeOf zs (length zs)) (shape-numbered zs (length zs)))))
+-- whatever number of literals question 55 is put with
+module _ (most : ℕ) where
+  turn-numbered : (rules free left : ℕ) (l : Line) → TurnNumbered (turnWithin most rules free left l)
+  turn-numbered rules free left broken = omega arith
+  turn-numbered rules free left (numbers zs n) =
+      by-test TurnNumbered (anyOutside zs) (λ e. omega arith) (λ e. by-test TurnNumbered (isLast zs)
+      (λ e. by-test TurnNumbered (eqb n left) (λ e. tt) (λ e. omega arith))
+      (λ e. room-numbered rules free (ruleOf zs (shapeWithin most zs (length zs))) n (rule-numbered zs (shapeWithin most zs (length zs)) (shape-numbered most zs (length zs)))))
 
-lines-numbered : (size turns : ℕ) (s : List ℕ) (line : ℕ) (rs : List InputRule) → Numbered (linesFrom size turns s line rs)
-unfolding linesFrom
-lines-numbered size zero s line rs = omega arith
-lines-numbered size (suc turns) s line rs =
-    by (turnWithin mostWeighted (length rs) (size - length (programWords rs)) (length s) (lineOf s)) (turn-numbered _ _ _ (lineOf s)) (λ n. lines-numbered size turns (drop n s) (line + 1))
-  where
-    by : (t : Turn) → TurnNumbered t → ((n : ℕ) (ss : List InputRule) → Numbered (linesFrom size turns (drop n s) (line + 1) ss))
-        → Numbered (onward (λ n. linesFrom size turns (drop n s) (line + 1)) rs line t)
-    by (refuses k) p f = p
-    by ends p f = tt
-    by (adds r n) p f = f n (rs ++ (r ∷ []))
+  lines-numbered : (size turns : ℕ) (s : List ℕ) (line : ℕ) (rs : List InputRule) → Numbered (linesWithin most size turns s line rs)
+  unfolding linesWithin
+  lines-numbered size zero s line rs = omega arith
+  lines-numbered size (suc turns) s line rs =
+      by (turnWithin most (length rs) (size - length (programWords rs)) (length s) (lineOf s)) (turn-numbered _ _ _ (lineOf s)) (λ n. lines-numbered size turns (drop n s) (line + 1))
+    where
+      by : (t : Turn) → TurnNumbered t → ((n : ℕ) (ss : List InputRule) → Numbered (linesWithin most size turns (drop n s) (line + 1) ss))
+          → Numbered (onward (λ n. linesWithin most size turns (drop n s) (line + 1)) rs line t)
+      by (refuses k) p f = p
+      by ends p f = tt
+      by (adds r n) p f = f n (rs ++ (r ∷ []))
+
+  pub within-numbered : (size : ℕ) (text : List ℕ) → Numbered (readTextWithin most size text)
+  unfolding readTextWithin readLinesWithin
+  within-numbered size text =
+      by-test Numbered (leb (length text) longest)
+      (λ e. by-test Numbered (startsWith header text) (λ e. lines-numbered size (suc (length text)) (drop (length header) text) 2 []) (λ e. omega arith))
+      (λ e. omega arith)
 
 pub read-numbered : (size : ℕ) (text : List ℕ) → Numbered (readText size text)
-unfolding readText readLines
-read-numbered size text =
-    by-test Numbered (leb (length text) longest)
-    (λ e. by-test Numbered (startsWith header text) (λ e. lines-numbered size (suc (length text)) (drop (length header) text) 2 []) (λ e. omega arith))
-    (λ e. omega arith)
+unfolding readText
+read-numbered size text = within-numbered mostWeighted size text

@@ -1,22 +1,23 @@
--- What the services for C say of a program over its text: each returns 0 of its passing answer and of no other, and the numbers at the
--- front of the lent buffer are that answer's. `sound-returned`, `sound-long-returned`, `yes-returned`,
--- `cheapest-returned`, and of no other text do they: `only-returned`, `only-long-returned`, `only-cheapest-returned`.
+-- What the services for C say of a program over its text: each returns 0 of its passing answer and of no other, and the
+-- numbers at the front of the lent buffer are that answer's. `sound-returned`, `sound-long-returned`, `yes-returned`,
+-- `sound-split-returned`, `yes-split-returned`, `cheapest-returned`, and of no other text do they: `only-returned`,
+-- `only-long-returned`, `only-cheapest-returned`.
 -- Assumes nothing.
 use mathlib.Core.Path.{_≡_, refl, sym, _∙_, ap, subst}
 use mathlib.Core.Option.{Option, none, some}
 use mathlib.Core.List.{List, [], _∷_}
-use Prim.Native.Nat.{ℕ, _+_}
+use Prim.Native.Nat.{ℕ, _+_, _-_}
 use native.Mathlib.Omega.{arith}
 use lib.Dec.{eqb, leb}
 use lib.IntN.{ℤ}
-use lib.ListN.{length}
+use lib.ListN.{length, take}
 use lib.Seq.{sets}
-use Rattle.words.specs.Limits.{entries}
+use Rattle.words.specs.Limits.{entries, mostLiterals}
 use Rattle.words.specs.Lists.{ascends}
 use Rattle.words.proofs.Lists.{zero-one, by-test}
 use Rattle.weights.specs.Weights.{mostWeight}
 use Rattle.aspif.specs.Rules.{InputRule, atoms}
-use Rattle.aspif.specs.Reading.{Reading, refused, program, readText, programAnswer, ProgramRead}
+use Rattle.aspif.specs.Reading.{Reading, refused, program, readTextWithin, readText, programAnswer, ProgramRead}
 use Rattle.aspif.specs.Tables.{rulesOf}
 use Rattle.aspif.specs.Text.{programText}
 use Rattle.aspif.specs.declared.ProgramReading.the-variants.{Read}
@@ -34,11 +35,15 @@ use Rattle.costs.specs.Costs.{Cost, costsOf, goodCosts, total}
 use Rattle.cheapest.specs.Service.{isYes, restrictedCourse, CheapestLeft, leavesNothing, judgedProof, withCost, withCosts, cheapestReading, cheapest, CheckedCheapest}
 use Rattle.cheapest.specs.declared.CheapestAnswer.{CheapestAnswer}
 use Rattle.cheapest.specs.declared.CheapestAnswer.the-variants as Answers
-use Rattle.exports.specs.Services.{CheckService, CheapestService}
-use Rattle.exports.specs.Codes.{Told, programCode, programNumbers, setCode, verdictCode, verdictNumbers, cheapestCode, cheapestNumbers}
-use Rattle.soundness.specs.Page.{IsCheapest, SoundReturned, OnlyReturned, SoundLongReturned, OnlyLongReturned, YesReturned, CheapestReturned, OnlyCheapestReturned}
-use Rattle.soundness.proofs.Numbers.{Numbered, read-numbered}
+use Rattle.sums.specs.Levels.{splitProgram, sortedGroups}
+use Rattle.long_sums.specs.Service.{SplitLeft, isGroupSize, isWritable, splitReading, splitText, SplitSums}
+use Rattle.long_sums.specs.declared.SplitAnswer.the-variants as Sums
+use Rattle.exports.specs.Services.{ProgramService, CheckService, CheapestService, SplitService}
+use Rattle.exports.specs.Codes.{Told, programCode, programNumbers, setCode, verdictCode, verdictNumbers, cheapestCode, cheapestNumbers, splitCode, splitNumbers}
+use Rattle.soundness.specs.Page.{IsCheapest, SoundReturned, OnlyReturned, SoundLongReturned, OnlyLongReturned, YesReturned, SoundSplitReturned, SoundSplitLongReturned, YesSplitReturned, FoundSplitReturned, CheapestReturned, OnlyCheapestReturned}
+use Rattle.soundness.proofs.Numbers.{Numbered, within-numbered, read-numbered}
 use Rattle.soundness.proofs.Printed.{sound-printed, only-printed, sound-long, only-long, yes-printed}
+use Rattle.soundness.proofs.Split.{sound-split, sound-split-long, yes-split, found-split}
 use Rattle.soundness.proofs.Cheapest.{cheapest-printed, only-cheapest}
 
 -- The whole check
@@ -112,15 +117,81 @@ answer-only : (table : List ℤ) (R : ℕ) (l : List ℕ) (n : ℕ) → OnlyYes 
 unfolding asked
 answer-only table R l n = asked-only (rulesOf table R) l n
 
+-- where 0 is returned, the numbers at the front of the buffer are those of the program that was read
+read-so : {text : List ℕ} {table table′ : List ℤ} {before more : List ℕ} {N R : ℕ}
+    → ProgramService text table table′ before (N ∷ R ∷ more) 0 → ProgramRead text table table′ (Read N R)
+read-so {text} {table} {table′} {before} {N = N} {R = R} s =
+    let x = readText (length table) text in
+    let q : programAnswer x ≡ s .reading = sym (s .read .answer) in
+    let taken : programAnswer x ≡ Read N R =
+    is-read x (read-numbered (length table) text) (s .told .returned ∙ ap programCode (sym q)) before (s .told .written ∙ ap (λ r. sets before 0 (programNumbers r)) (sym q)) in
+    subst (ProgramRead text table table′) (sym q ∙ taken) (s .read)
+
 pub yes-returned : YesReturned
 yes-returned ws table table′ before more N R s l marks marks′ answer answer′ code t =
     let a = setAnswer l (asked table′ R l (length marks)) in
-    let x = readText (length table) (programText ws) in
-    let q : programAnswer x ≡ s .reading = sym (s .read .answer) in
-    let taken : programAnswer x ≡ Read N R =
-    is-read x (read-numbered (length table) (programText ws)) (s .told .returned ∙ ap programCode (sym q)) before (s .told .written ∙ ap (λ r. sets before 0 (programNumbers r)) (sym q)) in
-    let y = yes-printed ws table table′ N R (subst (ProgramRead (programText ws) table table′) (sym q ∙ taken) (s .read)) l marks marks′ a (record { answer = refl; marks = t .left }) in
+    let y = yes-printed ws table table′ N R (read-so s) l marks marks′ a (record { answer = refl; marks = t .left }) in
     (λ e. y .0 (answer-only table′ R l (length marks) (sym (t .told .returned) ∙ e)), λ m. t .told .returned ∙ ap setCode (y .1 m))
+
+-- Sums of up to 64 literals
+
+-- an outcome of which 0 is returned is a text that was written
+abbrev OnlySplit : SplitLeft → Type 0
+OnlySplit x = 0 ≡ splitCode (x .answer) → (b : ℕ) × (a : ℕ) × (r : ℕ) × (n : ℕ) × (x .answer ≡ Sums.Split b a r n)
+
+module _ (t o g : ℕ) where
+  reading-split : (x : Reading) → Numbered x → OnlySplit (splitReading t o g x)
+  reading-split (refused k n) p = λ e. absurd (omega (arith, p))
+  reading-split (program rs) p =
+      by-test OnlySplit (isGroupSize g)
+      (λ q.
+      by-test OnlySplit (isWritable t o (splitProgram (sortedGroups (g - 1)) rs)) (λ w e. (_, _, _, _, refl)) (λ w e. absurd (omega arith)))
+      (λ q e. absurd (omega arith))
+
+  split-only : (text : List ℕ) → OnlySplit (splitText t o text g)
+  unfolding splitText
+  split-only text = reading-split (readTextWithin mostLiterals t text) (within-numbered mostLiterals t text)
+
+front-four : {a b c d x y z w : ℕ} (before : List ℕ) {more : List ℕ} → x ∷ y ∷ z ∷ w ∷ more ≡ sets before 0 (a ∷ b ∷ c ∷ d ∷ []) → Sums.Split a b c d ≡ Sums.Split x y z w
+front-four [] e = absurd (zero-one (cc))
+front-four (_ ∷ []) e = absurd (zero-one (cc))
+front-four (_ ∷ _ ∷ []) e = absurd (zero-one (cc))
+front-four (_ ∷ _ ∷ _ ∷ []) e = absurd (zero-one (cc))
+front-four (_ ∷ _ ∷ _ ∷ _ ∷ before) e = cc
+
+-- where 0 is returned, the numbers at the front of the buffer are the answer's
+split-so : {text : List ℕ} {g : ℕ} {table table′ : List ℤ} {output output′ before more : List ℕ} {b a r n : ℕ}
+    → SplitService text g table table′ output output′ before (b ∷ a ∷ r ∷ n ∷ more) 0 → SplitSums text g table table′ output output′ (Sums.Split b a r n)
+split-so {text} {g} {table} {table′} {output} {output′} {before} s =
+    let q : s .answered ≡ splitText (length table) (length output) text g .answer = ap (λ (x : SplitLeft). x .answer) (s .split) in
+    let p = split-only (length table) (length output) g text (s .told .returned ∙ ap splitCode q) in
+    let i = q ∙ p .4 in
+    subst (SplitSums text g table table′ output output′) (i ∙ front-four before (s .told .written ∙ ap (λ x. sets before 0 (splitNumbers x)) i)) (s .split)
+
+pub sound-split-returned : SoundSplitReturned
+sound-split-returned ws g table table′ output output′ before more b a r N s proof words store words′ store′ answer answer′ e =
+    let c = checked-so (CheckedTexts (take b output′) proof words store words′ store′) (e .verdict) (e .checked) (e .told) in
+    sound-split ws g table table′ output output′ b a r N (split-so s) proof words store words′ store′ (c .0) (c .1)
+
+pub sound-split-long-returned : SoundSplitLongReturned
+sound-split-long-returned ws g table table′ output output′ before more b a r N s proof words store words′ store′ memory memory′ answer answer′ e =
+    let c = checked-so (CheckedLong (take b output′) proof words store words′ store′ memory memory′) (e .verdict) (e .checked) (e .told) in
+    sound-split-long ws g table table′ output output′ b a r N (split-so s) proof words store words′ store′ memory memory′ (c .0) (c .1)
+
+pub yes-split-returned : YesSplitReturned
+yes-split-returned ws g table table′ output output′ before more b a r N s words words′ first rest A R p l marks marks′ answer answer′ t =
+    let y = answer-only words′ R l (length marks) (sym (t .told .returned)) in
+    yes-split ws g table table′ output output′ b a r N (split-so s) words words′ A R (read-so p) l marks marks′ (record { answer = sym y; marks = t .left })
+
+pub found-split-returned : FoundSplitReturned
+found-split-returned ws g table table′ output output′ before more b a r N s words words′ first rest A R p l S =
+    let f = found-split ws g table table′ output output′ b a r N (split-so s) words words′ A R (read-so p) l S in (
+      f .0,
+      f .1,
+      λ marks marks′ answer answer′ code e t.
+          t .told .returned
+          ∙ ap setCode (f .2 marks marks′ (setAnswer (f .0) (asked words′ R (f .0) (length marks))) e (record { answer = refl; marks = t .left })),
+    )
 
 -- The cheapest answer set
 

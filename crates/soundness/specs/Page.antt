@@ -1,7 +1,8 @@
 -- The answer sets of a program as it is written, and what the services say of it by their contracts,
 -- over its text (specs/Text.antt of `aspif`). No reader and no table is spoken of, and no plain rules.
 -- docs/READING.md leads here. The claims are proved in proofs/Printed.antt, Once.antt
--- (`PrintedOnce`), Direct.antt (`SameAnswerSets`), Cheapest.antt and Returned.antt (services for C).
+-- (`PrintedOnce`), Direct.antt (`SameAnswerSets`), Split.antt, Cheapest.antt and Returned.antt
+-- (services for C).
 -- Assumes nothing.
 use mathlib.Core.Path.{_≡_}
 use mathlib.Core.Logic.{_↔_}
@@ -9,7 +10,7 @@ use mathlib.Core.Bool.{true}
 use mathlib.Core.List.{List, _∷_, _++_}
 use Prim.Native.Nat.{ℕ, suc, _≤_}
 use lib.IntN.{ℤ, pos, negsuc}
-use lib.ListN.{length}
+use lib.ListN.{length, take}
 use Rattle.words.specs.Limits.{entries}
 use Rattle.words.specs.Lists.{_∈_, ascends}
 use Rattle.text.specs.Strings.{bytes}
@@ -29,10 +30,12 @@ use Rattle.checker.specs.Check.{CheckedTexts, CheckedLong}
 use Rattle.checker.specs.Report.{printed}
 use Rattle.checker.specs.declared.Counts.{Counts}
 use Rattle.checker.specs.declared.Verdict.the-variants.{Inconsistent}
+use Rattle.long_sums.specs.Service.{SplitSums}
+use Rattle.long_sums.specs.declared.SplitAnswer.the-variants.{Split}
 use Rattle.costs.specs.Costs.{Costs}
 use Rattle.cheapest.specs.Service.{CheckedCheapest}
 use Rattle.cheapest.specs.declared.CheapestAnswer.the-variants.{Cheapest}
-use Rattle.exports.specs.Services.{ProgramService, SetService, CheckService, LongService, CheapestService}
+use Rattle.exports.specs.Services.{ProgramService, SetService, CheckService, LongService, CheapestService, SplitService}
 
 -- Answer sets: document 01, 'Answer sets', of rules as they are written. A set is any predicate on
 -- numbers.
@@ -170,6 +173,109 @@ YesReturned =
     → SetService table′ R l marks marks′ answer answer′ code
     → (code ≡ 0)
     ↔ ((ascends 0 N l ≡ true) × (length marks ≡ entries) × IsAnswerSet (λ v. v ∈ l) ws)
+
+-- Sums of up to 64 literals
+
+-- Where `split_sums`, by its contract, wrote so many bytes of the text of a program, and the whole
+-- check answers "inconsistent" of them, then the program as written has no answer set. Any group size,
+-- table, output, proof and store are meant.
+abbrev pub SoundSplit : Type 1
+SoundSplit =
+    (ws : List InputRule) (group : ℕ) (table table′ : List ℤ) (output output′ : List ℕ)
+    (bytes atoms rules N : ℕ)
+    → SplitSums (programText ws) group table table′ output output′ (Split bytes atoms rules N)
+    → (proof : List ℕ) (words store words′ store′ : List ℤ) (c : Counts)
+    → CheckedTexts (take bytes output′) proof words store words′ store′ (Inconsistent c) → HasNone ws
+
+-- The same where the long check answers it
+abbrev pub SoundSplitLong : Type 1
+SoundSplitLong =
+    (ws : List InputRule) (group : ℕ) (table table′ : List ℤ) (output output′ : List ℕ)
+    (bytes atoms rules N : ℕ)
+    → SplitSums (programText ws) group table table′ output output′ (Split bytes atoms rules N)
+    → (proof : List ℕ) (words store words′ store′ : List ℤ) (memory memory′ : List ℕ) (c : Counts)
+    → CheckedLong (take bytes output′) proof words store words′ store′ memory memory′ (Inconsistent c)
+    → HasNone ws
+
+-- Where the reader took what `split_sums` wrote, and the set test says yes of a set: the atoms of the
+-- set up to N, as `split_sums` told it, are an answer set of the program as written
+abbrev pub YesSplit : Type 0
+YesSplit =
+    (ws : List InputRule) (group : ℕ) (table table′ : List ℤ) (output output′ : List ℕ)
+    (bytes atoms rules N : ℕ)
+    → SplitSums (programText ws) group table table′ output output′ (Split bytes atoms rules N)
+    → (words words′ : List ℤ) (A R : ℕ) → ProgramRead (take bytes output′) words words′ (Read A R)
+    → (l marks marks′ : List ℕ) → SetTested words′ R l marks marks′ Yes
+    → IsAnswerSet (λ v. (v ≤ N) × (v ∈ l)) ws
+
+-- And every answer set is found so: the set test says yes of some set with the same atoms up to N
+abbrev pub FoundSplit : Type 0
+FoundSplit =
+    (ws : List InputRule) (group : ℕ) (table table′ : List ℤ) (output output′ : List ℕ)
+    (bytes atoms rules N : ℕ)
+    → SplitSums (programText ws) group table table′ output output′ (Split bytes atoms rules N)
+    → (words words′ : List ℤ) (A R : ℕ) → ProgramRead (take bytes output′) words words′ (Read A R)
+    → (l : List ℕ) → IsAnswerSet (λ v. v ∈ l) ws
+    → (k : List ℕ) × ((v : ℕ) → v ∈ l ↔ ((v ≤ N) × (v ∈ k)))
+    × ((marks marks′ : List ℕ) (r : SetAnswer) → length marks ≡ entries
+    → SetTested words′ R k marks marks′ r → r ≡ Yes)
+
+-- The same of any sets, listed or not: what was written is the text of a program, of which each answer
+-- set of the program as written has an extension that is one, with the same atoms up to N
+abbrev pub ExtendsSplit : Type 1
+ExtendsSplit =
+    (ws : List InputRule) (group : ℕ) (table table′ : List ℤ) (output output′ : List ℕ)
+    (bytes atoms rules N : ℕ)
+    → SplitSums (programText ws) group table table′ output output′ (Split bytes atoms rules N)
+    → (vs : List InputRule) × (take bytes output′ ≡ programText vs)
+    × ((M : ℕ → Type 0) → IsAnswerSet M ws
+    → (K : ℕ → Type 0) × IsAnswerSet K vs × ((a : ℕ) → M a ↔ ((a ≤ N) × K a)))
+
+-- The same of the services for C and Rust: where `aspdrupe_split_sums` returned 0, and its buffer
+-- then begins with the bytes, two numbers and N, and another service returns 0 of what was written
+abbrev pub SoundSplitReturned : Type 1
+SoundSplitReturned =
+    (ws : List InputRule) (group : ℕ) (table table′ : List ℤ) (output output′ before more : List ℕ)
+    (bytes atoms rules N : ℕ)
+    → SplitService (programText ws) group table table′ output output′ before
+    (bytes ∷ atoms ∷ rules ∷ N ∷ more) 0
+    → (proof : List ℕ) (words store words′ store′ : List ℤ) (answer answer′ : List ℕ)
+    → CheckService (take bytes output′) proof words store words′ store′ answer answer′ 0
+    → HasNone ws
+
+abbrev pub SoundSplitLongReturned : Type 1
+SoundSplitLongReturned =
+    (ws : List InputRule) (group : ℕ) (table table′ : List ℤ) (output output′ before more : List ℕ)
+    (bytes atoms rules N : ℕ)
+    → SplitService (programText ws) group table table′ output output′ before
+    (bytes ∷ atoms ∷ rules ∷ N ∷ more) 0
+    → (proof : List ℕ) (words store words′ store′ : List ℤ) (memory memory′ answer answer′ : List ℕ)
+    → LongService (take bytes output′) proof words store words′ store′ memory memory′ answer answer′ 0
+    → HasNone ws
+
+abbrev pub YesSplitReturned : Type 0
+YesSplitReturned =
+    (ws : List InputRule) (group : ℕ) (table table′ : List ℤ) (output output′ before more : List ℕ)
+    (bytes atoms rules N : ℕ)
+    → SplitService (programText ws) group table table′ output output′ before
+    (bytes ∷ atoms ∷ rules ∷ N ∷ more) 0
+    → (words words′ : List ℤ) (first rest : List ℕ) (A R : ℕ)
+    → ProgramService (take bytes output′) words words′ first (A ∷ R ∷ rest) 0
+    → (l marks marks′ answer answer′ : List ℕ) → SetService words′ R l marks marks′ answer answer′ 0
+    → IsAnswerSet (λ v. (v ≤ N) × (v ∈ l)) ws
+
+abbrev pub FoundSplitReturned : Type 0
+FoundSplitReturned =
+    (ws : List InputRule) (group : ℕ) (table table′ : List ℤ) (output output′ before more : List ℕ)
+    (bytes atoms rules N : ℕ)
+    → SplitService (programText ws) group table table′ output output′ before
+    (bytes ∷ atoms ∷ rules ∷ N ∷ more) 0
+    → (words words′ : List ℤ) (first rest : List ℕ) (A R : ℕ)
+    → ProgramService (take bytes output′) words words′ first (A ∷ R ∷ rest) 0
+    → (l : List ℕ) → IsAnswerSet (λ v. v ∈ l) ws
+    → (k : List ℕ) × ((v : ℕ) → v ∈ l ↔ ((v ≤ N) × (v ∈ k)))
+    × ((marks marks′ answer answer′ : List ℕ) (code : ℕ) → length marks ≡ entries
+    → SetService words′ R k marks marks′ answer answer′ code → code ≡ 0)
 
 -- The cheapest answer set: document 02, Change 12
 

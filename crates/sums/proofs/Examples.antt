@@ -30,12 +30,12 @@ abbrev pairs : List Weighted
 pairs = w (pos 1) 1 ∷ w (pos 2) 1 ∷ w (negsuc 2) 1 ∷ []
 
 small : split (dividedBy (rule 4 (weights 2 pairs)) 2 pairs (both (few (w (pos 1) 1 ∷ w (pos 2) 1 ∷ [])) (few (w (negsuc 2) 1 ∷ []))) ∷ [])
-    ≡ rule 4 (plain (pos 8 ∷ []))
-    ∷ rule 5 (weights 1 (w (pos 1) 1 ∷ w (pos 2) 1 ∷ []))
+    ≡ rule 5 (weights 1 (w (pos 1) 1 ∷ w (pos 2) 1 ∷ []))
     ∷ rule 6 (weights 2 (w (pos 1) 1 ∷ w (pos 2) 1 ∷ []))
     ∷ rule 7 (weights 1 (w (negsuc 2) 1 ∷ []))
     ∷ rule 8 (plain (pos 5 ∷ pos 7 ∷ []))
-    ∷ rule 8 (plain (pos 6 ∷ [])) ∷ []
+    ∷ rule 8 (plain (pos 6 ∷ []))
+    ∷ rule 4 (plain (pos 8 ∷ [])) ∷ []
 unfolding inTurn nodeRules joinBodies merge raised further sumsOf levelsFor levelled
 small = refl
 

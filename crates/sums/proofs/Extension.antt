@@ -20,7 +20,7 @@ use Rattle.aspif.specs.declared.Kind.{Kind}
 use Rattle.aspif.specs.declared.Kind.the-variants.{Normal, Choice}
 use Rattle.aspif.specs.AnswerSets.{Constraint, Taken, Chosen, Gives, LeastModel, derive, Met, AnswerSet}
 use Rattle.sums.specs.Plans.{Definition}
-use Rattle.sums.specs.Extension.{Holding, SumReaches, Says, Closed, withLiterals, Origin, kept, used, defining, Carried, Extends, UpTo, Extended, ExtensionKeeps, ExtensionConserves, ExtensionDetermines}
+use Rattle.sums.specs.Extension.{Holding, SumReaches, Says, Closed, withLiterals, Origin, kept, used, defining, Carried, Extends, UpTo, Extended, ExtensionKeeps, ExtensionAgrees, ExtensionConserves, ExtensionDetermines}
 
 -- Sums that are reached
 
@@ -177,6 +177,12 @@ extension-keeps N P Q D x M s = record { least = λ a. (forth a, λ l. within (c
         let b = reaches-body (reordered-reaches (and-back o) (said x M M d j (m .0 (d .atom) (subst (λ ls. pos (d .atom) ∈ ls) (sym e) (List·Memᴰ·head refl))))) in
         s .kept (withLiterals r (b .0)) (f (b .0) (b .1)) c (λ a k. b .2 (pos a) k, λ n k. b .2 (negsuc n) k)
     broken r c m (defining d j e f) = nil≢cons (sym (c .1) ∙ e)
+
+pub extension-agrees : ExtensionAgrees
+extension-agrees N P Q D x M s a = (λ m. let h = old (s .least a .0 m) in (h, inl (h, m)), λ k. down x M M a (k .0) (k .1))
+  where
+    old : {a : ℕ} → LeastModel M P a → a ≤ N
+    old (derive {h = h} r i t g below) = x .oldHeads r i (pos h) (g .0)
 
 pub extension-conserves : ExtensionConserves
 extension-conserves N P Q D x K s = record { least = λ a. (forth a, back a); kept = λ r i c m. broken r i c m (x .carried r i) }

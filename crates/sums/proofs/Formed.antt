@@ -21,11 +21,11 @@ use Rattle.aspif.specs.Claims.{WeighingWithin, FormedWithin}
 use Rattle.aspif.proofs.Formed.{inside-of, no-zero, none-zero}
 use Rattle.aspif.proofs.RuleTests.{in-greatest}
 use Rattle.aspif.proofs.Written.{written-read}
-use Rattle.sums.specs.Plans.{Plan, group, joined, size, Definition, own, Share, share, shares, define, joinBodies, Item, whole, root, splitItem, firstNew}
+use Rattle.sums.specs.Plans.{Plan, group, joined, size, Definition, own, Share, share, shares, define, joinBodies, nodeRules, Item, whole, root, headRule, splitItem, firstNew}
 use Rattle.sums.specs.Levels.{SumShape, few, both, pairsIn, levelled, dividedBy, isShort, planBody, planned, splitProgram, sortedGroups}
 use Rattle.sums.specs.Claims.{Shaping, Grouped, SplitFormed, SplitRead}
 use Rattle.sums.proofs.Nodes.{own-says, own-in, join-body→, RuleOf, summed, paired, on-left, on-right, rule-of}
-use Rattle.sums.proofs.Split.{Placed, in-turn, definitions-run}
+use Rattle.sums.proofs.Split.{Placed, in-turn, definitions-run, last-or-before}
 use Rattle.sums.proofs.Levels.{levels-within}
 use Rattle.sums.proofs.Sorted.{sorted-groups, sorted-grouped}
 
@@ -166,14 +166,23 @@ shortened w f x = rebodied w f (record { count = f .body-few; nonzero = none-zer
 divided-formed : (w : InputRule) (b : ℕ) (l : List Weighted) (s : SumShape) → FormedWithin mostLiterals w → b ≤ mostWeight → Reorder l (pairsIn s) → Grouped s → Fine l
     → mostWeighted < length l → (n : ℕ) → 1 ≤ n → (r : InputRule) → r ∈ splitItem n (dividedBy w b l s) → Forms r
 divided-formed w b l (few k) f h o g y c n m r i = absurd (let e = reorder-length o in let a = g .0 in omega arith)
-divided-formed w b l (both s t) f h o g y c n m r (List·Memᴰ·head e) = subst Forms (sym e) (rebodied w f (one-passes _ (omega arith)))
-divided-formed w b l (both s t) f h o g y c n m r (List·Memᴰ·tail i) =
-    let fine : Fine (pairsIn s ++ pairsIn t) = λ x j. y x (reorder-in (and-back o) j) in
-    plan-formed m h (
-      levelled-formed b _ s (g .0) (λ x j. fine x (Memᴰ·append-left (pairsIn t) j)),
-      levelled-formed b _ t (g .1) (λ x j. fine x (Memᴰ·append-right (pairsIn s) j)),
-    )
-    (rule-of n (root b _ _) i)
+divided-formed w b l (both s t) f h o g y c n m r i = go (last-or-before (nodeRules n (root b p q)) i)
+  where
+    p : Plan
+    p = levelled b (pairsIn t ++ []) s
+
+    q : Plan
+    q = levelled b (pairsIn s ++ []) t
+
+    go : (r ≡ headRule (w .kind) (w .heads) (n + (size p + size q))) ⊎ (r ∈ nodeRules n (root b p q)) → Forms r
+    go (inl e) = subst Forms (sym e) (rebodied w f (one-passes _ (omega arith)))
+    go (inr i) =
+        let fine : Fine (pairsIn s ++ pairsIn t) = λ x j. y x (reorder-in (and-back o) j) in
+        plan-formed m h (
+          levelled-formed b _ s (g .0) (λ x j. fine x (Memᴰ·append-left (pairsIn t) j)),
+          levelled-formed b _ t (g .1) (λ x j. fine x (Memᴰ·append-right (pairsIn s) j)),
+        )
+        (rule-of n (root b p q) i)
 
 module _ (shape : List Weighted → SumShape) (shaping : Shaping shape) (grouped : (l : List Weighted) → rising (literals l) ≡ true → Grouped (shape l)) where
   body-formed : (w : InputRule) (c : Body) → w .body ≡ c → FormedWithin mostLiterals w → (n : ℕ) → 1 ≤ n → (r : InputRule) → r ∈ splitItem n (planBody shape w c) → Forms r

@@ -18,13 +18,14 @@ use Rattle.aspif.specs.Rules.{Body, plain, weights, InputRule, expand, atoms}
 use Rattle.aspif.specs.AnswerSets.{AnswerSet}
 use Rattle.derivation.specs.Claims.{NoneAsWritten}
 use Rattle.derivation.proofs.AsWritten.{soundness-as-written}
-use Rattle.sums.specs.Plans.{joined, pairsOf, levelsOf, Item, written, allNeeds, program, allDefinitions}
+use Rattle.sums.specs.Plans.{joined, pairsOf, levelsOf, Item, written, allNeeds, program, split, allDefinitions}
 use Rattle.sums.specs.Levels.{SumShape, few, both, pairsIn, sumsOf, levelsFor, isUseful, useful, levelled, dividedBy, isShort, chain, chained, planBody, planned, splitProgram, chunks}
 use Rattle.sums.specs.Extension.{UpTo, Extended}
-use Rattle.sums.specs.Claims.{ReachedByLevels, EnoughLevels, WellPlanned, LevelledEnough, LevelsWithin, Shaping, InGroups, PlannedIs, ProgramSound, ProofOfSplit, ProgramKeeps, ProgramConserves, ProgramDetermines, ProgramAtoms}
+use Rattle.sums.specs.Claims.{ReachedByLevels, EnoughLevels, WellPlanned, LevelledEnough, LevelsWithin, Shaping, InGroups, PlannedIs, ProgramSound, ProofOfSplit, ProgramKeeps, ProgramAgrees, ProgramConserves, ProgramDetermines, ProgramAtoms}
 use Rattle.sums.proofs.Lowest.{Lowest, lowest-at}
 use Rattle.sums.proofs.Attained.{sums-in, sums-low, sums-both}
-use Rattle.sums.proofs.Split.{split-keeps, split-conserves, split-determines, split-sound, split-within}
+use Rattle.sums.proofs.Extension.{extension-agrees}
+use Rattle.sums.proofs.Split.{extends, split-keeps, split-conserves, split-determines, split-sound, split-within, split-reaches}
 
 -- Levels
 
@@ -207,6 +208,13 @@ program-keeps shape g ws M s =
     subst (λ us. AnswerSet (Extended (atoms us) (allDefinitions (planned shape ws)) M M) (expand (splitProgram shape ws))) (planned-is shape g ws)
     (split-keeps (planned shape ws) (all-well-planned shape g ws) M (subst (λ us. AnswerSet M (expand us)) (sym (planned-is shape g ws)) s))
 
+pub program-agrees : ProgramAgrees
+program-agrees shape g ws M s =
+    let is = planned shape ws in
+    subst (λ us. (a : ℕ) → M a ↔ UpTo (atoms us) (Extended (atoms us) (allDefinitions is) M M) a) (planned-is shape g ws)
+    (extension-agrees (atoms (program is)) (expand (program is)) (expand (split is)) (allDefinitions is) (extends is (all-well-planned shape g ws)) M
+    (subst (λ us. AnswerSet M (expand us)) (sym (planned-is shape g ws)) s))
+
 pub program-conserves : ProgramConserves
 program-conserves shape g ws K s =
     subst (λ us. AnswerSet (UpTo (atoms us) K) (expand us)) (planned-is shape g ws)
@@ -218,7 +226,10 @@ program-determines shape g ws K s =
     (split-determines (planned shape ws) (all-well-planned shape g ws) K s)
 
 pub program-atoms : ProgramAtoms
-program-atoms shape g ws = subst (λ us. atoms (splitProgram shape ws) ≤ atoms us + allNeeds (planned shape ws)) (planned-is shape g ws) (split-within (planned shape ws) (all-well-planned shape g ws))
+program-atoms shape g ws =
+    let is = planned shape ws in
+    let e : atoms (split is) ≡ atoms (program is) + allNeeds is = omega (arith, split-within is (all-well-planned shape g ws), split-reaches is) in
+    subst (λ us. atoms (splitProgram shape ws) ≡ atoms us + allNeeds is) (planned-is shape g ws) e
 
 -- Groups of one size
 

@@ -18,7 +18,7 @@ use Rattle.aspif.proofs.Expansion.{expand→, expand←, expand-append, plain-a
 use Rattle.aspif.proofs.RuleTests.{in-greatest, greatest-within}
 use Rattle.derivation.proofs.Sound.{answer-set-without}
 use Rattle.derivation.proofs.AsWritten.{constraints}
-use Rattle.sums.specs.Plans.{Plan, group, joined, pairsOf, size, Definition, numbered, own, definitions, Share, share, shares, Item, whole, divided, written, root, needs, allNeeds, splitItem, inTurn, program, firstNew, split, itemDefinitions, allDefinitions}
+use Rattle.sums.specs.Plans.{Plan, group, joined, pairsOf, size, Definition, numbered, own, definitions, Share, share, shares, nodeRules, Item, whole, divided, written, root, needs, allNeeds, headRule, splitItem, inTurn, program, firstNew, split, itemDefinitions, allDefinitions}
 use Rattle.sums.specs.Extension.{Holding, Says, Closed, Origin, kept, used, defining, Carried, Extends, Extended}
 use Rattle.sums.specs.Claims.{WellPlanned, SplitKeeps, SplitConserves, SplitDetermines, SplitSound}
 use Rattle.sums.proofs.Extension.{extension-keeps, extension-conserves, extension-determines}
@@ -160,6 +160,14 @@ last-definition n b p q = record { atom = n + (size p + size q); pairs = pairsOf
 last-in : (n b : ℕ) (p q : Plan) → last-definition n b p q ∈ definitions n (root b p q)
 last-in n b p q = own-in n (root b p q) (List·Memᴰ·head refl)
 
+-- a rule of an item that is divided is the head's, the last, or one of its plan
+pub last-or-before : {A : Type 0} (l : List A) {x y : A} → x ∈ l ++ (y ∷ []) → (x ≡ y) ⊎ (x ∈ l)
+last-or-before {A} l {x} {y} i = go (List·Memᴰ·append-cases l i)
+  where
+    go : (x ∈ l) ⊎ (x ∈ y ∷ []) → (x ≡ y) ⊎ (x ∈ l)
+    go (inl j) = inr j
+    go (inr j) = inl (List·Memᴰ·eq-of-singleton j)
+
 -- The program split is the program with definitions added
 
 module _ (is : List Item) (well-planned : (i : Item) → i ∈ is → WellPlanned i) where
@@ -203,13 +211,16 @@ module _ (is : List Item) (well-planned : (i : Item) → i ∈ is → WellPlanne
   origin (whole r) p w i ls j =
       let e = List·Memᴰ·eq-of-singleton i in
       kept (subst (λ v. withBody v ls ∈ P) (sym e) (expand← (Memᴰ·map written (p .among)) (subst (λ v. ls ∈ bodiesOf (v .body)) e j)))
-  origin (divided k hs b l p q) m w (List·Memᴰ·head e) ls j =
-      used (last-definition (m .place) b p q) (m .defs (last-definition (m .place) b p q) (last-in (m .place) b p q))
-      (List·Memᴰ·eq-of-singleton (subst (λ v. ls ∈ bodiesOf (v .body)) e j)) l (well-planned (divided k hs b l p q) (m .among) .0)
-      (λ ks i. subst (λ (v : InputRule). withBody v ks ∈ P) (sym e) (expand← {w = written (divided k hs b l p q)} (Memᴰ·map written (m .among)) i))
-  origin (divided k hs b l p q) m w (List·Memᴰ·tail i) ls j =
-      let d = node-defines (rule-of (m .place) (root b p q) i) ls j in
-      defining (d .definition) (m .defs (d .definition) (d .among)) (d .heads) (λ X M f h. d .only X M (λ e u. f e (m .defs e u)) h)
+  origin (divided k hs b l p q) m w i ls j = go (last-or-before (nodeRules (m .place) (root b p q)) i)
+    where
+      go : (w ≡ headRule k hs (m .place + (size p + size q))) ⊎ (w ∈ nodeRules (m .place) (root b p q)) → Origin P D (withBody w ls)
+      go (inl e) =
+          used (last-definition (m .place) b p q) (m .defs (last-definition (m .place) b p q) (last-in (m .place) b p q))
+          (List·Memᴰ·eq-of-singleton (subst (λ v. ls ∈ bodiesOf (v .body)) e j)) l (well-planned (divided k hs b l p q) (m .among) .0)
+          (λ ks i. subst (λ (v : InputRule). withBody v ks ∈ P) (sym e) (expand← {w = written (divided k hs b l p q)} (Memᴰ·map written (m .among)) i))
+      go (inr i) =
+          let d = node-defines (rule-of (m .place) (root b p q) i) ls j in
+          defining (d .definition) (m .defs (d .definition) (d .among)) (d .heads) (λ X M f h. d .only X M (λ e u. f e (m .defs e u)) h)
 
   each : (r : Rule) → r ∈ Q → Origin P D r
   each r i =
@@ -224,7 +235,7 @@ module _ (is : List Item) (well-planned : (i : Item) → i ∈ is → WellPlanne
       inr (
         last-definition (m .place) b p q,
         m .defs (last-definition (m .place) b p q) (last-in (m .place) b p q),
-        expand← {w = record { kind = k; heads = hs; body = plain (pos (m .place + (size p + size q)) ∷ []) }} (m .rules _ (List·Memᴰ·head refl)) (List·Memᴰ·head refl),
+        expand← {w = headRule k hs (m .place + (size p + size q))} (m .rules _ (Memᴰ·append-right (nodeRules (m .place) (root b p q)) (List·Memᴰ·head refl))) (List·Memᴰ·head refl),
         (l, well-planned (divided k hs b l p q) (m .among) .0, j),
       )
 
@@ -241,7 +252,7 @@ module _ (is : List Item) (well-planned : (i : Item) → i ∈ is → WellPlanne
       go : (i : Item) (p : Placed (firstNew is) is i) → d ∈ itemDefinitions (p .place) i → Y (d .atom)
       go (whole r) p k = elim k [ ]
       go (divided k hs b l p q) m i =
-          node-derived (split is) M Y c (m .place) (root b p q) (well-planned (divided k hs b l p q) (m .among) .1) (λ w j. m .rules w (List·Memᴰ·tail j)) d i s
+          node-derived (split is) M Y c (m .place) (root b p q) (well-planned (divided k hs b l p q) (m .among) .1) (λ w j. m .rules w (Memᴰ·append-left _ j)) d i s
 
   pub extends : Extends N P Q D
   extends =
@@ -298,14 +309,47 @@ module _ (is : List Item) (well-planned : (i : Item) → i ∈ is → WellPlanne
   rule-within (whole r) p w j =
       let a = in-greatest ruleTop (Memᴰ·map written (p .among)) in
       subst (λ v. ruleTop v ≤ highest) (sym (List·Memᴰ·eq-of-singleton j)) (omega arith)
-  rule-within (divided k hs b l p q) m w (List·Memᴰ·head e) =
-      let a = in-greatest ruleTop (Memᴰ·map written (m .among)) in
-      let c = new-within (last-definition (m .place) b p q) (m .defs (last-definition (m .place) b p q) (last-in (m .place) b p q)) in
-      subst (λ v. ruleTop v ≤ highest) (sym e) (omega arith)
-  rule-within (divided k hs b l p q) m w (List·Memᴰ·tail j) = plan-within (rule-of (m .place) (root b p q) j) (λ d i. m .defs d i)
+  rule-within (divided k hs b l p q) m w j = go (last-or-before (nodeRules (m .place) (root b p q)) j)
+    where
+      go : (w ≡ headRule k hs (m .place + (size p + size q))) ⊎ (w ∈ nodeRules (m .place) (root b p q)) → ruleTop w ≤ highest
+      go (inl e) =
+          let a = in-greatest ruleTop (Memᴰ·map written (m .among)) in
+          let c = new-within (last-definition (m .place) b p q) (m .defs (last-definition (m .place) b p q) (last-in (m .place) b p q)) in
+          subst (λ v. ruleTop v ≤ highest) (sym e) (omega arith)
+      go (inr i) = plan-within (rule-of (m .place) (root b p q) i) (λ d i. m .defs d i)
 
   pub split-within : atoms (split is) ≤ highest
   split-within = greatest-within ruleTop highest (split is) (λ w i. let y = in-turn splitItem (firstNew is) is i in rule-within (y .0) (y .1) w (y .2))
+
+-- nothing is divided, and so nothing is changed; or a rule names the last new atom
+data LastNamed (n : ℕ) (is : List Item) : Type 0 where
+  unchanged : allNeeds is ≡ 0 → inTurn splitItem n is ≡ program is → LastNamed n is
+  named : (w : InputRule) → w ∈ inTurn splitItem n is → n + allNeeds is ≤ suc (ruleTop w) → LastNamed n is
+
+last-named : (n : ℕ) (is : List Item) → LastNamed n is
+unfolding inTurn
+last-named n [] = unchanged refl refl
+last-named n (whole r ∷ is) = go (last-named (n + 0) is)
+  where
+    go : LastNamed (n + 0) is → LastNamed n (whole r ∷ is)
+    go (unchanged e f) = unchanged (omega arith) (ap (λ (l : List InputRule). r ∷ l) f)
+    go (named w i h) = named w (List·Memᴰ·tail i) (omega arith)
+last-named n (divided k hs b l p q ∷ is) = go (last-named (n + size (root b p q)) is)
+  where
+    head : InputRule
+    head = headRule k hs (n + (size p + size q))
+
+    go : LastNamed (n + size (root b p q)) is → LastNamed n (divided k hs b l p q ∷ is)
+    go (unchanged e f) =
+        named head (Memᴰ·append-left _ (Memᴰ·append-right (nodeRules n (root b p q)) (List·Memᴰ·head refl))) (omega (arith, e))
+    go (named w i h) = named w (Memᴰ·append-right (splitItem n (divided k hs b l p q)) i) (omega arith)
+
+pub split-reaches : (is : List Item) → atoms (program is) + allNeeds is ≤ atoms (split is)
+split-reaches is = go (last-named (firstNew is) is)
+  where
+    go : LastNamed (firstNew is) is → atoms (program is) + allNeeds is ≤ atoms (split is)
+    go (unchanged e f) = omega (arith, e, ap atoms f)
+    go (named w i h) = omega (arith, h, in-greatest ruleTop i)
 
 pub split-keeps : SplitKeeps
 split-keeps is c M s = extension-keeps (atoms (program is)) (expand (program is)) (expand (split is)) (allDefinitions is) (extends is c) M s

@@ -96,6 +96,12 @@ ProgramKeeps =
     (shape : List Weighted → SumShape) → Shaping shape → (ws : List InputRule) → (M : ℕ → Type 0)
     → AnswerSet M (expand ws) → AnswerSet (Extended (atoms ws) (allDefinitions (planned shape ws)) M M) (expand (splitProgram shape ws))
 
+-- with the same old atoms,
+abbrev pub ProgramAgrees : Type 1
+ProgramAgrees =
+    (shape : List Weighted → SumShape) → Shaping shape → (ws : List InputRule) → (M : ℕ → Type 0)
+    → AnswerSet M (expand ws) → (a : ℕ) → M a ↔ UpTo (atoms ws) (Extended (atoms ws) (allDefinitions (planned shape ws)) M M) a
+
 -- of each of those the old atoms are one of the program,
 abbrev pub ProgramConserves : Type 1
 ProgramConserves =
@@ -136,10 +142,10 @@ SplitFormed =
     → (ws : List InputRule) → ((r : InputRule) → r ∈ ws → FormedWithin mostLiterals r)
     → atoms (splitProgram shape ws) ≤ largest → (r : InputRule) → r ∈ splitProgram shape ws → FormedWithin mostWeighted r
 
--- no atom is above those of the program and as many new ones as the plans have levels
+-- the largest atom: as many new ones as the plans have levels stand above those of the program
 abbrev pub ProgramAtoms : Type 0
 ProgramAtoms =
-    (shape : List Weighted → SumShape) → Shaping shape → (ws : List InputRule) → atoms (splitProgram shape ws) ≤ atoms ws + allNeeds (planned shape ws)
+    (shape : List Weighted → SumShape) → Shaping shape → (ws : List InputRule) → atoms (splitProgram shape ws) ≡ atoms ws + allNeeds (planned shape ws)
 
 -- so the reader takes the text of the split program and reads just that program, where it has not too many atoms, rules and words: nothing is
 -- claimed of how many it has. Question 1, of the length of the text, is not put by `readLines`.

@@ -81,6 +81,12 @@ ExtensionKeeps =
     (N : ℕ) (P Q : List Rule) (D : List Definition) → Extends N P Q D
     → (M : ℕ → Type 0) → AnswerSet M P → AnswerSet (Extended N D M M) Q
 
+-- which has the same old atoms
+abbrev pub ExtensionAgrees : Type 1
+ExtensionAgrees =
+    (N : ℕ) (P Q : List Rule) (D : List Definition) → Extends N P Q D
+    → (M : ℕ → Type 0) → AnswerSet M P → (a : ℕ) → M a ↔ UpTo N (Extended N D M M) a
+
 -- and what an answer set of that has of the old atoms is one of the program without
 abbrev pub ExtensionConserves : Type 1
 ExtensionConserves =

@@ -1,4 +1,4 @@
--- How a long sum is split into short ones, and what is claimed of it. No service uses it yet.
+-- How a long sum is split into short ones, and what is claimed of it.
 pub mod Plans
 pub mod Levels
 pub mod Extension

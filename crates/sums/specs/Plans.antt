@@ -118,11 +118,14 @@ abbrev pub allNeeds : List Item → ℕ
 allNeeds [] = 0
 allNeeds (i ∷ is) = needs i + allNeeds is
 
--- what stands for the rule, with new atoms from n on: the head from the atom of the last node, and what defines it
+-- the heads from an atom
+abbrev pub headRule : Kind → (heads : List ℤ) → (atom : ℕ) → InputRule
+headRule k hs a = record { kind = k; heads = hs; body = plain (pos a ∷ []) }
+
+-- what stands for the rule, with new atoms from n on: what defines the atom of the last node, and the head from it
 abbrev pub splitItem : ℕ → Item → List InputRule
 splitItem n (whole r) = r ∷ []
-splitItem n (divided k hs b l p q) =
-    record { kind = k; heads = hs; body = plain (pos (n + (size p + size q)) ∷ []) } ∷ nodeRules n (root b p q)
+splitItem n (divided k hs b l p q) = nodeRules n (root b p q) ++ (headRule k hs (n + (size p + size q)) ∷ [])
 
 -- what items give one after another, with new atoms from n on
 unfoldable pub inTurn : {A : Type 0} → (ℕ → Item → List A) → ℕ → List Item → List A

@@ -54,7 +54,7 @@ found-first need low (u ∷ us) a o i h = by (ltb u need) refl i (λ j. found-fi
     by false e (List·Memᴰ·tail j) f = let k = ascending-low (a .1) j in (omega arith, omega arith)
 
 -- a number of an ascending list stands at a place or after it, or before it
-beside : (low : ℕ) (us : List ℕ) → Ascending low us → (i : ℕ) → i < length us → (v : ℕ) → v ∈ us
+pub beside : (low : ℕ) (us : List ℕ) → Ascending low us → (i : ℕ) → i < length us → (v : ℕ) → v ∈ us
     → (getD us i 0 ≤ v) ⊎ ((p : ℕ) × (i ≡ suc p) × (v ≤ getD us p 0))
 beside low (u ∷ us) a zero h v (List·Memᴰ·head e) = inl (omega arith)
 beside low (u ∷ us) a zero h v (List·Memᴰ·tail j) = inl (let k = ascending-low (a .1) j in omega arith)
@@ -68,7 +68,7 @@ beside low (u ∷ us) a (suc i) h v (List·Memᴰ·tail j) = by (beside (suc u) 
     by (inr (p, e, k)) = inr (i, refl, subst (λ n. v ≤ getD (u ∷ us) n 0) (sym e) k)
 
 -- the number before one is below it
-rises : (low : ℕ) (us : List ℕ) → Ascending low us → (i : ℕ) → suc i < length us → getD us i 0 < getD us (suc i) 0
+pub rises : (low : ℕ) (us : List ℕ) → Ascending low us → (i : ℕ) → suc i < length us → getD us i 0 < getD us (suc i) 0
 rises low (u ∷ us) a zero h = ascending-low (a .1) (in-at 0 us 0 (omega arith))
 rises low (u ∷ us) a (suc i) h = rises (suc u) us (a .1) i (omega arith)
 

@@ -26,7 +26,7 @@ sum-numbers atom level ws e =
     ap₂ (λ (k : ℕ) (l : List ℤ). pos 0 ∷ pos 1 ∷ pos atom ∷ pos 1 ∷ pos level ∷ pos k ∷ l) n (words-paired ws e)
 
 -- one level more
-level-more : (n : ℕ) (l : List Weighted) (ts : List ℕ) (i : ℕ) → i < length ts
+pub level-more : (n : ℕ) (l : List Weighted) (ts : List ℕ) (i : ℕ) → i < length ts
     → numbered n l (take (i + 1) ts) ≡ numbered n l (take i ts) ++ (record { atom = n + i; pairs = l; bound = getD ts i 0 } ∷ [])
 level-more n l [] i h = absurd (omega arith)
 level-more n l (t ∷ ts) zero h = let e : n ≡ n + 0 = omega arith in ap (λ (a : ℕ). record { atom = a; pairs = l; bound = t } ∷ []) e

@@ -12,14 +12,14 @@ ghost use Rattle.sums.specs.Levels.{isUseful, useful, raised, further, sumsOf, 
 ghost use Rattle.totalizer.specs.Lists.{SumsUpTo, headOr, sumsOver, below};
 
 // The smaller of two numbers.
-fn smaller(a: usize, b: usize) -> usize
+pub fn smaller(a: usize, b: usize) -> usize
     ensures { λ r. ⌜ r ≡ min a b ⌝ }
 {
     if a < b { a } else { b }
 }
 
 // Sum i; `past` past the end.
-fn sum_at(sums: &[usize], i: usize, past: usize) -> usize
+pub fn sum_at(sums: &[usize], i: usize, past: usize) -> usize
     ensures { λ r. ⌜ r ≡ getD (now (sums .entry)) i past ⌝ }
 {
     if i < sums.len() { sums[i] } else { past }
@@ -67,7 +67,7 @@ fn add_weight(sums: &[usize], weight: usize, bound: usize, to: &mut [usize]) -> 
 }
 
 // The source's numbers, from the destination's first on.
-fn copy_sums(destination: &mut [usize], source: &[usize])
+pub fn copy_sums(destination: &mut [usize], source: &[usize])
     requires { ⌜ length (now source) ≤ length (now destination) ⌝ }
     ensures { λ _. ⌜ now (destination .exit) ≡ now (source .entry)
         ++ drop (length (now (source .entry))) (now (destination .entry)) ⌝ }
@@ -122,7 +122,7 @@ fn add_pairs(
 }
 
 // How many sums stand before the first that is at least `need`.
-fn below_of(sums: &[usize], need: usize) -> usize
+pub fn below_of(sums: &[usize], need: usize) -> usize
     ensures { λ r. ⌜ r ≡ below need (now (sums .entry)) ⌝ }
 {
     let mut i = 0;

@@ -92,7 +92,7 @@ fn put_bound(output: &mut [u8], at: usize, words: &[i32]) -> usize
 }
 
 // What stands in a rule's line up to its heads.
-fn put_head(output: &mut [u8], at: usize, words: &[i32]) -> usize
+pub fn put_head(output: &mut [u8], at: usize, words: &[i32]) -> usize
     requires rule { ⌜ shapeSound (now words) ≡ true ⌝ }
     requires room { ⌜ at + (22 * mostLine + 2) ≤ farthest ⌝ }
     ensures written { λ r. ⌜ Put (49 ∷ spaced (headNumbers (now (words .entry)))) (now (output .entry)) (now (output .exit)) at r ⌝ }
@@ -153,7 +153,7 @@ pub fn emit_rule(output: &mut [u8], place: Place, words: &[i32]) -> Place
 }
 
 // A number after a space.
-fn put_size(output: &mut [u8], at: usize, n: usize) -> usize
+pub fn put_size(output: &mut [u8], at: usize, n: usize) -> usize
     requires { ⌜ at + 1 ≤ farthest ⌝ }
     ensures written { λ r. ⌜ Put (32 ∷ numberBytes (pos n)) (now (output .entry)) (now (output .exit)) at r ⌝ }
     ensures within { λ r. ⌜ r ≤ at + 21 ⌝ }
