@@ -28,17 +28,17 @@ pub record SplitLeft : Type 0 where
 abbrev pub isGroupSize : ℕ → Bool
 isGroupSize g = leb 2 g && leb g mostWeighted
 
+-- question 66: at most 1,024 rules, no atom above 8,191, a text of at most 65,535 bytes that fits the output
+abbrev pub isWritable : (room : ℕ) → List InputRule → Bool
+isWritable o rs =
+    leb (length rs) mostRules
+    && (leb (atoms rs) largest && (leb (length (programText rs)) longest && leb (length (programText rs)) o))
+
 -- the lengths of table and output
 module _ (t o : ℕ) where
   -- a refusal zeroes both
   abbrev pub zeroed : SplitAnswer → SplitLeft
   zeroed a = record { answer = a; table = replicate t (pos 0); output = replicate o 0 }
-
-  -- question 66: at most 1,024 rules, no atom above 8,191, a text of at most 65,535 bytes that fits the output
-  abbrev pub isWritable : List InputRule → Bool
-  isWritable rs =
-      leb (length rs) mostRules
-      && (leb (atoms rs) largest && (leb (length (programText rs)) longest && leb (length (programText rs)) o))
 
   -- the text of the split program, with its atoms and rules and the atoms of the program as written, and 0 after it; the table holds the
   -- program as written
@@ -50,7 +50,7 @@ module _ (t o : ℕ) where
   }
 
   abbrev pub splitTo : (ws rs : List InputRule) → SplitLeft
-  splitTo ws rs = cond (isWritable rs) (written ws rs) (zeroed (Refused 66))
+  splitTo ws rs = cond (isWritable o rs) (written ws rs) (zeroed (Refused 66))
 
   abbrev pub splitReading : (group : ℕ) → Reading → SplitLeft
   splitReading g (Reading.refused k n) = zeroed (RefusedProgram (record { number = k; line = n }))
