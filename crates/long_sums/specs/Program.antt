@@ -1,5 +1,5 @@
--- What the private functions say of the table's rules and of the lines that are written for them. No reader of the public contract
--- needs it.
+-- What the private functions say of the table's rules and of the lines that are written for them. No reader of the
+-- public contract needs it.
 -- Assumes nothing.
 use mathlib.Core.Path.{_≡_}
 use mathlib.Core.Bool.{Bool, false}

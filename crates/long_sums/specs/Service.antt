@@ -1,5 +1,6 @@
--- What `split_sums` answers and leaves, of the program text, the group size and the lengths of table and output. The questions are those of
--- document 01 with all changes, but question 55 is put with 64 literals in place of 12; 65 and 66 come after them.
+-- What `split_sums` answers and leaves, of the program text, the group size and the lengths of table and output. The
+-- questions are those of document 01 with all changes, but question 55 is put with 64 literals in place of 12; 65 and
+-- 66 come after them.
 -- Assumes nothing.
 use mathlib.Core.Path.{_≡_}
 use mathlib.Core.Bool.{Bool, cond, _&&_}
@@ -40,8 +41,8 @@ module _ (t o : ℕ) where
   abbrev pub zeroed : SplitAnswer → SplitLeft
   zeroed a = record { answer = a; table = replicate t (pos 0); output = replicate o 0 }
 
-  -- the text of the split program, with its atoms and rules and the atoms of the program as written, and 0 after it; the table holds the
-  -- program as written
+  -- the text of the split program, with its atoms and rules and the atoms of the program as written, and 0 after it;
+  -- the table holds the program as written
   abbrev pub written : (ws rs : List InputRule) → SplitLeft
   written ws rs = record {
     answer = Split (length (programText rs)) (atoms rs) (length rs) (atoms ws);
