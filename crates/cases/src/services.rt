@@ -12,10 +12,10 @@
 //   write     the rule count and the version; the table's words; the proof. The output is the packet
 //   cheapest  the costs; the set; program | proof
 //   splits    the lengths of the ends; the tree; program | the ends' texts, one right after the other
-use crate::stepping;
 use notation::reading;
 use notation::reading::head;
 use notation::reading::tail;
+use notation::stepping;
 
 // The code of a word that is none of these, and of a long check that leaves a word in its memory.
 const UNKNOWN: u32 = 99;
