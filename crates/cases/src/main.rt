@@ -9,7 +9,6 @@
 // they are, and no more than 72 such runs; a packet and marks are written likewise, in hexadecimal; a text stands on lines of its own, up to its
 // first zero byte and to 600 bytes.
 mod services;
-mod stepping;
 
 use libc::STDIN_FILENO;
 use notation::reading;

@@ -13,10 +13,10 @@
 //   cheapest  the costs; the set; program | proof
 //   splits    the lengths of the ends; the tree; program | the ends' texts, one right after the other
 //   groups    the group size; the program whose long sums are split
-use crate::stepping;
 use notation::reading;
 use notation::reading::head;
 use notation::reading::tail;
+use notation::stepping;
 
 // The code of a word that is none of these, and of a long check that leaves a word in its memory.
 const UNKNOWN: u32 = 99;

@@ -1,4 +1,4 @@
--- `cases::stepping::hand_out` is safe and ends: a walk of its MIR, by hand. The reader is made by `start` in a local, and lent to `next` with the table and two
+-- `notation::stepping::hand_out` is safe and ends: a walk of its MIR, by hand. The reader is made by `start` in a local, and lent to `next` with the table and two
 -- rows in locals in each turn (LentNext.antt and LentRows.antt of `drupe`). Where the position changed, it is past the one before and within the text, so fewer bytes are left.
 --     At x         the loop's invariant, at a reader that stands within its text, and two rows.        Nearer      fewer bytes are left
 --     turns        a turn from the invariant: it ends nearer to the text's end, or it returns
@@ -73,14 +73,14 @@ use Rattle.drupe.proofs.reader.start as start
 use Rattle.drupe.proofs.reader.start.Symbol as start-def
 use Rattle.drupe.proofs.reader.start.Symbol.{name as #drupe·reader·start}
 use Rattle.drupe.proofs.reader.start.Met as start-thm
-use Rattle.cases.proofs.stepping.say_step as say
-use Rattle.cases.proofs.stepping.say_step.Symbol as say-def
-use Rattle.cases.proofs.stepping.say_step.Symbol.{name as #cases·stepping·say-step}
-use Rattle.cases.proofs.stepping.say_step.Met as say-thm
-use Rattle.cases.proofs.stepping.hand_out.Key.{name as #cases·stepping·hand-out}
-use Rattle.cases.proofs.stepping.hand_out as hand-out
-use Rattle.cases.proofs.stepping.hand_out.Statement as stated
-use Rattle.cases.proofs.stepping.hand_out.Code as code
+use Rattle.notation.proofs.stepping.say_step as say
+use Rattle.notation.proofs.stepping.say_step.Symbol as say-def
+use Rattle.notation.proofs.stepping.say_step.Symbol.{name as #notation·stepping·say-step}
+use Rattle.notation.proofs.stepping.say_step.Met as say-thm
+use Rattle.notation.proofs.stepping.hand_out.Key.{name as #notation·stepping·hand-out}
+use Rattle.notation.proofs.stepping.hand_out as hand-out
+use Rattle.notation.proofs.stepping.hand_out.Statement as stated
+use Rattle.notation.proofs.stepping.hand_out.Code as code
 
 -- the places of text and table in the signature
 abbrev text : Slot 2
@@ -209,7 +209,7 @@ module _ {M : Type 1} (𝓤 : URA M) (H : Heap 𝓤) (A : Atoms 𝓤) (W : Given
   abbrev tokens : ℕ → ℕ → Item 𝓤
   tokens ρ ρ′ = token ⊛ token′ ⊛ ‵ (flft (ρ ∷ []) fullShare) ⊛ ‵ (flft (ρ′ ∷ []) fullShare) ⊛ ‵ ftrue
 
-  module _ (𝓣 : Tables 𝓤 H) (known-next : Triple 𝓤 (𝓣 .C #drupe·reader·next) (Next 𝓤 H A mem run)) (known-say : Triple 𝓤 (𝓣 .C #cases·stepping·say-step) (Say 𝓤 H A mem run)) (l₀ l₁ l₂ l₃ l₄ l₅ l₆ l₇ l₈ l₉ l₁₀ l₁₁ l₁₂ l₁₃ l₁₄ l₁₅ l₁₆ l₁₇ : ℕ) where
+  module _ (𝓣 : Tables 𝓤 H) (known-next : Triple 𝓤 (𝓣 .C #drupe·reader·next) (Next 𝓤 H A mem run)) (known-say : Triple 𝓤 (𝓣 .C #notation·stepping·say-step) (Say 𝓤 H A mem run)) (l₀ l₁ l₂ l₃ l₄ l₅ l₆ l₇ l₈ l₉ l₁₀ l₁₁ l₁₂ l₁₃ l₁₄ l₁₅ l₁₆ l₁₇ : ℕ) where
     abbrev C : Calls 𝓤 H
     C = 𝓣 .C
 
@@ -297,7 +297,7 @@ module _ {M : Type 1} (𝓤 : URA M) (H : Heap 𝓤) (A : Atoms 𝓤) (W : Given
         (λ other. skips ! $ forget ! 9 refl $ forget ! 11 refl $ forget ! 13 refl $ forget ! 15 refl $ forget ! 17 refl $ forget ! 19 refl $ forget ! 21 refl $ forget ! 23 refl $ forget ! 25 refl $ forget ! 29 refl $ forget ! 31 refl $
         move ! (7 ∷ 0 ∷ 4 ∷ 1 ∷ 2 ∷ 3 ∷ 6 ∷ 5 ∷ []) $ again ! Nearer At x (d, zs, ws, moved (x .0) d r e other .0) (moved (x .0) d r e other .1))))))))))))))))))))))))
 
-  walk : (𝓣 : Tables 𝓤 H) → Triple 𝓤 (𝓣 .C #drupe·reader·start) (Start 𝓤 H A mem run) → Triple 𝓤 (𝓣 .C #drupe·reader·next) (Next 𝓤 H A mem run) → Triple 𝓤 (𝓣 .C #cases·stepping·say-step) (Say 𝓤 H A mem run)
+  walk : (𝓣 : Tables 𝓤 H) → Triple 𝓤 (𝓣 .C #drupe·reader·start) (Start 𝓤 H A mem run) → Triple 𝓤 (𝓣 .C #drupe·reader·next) (Next 𝓤 H A mem run) → Triple 𝓤 (𝓣 .C #notation·stepping·say-step) (Say 𝓤 H A mem run)
       → Is (ShrSlice (named 0) (κs .0) u8) s (slice-vals s) → ent 𝓤 (onEntry 𝓤 H A hand-out.signature κs qs x at) (WpFn 𝓤 H (𝓣 .C) (𝓣 .Λ) code.function (flat (typesAt (hand-out.signature .params) κs) at) Post)
   walk 𝓣 known-start known-next known-say is-s =
       qed W ((token ⊛ token′ ⊛ ‵ ftrue) ∷ ‵ (owns (typesAt (hand-out.signature .params) κs) x at) ∷ []) ∵ enter ! (𝓣 .C) (𝓣 .Λ) code.function (flat (typesAt (hand-out.signature .params) κs) at) _ $
@@ -323,13 +323,13 @@ module _ {M : Type 1} (𝓤 : URA M) (H : Heap 𝓤) (A : Atoms 𝓤) (W : Given
       first ! $ blocks ! $ loops ! 𝓣 Nearer Nearer-wf (At 𝓣 known-next known-say l₀ l₁ l₂ l₃ l₄ l₅ l₆ l₇ l₈ l₉ l₁₀ l₁₁ l₁₂ l₁₃ l₁₄ l₁₅ l₁₆ l₁₇) (turns 𝓣 known-next known-say l₀ l₁ l₂ l₃ l₄ l₅ l₆ l₇ l₈ l₉ l₁₀ l₁₁ l₁₂ l₁₃ l₁₄ l₁₅ l₁₆ l₁₇) (r, zeros, zeros, started r e)))))))))))))))))))))))
 
 module _ {M : Type 1} (𝓤 : URA M) (H : Heap 𝓤) (A : Atoms 𝓤) (W : Given 𝓤 H A) (mem : Memory → SProp 𝓤) (run : Routine → Fun 𝓤) (𝓣 : Tables 𝓤 H) where
-  hand-out-walks : Triple 𝓤 (𝓣 .C #drupe·reader·start) (Start 𝓤 H A mem run) → Triple 𝓤 (𝓣 .C #drupe·reader·next) (Next 𝓤 H A mem run) → Triple 𝓤 (𝓣 .C #cases·stepping·say-step) (Say 𝓤 H A mem run)
+  hand-out-walks : Triple 𝓤 (𝓣 .C #drupe·reader·start) (Start 𝓤 H A mem run) → Triple 𝓤 (𝓣 .C #drupe·reader·next) (Next 𝓤 H A mem run) → Triple 𝓤 (𝓣 .C #notation·stepping·say-step) (Say 𝓤 H A mem run)
       → Walks 𝓤 H A hand-out.ended stayed (WpFn 𝓤 H (𝓣 .C) (𝓣 .Λ) code.function) (hand-out.clauses 𝓤 H A mem run)
   hand-out-walks known-start known-next known-say = walked 𝓤 H A hand-out.ended stayed (hand-out.clauses 𝓤 H A mem run) (WpFn 𝓤 H (𝓣 .C) (𝓣 .Λ) code.function) (λ κs. (slice-vals, (ptr-vals, tt)))
       (λ κs. (shr-slice-tells (named 0) (κs .0) u8, (shr-tells (named 1) (κs .1 .0) (Array u8 tt 256), tt)))
       (λ κs qs bounds a g are. needs 𝓤 (now (a .1 .0) ≡ byteClasses) _ (λ known. walk 𝓤 H A W mem run κs qs (a .0) (a .1 .0) known 𝓣 known-start known-next known-say (are .0)))
 
-  hand-out-meets : Triple 𝓤 (𝓣 .C #drupe·reader·start) (Start 𝓤 H A mem run) → Triple 𝓤 (𝓣 .C #drupe·reader·next) (Next 𝓤 H A mem run) → Triple 𝓤 (𝓣 .C #cases·stepping·say-step) (Say 𝓤 H A mem run)
+  hand-out-meets : Triple 𝓤 (𝓣 .C #drupe·reader·start) (Start 𝓤 H A mem run) → Triple 𝓤 (𝓣 .C #drupe·reader·next) (Next 𝓤 H A mem run) → Triple 𝓤 (𝓣 .C #notation·stepping·say-step) (Say 𝓤 H A mem run)
       → Meets 𝓤 H A hand-out.signature (WpFn 𝓤 H (𝓣 .C) (𝓣 .Λ) code.function) (hand-out.spec 𝓤 H A mem run)
   hand-out-meets known-start known-next known-say = walk-meets 𝓤 H A hand-out.ended stayed W (goes-dropped 𝓤 H A W 2 text yes (λ κs x f. refl), (goes-dropped 𝓤 H A W 2 table yes (λ κs x f. refl), tt))
       (hand-out.clauses 𝓤 H A mem run) (WpFn 𝓤 H (𝓣 .C) (𝓣 .Λ) code.function) (WpFn-mono 𝓤 H (W .laws) 𝓣 code.function) (hand-out-walks known-start known-next known-say)
@@ -338,8 +338,8 @@ pub hand-out-spec : {M : Type 1} → stated.statement M
 unfolding code.routine tablesOf
 hand-out-spec 𝓤 H 𝓜 𝓖 𝓡 =
     entered 𝓤 H (tripleOf 𝓤 H (𝓖 .A) hand-out.signature (hand-out.spec 𝓤 H (𝓖 .A) (𝓜 .mem) (𝓡 .run)))
-    (tables 𝓤 H 𝓜 𝓡 code.env .C) (tables 𝓤 H 𝓜 𝓡 code.env .Λ) #cases·stepping·hand-out code.function (code.unfolded 𝓤 H 𝓜 𝓡)
+    (tables 𝓤 H 𝓜 𝓡 code.env .C) (tables 𝓤 H 𝓜 𝓡 code.env .Λ) #notation·stepping·hand-out code.function (code.unfolded 𝓤 H 𝓜 𝓡)
     (hand-out-meets 𝓤 H (𝓖 .A) (givenOf 𝓤 H 𝓜 𝓖) (𝓜 .mem) (𝓡 .run) (tablesOf 𝓤 H 𝓜 (tables 𝓤 H 𝓜 𝓡 code.env))
     (cited 𝓤 H (Start 𝓤 H (𝓖 .A) (𝓜 .mem) (𝓡 .run)) 𝓜 𝓡 code.env #drupe·reader·start start-def.routine code.calls-drupe·reader·start (start-thm.met 𝓤 H 𝓜 𝓖 𝓡))
     (cited 𝓤 H (Next 𝓤 H (𝓖 .A) (𝓜 .mem) (𝓡 .run)) 𝓜 𝓡 code.env #drupe·reader·next next-def.routine code.calls-drupe·reader·next (next-thm.met 𝓤 H 𝓜 𝓖 𝓡))
-    (cited 𝓤 H (Say 𝓤 H (𝓖 .A) (𝓜 .mem) (𝓡 .run)) 𝓜 𝓡 code.env #cases·stepping·say-step say-def.routine code.calls-cases·stepping·say-step (say-thm.met 𝓤 H 𝓜 𝓖 𝓡)))
+    (cited 𝓤 H (Say 𝓤 H (𝓖 .A) (𝓜 .mem) (𝓡 .run)) 𝓜 𝓡 code.env #notation·stepping·say-step say-def.routine code.calls-notation·stepping·say-step (say-thm.met 𝓤 H 𝓜 𝓖 𝓡)))

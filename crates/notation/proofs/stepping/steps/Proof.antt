@@ -1,8 +1,8 @@
--- `cases::stepping::steps` is safe and ends. Assumes nothing.
+-- `notation::stepping::steps` is safe and ends. Assumes nothing.
 use Rattle.text.specs.Classes.{byteClasses}
 use borrow.Author.Needs.{needs}
-use Rattle.cases.proofs.stepping.steps.Statement.{statement}
-use Rattle.cases.proofs.stepping.steps.Tie as tie
+use Rattle.notation.proofs.stepping.steps.Statement.{statement}
+use Rattle.notation.proofs.stepping.steps.Tie as tie
 
 hand-out-requires : tie.Need-hand-out-requires
 unfolding byteClasses

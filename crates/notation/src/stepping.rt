@@ -1,7 +1,7 @@
 // A proof step by step, as one `ProofReader` hands it out.
+use crate::saying;
 use drupe::LineAnswer;
 use drupe::reader;
-use notation::saying;
 use text::writing;
 use words::MOST_NUMBERS;
 ghost use mathlib.Core.Path.{_≡_};
