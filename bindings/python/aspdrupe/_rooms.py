@@ -14,7 +14,7 @@ TEXT = 65_535
 STORE = 16_384
 
 #: More than the live nogoods of a text of 65,535 bytes can take, `l` lines aside: a line of n numbers has 2 * n + 4 bytes or
-#: more, and adds 5 * n - 2 words or fewer.
+#: more, and adds 5 * n + 2 words or fewer.
 MERGED = 163_840
 
 _PROOF = (1 << 31) - 1
