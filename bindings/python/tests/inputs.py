@@ -1,6 +1,7 @@
 """The inputs of bindings/c/stack.c, which reach the deepest paths of each service."""
 from __future__ import annotations
 
+from pathlib import Path
 from typing import List, NamedTuple, Tuple
 
 TEXT = 65_535
@@ -11,6 +12,7 @@ WEIGHTED = 12
 PACKET = 13 + 4 * WORDS + TEXT
 IDLE = 20_000
 
+HEADER = Path(__file__).resolve().parents[2] / "c" / "aspdrupe.h"
 HEAD = "asp 1 0 0\n"
 NEWLINES = "\n" * TEXT
 LONG_LINE = "a" + " -8191" * 10_921 + " 0\n"
