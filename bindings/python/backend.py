@@ -1,6 +1,7 @@
 """Builds the wheel: links a shared object from libexports.a, and packs it with the package.
 
-A build backend for pip (PEP 517) that needs a C compiler and nothing else. `python3 backend.py FOLDER` writes the wheel into a folder.
+A build backend for pip (PEP 517) that needs a C compiler and nothing else. `python3 backend.py FOLDER` writes the wheel
+into a folder.
 """
 from __future__ import annotations
 
@@ -58,11 +59,10 @@ def members(info: str) -> Dict[str, bytes]:
         link(Path(room) / SHARED)
         found[f"aspdrupe/{SHARED}"] = (Path(room) / SHARED).read_bytes()
     about = "Checks inconsistency proofs of ground logic programs; the work is done by proved code"
-    found[f"{info}/METADATA"] = (
-        f"Metadata-Version: 2.1\nName: aspdrupe\nVersion: {version()}\nSummary: {about}\nRequires-Python: >=3.9\n".encode()
-    )
-    found[f"{info}/WHEEL"] = f"Wheel-Version: 1.0\nGenerator: backend.py\nRoot-Is-Purelib: false\nTag: {TAG}\n".encode()
-    return found
+    named = f"Metadata-Version: 2.1\nName: aspdrupe\nVersion: {version()}\n"
+    found[f"{info}/METADATA"] = f"{named}Summary: {about}\nRequires-Python: >=3.9\n".encode()
+    kind = f"Wheel-Version: 1.0\nGenerator: backend.py\nRoot-Is-Purelib: false\nTag: {TAG}\n"
+    return {**found, f"{info}/WHEEL": kind.encode()}
 
 
 def record(found: Mapping[str, bytes], path: str) -> bytes:
@@ -96,7 +96,7 @@ def get_requires_for_build_wheel(config_settings: Optional[object] = None) -> Li
 
 def build_sdist(sdist_directory: str, config_settings: Optional[object] = None) -> str:
     """There is none: the library is built in the repository."""
-    stop("there is no source distribution; install from the repository, where `rt staticlib exports` builds the library")
+    stop("there is no source distribution; install from the repository")
 
 
 if __name__ == "__main__":

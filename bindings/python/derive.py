@@ -1,6 +1,7 @@
-"""Writes aspdrupe/_derived.py: the constants and declarations of bindings/c/aspdrupe.h, and the questions of bindings/rust/src/questions.rs.
+"""Writes aspdrupe/_derived.py.
 
-Run it where one of these changes: `python3 bindings/python/derive.py`. A test holds the file to what is written here.
+It has the constants and declarations of bindings/c/aspdrupe.h, and the questions of bindings/rust/src/questions.rs. Run
+it where one of these changes: `python3 bindings/python/derive.py`. A test holds the file to what is written here.
 """
 from __future__ import annotations
 

@@ -9,8 +9,8 @@ from typing import Optional, Sequence, Tuple
 class Table:
     """The rules of a program in words, as the program reader leaves them.
 
-    The words of a rule are the head kind, the head count, the body kind and the body count, with body kind 1 the bound, then the
-    heads ascending, and the literals ascending by atom, with body kind 1 each with its weight behind it.
+    The words of a rule are the head kind, the head count, the body kind and the body count, with body kind 1 the bound,
+    then the heads ascending, and the literals ascending by atom, with body kind 1 each with its weight behind it.
     """
 
     rules: int
@@ -66,8 +66,8 @@ class Verdict:
     rules: int
     steps: int
     nogoods: int
-    #: The store: nogoods, oldest first, with 0 after them. The words of one are the step that added it, negative where it was
-    #: deleted, the literal count, and the literals ascending by variable.
+    #: The store: nogoods, oldest first, with 0 after them. The words of one are the step that added it, negative where
+    #: it was deleted, the literal count, and the literals ascending by variable.
     store: Sequence[int] = field(repr=False, compare=False)
 
     def __bool__(self) -> bool:

@@ -1,4 +1,4 @@
-"""The shared object: its functions by name, the buffers that they are lent, and the threads with the stack that they need."""
+"""The shared object: its functions by name, the buffers that they are lent, and threads with the stack they need."""
 from __future__ import annotations
 
 import ctypes
@@ -15,7 +15,12 @@ Buffer = Union[bytes, "ctypes.Array[Any]"]
 Text = Union[str, bytes, bytearray, memoryview]
 
 Number = Union[
-    Type[ctypes.c_uint8], Type[ctypes.c_int16], Type[ctypes.c_uint16], Type[ctypes.c_int32], Type[ctypes.c_uint32], Type[ctypes.c_uint64]
+    Type[ctypes.c_uint8],
+    Type[ctypes.c_int16],
+    Type[ctypes.c_uint16],
+    Type[ctypes.c_int32],
+    Type[ctypes.c_uint32],
+    Type[ctypes.c_uint64],
 ]
 NUMBERS: Dict[str, Number] = {
     "uint8_t": ctypes.c_uint8,
@@ -82,7 +87,7 @@ def room(kind: Number, length: int, *values: int) -> ctypes.Array[Any]:
     return (kind * length)(*values)
 
 
-# Python's own frames, and what a thread has on Linux where nothing is said: a thread that others start meanwhile has no less.
+# Python's own frames, and what a thread of Linux has by default: one that others start meanwhile has no less.
 _MARGIN = 8 << 20
 
 _starting = threading.Lock()
@@ -110,9 +115,10 @@ def _in_thread(stack: int, call: Callable[[], int]) -> int:
 
 
 def call(name: str, *given: Union[int, Buffer], stack: int = 0) -> Tuple[int, List[int]]:
-    """What a function returns, and the numbers of its answer. Where a stack is named, it is called in a thread of its own.
+    """What a function returns, and the numbers of its answer.
 
-    Each buffer goes over with its length. ctypes lets the interpreter's lock go during the call.
+    Each buffer goes over with its length. Where a stack is named, the function is called in a thread of its own. ctypes
+    lets the interpreter's lock go during the call.
     """
     answer = room(ctypes.c_uint64, ANSWER)
     arguments: List[Any] = []

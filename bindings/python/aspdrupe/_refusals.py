@@ -26,7 +26,8 @@ class Refusal(Exception):
         super().__init__(question, place)
         #: The question. Its string is its text.
         self.question = question
-        #: Of a program the line and of a proof the step, counted from 1, and 0 where the whole text is at fault; None where none is told.
+        #: Of a program the line and of a proof the step, counted from 1, and 0 where the whole text is at fault; None
+        #: where none is told.
         self.place = place
 
     @property

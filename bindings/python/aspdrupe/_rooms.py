@@ -13,8 +13,8 @@ TEXT = 65_535
 #: The words of the store that `verdict` has. The check of two texts is slower past them.
 STORE = 16_384
 
-#: More than the live nogoods of a text of 65,535 bytes can take, `l` lines aside: a line of n numbers has 2 * n + 4 bytes or
-#: more, and adds 5 * n + 2 words or fewer.
+#: More than the live nogoods of a text of 65,535 bytes can take, `l` lines aside: a line of n numbers has 2 * n + 4
+#: bytes or more, and adds 5 * n + 2 words or fewer.
 MERGED = 163_840
 
 _PROOF = (1 << 31) - 1
@@ -42,8 +42,8 @@ def store_for(proof: Text) -> int:
 def reckoned(proof: bytes, external: int) -> int:
     """The same with no more than so many external bodies for each `l` line.
 
-    They are reckoned from letters and spaces, up to a line that begins with no letter of a step or has too many numbers, where
-    the check ends at the latest.
+    They are reckoned from letters and spaces, up to a line that begins with no letter of a step or has too many
+    numbers, where the check ends at the latest.
     """
     bodies = words = at = 0
     if len(proof) > _PROOF:
@@ -76,7 +76,7 @@ _SHORT = (34, 57, 59, 60, 63)
 
 
 def grown(store: Optional[int], first: int, most: Callable[[], int], said: Callable[[int], _Said]) -> _Said:
-    """What a call says with a store of so many words; where none are told, with one that is doubled while it may be too short."""
+    """What a call says with a store of so many words; where none are told, it is doubled while it may be too short."""
     words = first if store is None else store
     while True:
         try:

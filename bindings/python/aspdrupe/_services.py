@@ -28,7 +28,7 @@ _LETTERS = {ord(letter): letter for letter in "abcdels"}
 
 
 def _asked(kind: Type[Refusal], name: str, *given: Union[int, Buffer], stack: int = 0) -> List[int]:
-    """The numbers of an answer, where the code is 0. Any other is the number of a question, put to the program or by the service."""
+    """The numbers of an answer, where the code is 0. Any other is a question's: of the program or the service."""
     code, answer = call(name, *given, stack=stack)
     if code == 0:
         return answer
@@ -103,11 +103,20 @@ def _verdict(name: str, program: bytes, proof: bytes, table: Optional[int], stor
 def check(program: Text, proof: Text, *, table: Optional[int] = None, store: Optional[int] = None) -> Verdict:
     """Checks a proof text of up to 65,535 bytes against a program text."""
     rules, steps = octets(program), octets(proof)
-    return grown(store, STORE, lambda: store_for(steps), lambda words: _verdict("check_texts", rules, steps, table, words))
+
+    def said(words: int) -> Verdict:
+        return _verdict("check_texts", rules, steps, table, words)
+
+    return grown(store, STORE, lambda: store_for(steps), said)
 
 
 def check_long(
-    program: Text, proof: Text, *, table: Optional[int] = None, store: Optional[int] = None, memory: Optional[int] = None
+    program: Text,
+    proof: Text,
+    *,
+    table: Optional[int] = None,
+    store: Optional[int] = None,
+    memory: Optional[int] = None,
 ) -> Verdict:
     """Checks a proof text of up to 2,147,483,647 bytes. The memory decides how long it takes, and nothing else."""
     rules, steps = octets(program), octets(proof)
@@ -164,7 +173,7 @@ def merge_halves(
     store: Optional[int] = None,
     output: int = TEXT,
 ) -> bytes:
-    """Merges the proofs of two halves, the first with the atom demanded and the second with it forbidden, into one of the program."""
+    """Merges the proofs of two halves into one of the program: the first demands the atom, the second forbids it."""
     rules, halves = octets(program), (octets(first), octets(second))
 
     def said(words: int) -> bytes:
@@ -187,7 +196,8 @@ def merge_tree(
 ) -> bytes:
     """Merges the proofs at the ends of a tree of splits into one of the program.
 
-    The tree is numbers: 0 for an end; for a split its atom, then the side that demands the atom, then the side that forbids it.
+    The tree is numbers: 0 for an end; for a split its atom, then the side that demands the atom, then the side that
+    forbids it.
     """
     rules, proofs, shape = octets(program), [octets(end) for end in ends], numbers(c_uint16, tree)
     lengths = numbers(c_uint64, map(len, proofs))
@@ -203,7 +213,7 @@ def merge_tree(
 
 
 def trim(program: Text, proof: Text, *, table: Optional[int] = None, store: Optional[int] = None) -> bytes:
-    """Leaves of a proof only what it needs. A pass is a whole check for each step, and there can be as many passes as steps."""
+    """Leaves of a proof only what it needs. That takes a whole check for each step, more than once."""
     rules, steps = octets(program), octets(proof)
 
     def said(words: int) -> bytes:
@@ -224,17 +234,17 @@ def check_cheapest(
     table: Optional[int] = None,
     store: Optional[int] = None,
 ) -> int:
-    """What a cheapest answer set costs: certifies that the set is one. The costs are literals, each with or before its cost.
+    """Certifies that a set is a cheapest answer set, and says its cost. The costs are literals, each with its cost.
 
-    The proof is for the program with a constraint more, its last rule: the literals with their costs, and as bound what the set
-    costs. Where that is 0, none is read.
+    The proof is for the program with a constraint more, its last rule: the literals with their costs, and as bound what
+    the set costs. Where that is 0, none is read.
     """
     rules, steps, chosen = octets(program), octets(proof), numbers(c_uint16, atoms)
     pairs = [number for pair in costs.items() for number in pair] if isinstance(costs, Mapping) else costs
     listed = numbers(c_int16, pairs)
 
     def said(words: int) -> int:
-        lent = (_table(rules, table), room(c_int32, words))
-        return _asked(CheapestRefusal, "check_cheapest", rules, chosen, listed, steps, *lent, stack=derived.CHEAPEST_STACK)[0]
+        given = (rules, chosen, listed, steps, _table(rules, table), room(c_int32, words))
+        return _asked(CheapestRefusal, "check_cheapest", *given, stack=derived.CHEAPEST_STACK)[0]
 
     return grown(store, STORE, lambda: store_for(steps), said)

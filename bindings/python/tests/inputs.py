@@ -31,7 +31,7 @@ def chain() -> str:
 
 
 def wide() -> Tuple[str, str]:
-    """Rules with as many heads and literals as there may be, of which 65 atoms are a loop, and steps with as many numbers."""
+    """Rules with as many heads and literals as there may be, 65 atoms a loop, and steps with as many numbers."""
     heads, body = span(1, PART), span(PART + 1, 2 * PART)
     rules = f"{HEAD}1 1 64{heads} 0 64{body}\n1 0 1 65 0 64{heads}\n1 0 1 1 0 0\n0\n"
     steps = f"b 130{body} 0\nb 131 0\nc 131 1 0\ns 1 130 131 0\ne 132{heads} 0\nl{span(1, PART + 1)} 0\n"
@@ -62,8 +62,9 @@ WEIGHT_RULE = f"1 0 1 13 1 {WEIGHTED - 1} {WEIGHTED}" + "".join(f" {-atom} 1" fo
 
 def bodies(names: int) -> str:
     """The bodies of a rule with weights, named from behind this number, and that of the loop."""
-    listed = [" ".join(str(-atom) for atom in range(1, WEIGHTED + 1) if atom != left) for left in range(1, WEIGHTED + 1)]
-    return "".join(f"b {names + place} {body} 0\n" for place, body in enumerate(listed, 1)) + f"b {names + 13} 13 0\n"
+    atoms = range(1, WEIGHTED + 1)
+    listed = [" ".join(str(-atom) for atom in atoms if atom != left) for left in atoms]
+    return "".join(f"b {names + left} {body} 0\n" for left, body in zip(atoms, listed)) + f"b {names + 13} 13 0\n"
 
 
 def weights() -> Tuple[str, str, str]:
@@ -119,7 +120,8 @@ FULL_COSTS = [number for atom in range(1, 9) for number in (-atom, 1)]
 
 def certificates() -> Tuple[str, str]:
     """Proofs that no answer set is cheaper: with weights that fill the table, and with a text that is nearly full."""
-    dear = weights()[1] + "".join(f"s {atom} 0\n" for atom in range(1, WEIGHTED + 1)) + "b 27 -7 -8 -9 -10 -11 13 0\nc 27 0\na 0\n"
+    unsupported = "".join(f"s {atom} 0\n" for atom in range(1, WEIGHTED + 1))
+    dear = f"{weights()[1]}{unsupported}b 27 -7 -8 -9 -10 -11 13 0\nc 27 0\na 0\n"
     loops = "".join(f"l {first}{span(2, first - 1)}{span(first + 1, 8)} 0\n" for first in range(2, 9))
     front = f"b 9 2 3 4 5 6 0\nb 10 4 5 6 7 8 0\n{loops}s 1 0\nb 11 -1 -2 -3 -4 -5 -6 -7 -8 0\nc 11 0\na 0\n"
     return dear, filled(front, "s 2 9 10 0\nd 2 -9 -10 0\nl 8 0\nd 8 -9 0\n", TEXT - 80)

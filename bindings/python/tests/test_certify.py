@@ -30,7 +30,8 @@ class Certify(unittest.TestCase):
         """What the lines come to for a plan."""
         _, lines = re.findall(r"```python\n(.*?)```", (ROOT / "bindings" / "README.md").read_text(), re.DOTALL)
         self.assertLessEqual(len(lines.splitlines()), 30)
-        told = f"try: print('said', certified({str(plan)!r}))\nexcept Exception as why: print('said', str(why).strip().splitlines()[-1])\n"
+        told = f"try: print('said', certified({str(plan)!r}))\n"
+        told += "except Exception as why: print('said', str(why).strip().splitlines()[-1])\n"
         path = f"{ROOT}/target/cargo/debug:{os.environ['PATH']}"
         with tempfile.TemporaryDirectory() as room:
             (Path(room) / "script.lp").write_text(f"#script (python)\n{lines}\n{told}#end.\n")
@@ -52,7 +53,8 @@ class Certify(unittest.TestCase):
     def test_what_is_not_checked(self) -> None:
         if missing():
             self.skipTest(missing())
-        for plan, said in [("{a}. #external e. :- e, a.", "ValueError: externals, "), ("a; b.", "refused program 7 2: ")]:
+        external = "{a}. #external e. :- e, a."
+        for plan, said in [(external, "ValueError: externals, "), ("a; b.", "refused program 7 2: ")]:
             with tempfile.TemporaryDirectory() as room:
                 (Path(room) / "plan.lp").write_text(plan)
                 self.assertIn(said, self.said(Path(room) / "plan.lp"))

@@ -39,7 +39,8 @@ class Readers(Cases):
         # Against their order: the least model takes as many rounds as there are rules.
         chain = [word for atom in range(RULES, 1, -1) for word in (0, 1, 0, 1, atom, atom - 1)] + [0, 1, 0, 0, 1]
         whole = range(1, RULES + 1)
-        self.assertEqual(aspdrupe.test_set(aspdrupe.Table(RULES, chain), whole), aspdrupe.SetAnswer(None, None, tuple(whole)))
+        said = aspdrupe.test_set(aspdrupe.Table(RULES, chain), whole)
+        self.assertEqual(said, aspdrupe.SetAnswer(None, None, tuple(whole)))
         self.assertTrue(aspdrupe.test_set(inputs.weights()[0], [13]))
 
     def test_lines(self) -> None:
@@ -122,7 +123,8 @@ class Merges(Cases):
         self.refused("merge 57", lambda: aspdrupe.merge_halves(*weights[:3], full.second))
         self.refused("merge 58", lambda: aspdrupe.merge_halves(*weights, output=860))
         self.refused("merge 59", lambda: aspdrupe.merge_halves(*weights, store=878))
-        self.refused("program 55 2", lambda: aspdrupe.merge_halves(inputs.weights()[2], 1, inputs.chain(), inputs.chain()))
+        many, chain = inputs.weights()[2], inputs.chain()
+        self.refused("program 55 2", lambda: aspdrupe.merge_halves(many, 1, chain, chain))
 
     def test_trees(self) -> None:
         weights, full, proof = inputs.weight_split().program, inputs.full_split().program, inputs.weight_half(13)
@@ -155,7 +157,7 @@ class Others(Cases):
         self.assertEqual(aspdrupe.trim(full, one), inputs.SMALL_END.encode())
         self.refused("trim 60", lambda: aspdrupe.trim(weights, proof + "d 0\n"))
         self.refused("trim 60", lambda: aspdrupe.trim(full, one, store=35))
-        self.refused("trim 60", lambda: aspdrupe.trim(inputs.ONE_RULE, inputs.LONG_LINE + "\0" * (TEXT + 1 - len(inputs.LONG_LINE))))
+        self.refused("trim 60", lambda: aspdrupe.trim(inputs.ONE_RULE, inputs.LONG_LINE.ljust(TEXT + 1, "\0")))
         self.refused("program 55 2", lambda: aspdrupe.trim(inputs.weights()[2], inputs.chain()))
 
     def test_cheapest(self) -> None:

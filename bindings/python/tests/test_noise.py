@@ -63,15 +63,17 @@ class Noise(unittest.TestCase):
             aspdrupe.check(PROGRAM, PROOF + noise)
 
     def test_noise_of_lines(self) -> None:
-        """Lines of the right letters and numbers, of which few are good steps: an answer or a refusal, from both checks the same."""
+        """Lines of the right letters and numbers, of which few are good steps: both checks say the same."""
         chance = random.Random(3)
+
+        def line() -> str:
+            numbers = [str(chance.randint(-3, 4)) for _ in range(chance.randint(0, 3))]
+            return " ".join([chance.choice("abcdels"), *numbers, "0"])
+
         for _ in range(500):
-            lines = [
-                " ".join([chance.choice("abcdels"), *(str(chance.randint(-3, 4)) for _ in range(chance.randint(0, 3))), "0"])
-                for _ in range(chance.randint(1, 8))
-            ]
-            proof = "\n".join(["b 2 -1 0", *lines, ""])
-            self.assertEqual(*(self.said(lambda: check(PROGRAM, proof)) for check in (aspdrupe.check, aspdrupe.check_long)))
+            proof = "\n".join(["b 2 -1 0", *(line() for _ in range(chance.randint(1, 8))), ""])
+            short, long = (self.said(lambda: check(PROGRAM, proof)) for check in (aspdrupe.check, aspdrupe.check_long))
+            self.assertEqual(short, long)
 
     def said(self, call: Callable[[], object]) -> str:
         try:

@@ -42,6 +42,12 @@ class Derived(unittest.TestCase):
         for name in _derived.FUNCTIONS:
             self.assertTrue(callable(getattr(aspdrupe, named.get(name, name), None)), f"there is no service {name}")
 
+    def test_a_refusal_for_each_kind_of_question(self) -> None:
+        kinds = {kind.questions for kind in aspdrupe.Refusal.__subclasses__()}
+        self.assertEqual(kinds, set(aspdrupe.Question.__subclasses__()))
+        for kind in [*kinds, *aspdrupe.Refusal.__subclasses__()]:
+            self.assertIs(getattr(aspdrupe, kind.__name__), kind)
+
     def test_other_forms_are_told(self) -> None:
         derive = module("derive")
         for wrong in ("const uint8_t *text, int32_t n, size_t text_len", "const uint8_t *text, size_t other_len"):
@@ -83,8 +89,8 @@ class Build(unittest.TestCase):
         if importlib.util.find_spec("pip") is None:
             self.skipTest("pip")
         with tempfile.TemporaryDirectory() as room:
-            install = ["-m", "pip", "--isolated", "--disable-pip-version-check", "install", "--quiet", "--no-index"]
-            self.run_in(room, *install, "--target", f"{room}/site", str(HERE))
+            pip = ["-m", "pip", "--isolated", "--disable-pip-version-check", "--no-cache-dir", "install", "--quiet"]
+            self.run_in(room, *pip, "--no-index", "--target", f"{room}/site", str(HERE))
             lines = "import aspdrupe; print(aspdrupe.__file__, aspdrupe.check('asp 1 0 0\\n0\\n', ''))"
             said = self.run_in(room, "-c", lines, PYTHONPATH=f"{room}/site")
             self.assertEqual(said.split(), [f"{room}/site/aspdrupe/__init__.py", "open", "0", "0", "0", "0"])

@@ -110,7 +110,8 @@ class Refusals(Services):
             lambda text: aspdrupe.check_cheapest(text, [1], {1: 1}, PROOF),
         ]
         for call in calls:
-            found = self.refused(aspdrupe.ProgramRefusal, 4, 3, lambda: call("asp 1 0 0\n1 0 1 1 0 0\n1 0 1 8192 0 0\n0\n"))
+            wide = "asp 1 0 0\n1 0 1 1 0 0\n1 0 1 8192 0 0\n0\n"
+            found = self.refused(aspdrupe.ProgramRefusal, 4, 3, lambda: call(wide))
             self.assertIs(found.question, aspdrupe.ProgramQuestion.RANGE)
             self.assertEqual(found.mend, "fewer atoms; number them anew; divide weights and bound")
 
@@ -137,13 +138,14 @@ class Refusals(Services):
         self.refused(aspdrupe.ProofRefusal, 32, 1, lambda: aspdrupe.check(loop, "l 1 0\n"))
 
     def test_lines(self) -> None:
-        for number, text, at in [(22, PROOF, 1), (22, PROOF, 99), (22, PROOF, HUGE), (22, PROOF, -1), (24, b"s -1 0\n", 0)]:
-            self.refused(aspdrupe.ProofRefusal, number, None, lambda: aspdrupe.read_line(text, at))
+        for at in (1, 99, HUGE, -1):
+            self.refused(aspdrupe.ProofRefusal, 22, None, lambda: aspdrupe.read_line(PROOF, at))
+        self.refused(aspdrupe.ProofRefusal, 24, None, lambda: aspdrupe.read_line("s -1 0\n"))
         self.refused(aspdrupe.ProofRefusal, 21, None, lambda: aspdrupe.read_line(PROOF * 2_000))
 
     def test_sets(self) -> None:
-        for table in (Table(2, RULES), Table(-1, RULES), Table(HUGE, RULES), Table(-1, []), Table(1, [0, 1, 0, 0, HUGE])):
-            self.refused(aspdrupe.SetRefusal, 41, None, lambda: aspdrupe.test_set(table, []))
+        for rules, words in [(2, RULES), (-1, RULES), (HUGE, RULES), (-1, []), (1, [0, 1, 0, 0, HUGE])]:
+            self.refused(aspdrupe.SetRefusal, 41, None, lambda: aspdrupe.test_set(Table(rules, words), []))
         for atoms in ([0], [2], [-1], [1, 1], [65_537], [HUGE + 1], [-HUGE]):
             self.refused(aspdrupe.SetRefusal, 42, None, lambda: aspdrupe.test_set(PROGRAM, atoms))
 
@@ -177,8 +179,17 @@ class Refusals(Services):
         self.refused(kind, 59, None, lambda: merge(PROGRAM, 1, DEMANDED, FORBIDDEN, store=39))
 
     def test_trees(self) -> None:
-        for tree, ends in [([], 0), ([0], 2), ([0, 0], 1), ([1, 0, 0], 1), ([2, 0, 0], 2), ([65_537, 0, 0], 2), ([1, 0, 1, 0, 0], 3)]:
-            self.refused(aspdrupe.MergeRefusal, 64, None, lambda: aspdrupe.merge_tree(PROGRAM, tree, [PROOF] * ends))
+        for tree, count in [
+            ([], 0),
+            ([0], 2),
+            ([0, 0], 1),
+            ([1, 0, 0], 1),
+            ([2, 0, 0], 2),
+            ([65_537, 0, 0], 2),
+            ([-1, 0, 0], 2),
+            ([1, 0, 1, 0, 0], 3),
+        ]:
+            self.refused(aspdrupe.MergeRefusal, 64, None, lambda: aspdrupe.merge_tree(PROGRAM, tree, [PROOF] * count))
         self.refused(aspdrupe.MergeRefusal, 57, None, lambda: aspdrupe.merge_tree(PROGRAM, [0], [b""]))
         self.refused(aspdrupe.MergeRefusal, 58, None, lambda: aspdrupe.merge_tree(PROGRAM, [0], [PROOF], output=34))
         ends = [DEMANDED, FORBIDDEN]
@@ -251,7 +262,8 @@ class Rooms(Services):
     def test_stores_grow(self) -> None:
         """A program and a proof that need more words than the store has at first, for each service with a store."""
         names = "".join(f"e {name}{inputs.span(name - 20, name - 1)} 0\n" for name in range(22, 400))
-        proof = "".join(f"e {name} 0\n" for name in range(2, 22)) + names + "b 999 -1 0\nc 999 1 0\ns 1 999 0\na 1 0\na 0\n"
+        proof = "".join(f"e {name} 0\n" for name in range(2, 22)) + names
+        proof += "b 999 -1 0\nc 999 1 0\ns 1 999 0\na 1 0\na 0\n"
         self.assertGreater(aspdrupe.store_for(proof), 2 * 16_384)
         # 20 lines of 3 words, and 158 of 103: the next does not fit.
         self.refused(aspdrupe.ProofRefusal, 34, 179, lambda: aspdrupe.check(PROGRAM, proof, store=16_384))
