@@ -17,7 +17,7 @@ others need 64 KB where they are called. No call holds the interpreter's lock wh
 """
 from __future__ import annotations
 
-from ._answers import Line, Packet, Program, SetAnswer, Table, Verdict
+from ._answers import Line, Packet, Program, SetAnswer, Splitting, Table, Verdict
 from ._derived import (
     CheapestQuestion,
     MergeQuestion,
@@ -25,6 +25,7 @@ from ._derived import (
     ProgramQuestion,
     ProofQuestion,
     SetQuestion,
+    SplitQuestion,
     TrimQuestion,
 )
 from ._library import Text
@@ -37,6 +38,7 @@ from ._refusals import (
     ProofRefusal,
     Refusal,
     SetRefusal,
+    SplitRefusal,
     TrimRefusal,
     UnknownAnswer,
 )
@@ -52,6 +54,7 @@ from ._services import (
     read_line,
     read_packet,
     read_program,
+    split_sums,
     test_set,
     trim,
     write_packet,
@@ -76,6 +79,9 @@ __all__ = [
     "SetAnswer",
     "SetQuestion",
     "SetRefusal",
+    "SplitQuestion",
+    "SplitRefusal",
+    "Splitting",
     "Table",
     "Text",
     "TrimQuestion",
@@ -93,6 +99,7 @@ __all__ = [
     "read_line",
     "read_packet",
     "read_program",
+    "split_sums",
     "store_for",
     "test_set",
     "trim",

@@ -84,3 +84,16 @@ class Packet:
 
     table: Table
     proof: bytes
+
+
+@dataclass(frozen=True)
+class Splitting:
+    """A program whose long sums were split."""
+
+    #: The program text that was written.
+    text: bytes
+    #: Its largest atom, and how many rules it has.
+    atoms: int
+    rules: int
+    #: N, the largest atom of the program as written; those above it are new.
+    old_atoms: int

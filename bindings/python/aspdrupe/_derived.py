@@ -117,6 +117,13 @@ FUNCTIONS: Dict[str, Tuple[str, ...]] = {
         "uint8_t *output",
         "uint64_t *answer",
     ),
+    "split_sums": (
+        "const uint8_t *program",
+        "uint64_t group",
+        "int32_t *table",
+        "uint8_t *output",
+        "uint64_t *answer",
+    ),
 }
 
 
@@ -367,4 +374,19 @@ class CheapestQuestion(Question):
         63,
         "Is the set an answer set, and where it costs more than 0 the proof inconsistent for the program restricted to lower costs?",
         "the set, by the set test; the proof, by a check of its own with the restriction as the last rule; a cheaper set; a longer store",
+    )
+
+
+class SplitQuestion(Question):
+    """A question put by the splitting of long sums, after those put to the program. A refusal names the first that is answered no."""
+
+    GROUP = (
+        65,
+        "Is the group size from 2 to 12?",
+        "the call",
+    )
+    ROOM = (
+        66,
+        "Has the split program at most 1,024 rules, atoms up to 8,191, and a text within 65,535 bytes and the output?",
+        "another group size, or a longer output; a smaller program; weights with fewer different sums",
     )

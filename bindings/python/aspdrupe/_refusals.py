@@ -10,6 +10,7 @@ from ._derived import (
     ProgramQuestion,
     ProofQuestion,
     SetQuestion,
+    SplitQuestion,
     TrimQuestion,
 )
 from ._question import Question
@@ -92,6 +93,13 @@ class CheapestRefusal(Refusal):
 
     of = "cheapest"
     questions = CheapestQuestion
+
+
+class SplitRefusal(Refusal):
+    """The long sums of a program are not split."""
+
+    of = "splitting"
+    questions = SplitQuestion
 
 
 class UnknownAnswer(Exception):

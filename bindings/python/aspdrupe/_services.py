@@ -6,7 +6,7 @@ from ctypes import Array, c_int16, c_int32, c_uint8, c_uint16, c_uint32, c_uint6
 from typing import Any, Iterable, List, Mapping, Optional, Sequence, Tuple, Type, Union
 
 from . import _derived as derived
-from ._answers import Line, Packet, Program, SetAnswer, Table, Verdict
+from ._answers import Line, Packet, Program, SetAnswer, Splitting, Table, Verdict
 from ._library import Buffer, Text, call, numbers, octets, room
 from ._refusals import (
     CheapestRefusal,
@@ -16,6 +16,7 @@ from ._refusals import (
     ProofRefusal,
     Refusal,
     SetRefusal,
+    SplitRefusal,
     TrimRefusal,
     UnknownAnswer,
     refusal,
@@ -248,3 +249,14 @@ def check_cheapest(
         return _asked(CheapestRefusal, "check_cheapest", *given, stack=derived.CHEAPEST_STACK)[0]
 
     return grown(store, STORE, lambda: store_for(steps), said)
+
+
+def split_sums(program: Text, group: int, *, table: Optional[int] = None, output: int = TEXT) -> Splitting:
+    """Writes a program with its sums of 13 to 64 literals split, in groups of 2 to 12 literals, over new atoms.
+
+    Up to N the answer sets stay, so an 'inconsistent' of what is written is one of the program.
+    """
+    given, written = octets(program), room(c_uint8, output)
+    lent = (_table(given, table), written)
+    size, atoms, rules, old = _asked(SplitRefusal, "split_sums", given, group, *lent, stack=derived.STACK)
+    return Splitting(bytes(written)[:size], atoms, rules, old)

@@ -55,6 +55,20 @@ class Answers(Services):
         self.assertEqual(weights.words, (0, 0, 1, 3, 5, -2, 2, 3, 4, 4, 3, 0, 1, 0, 0, 9))
         self.assertEqual((weights.rules, weights.atoms), (2, 9))
 
+    def test_long_sums(self) -> None:
+        """Not all of 1 to 13: 14 where all of 1 to 7 hold, 15 where all of 8 to 13 do, 16 where both do."""
+        sum_of = lambda bound, first, last: f"{bound} {last - first + 1}" + "".join(f" {x} 1" for x in range(first, last + 1))
+        long = f"asp 1 0 0\n1 0 0 1 {sum_of(13, 1, 13)}\n0\n"
+        lines = [f"1 0 1 14 1 {sum_of(7, 1, 7)}", f"1 0 1 15 1 {sum_of(6, 8, 13)}", "1 0 1 16 0 2 14 15", "1 0 0 0 1 16"]
+        text = "".join(f"{line}\n" for line in ["asp 1 0 0", *lines, "0"]).encode()
+        self.assertEqual(aspdrupe.split_sums(long, 7), aspdrupe.Splitting(text, 16, 4, 13))
+        self.assertEqual(aspdrupe.split_sums(PROGRAM, 2, table=6, output=27).text, PROGRAM)
+        self.refused(aspdrupe.SplitRefusal, 65, None, lambda: aspdrupe.split_sums(long, 13))
+        self.refused(aspdrupe.SplitRefusal, 65, None, lambda: aspdrupe.split_sums(long, HUGE))
+        self.refused(aspdrupe.SplitRefusal, 66, None, lambda: aspdrupe.split_sums(long, 7, output=len(text) - 1))
+        self.refused(aspdrupe.ProgramRefusal, 10, 2, lambda: aspdrupe.split_sums(long, 7, table=30))
+        self.refused(aspdrupe.ProgramRefusal, 55, 2, lambda: aspdrupe.read_program(long))
+
     def test_sets(self) -> None:
         self.assertEqual(aspdrupe.test_set(PROGRAM, []), aspdrupe.SetAnswer(1, None, (1,)))
         self.assertEqual(aspdrupe.test_set(PROGRAM, [1]), aspdrupe.SetAnswer(1, None, ()))
@@ -291,6 +305,7 @@ class Rooms(Services):
             ("TRIM_STACK", lambda: aspdrupe.trim(PROGRAM, PROOF)),
             ("CHEAPEST_STACK", lambda: aspdrupe.check_cheapest(EITHER, [1], {1: 3, 2: 5}, DEAR)),
             ("TREE_STACK", lambda: aspdrupe.merge_tree(PROGRAM, [0], [PROOF])),
+            ("STACK", lambda: aspdrupe.split_sums(PROGRAM, 2)),
         ]:
             with mock.patch.object(_library, "_in_thread", wraps=_library._in_thread) as threads:
                 call()
