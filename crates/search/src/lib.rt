@@ -468,7 +468,7 @@ fn shorten(cells: &mut [u32], c: usize, head: usize)
 }
 
 // The watch at a place goes out of the row of c, whose last one takes that place.
-fn drop(cells: &mut [u32], c: usize, at: usize)
+fn remove(cells: &mut [u32], c: usize, at: usize)
     requires { ⌜ (c ≤ largestCell) × (at ≤ 2000000000200) ⌝ }
 {
     let head = get(cells, HEAD + c);
@@ -539,12 +539,12 @@ fn treat(store: &[i32], cells: &mut [u32], c: usize, at: usize, n: usize, mark: 
             Visited::Queued(n)
         }
         Turn::Moves(to, own) => {
-            drop(cells, c, at);
+            remove(cells, c, at);
             move_to(cells, to, node, own, other);
             Visited::Queued(n)
         }
         Turn::Goes => {
-            drop(cells, c, at);
+            remove(cells, c, at);
             Visited::Queued(n)
         }
         Turn::Gives(_) => {
@@ -1076,20 +1076,20 @@ fn fit(store: &[i32], cells: &mut [u32]) {
     }
 }
 
-// The watches of a new nogood at x are on the literals c and d, which are its p-th and q-th.
-fn watch(cells: &mut [u32], x: usize, c: usize, p: usize, d: usize, q: usize)
-    requires { ⌜ (x ≤ largestCell) × (c ≤ 16383) × (d ≤ 16383) × (p ≤ 16383) × (q ≤ 16383) ⌝ }
+// The watches of a new nogood at x are on the literals c and d, near its front.
+fn watch(cells: &mut [u32], x: usize, c: usize, d: usize)
+    requires { ⌜ (x ≤ largestCell) × (c ≤ largestCell) × (d ≤ largestCell) ⌝ }
 {
     if !has_rows(cells) {
-        link(cells, x, 0, c, p * CODES + c);
-        link(cells, x, 1, d, q * CODES + d);
+        link(cells, x, 0, c, c);
+        link(cells, x, 1, d, d);
         return;
     }
     put(cells, LAST, x + 1);
     set_watched(cells, x, 0, c, d);
-    add(cells, d, 2 * x + 2, q * CODES + opposite(c));
+    add(cells, d, 2 * x + 2, opposite(c));
     if d != 0 {
-        add(cells, c, 2 * x + 1, p * CODES + opposite(d));
+        add(cells, c, 2 * x + 1, opposite(d));
     }
 }
 
@@ -1122,7 +1122,7 @@ fn enter_new(store: &[i32], x: usize, cells: &mut [u32])
     };
     let c = code_at(store, one, end);
     let d = code_at(store, two, end);
-    watch(cells, x, c, position(from, one), d, position(from, two));
+    watch(cells, x, c, d);
     if end <= b {
         settle(cells, x, a < end, c);
     }
@@ -1180,7 +1180,7 @@ fn release_one(cells: &mut [u32], c: usize, at: usize)
         return;
     }
     let beside = get(cells, at);
-    drop(cells, c, at);
+    remove(cells, c, at);
     add(cells, own, node, beside);
 }
 
