@@ -5,8 +5,8 @@ use Rattle.search.specs.Search.{largestCell, SmallTurn}
 use borrow.Author.Needs.{needs}
 use lib.ListN.{length}
 use Rattle.words.specs.Limits.{entries}
-use Rattle.search.proofs.visit.Statement.{statement}
-use Rattle.search.proofs.visit.Tie as tie
+use Rattle.search.proofs.visit_chain.Statement.{statement}
+use Rattle.search.proofs.visit_chain.Tie as tie
 
 abbrev Inv-loop : tie.InvT-loop
 Inv-loop store cells₀ c start mark n₀ last₀ node₀ fuel₀ cells n last node fuel = (n ≤ entries) × (last ≤ largestCell) × (node ≤ largestCell) × (length cells ≡ length cells₀)
@@ -23,17 +23,17 @@ same-length-2 c = search needs
 same-length-3 : tie.Need-same-length-3 Inv-loop μ-loop
 same-length-3 c = search needs
 
-small : (c : tie.After-look Inv-loop μ-loop) (t : Turn) → c .look .result ≡ t → SmallTurn t
-small c t e = rw e at (c .look .ensures)
+small : (c : tie.After-look-in-chain Inv-loop μ-loop) (t : Turn) → c .look-in-chain .result ≡ t → SmallTurn t
+small c t e = rw e at (c .look-in-chain .ensures)
 
-watch-requires : tie.Need-watch-requires Inv-loop μ-loop
-watch-requires c κs = let f = c .before .before .before .before .before .before in let d = small (f .before .before) _ (f .turn .given .1) in search needs
+link-requires : tie.Need-link-requires Inv-loop μ-loop
+link-requires c κs = let f = c .before .before .before .before .before .before in let d = small (f .before .before) _ (f .turn .given .1) in search needs
 
 push-requires : tie.Need-push-requires Inv-loop μ-loop
 push-requires c κs = let f = c .before .before in let d = small (f .before .before) _ (f .turn2 .given .1) in search needs
 
-pub visit-spec : {M : Type 1} → statement M
-visit-spec =
+pub visit-chain-spec : {M : Type 1} → statement M
+visit-chain-spec =
     tie.close
     (tie.spec
     Inv-loop
@@ -56,7 +56,7 @@ visit-spec =
     (λ c. search needs)
     (λ c. search needs)
     (λ c κs. search needs)
-    watch-requires
+    link-requires
     (λ c. search needs)
     (λ c. search needs)
     (λ c. search needs)
