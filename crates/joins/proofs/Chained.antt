@@ -1,4 +1,4 @@
--- Where the chain of a long sum stands: what is written is the node of the groups so far, and what is left are further groups.
+-- Where the chain of a long sum stands: what is written is the node of the groups so far, and further groups are left.
 -- Assumes nothing.
 use mathlib.Core.Path.{_≡_, refl, sym, ap, ap₂, subst, _∙_}
 use mathlib.Core.Bool.{true}
@@ -7,7 +7,7 @@ use Prim.Native.Nat.{ℕ, zero, suc, _+_, _*_, _-_, _/_, _≤_, _<_}
 use native.Mathlib.Nat.{div-add-mod'}
 use native.Mathlib.Omega.{arith}
 use lib.IntN.{ℤ}
-use lib.ListN.{length, take, drop, take-append-drop, length-drop, length-append, drop-of-length-le}
+use lib.ListN.{length, take, drop, take-append-drop, length-drop, drop-of-length-le}
 use lib.Seq.{drop-drop, take-all, take-add}
 use Rattle.words.specs.Limits.{mostRules}
 use Rattle.words.specs.Lists.{concat}
@@ -16,7 +16,7 @@ use Rattle.weights.specs.Weights.{Weighted, paired, mostWeight, mostWeighted}
 use Rattle.aspif.specs.Rules.{InputRule}
 use Rattle.aspif.specs.Reading.{allWeights}
 use Rattle.aspif.proofs.PairWords.{length-paired}
-use Rattle.sums.specs.Plans.{Plan, group, joined, pairsOf, levelsOf, size, numbered, own, Share, share, shares, groupRule, joinRules, nodeRules, root}
+use Rattle.sums.specs.Plans.{Plan, group, joined, pairsOf, levelsOf, size, numbered, own, Share, share, shares, groupRule, joinRules, nodeRules}
 use Rattle.sums.specs.Levels.{SumShape, few, both, pairsIn, levelsFor, levelled, chain, chained, chunks, inGroups}
 use Rattle.sums.proofs.Levels.{chunks-are}
 use Rattle.totalizer.specs.declared.texts.Place.{Place}
@@ -26,7 +26,7 @@ use Rattle.joins.specs.Joining.{sharesOf, nodeJoins}
 use Rattle.joins.specs.declared.chains.Node.{Node}
 use Rattle.joins.specs.declared.chains.Numbered.{Numbered}
 use Rattle.joins.specs.Chaining.{pairsTo, pairsFrom, pairsWithin, groupLevels, prefixLevels, turnRules, after, sumPlan, longPlan, Written}
-use Rattle.joins.proofs.Linked.{few-levels, count-is, pairs-take, pairs-drop}
+use Rattle.joins.proofs.Linked.{few-group, few-prefix, count-is, pairs-take, pairs-drop}
 
 -- The rules of a joined node
 
@@ -221,8 +221,8 @@ module _ {g b : ℕ} {ws : List ℤ} {n : ℕ} {before between : List ℕ} {p : 
         → Chained g b ws n before after′ p node′ left′ to
     chained-on node′ left′ {after′} e lv f w =
         let k = count-is left′ w lv in
-        let few1 = few-levels b (pairsTo from ws ++ pairsFrom to ws) l in
-        let few2 = few-levels b (pairsFrom to ws) (pairsTo to ws) in
+        let few1 = few-group b from to ws in
+        let few2 = few-prefix b to ws in
         let d = from-long ws from weighed in
         let d′ = from-long ws to weighed in
         record {
@@ -286,7 +286,7 @@ module _ {g b : ℕ} {ws : List ℤ} {n : ℕ} {before between : List ℕ} {p : 
         → Emits (turnRules (node .first) (prefixLevels b from ws) (after node) (pairsWithin from end ws) (groupLevels b from end ws) (b ∷ [])) between after′ (node .place) (r .place)
         → r .atom ≡ after node + length (groupLevels b from end ws) + 1 → Written g b ws n before after′ p r
     chained-last short r {after′} e f =
-        let few1 = few-levels b (pairsTo from ws ++ pairsFrom end ws) (pairsWithin from end ws) in
+        let few1 = few-group b from end ws in
         record {
           rules = subst (λ (rs : List InputRule). Emits rs before after′ p (r .place))
               (sym (ap (nodeRules n) last-is ∙ turn-is (pairsWithin from end ws) (groupLevels b from end ws) (b ∷ []))) (emits-on (C .rules) e);
@@ -315,7 +315,7 @@ chained-start {g} {b} {ws} {n} {before} {after′} {p} node left weighed some mo
       first = f;
       levels = lv ∙ ap (levelsFor b (pairsFrom g ws)) t;
       within = w;
-      low = omega (arith, f, count-is left w lv, few-levels b (pairsFrom g ws) (pairsWithin 0 g ws));
+      low = omega (arith, f, count-is left w lv, few-group b 0 g ws);
       there = more;
     }
 

@@ -1,20 +1,19 @@
--- The chain of groups of a long sum. Assumes nothing.
-use mathlib.Core.Path.{_≡_, refl, sym, ap, ap₂, subst, _∙_}
+-- Levels, pairs by their places, and one turn of a chain. Assumes nothing.
+use mathlib.Core.Path.{_≡_, refl, sym, ap, subst, _∙_}
 use mathlib.Core.Bool.{Bool, true, true≢false}
-use mathlib.Core.List.{List, [], _∷_, _++_, map, append-assoc, append-nil, List·Memᴰ·head, List·Memᴰ·tail}
+use mathlib.Core.List.{List, [], _∷_, _++_, map, List·Memᴰ·head, List·Memᴰ·tail}
 use Prim.Native.Nat.{ℕ, zero, suc, _+_, _*_, _-_, _≤_, _<_}
 use native.Mathlib.Omega.{arith}
 use lib.IntN.{ℤ}
 use lib.ListN.{length, take, drop}
 use lib.Seq.{length-take-le}
-use Rattle.words.specs.Lists.{_∈_, concat, filter}
+use Rattle.words.specs.Lists.{_∈_, filter}
 use Rattle.words.specs.Literals.{variable}
 use Rattle.words.proofs.Lists.{by-test, and-left, and-right, and-both, length-keep}
 use Rattle.weights.specs.Weights.{Weighted, paired, mostWeight}
 use Rattle.aspif.specs.Rules.{isWeight}
 use Rattle.aspif.specs.Reading.{allWeights}
-use Rattle.sums.specs.Levels.{Ascending, SumShape, few, both, pairsIn, sumsOf, isUseful, levelsFor, levelled}
-use Rattle.sums.proofs.Attained.{ascending-low}
+use Rattle.sums.specs.Levels.{Ascending, few, sumsOf, isUseful, levelsFor, levelled}
 use Rattle.sums.proofs.Levels.{levels-within}
 use Rattle.sums.specs.Plans.{numbered, groupRule}
 use Rattle.totalizer.specs.Lists.{SumsUpTo}
@@ -24,15 +23,21 @@ use Rattle.totalizer.proofs.Emitted.{emits-on}
 use Rattle.joins.specs.Joining.{nodeJoins}
 use Rattle.totalizer.proofs.Merging.{few-sums}
 use Rattle.totalizer.proofs.Adding.{sums-up-to}
-use Rattle.joins.specs.Chaining.{pairsTo, pairsFrom, turnRules}
+use Rattle.joins.specs.Chaining.{pairsTo, pairsFrom, pairsWithin, groupLevels, prefixLevels, turnRules}
 
 -- Levels
 
-pub few-levels : (b : ℕ) (rest l : List Weighted) → length (levelsFor b rest l) ≤ suc b
+few-levels : (b : ℕ) (rest l : List Weighted) → length (levelsFor b rest l) ≤ suc b
 unfolding levelsFor
 few-levels b rest l =
     let k = length-keep (isUseful b (sumsOf b rest) (sumsOf b l)) (sumsOf b l) in
     omega (arith, k, few-sums (sums-up-to b l))
+
+pub few-group : (b n m : ℕ) (ws : List ℤ) → length (groupLevels b n m ws) ≤ suc b
+few-group b n m ws = few-levels b (pairsTo n ws ++ pairsFrom m ws) (pairsWithin n m ws)
+
+pub few-prefix : (b n : ℕ) (ws : List ℤ) → length (prefixLevels b n ws) ≤ suc b
+few-prefix b n ws = few-levels b (pairsFrom n ws) (pairsTo n ws)
 
 filter-ascends : (f : ℕ → Bool) (low m : ℕ) (us : List ℕ) → m ≤ low → Ascending low us → Ascending m (filter f us)
 filter-ascends f low m [] h a = tt
@@ -46,7 +51,7 @@ positive [] a h = tt
 positive (u ∷ us) a h = (h u (List·Memᴰ·head refl), a .1)
 
 -- with 0 before them levels are like sums
-pub levels-light : {b : ℕ} → b ≤ mostWeight → (rest l : List Weighted) → SumsUpTo mostWeight (0 ∷ levelsFor b rest l)
+levels-light : {b : ℕ} → b ≤ mostWeight → (rest l : List Weighted) → SumsUpTo mostWeight (0 ∷ levelsFor b rest l)
 unfolding levelled levelsFor
 levels-light {b} h rest l =
     let us = sumsOf b l in
@@ -60,6 +65,10 @@ levels-light {b} h rest l =
     low : (u : ℕ) {us : List ℕ} → u ∈ 0 ∷ us → ((v : ℕ) → v ∈ us → (0 < v) × (v ≤ b)) → u ≤ mostWeight
     low u (List·Memᴰ·head e) w = omega arith
     low u (List·Memᴰ·tail i) w = omega (arith, w u i)
+
+-- so are those that are at hand
+pub levels-front : {b : ℕ} → b ≤ mostWeight → (rest l : List Weighted) {us : List ℕ} → us ≡ levelsFor b rest l → SumsUpTo mostWeight (0 ∷ us)
+levels-front h rest l e = subst (λ (us : List ℕ). SumsUpTo mostWeight (0 ∷ us)) (sym e) (levels-light h rest l)
 
 -- Pairs by their places
 

@@ -1,7 +1,7 @@
 -- With a share of the left side one share of the right is just enough, or none. Assumes nothing.
 use mathlib.Core.Path.{_≡_, refl, sym, ap, subst, _∙_}
 use mathlib.Core.Bool.{Bool, true, false, cond}
-use mathlib.Core.List.{List, [], _∷_, map, List·Memᴰ·head, List·Memᴰ·tail}
+use mathlib.Core.List.{List, [], _∷_, map}
 use mathlib.Core.Logic.{_⊎_, inl, inr}
 use Prim.Native.Nat.{ℕ, zero, suc, _+_, _-_, _≤_, _<_}
 use native.Mathlib.Omega.{arith}
@@ -9,8 +9,8 @@ use borrow.Author.Tests.{ltb-true, ltb-false}
 use lib.Dec.{leb, ltb}
 use lib.ListN.{length, getD, List·getD-eq-default}
 use Rattle.words.specs.Lists.{_∈_, filter}
-use Rattle.words.proofs.Lists.{by-test, Decides, failed, if-true, is-true, leb-decides, and-decides, or-decides, not-decides, all-decides}
-use Rattle.words.proofs.Places.{equal?, in-at, place-of}
+use Rattle.words.proofs.Lists.{by-test, Decides, failed, is-true, leb-decides, and-decides, or-decides, not-decides, all-decides}
+use Rattle.words.proofs.Places.{in-at, place-of}
 use Rattle.weights.specs.Weights.{mostWeight}
 use Rattle.weights.proofs.Sublists.{filter-none}
 use Rattle.weights.proofs.Minimal.{ltb-decides}
@@ -19,7 +19,7 @@ use Rattle.sums.specs.Plans.{numbered, Share, share, isJustEnough}
 use Rattle.sums.proofs.Attained.{ascending-low}
 use Rattle.totalizer.specs.Lists.{SumsUpTo, below}
 use Rattle.totalizer.proofs.Below.{found-reaches, found-first, beside, rises}
-use Rattle.joins.specs.Joining.{saidAt, shareAt, sharesOf, onlyShare, Partner}
+use Rattle.joins.specs.Joining.{shareAt, sharesOf, onlyShare, Partner}
 
 -- one element passes at most
 filter-only : {A : Type 0} (d : A) (f : A → Bool) (l : List A) (j : ℕ) → j < length l

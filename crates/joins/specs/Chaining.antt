@@ -1,14 +1,14 @@
--- What the private functions say of a chain of groups: the words of its pairs, and the plan of the whole sum. No reader of the public
--- contract needs it.
+-- What the private functions say of a chain of groups: the words of its pairs, and the plan of the whole sum. No reader
+-- of the public contract needs it.
 -- Assumes nothing.
 use mathlib.Core.Path.{_≡_}
-use mathlib.Core.List.{List, [], _∷_, _++_, map}
+use mathlib.Core.List.{List, [], _++_, map}
 use Prim.Native.Nat.{ℕ, _+_, _*_, _-_, _≤_}
 use lib.IntN.{ℤ}
 use lib.ListN.{length, take, drop}
 use Rattle.weights.specs.Weights.{Weighted, paired}
 use Rattle.aspif.specs.Rules.{InputRule}
-use Rattle.sums.specs.Plans.{Plan, group, joined, size, numbered, groupRule, root, nodeRules}
+use Rattle.sums.specs.Plans.{Plan, group, size, numbered, groupRule, root, nodeRules}
 use Rattle.sums.specs.Levels.{SumShape, few, both, pairsIn, levelsFor, levelled, inGroups}
 use Rattle.totalizer.specs.Emitting.{Emits}
 use Rattle.joins.specs.Joining.{nodeJoins}
@@ -51,7 +51,7 @@ sumPlan b (both s t) = root b (levelled b (pairsIn t ++ []) s) (levelled b (pair
 unfoldable pub longPlan : (g b : ℕ) → List Weighted → Plan
 longPlan g b l = sumPlan b (inGroups (g - 1) l)
 
--- the rules of the sum of these words are written, and its atoms are numbered from n on, where there are not too many rules
+-- the rules of the sum of these words are written, and where there are not too many its atoms are numbered from n on
 pub record Written (g b : ℕ) (ws : List ℤ) (n : ℕ) (before after : List ℕ) (p : Place) (r : Numbered) : Type 0 where
   pub rules : Emits (nodeRules n (longPlan g b (paired ws))) before after p (r .place)
   pub atoms : r .place .rules ≤ mostRules → r .atom ≡ n + size (longPlan g b (paired ws))

@@ -1,4 +1,5 @@
--- What the private functions say of the shares of two sides and the rules they give. No reader of the public contract needs it.
+-- What the private functions say of the shares of two sides and the rules they give. No reader of the public contract
+-- needs it.
 -- Assumes nothing.
 use mathlib.Core.Path.{_≡_}
 use mathlib.Core.Bool.{cond}
@@ -9,7 +10,7 @@ use lib.IntN.{ℤ, pos}
 use lib.ListN.{length, getD}
 use Rattle.words.specs.Lists.{concat, filter}
 use Rattle.aspif.specs.Rules.{plain, InputRule}
-use Rattle.sums.specs.Plans.{Definition, numbered, Share, shares, isJustEnough, define, joinRules}
+use Rattle.sums.specs.Plans.{numbered, Share, shares, isJustEnough, define, joinRules}
 
 -- the literal that says that share i is reached, none for the first: atoms are numbered from n on
 abbrev pub saidAt : (n i : ℕ) → List ℤ

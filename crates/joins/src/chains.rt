@@ -1,5 +1,5 @@
-// The rules of a long sum: group after group, each joined to what stands before it. Once there are more rules than a program may have,
-// nothing further is computed.
+// The rules of a long sum: group after group, each joined to what stands before it. Once there are more rules than a
+// program may have, nothing further is computed.
 ghost use mathlib.Core.Path.{_≡_};
 ghost use mathlib.Core.Bool.{true};
 ghost use mathlib.Core.List.{[], _∷_, _++_, map};
@@ -10,7 +10,7 @@ ghost use Rattle.text.specs.Writing.{farthest};
 ghost use Rattle.weights.specs.Weights.{mostWeight, paired};
 ghost use Rattle.aspif.specs.Reading.{allWeights};
 ghost use Rattle.sums.specs.Plans.{numbered, groupRule, root, size, nodeRules};
-ghost use Rattle.sums.specs.Levels.{SumShape, both, pairsIn, levelsFor, levelled, inGroups};
+ghost use Rattle.sums.specs.Levels.{SumShape, both, pairsIn, levelled, inGroups};
 ghost use Rattle.totalizer.specs.Lists.{SumsUpTo};
 ghost use Rattle.totalizer.specs.Emitting.{Bounded, Emits};
 ghost use Rattle.joins.specs.Joining.{nodeJoins};
@@ -21,8 +21,8 @@ use totalizer::texts;
 use totalizer::texts::Place;
 use words::MOST_RULES;
 
-// Where the next line begins, with how many rules are written, and the atoms of a node: so many from the first on. The next new atom
-// is the one after them.
+// Where the next line begins, with how many rules are written, and the atoms of a node: so many from the first on. The
+// next new atom is the one after them.
 pub struct Node {
     pub place: Place,
     pub first: usize,
@@ -33,42 +33,6 @@ pub struct Node {
 pub struct Numbered {
     pub place: Place,
     pub atom: usize,
-}
-
-// The rules of a group beside the pairs before and behind it, and its levels at the front of `levels`.
-fn emit_side(
-    output: &mut [u8],
-    place: Place,
-    atom: usize,
-    before: &[i32],
-    pairs: &[i32],
-    behind: &[i32],
-    bound: usize,
-    inside: &mut [usize],
-    outside: &mut [usize],
-    spare: &mut [usize],
-    levels: &mut [usize],
-) -> Node
-    requires place { ⌜ Bounded place ⌝ }
-    requires pairs { ⌜ (allWeights (now before) ≡ true) × (allWeights (now pairs) ≡ true) × (allWeights (now behind) ≡ true)
-        × (bound ≤ mostWeight) × (length (now pairs) ≤ 24) ⌝ }
-    requires room { ⌜ (suc bound ≤ length (now inside)) × (suc bound ≤ length (now outside)) × (suc bound ≤ length (now spare))
-        × (suc bound ≤ length (now levels)) ⌝ }
-    requires atoms { ⌜ atom + 4096 ≤ farthest ⌝ }
-    ensures rules { λ r. ⌜ Emits (map groupRule (numbered atom (paired (now (pairs .entry)))
-        (levelsFor bound (paired (now (before .entry)) ++ paired (now (behind .entry))) (paired (now (pairs .entry))))))
-        (now (output .entry)) (now (output .exit)) place (r .place) ⌝ }
-    ensures levels { λ r. ⌜ take (r .count) (now (levels .exit))
-        ≡ levelsFor bound (paired (now (before .entry)) ++ paired (now (behind .entry))) (paired (now (pairs .entry))) ⌝ }
-    ensures within { λ r. ⌜ (r .first ≡ atom) × (r .count ≤ length (now (levels .exit))) ⌝ }
-{
-    let count = levels::levels_of(before, pairs, behind, bound, inside, outside, spare, levels);
-    let end = texts::emit_group(output, place, atom, &levels[..count], pairs);
-    Node {
-        place: end,
-        first: atom,
-        count,
-    }
 }
 
 // The rules of the group of pairs `from` up to `to`, and its levels at the front of `levels`.
@@ -98,10 +62,7 @@ fn emit_part(
 {
     let start = 2 * from;
     let end = 2 * to;
-    emit_side(
-        output,
-        place,
-        atom,
+    let count = levels::levels_of(
         &pairs[..start],
         &pairs[start..end],
         &pairs[end..],
@@ -110,7 +71,13 @@ fn emit_part(
         outside,
         spare,
         levels,
-    )
+    );
+    let place = texts::emit_group(output, place, atom, &levels[..count], &pairs[start..end]);
+    Node {
+        place,
+        first: atom,
+        count,
+    }
 }
 
 // The levels of the pairs before `to`, at the front of `levels`.
@@ -142,8 +109,8 @@ fn prefix_levels(
     )
 }
 
-// The rules of the node that joins a side to a node before it, and the levels of what is joined, the pairs before `to`, at the front of
-// `left` in place of the node's.
+// The rules of the node that joins a side to a node before it, and the levels of what is joined, the pairs before `to`,
+// at the front of `left` in place of the node's.
 fn emit_prefix(
     output: &mut [u8],
     node: Node,
@@ -252,7 +219,7 @@ fn emit_next(
     )
 }
 
-// The rules of the last group, of pairs `from` up to `to`, and of the last node, which has the bound alone as its level.
+// The rules of the last group, of pairs `from` up to `to`, and of the last node, whose level is the bound alone.
 fn emit_last(
     output: &mut [u8],
     node: Node,
@@ -387,8 +354,8 @@ fn emit_chain(
     )
 }
 
-// The rules of a long sum whose pairs stand in the order of their groups: the atoms are numbered from `atom` on, and no more than a
-// million of them.
+// The rules of a long sum whose pairs stand in the order of their groups: the new atoms are numbered from `atom` on, and
+// are at most a million.
 pub fn emit_long(
     output: &mut [u8],
     place: Place,

@@ -1,8 +1,8 @@
-// The rules of a joined node: for each of its levels one for each two shares of its sides that are just enough, as `joinRules` of
-// crates/sums/specs/Plans.antt has them.
+// The rules of a joined node: for each of its levels one for each two shares of its sides that are just enough, as
+// `joinRules` of crates/sums/specs/Plans.antt has them.
 ghost use mathlib.Core.Path.{_≡_};
 ghost use mathlib.Core.List.{[], _∷_, _++_};
-ghost use Prim.Native.Nat.{ℕ, _+_, _*_, _≤_};
+ghost use Prim.Native.Nat.{ℕ, _+_, _≤_};
 ghost use lib.ListN.{length};
 ghost use Rattle.text.specs.Decimals.{spaced};
 ghost use Rattle.text.specs.Writing.{Put, farthest};

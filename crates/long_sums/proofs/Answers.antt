@@ -1,38 +1,35 @@
 -- What the service answers and leaves, by cases on what was read and on questions 65 and 66. Assumes nothing.
-use mathlib.Core.Path.{_≡_, refl, sym, ap, ap₂, subst, _∙_}
+use mathlib.Core.Path.{_≡_, refl, sym, ap, ap₂, _∙_}
 use mathlib.Core.Bool.{Bool, true, false, true≢false, cond, _&&_, _||_, and-assoc}
-use mathlib.Core.List.{List, [], _∷_, _++_}
-use Prim.Native.Nat.{ℕ, suc, _+_, _-_, _≤_, _<_}
+use mathlib.Core.List.{List}
+use Prim.Native.Nat.{ℕ, suc, _-_, _≤_}
 use native.Mathlib.Omega.{arith}
 use borrow.Author.Tests.{leb-true, leb-false, le-leb, lt-leb, le-ltb, ltb-false}
 use borrow.Rule.Slice.PartMut.{putMid}
 use lib.Dec.{leb, ltb}
 use lib.IntN.{ℤ, pos}
-use lib.ListN.{length, take, drop, replicate, length-append}
+use lib.ListN.{length, take, drop, replicate}
 use lib.Seq.{take-at}
 use Rattle.words.specs.Limits.{largest, longest, mostLiterals, mostRules}
 use Rattle.words.proofs.Lists.{same-test, leb-decides, and-left, and-right, and-both, or-false-left, or-false-right}
 use Rattle.words.proofs.Tops.{top-within}
 use Rattle.words.proofs.Parts.{tail-filled}
 use Rattle.weights.specs.Weights.{mostWeighted}
-use Rattle.text.specs.Writing.{Put}
 use Rattle.text.proofs.Puts.{front-put}
 use Rattle.aspif.specs.Rules.{InputRule, literalsOf, ruleTop, atoms, tableWords, programWords}
 use Rattle.aspif.specs.Text.{programText}
 use Rattle.aspif.specs.Tables.{rulesAt}
-use Rattle.aspif.specs.Reading.{Reading, program, readTextWithin, readLinesWithin, programAnswer, tableOf, ReadingLeft}
+use Rattle.aspif.specs.Reading.{Reading, program, readTextWithin, readLinesWithin, programAnswer, tableOf}
 use Rattle.aspif.specs.Reading as Reading
 use Rattle.aspif.specs.Claims.{FormedWithin}
 use Rattle.aspif.proofs.Formed.{inside, within-fits}
 use Rattle.aspif.proofs.RuleTests.{greatest-within}
 use Rattle.aspif.specs.declared.ProgramRefusal.{ProgramRefusal}
-use Rattle.aspif.specs.declared.ProgramReading.{ProgramReading}
 use Rattle.aspif.specs.declared.ProgramReading.the-variants.{Read, Refused}
 use Rattle.joins.specs.declared.chains.Numbered.{Numbered}
 use Rattle.long_sums.proofs.Held.{rules-there, all-held}
 use Rattle.long_sums.specs.Program.{ProgramWritten, ReadLong}
-use Rattle.long_sums.specs.Service.{SplitLeft, isGroupSize, isWritable, zeroed, written, splitTo, splitReading, splitText}
-use Rattle.long_sums.specs.declared.SplitAnswer.{SplitAnswer}
+use Rattle.long_sums.specs.Service.{SplitLeft, isGroupSize, isWritable, zeroed, splitTo, splitReading, splitText}
 use Rattle.long_sums.specs.declared.SplitAnswer.the-variants as Answer
 
 -- Question 66
@@ -52,11 +49,11 @@ module _ {rs : List InputRule} {before output : List ℕ} {q : Numbered} (w : Pr
     atoms-asked = same-test (leb-decides (q .atom) (suc largest)) (leb-decides (atoms rs) largest) (λ l. omega (arith, w .atom h, l)) (λ l. omega (arith, w .atom h, l))
 
   -- what is asked of the numbers is question 66 of the program
-  pub asked : (t o : ℕ) → (((leb (q .place .rules) mostRules && leb (q .atom) (suc largest)) && leb (q .place .at) longest) && leb (q .place .at) o) ≡ isWritable t o rs
-  asked t o = by (leb (q .place .rules) mostRules) refl
+  pub asked : (o : ℕ) → (((leb (q .place .rules) mostRules && leb (q .atom) (suc largest)) && leb (q .place .at) longest) && leb (q .place .at) o) ≡ isWritable o rs
+  asked o = by (leb (q .place .rules) mostRules) refl
     where
       by : (b : Bool) → leb (q .place .rules) mostRules ≡ b
-          → (((b && leb (q .atom) (suc largest)) && leb (q .place .at) longest) && leb (q .place .at) o) ≡ isWritable t o rs
+          → (((b && leb (q .atom) (suc largest)) && leb (q .place .at) longest) && leb (q .place .at) o) ≡ isWritable o rs
       by true e =
           let h = few-rules e in
           let n : leb (length rs) mostRules ≡ true = sym (ap (λ (n : ℕ). leb n mostRules) (count-is h)) ∙ e in
@@ -76,10 +73,10 @@ numbers-passed r a p o e =
 
 module _ {rs : List InputRule} {before output : List ℕ} {q : Numbered} (w : ProgramWritten rs before output q) (long : length before ≡ length output)
     (ws : List InputRule) (table : List ℤ) (t : ℕ) where
-  pub refused-66 : (r : SplitLeft) → isWritable t (length output) rs ≡ false → r ≡ zeroed t (length output) (Answer.Refused 66) → r ≡ splitTo t (length output) ws rs
+  pub refused-66 : (r : SplitLeft) → isWritable (length output) rs ≡ false → r ≡ zeroed t (length output) (Answer.Refused 66) → r ≡ splitTo t (length output) ws rs
   refused-66 r e f = f ∙ (rw e)
 
-  module _ (e : isWritable t (length output) rs ≡ true) where
+  module _ (e : isWritable (length output) rs ≡ true) where
     abbrev text : List ℕ
     text = programText rs
 

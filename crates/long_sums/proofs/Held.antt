@@ -1,15 +1,14 @@
 -- Rules that stand in a table, with sums of up to 64 literals. Assumes nothing.
-use mathlib.Core.Path.{_≡_, refl, sym, ap, ap₂, subst, _∙_}
+use mathlib.Core.Path.{_≡_, refl, sym, ap, subst, _∙_}
 use mathlib.Core.Bool.{true}
 use mathlib.Core.List.{List, [], _∷_, _++_, append-assoc, List·Memᴰ·head, List·Memᴰ·tail}
-use Prim.Native.Nat.{ℕ, zero, suc, _+_, _-_, _≤_, _<_}
-use native.Mathlib.Omega.{arith}
-use lib.IntN.{ℤ, pos}
-use lib.ListN.{length, drop, length-drop}
+use Prim.Native.Nat.{ℕ, _+_, _-_, _≤_, _<_}
+use lib.IntN.{ℤ}
+use lib.ListN.{length, drop}
 use lib.Seq.{drop-drop}
 use Rattle.words.specs.Lists.{_∈_}
 use Rattle.words.specs.Limits.{mostLiterals}
-use Rattle.words.proofs.Lists.{one-less, nothing-left}
+use Rattle.words.proofs.Lists.{one-less}
 use Rattle.aspif.specs.Rules.{InputRule, ruleWords, programWords}
 use Rattle.aspif.specs.Tables.{sizeAt, ruleAt, rulesAt, shapeSound}
 use Rattle.aspif.specs.Claims.{FormedWithin}

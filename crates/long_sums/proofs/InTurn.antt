@@ -1,7 +1,7 @@
 -- Items one after another, until there are too many rules. Assumes nothing.
 use mathlib.Core.Path.{_≡_, refl, sym, ap, subst, _∙_}
 use mathlib.Core.Bool.{Bool, true, false}
-use mathlib.Core.List.{List, [], _∷_, _++_}
+use mathlib.Core.List.{List, [], _∷_}
 use Prim.Native.Nat.{ℕ, _+_, _-_, _*_, _≤_, _<_}
 use native.Mathlib.Omega.{arith}
 use borrow.Author.Tests.{leb-true, leb-false}
@@ -12,7 +12,7 @@ use Rattle.words.specs.Limits.{mostRules}
 use Rattle.aspif.specs.Rules.{InputRule}
 use Rattle.aspif.specs.Tables.{sizeAt, ruleAt, rulesAt}
 use Rattle.aspif.proofs.Cursors.{no-rules}
-use Rattle.sums.specs.Plans.{Item, splitItem, needs, allNeeds, inTurn}
+use Rattle.sums.specs.Plans.{Item, splitItem, inTurn}
 use Rattle.sums.specs.Levels.{planned, sortedGroups}
 use Rattle.totalizer.specs.declared.texts.Place.{Place}
 use Rattle.totalizer.specs.Emitting.{Bounded, Emits}

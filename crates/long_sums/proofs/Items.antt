@@ -1,13 +1,13 @@
 -- What stands for a rule: its line, or the rules of its long sum and its heads from the last new atom. Assumes nothing.
-use mathlib.Core.Path.{_≡_, refl, sym, ap, ap₂, subst, _∙_}
+use mathlib.Core.Path.{_≡_, refl, sym, ap, subst, _∙_}
 use mathlib.Core.Bool.{Bool, true, false, true≢false, cond, _&&_}
 use mathlib.Core.List.{List, [], _∷_, _++_, append-nil, append-assoc}
-use Prim.Native.Nat.{ℕ, zero, suc, _+_, _-_, _*_, _≤_, _<_}
+use Prim.Native.Nat.{ℕ, _+_, _-_, _≤_, _<_}
 use native.Mathlib.Omega.{arith}
-use borrow.Author.Tests.{ltb-true, ltb-false, lt-leb, le-leb, leb-false}
-use lib.Dec.{ltb, leb}
+use borrow.Author.Tests.{ltb-true, ltb-false, lt-leb, le-leb}
+use lib.Dec.{ltb}
 use lib.IntN.{ℤ, pos}
-use lib.ListN.{length, take, drop, getD, length-map, length-drop, length-append}
+use lib.ListN.{length, take, drop, getD, length-map, length-append}
 use lib.Seq.{take-at, length-take-le}
 use Rattle.words.specs.Limits.{mostLiterals, mostRules}
 use Rattle.words.specs.Literals.{variable, same}
@@ -15,18 +15,18 @@ use Rattle.words.proofs.Lists.{is-true}
 use Rattle.text.specs.Decimals.{decimals, decimal, numberBytes, spaced}
 use Rattle.text.specs.Writing.{Put}
 use Rattle.text.proofs.Puts.{spaced-append}
-use Rattle.weights.specs.Weights.{Weighted, paired, pairWords, mostWeight, mostWeighted}
-use Rattle.aspif.specs.Rules.{Body, plain, weights, InputRule, literalsOf, kindWord, bodyKindWord, bodyWords, ruleWords}
+use Rattle.weights.specs.Weights.{paired, pairWords, mostWeight, mostWeighted}
+use Rattle.aspif.specs.Rules.{Body, plain, weights, InputRule, literalsOf, kindWord, bodyKindWord, bodyWords}
 use Rattle.aspif.specs.Reading.{allWeights}
 use Rattle.aspif.specs.Tables.{isWeighted, headsAt, boundAt, bodyWordsAt, bodyAt, ruleAt}
 use Rattle.aspif.specs.Text.{ruleNumbers}
 use Rattle.aspif.specs.Claims.{WeighingWithin}
-use Rattle.aspif.proofs.PairWords.{light-decides, length-paired, length-pairs}
+use Rattle.aspif.proofs.PairWords.{light-decides, length-paired}
 use Rattle.aspif.proofs.Readable.{body-words-at}
-use Rattle.sums.specs.Plans.{Plan, Item, whole, divided, size, root, nodeRules, headRule, splitItem, needs}
+use Rattle.sums.specs.Plans.{Plan, whole, divided, size, root, nodeRules, headRule}
 use Rattle.sums.specs.Levels.{SumShape, both, pairsIn, levelled, planBody, sortedGroups}
 use Rattle.totalizer.specs.declared.texts.Place.{Place}
-use Rattle.totalizer.specs.Emitting.{lineOf, headNumbers, Bounded, Emits}
+use Rattle.totalizer.specs.Emitting.{lineOf, headNumbers, Emits}
 use Rattle.totalizer.proofs.Emitted.{emits-on, emits-full}
 use Rattle.joins.specs.declared.chains.Numbered.{Numbered}
 use Rattle.long_sums.specs.Program.{RuleHeld, isLong, itemOf, mostNew, ItemEmitted}

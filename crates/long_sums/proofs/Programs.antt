@@ -1,16 +1,14 @@
 -- The text of the split program, and question 66 of it. Assumes nothing.
 use mathlib.Core.Path.{_≡_, refl, sym, ap, subst, _∙_}
 use mathlib.Core.List.{List, [], _∷_, _++_, append-assoc}
-use Prim.Native.Nat.{ℕ, suc, _+_, _-_, _≤_}
+use Prim.Native.Nat.{ℕ, _+_, _-_}
 use native.Mathlib.Omega.{arith}
-use lib.ListN.{length}
-use Rattle.words.specs.Limits.{mostRules}
 use Rattle.text.specs.Writing.{Put}
 use Rattle.text.proofs.Puts.{put-on}
 use Rattle.aspif.specs.Rules.{InputRule, atoms}
 use Rattle.aspif.specs.Reading.{header}
 use Rattle.aspif.specs.Text.{ruleText, rulesText, programText}
-use Rattle.sums.specs.Plans.{splitItem, inTurn, allNeeds, program, split, firstNew}
+use Rattle.sums.specs.Plans.{splitItem, inTurn, firstNew}
 use Rattle.sums.specs.Levels.{planned, splitProgram, sortedGroups}
 use Rattle.sums.proofs.Levels.{planned-is, program-atoms}
 use Rattle.sums.proofs.Sorted.{sorted-groups}

@@ -1,10 +1,10 @@
--- What the private functions say of the table's rules and of the lines that are written for them. No reader of the public contract
--- needs it.
+-- What the private functions say of the table's rules and of the lines that are written for them. No reader of the
+-- public contract needs it.
 -- Assumes nothing.
 use mathlib.Core.Path.{_≡_}
 use mathlib.Core.Bool.{Bool, false}
 use mathlib.Core.List.{List, _++_}
-use Prim.Native.Nat.{ℕ, suc, _+_, _-_, _*_, _≤_, min}
+use Prim.Native.Nat.{ℕ, suc, _+_, _-_, _≤_, min}
 use lib.Dec.{ltb}
 use lib.IntN.{ℤ}
 use lib.ListN.{length}
@@ -17,7 +17,7 @@ use Rattle.aspif.specs.Tables.{ruleAt, rulesAt}
 use Rattle.aspif.specs.Text.{programText}
 use Rattle.aspif.specs.Claims.{FormedWithin}
 use Rattle.sums.specs.Plans.{Item, splitItem, needs, allNeeds, inTurn}
-use Rattle.sums.specs.Levels.{planBody, planned, splitProgram, sortedGroups}
+use Rattle.sums.specs.Levels.{planBody, sortedGroups}
 use Rattle.totalizer.specs.declared.texts.Place.{Place}
 use Rattle.totalizer.specs.Emitting.{tooMany, Emits}
 use Rattle.joins.specs.declared.chains.Numbered.{Numbered}

@@ -1,5 +1,6 @@
--- What `split_sums` answers and leaves, of the program text, the group size and the lengths of table and output. The questions are those of
--- document 01 with all changes, but question 55 is put with 64 literals in place of 12; 65 and 66 come after them.
+-- What `split_sums` answers and leaves, of the program text, the group size and the lengths of table and output. The
+-- questions are those of document 01 with all changes, but question 55 is put with 64 literals in place of 12; 65 and
+-- 66 come after them.
 -- Assumes nothing.
 use mathlib.Core.Path.{_≡_}
 use mathlib.Core.Bool.{Bool, cond, _&&_}
@@ -28,20 +29,20 @@ pub record SplitLeft : Type 0 where
 abbrev pub isGroupSize : ℕ → Bool
 isGroupSize g = leb 2 g && leb g mostWeighted
 
+-- question 66: at most 1,024 rules, no atom above 8,191, a text of at most 65,535 bytes that fits the output
+abbrev pub isWritable : (room : ℕ) → List InputRule → Bool
+isWritable o rs =
+    leb (length rs) mostRules
+    && (leb (atoms rs) largest && (leb (length (programText rs)) longest && leb (length (programText rs)) o))
+
 -- the lengths of table and output
 module _ (t o : ℕ) where
   -- a refusal zeroes both
   abbrev pub zeroed : SplitAnswer → SplitLeft
   zeroed a = record { answer = a; table = replicate t (pos 0); output = replicate o 0 }
 
-  -- question 66: at most 1,024 rules, no atom above 8,191, a text of at most 65,535 bytes that fits the output
-  abbrev pub isWritable : List InputRule → Bool
-  isWritable rs =
-      leb (length rs) mostRules
-      && (leb (atoms rs) largest && (leb (length (programText rs)) longest && leb (length (programText rs)) o))
-
-  -- the text of the split program, with its atoms and rules and the atoms of the program as written, and 0 after it; the table holds the
-  -- program as written
+  -- the text of the split program, with its atoms and rules and the atoms of the program as written, and 0 after it;
+  -- the table holds the program as written
   abbrev pub written : (ws rs : List InputRule) → SplitLeft
   written ws rs = record {
     answer = Split (length (programText rs)) (atoms rs) (length rs) (atoms ws);
@@ -50,7 +51,7 @@ module _ (t o : ℕ) where
   }
 
   abbrev pub splitTo : (ws rs : List InputRule) → SplitLeft
-  splitTo ws rs = cond (isWritable rs) (written ws rs) (zeroed (Refused 66))
+  splitTo ws rs = cond (isWritable o rs) (written ws rs) (zeroed (Refused 66))
 
   abbrev pub splitReading : (group : ℕ) → Reading → SplitLeft
   splitReading g (Reading.refused k n) = zeroed (RefusedProgram (record { number = k; line = n }))

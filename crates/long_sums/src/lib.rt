@@ -1,5 +1,5 @@
-// A program text whose long sums are split into short ones. The service is `split_sums`; what it writes is specs/Service.antt, and that
-// it keeps the answer sets is proved in crate sums.
+// A program text whose long sums are split into short ones. The service is `split_sums`; what it writes is
+// specs/Service.antt, and that it keeps the answer sets is proved in crate sums.
 mod ordering;
 mod program;
 
@@ -8,8 +8,7 @@ ghost use mathlib.Core.Bool.{_&&_};
 ghost use mathlib.Core.List.{List};
 ghost use Prim.Native.Nat.{ℕ, suc, _≤_};
 ghost use lib.Dec.{leb};
-ghost use lib.IntN.{pos};
-ghost use lib.ListN.{length, replicate};
+ghost use lib.ListN.{length};
 ghost use Rattle.words.specs.Limits.{largest, longest, mostRules};
 ghost use Rattle.aspif.specs.Rules.{InputRule, atoms, tableWords};
 ghost use Rattle.aspif.specs.Reading.{program};
@@ -25,8 +24,8 @@ use words::LONGEST;
 use words::MOST_LITERALS;
 use words::MOST_RULES;
 
-// How many bytes are written, the atoms and the rules of the split program, and the atoms of the program as written; the question that
-// the program fails, with its line; or 65 or 66.
+// How many bytes are written, the atoms and the rules of the split program, and the atoms of the program as written;
+// the question that the program fails, with its line; or 65 or 66.
 pub enum SplitAnswer {
     Split {
         bytes: usize,

@@ -1,5 +1,5 @@
-// The text of the split program, from the table's rules: a rule as it stands, or the rules of its long sum and then its heads from the
-// last new atom.
+// The text of the split program, from the table's rules: a rule as it stands, or the rules of its long sum and then
+// its heads from the last new atom.
 ghost use mathlib.Core.Path.{_≡_};
 ghost use mathlib.Core.Bool.{true};
 ghost use mathlib.Core.List.{[], _∷_};

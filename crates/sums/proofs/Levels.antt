@@ -19,7 +19,7 @@ use Rattle.aspif.specs.AnswerSets.{AnswerSet}
 use Rattle.derivation.specs.Claims.{NoneAsWritten}
 use Rattle.derivation.proofs.AsWritten.{soundness-as-written}
 use Rattle.sums.specs.Plans.{joined, pairsOf, levelsOf, Item, written, allNeeds, program, split, allDefinitions}
-use Rattle.sums.specs.Levels.{SumShape, few, both, pairsIn, sumsOf, levelsFor, isUseful, useful, levelled, dividedBy, isShort, chain, chained, planBody, planned, splitProgram, chunks}
+use Rattle.sums.specs.Levels.{SumShape, few, both, pairsIn, sumsOf, levelsFor, noLevel, isUseful, useful, levelled, dividedBy, isShort, chain, chained, planBody, planned, splitProgram, chunks}
 use Rattle.sums.specs.Extension.{UpTo, Extended}
 use Rattle.sums.specs.Claims.{ReachedByLevels, EnoughLevels, WellPlanned, LevelledEnough, LevelsWithin, Shaping, InGroups, PlannedIs, ProgramSound, ProofOfSplit, ProgramKeeps, ProgramAgrees, ProgramConserves, ProgramDetermines, ProgramAtoms}
 use Rattle.sums.proofs.Lowest.{Lowest, lowest-at}
@@ -45,9 +45,9 @@ abbrev Differs : (b o : ℕ) (us : List ℕ) (u : ℕ) → Type 0
 Differs b o us u = (b ≤ u + o) × ((v : ℕ) → v ∈ us → (u ≤ v) ⊎ (v + o < b))
 
 useful-decides : (b : ℕ) (others us : List ℕ) (u : ℕ)
-    → Decides (isUseful b others us u) ((0 < u) × ((o : ℕ) × (o ∈ others) × Differs b o us u))
+    → Decides (isUseful b others us u) ((noLevel < u) × ((o : ℕ) × (o ∈ others) × Differs b o us u))
 useful-decides b others us u =
-    and-decides (ltb-decides 0 u)
+    and-decides (ltb-decides noLevel u)
     (any-decides (λ o. and-decides (leb-decides b (u + o)) (all-decides (λ v. or-decides (leb-decides u v) (ltb-decides (v + o) b)) us)) others)
 
 -- Levels are within the bound
@@ -56,7 +56,7 @@ pub levels-within : LevelsWithin
 levels-within b rest s t i =
     let us = sumsOf b (pairsIn s) in
     let x = keep→ (isUseful b (sumsOf b rest) us) us (subst (λ l. t ∈ l) (levelled-levels b rest s) i) in
-    (useful-decides b (sumsOf b rest) us t .to (x .1) .0, sums-low b (pairsIn s) (x .0))
+    (omega (arith, useful-decides b (sumsOf b rest) us t .to (x .1) .0), sums-low b (pairsIn s) (x .0))
 
 -- The levels are enough
 
@@ -79,7 +79,7 @@ level-at b rest s o a i j h = go (lowest-at (λ n. n) (λ v. leb b (v + o)) us a
         record {
           at = d .one;
           came = d .among;
-          among = place (answered (ltb 0 (d .one)));
+          among = place (answered (ltb noLevel (d .one)));
           lower = d .least a j (leb-decides b (a + o) .from h);
           reaches = reach;
         }
@@ -94,12 +94,12 @@ level-at b rest s o a i j h = go (lowest-at (λ n. n) (λ v. leb b (v + o)) us a
             pick (inl t) = inl (d .least v k t)
             pick (inr t) = inr (let n = not-decides (leb-decides b (v + o)) .to t in omega arith)
 
-        place : T (ltb 0 (d .one)) ⊎ T (not (ltb 0 (d .one))) → d .one ∈ 0 ∷ levelsOf (levelled b rest s)
+        place : T (ltb noLevel (d .one)) ⊎ T (not (ltb noLevel (d .one))) → d .one ∈ 0 ∷ levelsOf (levelled b rest s)
         place (inl t) =
             List·Memᴰ·tail (subst (λ l. d .one ∈ l) (sym (levelled-levels b rest s))
             (keep← (isUseful b (sumsOf b rest) us) (d .among)
-            (useful-decides b (sumsOf b rest) us (d .one) .from (ltb-decides 0 (d .one) .to t, (o, i, (reach, lowest-one))))))
-        place (inr t) = let n = not-decides (ltb-decides 0 (d .one)) .to t in let e : d .one ≡ 0 = omega arith in List·Memᴰ·head e
+            (useful-decides b (sumsOf b rest) us (d .one) .from (ltb-decides noLevel (d .one) .to t, (o, i, (reach, lowest-one))))))
+        place (inr t) = let n = not-decides (ltb-decides noLevel (d .one)) .to t in let e : d .one ≡ 0 = omega arith in List·Memᴰ·head e
 
 module _ (b : ℕ) (rest : List Weighted) (s t : SumShape) where
   abbrev lefts : List Weighted

@@ -16,7 +16,7 @@ use Rattle.weights.proofs.Sublists as sub
 use Rattle.weights.proofs.Minimal.{ltb-decides}
 use Rattle.aspif.specs.Rules.{Body, plain, weights, InputRule, bodiesOf, withBody, expand}
 use Rattle.aspif.proofs.Expansion.{expand←}
-use Rattle.sums.specs.Plans.{Plan, group, joined, pairsOf, levelsOf, size, Definition, numbered, own, definitions, Share, share, shares, isJustEnough, joinBodies, define, groupRule, joinRules, nodeRules}
+use Rattle.sums.specs.Plans.{Plan, group, joined, pairsOf, levelsOf, size, Definition, numbered, own, definitions, Share, share, shares, reach, isJustEnough, joinBodies, define, groupRule, joinRules, nodeRules}
 use Rattle.sums.specs.Extension.{Holding, SumReaches, Says, Closed}
 use Rattle.sums.specs.Claims.{ReachedByLevels, EnoughLevels}
 use Rattle.sums.proofs.Extension.{body-reaches, reaches-body}
@@ -112,14 +112,14 @@ share-reaches X M l es f {x} (List·Memᴰ·tail j) h =
 -- two shares are enough together, and with a lower one of either side they are not
 abbrev JustEnough : (t : ℕ) (xs ys : List Share) (x y : Share) → Type 0
 JustEnough t xs ys x y =
-    (t ≤ x .level + y .level)
-    × (((v : Share) → v ∈ xs → (x .level ≤ v .level) ⊎ (v .level + y .level < t)) × ((v : Share) → v ∈ ys → (y .level ≤ v .level) ⊎ (x .level + v .level < t)))
+    (t ≤ reach x y)
+    × (((v : Share) → v ∈ xs → (x .level ≤ v .level) ⊎ (reach v y < t)) × ((v : Share) → v ∈ ys → (y .level ≤ v .level) ⊎ (reach x v < t)))
 
 just-enough-decides : (t : ℕ) (xs ys : List Share) (x y : Share) → Decides (isJustEnough t xs ys x y) (JustEnough t xs ys x y)
 just-enough-decides t xs ys x y =
-    and-decides (leb-decides t (x .level + y .level))
-    (and-decides (all-decides (λ v. or-decides (leb-decides (x .level) (v .level)) (ltb-decides (v .level + y .level) t)) xs)
-    (all-decides (λ v. or-decides (leb-decides (y .level) (v .level)) (ltb-decides (x .level + v .level) t)) ys))
+    and-decides (leb-decides t (reach x y))
+    (and-decides (all-decides (λ v. or-decides (leb-decides (x .level) (v .level)) (ltb-decides (reach v y) t)) xs)
+    (all-decides (λ v. or-decides (leb-decides (y .level) (v .level)) (ltb-decides (reach x v) t)) ys))
 
 pub record Taking (t : ℕ) (xs ys : List Share) (ls : List ℤ) : Type 0 where
   pub left : Share

@@ -5,14 +5,14 @@ use mathlib.Core.Logic.{_⊎_, inl, inr}
 use mathlib.Core.List.{List, [], _∷_, _++_, List·Memᴰ·eq-of-singleton, List·Memᴰ·head, List·Memᴰ·tail, List·Memᴰ·append-cases, Memᴰ·append-left, Memᴰ·append-right, Memᴰ·map, Memᴰ·of-map}
 use Prim.Native.Nat.{ℕ, suc, _+_, _≤_, _<_, max}
 use native.Mathlib.Omega.{arith}
-use lib.IntN.{ℤ, pos}
+use lib.IntN.{ℤ}
 use lib.ListN.{length}
 use Rattle.words.specs.Lists.{_∈_}
 use Rattle.words.specs.Literals.{variable, top}
 use Rattle.words.proofs.Tops.{top-le, top-within}
 use Rattle.weights.specs.Weights.{Weighted, literals}
 use Rattle.weights.proofs.Reordered.{and-back, reorder-in}
-use Rattle.aspif.specs.Rules.{Rule, plain, InputRule, bodiesOf, withBody, expand, ruleTop, atoms}
+use Rattle.aspif.specs.Rules.{Rule, InputRule, bodiesOf, withBody, expand, ruleTop, atoms}
 use Rattle.aspif.specs.AnswerSets.{AnswerSet}
 use Rattle.aspif.proofs.Expansion.{expand→, expand←, expand-append, plain-atoms}
 use Rattle.aspif.proofs.RuleTests.{in-greatest, greatest-within}

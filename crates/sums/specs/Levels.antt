@@ -47,9 +47,13 @@ unfoldable pub sumsOf : (b : ℕ) → List Weighted → List ℕ
 sumsOf b [] = 0 ∷ []
 sumsOf b (x ∷ l) = further b (x .weight) (sumsOf b l)
 
--- u is above 0 and makes a difference: there is a sum of the other literals with which u reaches the bound, and nothing lower of us does
+-- the sum that is always reached needs no level
+abbrev pub noLevel : ℕ
+noLevel = 0
+
+-- u is above it and makes a difference: there is a sum of the other literals with which u reaches the bound, and nothing lower of us does
 abbrev pub isUseful : (b : ℕ) → (others us : List ℕ) → ℕ → Bool
-isUseful b others us u = ltb 0 u && any (λ o. leb b (u + o) && all (λ v. leb u v || ltb (v + o) b) us) others
+isUseful b others us u = ltb noLevel u && any (λ o. leb b (u + o) && all (λ v. leb u v || ltb (v + o) b) us) others
 
 abbrev pub useful : (b : ℕ) → (others us : List ℕ) → List ℕ
 useful b others us = filter (isUseful b others us) us

@@ -65,11 +65,15 @@ share e = record { level = e .bound; said = pos (e .atom) ∷ [] }
 abbrev pub shares : List Definition → List Share
 shares es = record { level = 0; said = [] } ∷ map share es
 
+-- what two shares come to together
+abbrev pub reach : Share → Share → ℕ
+reach x y = x .level + y .level
+
 -- two shares are enough together, and with a lower one of either side in place of its own they are not
 abbrev pub isJustEnough : (bound : ℕ) → (lefts rights : List Share) → Share → Share → Bool
 isJustEnough b xs ys x y =
-    leb b (x .level + y .level)
-    && (all (λ v. leb (x .level) (v .level) || ltb (v .level + y .level) b) xs && all (λ v. leb (y .level) (v .level) || ltb (x .level + v .level) b) ys)
+    leb b (reach x y)
+    && (all (λ v. leb (x .level) (v .level) || ltb (reach v y) b) xs && all (λ v. leb (y .level) (v .level) || ltb (reach x v) b) ys)
 
 -- the bodies of a joined node's rules
 unfoldable pub joinBodies : (bound : ℕ) → (lefts rights : List Share) → List (List ℤ)

@@ -16,7 +16,7 @@ returns c =
     let o = length (s .args .output .now) in
     let t = length (s .args .table .now) in
     λ ws rs before w n e a.
-    refused-66 w n ws (s .args .table .now) t _ (sym (asked w t o) ∙ sym (c .before .before .before .before .before .before .before .is-writable .ensures) ∙ not-true _ (c .before .before .before .before .before .before .if1 .taken)) (c .before .before .before .refuse .ensures)
+    refused-66 w n ws (s .args .table .now) t _ (sym (asked w o) ∙ sym (c .before .before .before .before .before .before .before .is-writable .ensures) ∙ not-true _ (c .before .before .before .before .before .before .if1 .taken)) (c .before .before .before .refuse .ensures)
 
 -- the question is passed
 passed : (c : tie.Else1)
@@ -45,7 +45,7 @@ returns-2 c =
     let o = length (s .args .output .now) in
     let t = length (s .args .table .now) in
     λ ws rs before w n e a.
-    written-66 w n ws (s .args .table .now) t (sym (asked w t o) ∙ passed d) (c .before .before .before .zero-bytes .last .0) (s .args .old) (c .before .before .before .zero-bytes .ensures) e a
+    written-66 w n ws (s .args .table .now) t (sym (asked w o) ∙ passed d) (c .before .before .before .zero-bytes .last .0) (s .args .old) (c .before .before .before .zero-bytes .ensures) e a
 
 pub finish-spec : {M : Type 1} → statement M
 finish-spec =

@@ -1,4 +1,4 @@
-use mathlib.Core.Path.{_≡_, refl, sym, ap, subst}
+use mathlib.Core.Path.{_≡_, refl, sym, ap}
 use mathlib.Core.List.{List, [], _∷_, _++_}
 use Prim.Native.Nat.{ℕ, _+_, _≤_}
 use native.Mathlib.Omega.{arith}
@@ -6,10 +6,8 @@ use lib.ListN.{length}
 use lib.Seq.{length-take-le}
 use borrow.Author.Needs.{needs}
 use Rattle.text.specs.Writing.{farthest}
-use Rattle.weights.specs.Weights.{mostWeight}
-use Rattle.totalizer.specs.Lists.{SumsUpTo}
-use Rattle.joins.specs.Chaining.{after, pairsTo, pairsFrom, pairsWithin, groupLevels, prefixLevels}
-use Rattle.joins.proofs.Linked.{few-levels, levels-light, count-is, turn-emits}
+use Rattle.joins.specs.Chaining.{after, pairsTo, pairsFrom, pairsWithin, groupLevels}
+use Rattle.joins.proofs.Linked.{few-group, levels-front, count-is, turn-emits}
 use Rattle.joins.proofs.chains.emit_last.Statement.{statement}
 use Rattle.joins.proofs.chains.emit_last.Tie as tie
 
@@ -20,21 +18,15 @@ emit-part-requires c κs =
     (s .pre .0 .0, (s .pre .1 .0, (s .pre .1 .1 .0, (r, omega (arith, s .pre .0 .3)))))
 
 -- the group's levels
-abbrev group : tie.Start → List ℕ
-group s = groupLevels (s .args .bound) (s .args .from) (s .args .to) (s .args .pairs .now)
+abbrev groupOf : tie.Start → List ℕ
+groupOf s = groupLevels (s .args .bound) (s .args .from) (s .args .to) (s .args .pairs .now)
 
-few-there : (s : tie.Start) → length (group s) ≤ s .args .bound + 1
-few-there s =
-    let ws = s .args .pairs .now in
-    let h = few-levels (s .args .bound) (pairsTo (s .args .from) ws ++ pairsFrom (s .args .to) ws) (pairsWithin (s .args .from) (s .args .to) ws) in
-    omega arith
-
-counted : (c : tie.After-emit-part) → c .emit-part .result .count ≡ length (group (c .before .before .before .before .before .before .before .before .before .before .before .before .before .before))
+counted : (c : tie.After-emit-part) → c .emit-part .result .count ≡ length (groupOf (c .before .before .before .before .before .before .before .before .before .before .before .before .before .before))
 counted c = let y = c .emit-part in let e = y .ensures in count-is (y .last .1 .1 .1 .1 .1 .1 .1 .1 .1 .1 .0) (e .1 .1 .1) (e .1 .0)
 
 -- the next atoms are in reach
 atoms : (c : tie.After-emit-part) → after (c .before .before .before .before .before .before .before .before .before .before .before .before .before .before .args .node) + c .emit-part .result .count + 4096 ≤ farthest
-atoms c = let s = c .before .before .before .before .before .before .before .before .before .before .before .before .before .before in omega (arith, counted c, few-there s, s .pre .1 .0 .1, s .pre .0 .3)
+atoms c = let s = c .before .before .before .before .before .before .before .before .before .before .before .before .before .before in omega (arith, counted c, few-group (s .args .bound) (s .args .from) (s .args .to) (s .args .pairs .now), s .pre .1 .0 .1, s .pre .0 .3)
 
 add-emit-node : tie.Need-add-emit-node
 add-emit-node c = record { fits = omega (arith, atoms (c .before .before .before .before .before .before .before .before .before .before .before)) }
@@ -51,12 +43,13 @@ emit-node-requires c κs =
     let d = c .before .before .before .before .before .before .before .before .before .before .before .before .before .before in
     let e = d .emit-part .ensures in
     let b = s .pre .1 .0 .1 in
+    let ws = s .args .pairs .now in
     let h = atoms d in (
       e .0 .bounded,
       (
         (
-          subst (λ (l : List ℕ). SumsUpTo mostWeight (0 ∷ l)) (sym (s .pre .0 .2)) (levels-light b _ _),
-          subst (λ (l : List ℕ). SumsUpTo mostWeight (0 ∷ l)) (sym (e .1 .0)) (levels-light b _ _),
+          levels-front b (pairsFrom (s .args .from) ws) (pairsTo (s .args .from) ws) (s .pre .0 .2),
+          levels-front b (pairsTo (s .args .from) ws ++ pairsFrom (s .args .to) ws) (pairsWithin (s .args .from) (s .args .to) ws) (e .1 .0),
         ),
         (
           omega (arith, h, length-take-le (s .args .node .count) (s .args .left .now) (s .pre .0 .1)),

@@ -1,13 +1,9 @@
-use mathlib.Core.Path.{_≡_, sym, subst}
-use mathlib.Core.List.{List, _∷_, _++_}
-use Prim.Native.Nat.{ℕ, _+_, _≤_}
+use mathlib.Core.List.{_++_}
+use Prim.Native.Nat.{_+_}
 use native.Mathlib.Omega.{arith}
-use lib.ListN.{length}
 use borrow.Author.Needs.{needs}
-use Rattle.weights.specs.Weights.{mostWeight}
-use Rattle.totalizer.specs.Lists.{SumsUpTo}
-use Rattle.joins.specs.Chaining.{after, pairsTo, pairsFrom, pairsWithin, groupLevels, prefixLevels}
-use Rattle.joins.proofs.Linked.{few-levels, levels-light, count-is, turn-emits}
+use Rattle.joins.specs.Chaining.{after, pairsTo, pairsFrom, pairsWithin, prefixLevels}
+use Rattle.joins.proofs.Linked.{few-group, levels-front, count-is, turn-emits}
 use Rattle.joins.proofs.chains.emit_next.Statement.{statement}
 use Rattle.joins.proofs.chains.emit_next.Tie as tie
 
@@ -16,16 +12,6 @@ emit-part-requires c κs =
     let s = c .before .before .before .before .before .before .before .before .before .before .before .before .before .before in
     let r = s .pre .1 .1 .1 in
     (s .pre .0 .0, (s .pre .1 .0, (s .pre .1 .1 .0, ((r .0, r .1, r .2, r .4), omega (arith, s .pre .0 .3)))))
-
--- the group's levels
-abbrev group : tie.Start → List ℕ
-group s = groupLevels (s .args .bound) (s .args .from) (s .args .to) (s .args .pairs .now)
-
-few-there : (s : tie.Start) → length (group s) ≤ s .args .bound + 1
-few-there s =
-    let ws = s .args .pairs .now in
-    let h = few-levels (s .args .bound) (pairsTo (s .args .from) ws ++ pairsFrom (s .args .to) ws) (pairsWithin (s .args .from) (s .args .to) ws) in
-    omega arith
 
 emit-prefix-requires : tie.Need-emit-prefix-requires
 emit-prefix-requires c κs =
@@ -46,10 +32,10 @@ emit-prefix-requires c κs =
             (s .pre .0 .1, e .1 .1 .1),
             (
               (
-                subst (λ (l : List ℕ). SumsUpTo mostWeight (0 ∷ l)) (sym (s .pre .0 .2)) (levels-light b _ _),
-                subst (λ (l : List ℕ). SumsUpTo mostWeight (0 ∷ l)) (sym (e .1 .0)) (levels-light b _ _),
+                levels-front b (pairsFrom (s .args .from) ws) (pairsTo (s .args .from) ws) (s .pre .0 .2),
+                levels-front b (pairsTo (s .args .from) ws ++ pairsFrom (s .args .to) ws) (pairsWithin (s .args .from) (s .args .to) ws) (e .1 .0),
               ),
-              (omega (arith, s .pre .0 .3), omega (arith, s .pre .0 .3, e .1 .1 .0, n, few-there s, b)),
+              (omega (arith, s .pre .0 .3), omega (arith, s .pre .0 .3, e .1 .1 .0, n, few-group (s .args .bound) (s .args .from) (s .args .to) (s .args .pairs .now), b)),
             ),
           ),
         ),

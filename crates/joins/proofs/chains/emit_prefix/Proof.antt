@@ -1,12 +1,10 @@
 use mathlib.Core.Path.{_≡_, refl, sym, ap, _∙_}
 use mathlib.Core.List.{_++_}
-use Prim.Native.Nat.{suc, _≤_}
 use native.Mathlib.Omega.{arith}
 use lib.ListN.{length, take, drop, length-append}
 use lib.Seq.{length-take-le, take-at}
 use borrow.Author.Needs.{needs}
-use Rattle.joins.specs.Chaining.{pairsTo, pairsFrom, prefixLevels}
-use Rattle.joins.proofs.Linked.{few-levels}
+use Rattle.joins.proofs.Linked.{few-prefix}
 use Rattle.joins.proofs.chains.emit_prefix.Statement.{statement}
 use Rattle.joins.proofs.chains.emit_prefix.Tie as tie
 
@@ -28,10 +26,6 @@ slice-aggregate-emit-node-2 c = let s = c .before .before .before .before .befor
 slice-aggregate-emit-node-3 : tie.Need-slice-aggregate-emit-node-3
 slice-aggregate-emit-node-3 c = let s = c .before .before .before .before .before .before .before .before .before .before .before .before .before .before .before .before .before .before .before .before .before .before .before .before .before in sym (length-take-le (s .args .side .count) (s .args .right .now) (s .pre .1 .1 .1 .0 .1))
 
--- there are few of the levels
-few-there : (s : tie.Start) → length (prefixLevels (s .args .bound) (s .args .to) (s .args .pairs .now)) ≤ suc (s .args .bound)
-few-there s = few-levels (s .args .bound) (pairsFrom (s .args .to) (s .args .pairs .now)) (pairsTo (s .args .to) (s .args .pairs .now))
-
 emit-node-requires : tie.Need-emit-node-requires
 emit-node-requires c κs =
     let s = c .before .before .before .before .before .before .before .before .before .before .before .before .before .before .before .before .before .before .before .before .before .before .before .before .before in
@@ -43,7 +37,7 @@ emit-node-requires c κs =
         (
           omega (arith, p .1 .1, length-take-le (s .args .node .count) (s .args .left .now) (p .0 .0)),
           omega (arith, p .1 .1, length-take-le (s .args .side .count) (s .args .right .now) (p .0 .1)),
-          omega (arith, p .1 .1, ap length (n .0), few-there s, s .pre .1 .0 .1),
+          omega (arith, p .1 .1, ap length (n .0), few-prefix (s .args .bound) (s .args .to) (s .args .pairs .now), s .pre .1 .0 .1),
         ),
       ),
     )
@@ -54,7 +48,7 @@ slice-aggregate-copy-sums c = sym (length-take-le _ _ (c .before .before .before
 copy-sums-requires : tie.Need-copy-sums-requires
 copy-sums-requires c κs =
     let s = c .before .before .before .before .before .before .before .before .before .before .before .before .before .before .before .before .before .before .before .before .before .before .before .before .before .before .before .before .before .before in
-    omega (arith, ap length (c .before .before .before .before .before .before .before .before .before .before .before .before .before .before .before .before .before .before .prefix-levels .ensures .0), few-there s, s .pre .1 .1 .0 .3)
+    omega (arith, ap length (c .before .before .before .before .before .before .before .before .before .before .before .before .before .before .before .before .before .before .prefix-levels .ensures .0), few-prefix (s .args .bound) (s .args .to) (s .args .pairs .now), s .pre .1 .1 .0 .3)
 
 returns : tie.Need-returns
 returns c =

@@ -1,5 +1,4 @@
 use mathlib.Core.Path.{refl, sym}
-use native.Mathlib.Omega.{arith}
 use lib.Seq.{length-take-le}
 use Rattle.words.proofs.Parts.{tail-of}
 use Rattle.aspif.specs.Reading.{allWeights}

@@ -1,4 +1,3 @@
-use mathlib.Core.Path.{refl}
 use native.Mathlib.Omega.{arith}
 use Rattle.totalizer.proofs.Emitted.{emits-full, emits-last, emits-put}
 use borrow.Author.Needs.{needs}

@@ -1,4 +1,3 @@
-use native.Mathlib.Omega.{arith}
 use borrow.Author.Needs.{needs}
 use Rattle.totalizer.proofs.Emitted.{emits-none}
 use Rattle.joins.proofs.Joins.{share-none, share-one}

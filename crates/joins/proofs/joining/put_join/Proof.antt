@@ -1,8 +1,5 @@
-use mathlib.Core.Path.{_≡_}
-use mathlib.Core.List.{_++_}
-use Prim.Native.Nat.{_+_}
 use native.Mathlib.Omega.{arith}
-use lib.ListN.{length, length-append}
+use lib.ListN.{length-append}
 use Rattle.text.proofs.Puts.{put-on}
 use Rattle.joins.specs.Joining.{saidAt}
 use Rattle.joins.proofs.Joins.{join-put}

@@ -1,4 +1,4 @@
-use mathlib.Core.Path.{_≡_, refl, sym, _∙_}
+use mathlib.Core.Path.{refl, sym, _∙_}
 use Rattle.aspif.specs.Tables.{ruleAt}
 use Rattle.long_sums.proofs.Held.{held-shape}
 use Rattle.long_sums.proofs.Items.{whole-emitted}

@@ -1,9 +1,6 @@
 use mathlib.Core.Path.{_≡_, sym, _∙_}
-use mathlib.Core.List.{[], _++_}
-use Prim.Native.Nat.{_+_, _-_, _≤_}
+use Prim.Native.Nat.{_+_, _-_}
 use native.Mathlib.Omega.{arith}
-use lib.ListN.{length}
-use Rattle.words.specs.Limits.{mostRules}
 use Rattle.weights.specs.Weights.{paired}
 use Rattle.aspif.specs.Tables.{bodyWordsAt}
 use Rattle.aspif.proofs.PairWords.{length-paired}
