@@ -1,6 +1,7 @@
-//! The benchmark: the whole check through the static library beside an unverified checker, on inputs made from fixed seeds. Both
-//! must give the same verdict on each input. Then the packets of the longest proof, written, read back and moved, two halves and a tree of 64 ends
-//! each merged into one proof, refutations trimmed, a cheapest set certified, long sums split, and reading alone. The last line is 'N passed, M failed'; the exit status is 0 where none failed.
+//! The benchmark: the whole check through the static library beside an unverified checker, on inputs made from fixed
+//! seeds. Both must give the same verdict on each input. Then the packets of the longest proof, written, read back and
+//! moved, two halves and a tree of 64 ends each merged into one proof, refutations trimmed, a cheapest set certified,
+//! long sums split, and reading alone. The last line is 'N passed, M failed'; the exit status is 0 where none failed.
 //!
 //! With `--once` each input is run once by each checker, and only small ones are trimmed. Without arguments the times are medians of 31 repetitions; a number as
 //! the argument says how many others there are to be. With `--slow` the inputs that were made to be slow are run once in place of the others.
@@ -81,9 +82,10 @@ fn run_slow() -> usize {
     failed
 }
 
-/// Runs all inputs, the packets of the longest proof, the merges, trimming, the cheapest set and reading alone; on how many inputs the checkers
-/// differ, one more where a packet is not read back or not moved, one more where the halves are not merged, one more where the tree is not, one more for each proof of which other steps
-/// are left than must be, one more where the set is not certified, one more for each program whose sums are split into other rules than must
+/// Runs all inputs, the packets of the longest proof, the merges, trimming, the cheapest set and reading alone; on how
+/// many inputs the checkers differ, one more where a packet is not read back or not moved, one more where the halves
+/// are not merged, one more where the tree is not, one more for each proof of which other steps are left than must be,
+/// one more where the set is not certified, one more for each program whose sums are split into other rules than must
 /// be, and one more where a text is refused that should be read.
 fn run_all(repetitions: usize) -> usize {
     let inputs = cases::all();

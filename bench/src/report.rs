@@ -1,5 +1,5 @@
-//! What is printed: a row for each input, lines on the packets, on the merge, on trimming, on a cheapest set, on long sums and on reading, the
-//! rows of two programs side by side, and those on growth.
+//! What is printed: a row for each input, lines on the packets, on the merge, on trimming, on a cheapest set, on long
+//! sums and on reading, the rows of two programs side by side, and those on growth.
 
 use crate::cases::{Goal, Input};
 use crate::costs::Certified;

@@ -1,25 +1,30 @@
 -- What a program whose long sums were split says of the program as written: `sound-split`, `sound-split-long`,
--- `yes-split`, `found-split`, `extends-split`.
+-- `yes-split`, `found-split`, `extends-split`; and that what was written is read, `read-split`.
 -- Assumes nothing.
 use mathlib.Core.Path.{_≡_, refl, sym, _∙_, ap, ap₂, subst}
 use mathlib.Core.Bool.{Bool, true, false, cond, _&&_, _||_}
 use mathlib.Core.Logic.{_↔_, _⊎_, inl, inr}
-use mathlib.Core.List.{List, _++_}
-use Prim.Native.Nat.{ℕ, _-_, _≤_}
+use mathlib.Core.List.{List, [], _∷_, _++_}
+use Prim.Native.Nat.{ℕ, _+_, _-_, _≤_, _<_}
 use native.Mathlib.Omega.{arith}
+use borrow.Author.Tests.{leb-true, le-leb}
 use lib.Dec.{eqb, leb}
 use lib.IntN.{ℤ, pos, negsuc}
-use lib.ListN.{length, take, replicate}
+use lib.ListN.{length, take, replicate, length-append}
 use lib.Seq.{take-append-seam}
-use Rattle.words.specs.Limits.{longest, widest, mostLiterals}
+use Rattle.words.specs.Limits.{largest, longest, widest, mostLiterals, mostRules}
 use Rattle.words.specs.Lists.{_∈_, any, ascends}
-use Rattle.words.proofs.Lists.{zero-one, Decides, reworded, and-decides, or-decides, eqb-decides, leb-decides, any-decides}
+use Rattle.words.proofs.Lists.{zero-one, and-left, and-right, Decides, reworded, and-decides, or-decides, eqb-decides, leb-decides, any-decides}
+use Rattle.text.specs.Decimals.{numberBytes, spaced}
+use Rattle.weights.specs.Weights.{pairWords, mostWeighted}
 use Rattle.marks.specs.Marks.{listed}
-use Rattle.aspif.specs.Rules.{InputRule, expand, atoms}
+use Rattle.aspif.specs.Rules.{Body, plain, weights, InputRule, expand, atoms, boundWords, bodyWords, ruleWords, programWords}
 use Rattle.aspif.specs.AnswerSets.{AnswerSet}
-use Rattle.aspif.specs.Reading.{Reading, refused, program, readTextWithin, ProgramRead}
+use Rattle.aspif.specs.Reading.{Reading, refused, program, readTextWithin, readLines, readText, programAnswer, ProgramRead}
+use Rattle.aspif.specs.Claims.{FormedWithin}
 use Rattle.aspif.specs.declared.ProgramReading.the-variants.{Read}
-use Rattle.aspif.specs.Text.{programText}
+use Rattle.aspif.specs.Text.{bodyNumbers, ruleNumbers, ruleText, rulesText, programText}
+use Rattle.aspif.proofs.Formed.{within-fits}
 use Rattle.answer_set.specs.declared.SetAnswer.the-variants.{Yes}
 use Rattle.answer_set.proofs.Answered.{listed-decides}
 use Rattle.costs.specs.Costs.{total, Holds, Costs}
@@ -34,23 +39,54 @@ use Rattle.sums.specs.Extension.{Holding, Says, UpTo, Extended}
 use Rattle.sums.specs.Plans.{Definition, allDefinitions}
 use Rattle.sums.proofs.Levels.{program-sound, program-keeps, program-agrees, program-conserves}
 use Rattle.sums.proofs.Sorted.{sorted-groups}
+use Rattle.sums.proofs.Formed.{split-read}
+use Rattle.long_sums.proofs.Answers.{past-first}
 use Rattle.long_sums.specs.Service.{SplitLeft, isGroupSize, isWritable, zeroed, written, splitTo, splitReading, splitText, SplitSums}
 use Rattle.long_sums.specs.declared.SplitAnswer.{SplitAnswer}
 use Rattle.long_sums.specs.declared.SplitAnswer.the-variants.{Split, RefusedProgram, Refused}
-use Rattle.soundness.specs.Page.{IsAnswerSet, HasNone, SoundSplit, SoundSplitLong, YesSplit, FoundSplit, ExtendsSplit}
+use Rattle.soundness.specs.Page.{IsAnswerSet, HasNone, SoundSplit, SoundSplitLong, YesSplit, FoundSplit, ExtendsSplit, ReadSplit}
 use Rattle.soundness.proofs.Printed.{InOrder, within-in-order, none-within, has-none, kept, as-written, as-read, yes-printed}
 use Rattle.soundness.proofs.Direct.{plain-set, direct-set}
 
--- The text is that of the rules read with their sums split, and N is their largest atom
-pub record Wrote (ws : List InputRule) (text : List ℕ) (N : ℕ) : Type 0 where
+-- Rules that can be written, as question 66 asks
+pub record Writable (vs : List InputRule) : Type 0 where
+  pub few : length vs ≤ mostRules
+  pub low : atoms vs ≤ largest
+  pub short : length (programText vs) ≤ longest
+
+writable : (t o : ℕ) (vs : List InputRule) → isWritable t o vs ≡ true → Writable vs
+writable t o vs e =
+    let a = leb (length vs) mostRules in
+    let b = leb (atoms vs) largest in
+    let c = leb (length (programText vs)) longest in
+    let f = and-right a (b && (c && leb (length (programText vs)) o)) e in
+    let g = and-right b (c && leb (length (programText vs)) o) f in
+    record {
+      few = leb-true (length vs) mostRules (and-left a (b && (c && leb (length (programText vs)) o)) e);
+      low = leb-true (atoms vs) largest (and-left b (c && leb (length (programText vs)) o) f);
+      short = leb-true (length (programText vs)) longest (and-left c (leb (length (programText vs)) o) g);
+    }
+
+-- What the answer tells of the rules that were read and of those that were written
+pub record Told (text : List ℕ) (b a r N : ℕ) (rs vs : List InputRule) : Type 0 where
+  pub is : text ≡ programText vs
+  pub bytes : b ≡ length (programText vs)
+  pub atoms-are : a ≡ atoms vs
+  pub rules : r ≡ length vs
+  pub old : N ≡ atoms rs
+  pub can : Writable vs
+
+-- The text is that of the rules read with their sums split
+pub record Wrote (ws : List InputRule) (text : List ℕ) (b a r N : ℕ) : Type 0 where
   pub rs : List InputRule
   pub order : InOrder ws rs
+  pub formed : (r : InputRule) → r ∈ rs → FormedWithin mostLiterals r
   pub k : ℕ
-  pub is : text ≡ programText (splitProgram (sortedGroups k) rs)
-  pub old : N ≡ atoms rs
+  pub small : k < mostWeighted
+  pub told : Told text b a r N rs (splitProgram (sortedGroups k) rs)
 
-same-split : {b a r n b′ a′ r′ n′ : ℕ} → Split b a r n ≡ Split b′ a′ r′ n′ → (b ≡ b′) × (n ≡ n′)
-same-split e = (cc, cc)
+same-split : {b a r n b′ a′ r′ n′ : ℕ} → Split b a r n ≡ Split b′ a′ r′ n′ → (b ≡ b′) × (a ≡ a′) × (r ≡ r′) × (n ≡ n′)
+same-split e = (cc, cc, cc, cc)
 
 module _ (ws : List InputRule) (g : ℕ) (table table′ : List ℤ) (output output′ : List ℕ) (b a r N : ℕ) where
   abbrev t : ℕ
@@ -59,38 +95,88 @@ module _ (ws : List InputRule) (g : ℕ) (table table′ : List ℤ) (output out
   abbrev o : ℕ
   o = length output
 
-  abbrev Told : SplitLeft → Type 0
-  Told x = record { answer = Split b a r N; table = table′; output = output′ } ≡ x
+  abbrev Left : SplitLeft → Type 0
+  Left x = record { answer = Split b a r N; table = table′; output = output′ } ≡ x
 
   abbrev reading : Reading
   reading = readTextWithin mostLiterals t (programText ws)
 
-  wrote : SplitSums (programText ws) g table table′ output output′ (Split b a r N) → Wrote ws (take b output′) N
+  wrote : SplitSums (programText ws) g table table′ output output′ (Split b a r N) → Wrote ws (take b output′) b a r N
   unfolding splitText
   wrote = by reading refl
     where
-      as-told : (rs vs : List InputRule) → Told (written t o rs vs) → (take b output′ ≡ programText vs) × (N ≡ atoms rs)
-      as-told rs vs e =
+      split-to : (c : Bool) (rs vs : List InputRule) → isWritable t o vs ≡ c → Left (cond c (written t o rs vs) (zeroed t o (Refused 66))) → Told (take b output′) b a r N rs vs
+      split-to true rs vs w e =
           let s = same-split (ap (λ (x : SplitLeft). x .answer) e) in
-          (ap₂ (λ (n : ℕ) (l : List ℕ). take n l) (s .0) (ap (λ (x : SplitLeft). x .output) e) ∙ take-append-seam (programText vs) _, s .1)
+          record {
+            is = ap₂ (λ (n : ℕ) (l : List ℕ). take n l) (s .0) (ap (λ (x : SplitLeft). x .output) e) ∙ take-append-seam (programText vs) _;
+            bytes = s .0;
+            atoms-are = s .1;
+            rules = s .2;
+            old = s .3;
+            can = writable t o vs w;
+          }
+      split-to false rs vs w e = absurd (zero-one (let q = ap (λ (x : SplitLeft). x .answer) e in cc))
 
-      split-to : (c : Bool) (rs vs : List InputRule) → Told (cond c (written t o rs vs) (zeroed t o (Refused 66))) → (take b output′ ≡ programText vs) × (N ≡ atoms rs)
-      split-to true rs vs e = as-told rs vs e
-      split-to false rs vs e = absurd (zero-one (let q = ap (λ (x : SplitLeft). x .answer) e in cc))
+      by-size : (rs : List InputRule) → InOrder ws rs → ((r : InputRule) → r ∈ rs → FormedWithin mostLiterals r)
+          → (c : Bool) → isGroupSize g ≡ c → Left (cond c (splitTo t o rs (splitProgram (sortedGroups (g - 1)) rs)) (zeroed t o (Refused 65)))
+          → Wrote ws (take b output′) b a r N
+      by-size rs i f true q e =
+          let vs = splitProgram (sortedGroups (g - 1)) rs in
+          record {
+            rs = rs;
+            order = i;
+            formed = f;
+            k = g - 1;
+            small = omega (arith, leb-true 2 g (and-left (leb 2 g) (leb g mostWeighted) q), leb-true g mostWeighted (and-right (leb 2 g) (leb g mostWeighted) q));
+            told = split-to (isWritable t o vs) rs vs refl e;
+          }
+      by-size rs i f false q e = absurd (zero-one (let q = ap (λ (x : SplitLeft). x .answer) e in cc))
 
-      sized : (c : Bool) (rs vs : List InputRule) → Told (cond c (splitTo t o rs vs) (zeroed t o (Refused 65))) → (take b output′ ≡ programText vs) × (N ≡ atoms rs)
-      sized true rs vs e = split-to (isWritable t o vs) rs vs e
-      sized false rs vs e = absurd (zero-one (let q = ap (λ (x : SplitLeft). x .answer) e in cc))
-
-      by : (x : Reading) → reading ≡ x → Told (splitReading t o g x) → Wrote ws (take b output′) N
+      by : (x : Reading) → reading ≡ x → Left (splitReading t o g x) → Wrote ws (take b output′) b a r N
       by (refused k n) q e = absurd (zero-one (let q = ap (λ (x : SplitLeft). x .answer) e in cc))
       by (program rs) q e =
-          let w = sized (isGroupSize g) rs (splitProgram (sortedGroups (g - 1)) rs) e in
-          record { rs = rs; order = within-in-order mostLiterals t ws rs q; k = g - 1; is = w .0; old = w .1 }
+          by-size rs (within-in-order mostLiterals t ws rs q) (within-fits mostLiterals t (programText ws) rs (past-first mostLiterals t (programText ws) rs q) .formed)
+          (isGroupSize g) refl e
 
-module _ {ws : List InputRule} {text : List ℕ} {N : ℕ} (w : Wrote ws text N) where
+-- No rule has more words than bytes
+
+spaced-long : (zs : List ℤ) → length zs ≤ length (spaced zs)
+unfolding spaced
+spaced-long [] = omega arith
+spaced-long (z ∷ zs) = omega (arith, length-append (numberBytes z) (spaced zs), spaced-long zs)
+
+as-many : (hs : List ℤ) (b : Body) → length (boundWords b ++ (hs ++ bodyWords b)) + 2 ≡ length (hs ++ bodyNumbers b)
+as-many hs (plain ls) = omega (arith, length-append hs ls, length-append hs (pos 0 ∷ pos (length ls) ∷ ls))
+as-many hs (weights b ps) = omega (arith, length-append hs (pairWords ps), length-append hs (pos 1 ∷ pos b ∷ pos (length ps) ∷ pairWords ps))
+
+rule-long : (r : InputRule) → length (ruleWords r) ≤ length (ruleText r)
+unfolding ruleText
+rule-long r = omega (arith, as-many (r .heads) (r .body), spaced-long (ruleNumbers r), length-append (spaced (ruleNumbers r)) (10 ∷ []))
+
+rules-long : (rs : List InputRule) → length (programWords rs) ≤ length (rulesText rs)
+unfolding rulesText
+rules-long [] = omega arith
+rules-long (r ∷ rs) = omega (arith, length-append (ruleWords r) (programWords rs), length-append (ruleText r) (rulesText rs), rule-long r, rules-long rs)
+
+text-long : (rs : List InputRule) → length (programWords rs) ≤ length (programText rs)
+unfolding programText
+text-long rs = omega (arith, rules-long rs)
+
+module _ {ws : List InputRule} {text : List ℕ} {b a r N : ℕ} (w : Wrote ws text b a r N) where
   abbrev vs : List InputRule
   vs = splitProgram (sortedGroups (w .k)) (w .rs)
+
+  -- What was written is read, where the table has room for it
+
+  lines : (size : ℕ) → length text ≤ size → readLines size (programText vs) ≡ program vs
+  lines size h =
+      let c = w .told .can in
+      split-read (w .k) (w .small) (w .rs) (w .formed) size (c .low) (c .few) (omega (arith, text-long vs, ap length (w .told .is)))
+
+  pub reads : (size : ℕ) → length text ≤ size → readText size (programText vs) ≡ program vs
+  unfolding readText
+  reads size h = ap (λ c. cond c (readLines size (programText vs)) (refused 1 0)) (le-leb (length (programText vs)) longest (w .told .can .short)) ∙ lines size h
 
   -- The whole check
 
@@ -100,14 +186,14 @@ module _ {ws : List InputRule} {text : List ℕ} {N : ℕ} (w : Wrote ws text N)
   pub sound-wrote : (limit : ℕ) (proof : List ℕ) (table store table′ store′ : List ℤ) (c : Counts)
       → CheckedWithin limit text proof table store table′ store′ (Inconsistent c) → HasNone ws
   sound-wrote limit proof table store table′ store′ c e =
-      none-split (none-within limit vs proof table store table′ store′ c (subst (λ (l : List ℕ). CheckedWithin limit l proof table store table′ store′ (Inconsistent c)) (w .is) e))
+      none-split (none-within limit vs proof table store table′ store′ c (subst (λ (l : List ℕ). CheckedWithin limit l proof table store table′ store′ (Inconsistent c)) (w .told .is) e))
 
   -- Answer sets
 
   pub down-to : (K : ℕ → Type 0) → IsAnswerSet K vs → IsAnswerSet (UpTo N K) ws
   down-to K S =
       let a = program-conserves (sortedGroups (w .k)) (sorted-groups (w .k)) (w .rs) K (plain-set K vs S) in
-      as-written (w .order) (UpTo N K) (subst (λ (n : ℕ). AnswerSet (UpTo n K) (expand (w .rs))) (sym (w .old)) a)
+      as-written (w .order) (UpTo N K) (subst (λ (n : ℕ). AnswerSet (UpTo n K) (expand (w .rs))) (sym (w .told .old)) a)
 
   -- an answer set with the new atoms that it makes true
   abbrev with-new : (ℕ → Type 0) → ℕ → Type 0
@@ -117,7 +203,7 @@ module _ {ws : List InputRule} {text : List ℕ} {N : ℕ} (w : Wrote ws text N)
   up-from M S =
       let a = as-read (w .order) M S in (
         direct-set (with-new M) vs (program-keeps (sortedGroups (w .k)) (sorted-groups (w .k)) (w .rs) M a),
-        subst (λ (n : ℕ). (a : ℕ) → M a ↔ UpTo n (with-new M) a) (sym (w .old)) (program-agrees (sortedGroups (w .k)) (sorted-groups (w .k)) (w .rs) M a),
+        subst (λ (n : ℕ). (a : ℕ) → M a ↔ UpTo n (with-new M) a) (sym (w .told .old)) (program-agrees (sortedGroups (w .k)) (sorted-groups (w .k)) (w .rs) M a),
       )
 
 -- Of a set that is listed it is decided which new atoms it makes true
@@ -164,6 +250,13 @@ module _ (l : List ℕ) where
       by true i = inl (i .to tt)
       by false i = inr (λ x. i .from x)
 
+pub read-split : ReadSplit
+read-split ws g table table′ output output′ b a r N s words words′ c h p =
+    let w = wrote ws g table table′ output output′ b a r N s in
+    let q = subst (λ (x : List ℕ). ProgramRead x words words′ c) (w .told .is) p in
+    let n : length (take b output′) ≤ length words = omega (arith, h, w .told .bytes, ap length (w .told .is)) in
+    q .answer ∙ ap programAnswer (reads w (length words) n) ∙ ap₂ Read (sym (w .told .atoms-are)) (sym (w .told .rules))
+
 pub sound-split : SoundSplit
 sound-split ws g table table′ output output′ b a r N s = sound-wrote (wrote ws g table table′ output output′ b a r N s) longest
 
@@ -174,13 +267,13 @@ sound-split-long ws g table table′ output output′ b a r N s proof words stor
 pub yes-split : YesSplit
 yes-split ws g table table′ output output′ b a r N s words words′ A R p l marks marks′ t =
     let w = wrote ws g table table′ output output′ b a r N s in
-    let q = subst (λ (x : List ℕ). ProgramRead x words words′ (Read A R)) (w .is) p in
+    let q = subst (λ (x : List ℕ). ProgramRead x words words′ (Read A R)) (w .told .is) p in
     down-to w (λ v. v ∈ l) (yes-printed (vs w) words words′ A R q l marks marks′ Yes t .0 refl .2)
 
 pub found-split : FoundSplit
 found-split ws g table table′ output output′ b a r N s words words′ A R p l S =
     let w = wrote ws g table table′ output output′ b a r N s in
-    let q = subst (λ (x : List ℕ). ProgramRead x words words′ (Read A R)) (w .is) p in
+    let q = subst (λ (x : List ℕ). ProgramRead x words words′ (Read A R)) (w .told .is) p in
     let h = kept (vs w) words words′ A R q in
     let u = up-from w (λ v. v ∈ l) S in
     let T = as-read (h .order) (with-new w (λ v. v ∈ l)) (u .0) in
@@ -198,4 +291,4 @@ found-split ws g table table′ output output′ b a r N s words words′ A R p 
 
 pub extends-split : ExtendsSplit
 extends-split ws g table table′ output output′ b a r N s =
-    let w = wrote ws g table table′ output output′ b a r N s in (vs w, w .is, λ M S. let u = up-from w M S in (with-new w M, u .0, u .1))
+    let w = wrote ws g table table′ output output′ b a r N s in (vs w, w .told .is, λ M S. let u = up-from w M S in (with-new w M, u .0, u .1))

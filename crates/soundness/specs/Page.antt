@@ -21,6 +21,7 @@ use Rattle.aspif.specs.Text.{programText}
 use Rattle.aspif.specs.AnswerSets.{AnswerSet}
 use Rattle.aspif.specs.Reading.{ProgramRead}
 use Rattle.aspif.specs.declared.Kind.the-variants.{Choice}
+use Rattle.aspif.specs.declared.ProgramReading.{ProgramReading}
 use Rattle.aspif.specs.declared.ProgramReading.the-variants.{Read}
 use Rattle.derivation.specs.Claims.{WrittenConstraint}
 use Rattle.answer_set.specs.SetTest.{SetTested}
@@ -230,6 +231,16 @@ ExtendsSplit =
     → (vs : List InputRule) × (take bytes output′ ≡ programText vs)
     × ((M : ℕ → Type 0) → IsAnswerSet M ws
     → (K : ℕ → Type 0) × IsAnswerSet K vs × ((a : ℕ) → M a ↔ ((a ≤ N) × K a)))
+
+-- What was written is read: a table of as many words as there are bytes holds it, and its largest atom
+-- and its rules are those told
+abbrev pub ReadSplit : Type 0
+ReadSplit =
+    (ws : List InputRule) (group : ℕ) (table table′ : List ℤ) (output output′ : List ℕ)
+    (bytes atoms rules N : ℕ)
+    → SplitSums (programText ws) group table table′ output output′ (Split bytes atoms rules N)
+    → (words words′ : List ℤ) (r : ProgramReading) → bytes ≤ length words
+    → ProgramRead (take bytes output′) words words′ r → r ≡ Read atoms rules
 
 -- The same of the services for C and Rust: where `aspdrupe_split_sums` returned 0, and its buffer
 -- then begins with the bytes, two numbers and N, and another service returns 0 of what was written
