@@ -145,7 +145,7 @@ module _ (t o g : ℕ) where
   reading-split (program rs) p =
       by-test OnlySplit (isGroupSize g)
       (λ q.
-      by-test OnlySplit (isWritable t o (splitProgram (sortedGroups (g - 1)) rs)) (λ w e. (_, _, _, _, refl)) (λ w e. absurd (omega arith)))
+      by-test OnlySplit (isWritable o (splitProgram (sortedGroups (g - 1)) rs)) (λ w e. (_, _, _, _, refl)) (λ w e. absurd (omega arith)))
       (λ q e. absurd (omega arith))
 
   split-only : (text : List ℕ) → OnlySplit (splitText t o text g)

@@ -54,8 +54,8 @@ pub record Writable (vs : List InputRule) : Type 0 where
   pub low : atoms vs ≤ largest
   pub short : length (programText vs) ≤ longest
 
-writable : (t o : ℕ) (vs : List InputRule) → isWritable t o vs ≡ true → Writable vs
-writable t o vs e =
+writable : (o : ℕ) (vs : List InputRule) → isWritable o vs ≡ true → Writable vs
+writable o vs e =
     let a = leb (length vs) mostRules in
     let b = leb (atoms vs) largest in
     let c = leb (length (programText vs)) longest in
@@ -105,7 +105,7 @@ module _ (ws : List InputRule) (g : ℕ) (table table′ : List ℤ) (output out
   unfolding splitText
   wrote = by reading refl
     where
-      split-to : (c : Bool) (rs vs : List InputRule) → isWritable t o vs ≡ c → Left (cond c (written t o rs vs) (zeroed t o (Refused 66))) → Told (take b output′) b a r N rs vs
+      split-to : (c : Bool) (rs vs : List InputRule) → isWritable o vs ≡ c → Left (cond c (written t o rs vs) (zeroed t o (Refused 66))) → Told (take b output′) b a r N rs vs
       split-to true rs vs w e =
           let s = same-split (ap (λ (x : SplitLeft). x .answer) e) in
           record {
@@ -114,7 +114,7 @@ module _ (ws : List InputRule) (g : ℕ) (table table′ : List ℤ) (output out
             atoms-are = s .1;
             rules = s .2;
             old = s .3;
-            can = writable t o vs w;
+            can = writable o vs w;
           }
       split-to false rs vs w e = absurd (zero-one (let q = ap (λ (x : SplitLeft). x .answer) e in cc))
 
@@ -129,7 +129,7 @@ module _ (ws : List InputRule) (g : ℕ) (table table′ : List ℤ) (output out
             formed = f;
             k = g - 1;
             small = omega (arith, leb-true 2 g (and-left (leb 2 g) (leb g mostWeighted) q), leb-true g mostWeighted (and-right (leb 2 g) (leb g mostWeighted) q));
-            told = split-to (isWritable t o vs) rs vs refl e;
+            told = split-to (isWritable o vs) rs vs refl e;
           }
       by-size rs i f false q e = absurd (zero-one (let q = ap (λ (x : SplitLeft). x .answer) e in cc))
 
