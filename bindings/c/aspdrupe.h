@@ -234,7 +234,7 @@ uint32_t aspdrupe_merge_tree(const uint8_t *program, size_t program_len, const u
  * up in groups of `group` literals, 2 to 12, those of like weight together, by rules over new atoms above N; the rules
  * that define them stand before the rule itself. All other rules are written as they are read, their numbers in order.
  * What is written has the program's answer sets: each of its answer sets has, up to N, the atoms of one of the program,
- * and each of the program is found so once. So where a check of what is written comes to ASPDRUPE_INCONSISTENT, the
+ * and each of the program is found so. So where a check of what is written comes to ASPDRUPE_INCONSISTENT, the
  * program has no answer set. An output of 65,535 bytes holds every text that is written.
  * Returns 0 where it is written: answer[0] to answer[3] are its bytes, its largest atom, the number of its rules, and
  * N, the largest atom of the program as written; the output holds the text and 0 after it, and the table the words of
