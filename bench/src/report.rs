@@ -184,11 +184,11 @@ pub fn split(split: &Result<Split, &str>) {
             return;
         }
     };
-    let written = split.written.map_or(String::from("refused with 66"), |(rules, bytes)| format!("split into {rules} of {bytes} bytes"));
+    let written =
+        split.written.map_or(String::from("refused with 66"), |(rules, bytes)| format!("split into {rules} rules of {bytes} bytes"));
     println!(
-        "sums of {}: rules {} of {} bytes, {written} in {:.3} ms (least {:.3})",
+        "splitting of {}: {} bytes, {written} in {:.3} ms (least {:.3})",
         split.name,
-        split.rules,
         split.bytes,
         milliseconds(split.splitting.median),
         milliseconds(split.splitting.least),

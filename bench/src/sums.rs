@@ -17,10 +17,9 @@ struct Case {
     written: Option<usize>,
 }
 
-/// A program whose sums were split, or refused: its rules and bytes, those of what is written, and the times.
+/// A program whose sums were split, or refused: its bytes, the rules and bytes of what is written, and the times.
 pub struct Split {
     pub name: &'static str,
-    pub rules: usize,
     pub bytes: usize,
     pub written: Option<(usize, usize)>,
     pub splitting: Times,
@@ -72,5 +71,5 @@ fn of(case: &Case, repetitions: usize) -> Option<Split> {
         times.push(time);
     }
     let good = written.map(|(rules, _)| rules) == case.written;
-    good.then(|| Split { name: case.name, rules: case.rules.len(), bytes: text.len(), written, splitting: times_of(times) })
+    good.then(|| Split { name: case.name, bytes: text.len(), written, splitting: times_of(times) })
 }

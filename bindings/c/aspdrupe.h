@@ -28,8 +28,8 @@ extern "C" {
 
 /* A thread with a stack of so many bytes has enough for any call but those below, with what the C library takes of a thread's stack for itself.
  * What your own code and its thread-local variables take comes on top. The need does not grow with the texts: the whole check was measured
- * at 725,216 bytes, the services other than it and those below at 64,304 or less (bindings/c/stack.c). Some C libraries give a thread less by default:
- * musl 128 KB. */
+ * at 725,216 bytes, the splitting of sums at 203,680, the other services but those below at 64,304 or less
+ * (bindings/c/stack.c). Some C libraries give a thread less by default: musl 128 KB. */
 #define ASPDRUPE_STACK 786432
 
 /* The same for aspdrupe_merge_halves, which checks the halves over a table of its own beside the one lent: 1,095,104 bytes were measured. */
@@ -234,7 +234,7 @@ uint32_t aspdrupe_merge_tree(const uint8_t *program, size_t program_len, const u
  * up in groups of `group` literals, 2 to 12, those of like weight together, by rules over new atoms above N; the rules
  * that define them stand before the rule itself. All other rules are written as they are read, their numbers in order.
  * What is written has the program's answer sets: each of its answer sets has, up to N, the atoms of one of the program,
- * and each of the program is found so once. So where a check of what is written comes to ASPDRUPE_INCONSISTENT, the
+ * and each of the program is found so. So where a check of what is written comes to ASPDRUPE_INCONSISTENT, the
  * program has no answer set. An output of 65,535 bytes holds every text that is written.
  * Returns 0 where it is written: answer[0] to answer[3] are its bytes, its largest atom, the number of its rules, and
  * N, the largest atom of the program as written; the output holds the text and 0 after it, and the table the words of

@@ -11,7 +11,7 @@ const TEXT_LIMIT: usize = 65_535;
 /// up in groups of so many literals, 2 to 12, those of like weight together, with new atoms above those of the program.
 /// All other rules are written as they are read. What is written has the answer sets of the program: each of its answer
 /// sets has, up to [`Splitting::Split::old_atoms`], the atoms of one of the program, and each of the program is found
-/// so once. So an 'inconsistent' for what is written is one for the program.
+/// so. So an 'inconsistent' for what is written is one for the program.
 ///
 /// The output then begins with the text and has 0 after it, and the table holds the rules of the program as written, as
 /// [`read_program`] would leave them; both are 0 throughout where anything is refused. 65,535 bytes hold every text

@@ -1,6 +1,8 @@
 //! Programs with long sums: cases with the answer or the text that they must lead to, cases at the limits, and random
 //! programs of which all answer sets can be found by trying.
 
+use std::sync::OnceLock;
+
 use inputs::programs::literals;
 use inputs::random::Random;
 use inputs::rules::{choice, constraint, normal, program_text, rule_line, Body, Rule};
@@ -24,8 +26,13 @@ pub struct Case {
     pub written: Option<Vec<u8>>,
 }
 
-/// All cases.
-pub fn cases() -> Vec<Case> {
+/// All cases, made once.
+pub fn cases() -> &'static [Case] {
+    static CASES: OnceLock<Vec<Case>> = OnceLock::new();
+    CASES.get_or_init(all_cases)
+}
+
+fn all_cases() -> Vec<Case> {
     let mut cases = worked();
     cases.extend(group_sizes());
     cases.extend(refused_programs());

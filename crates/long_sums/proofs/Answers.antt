@@ -153,7 +153,7 @@ rule-low r f =
     let b = top-within largest (literalsOf (r .body)) (λ z i. inside (literalsOf (r .body)) (f .body-in) z i) in
     omega arith
 
-past-first : (most size : ℕ) (text : List ℕ) (rs : List InputRule) → readTextWithin most size text ≡ program rs → readLinesWithin most size text ≡ program rs
+pub past-first : (most size : ℕ) (text : List ℕ) (rs : List InputRule) → readTextWithin most size text ≡ program rs → readLinesWithin most size text ≡ program rs
 unfolding readTextWithin
 past-first most size text rs e = go (leb (length text) longest) e
   where

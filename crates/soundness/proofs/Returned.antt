@@ -40,10 +40,10 @@ use Rattle.long_sums.specs.Service.{SplitLeft, isGroupSize, isWritable, splitRe
 use Rattle.long_sums.specs.declared.SplitAnswer.the-variants as Sums
 use Rattle.exports.specs.Services.{ProgramService, CheckService, CheapestService, SplitService}
 use Rattle.exports.specs.Codes.{Told, programCode, programNumbers, setCode, verdictCode, verdictNumbers, cheapestCode, cheapestNumbers, splitCode, splitNumbers}
-use Rattle.soundness.specs.Page.{IsCheapest, SoundReturned, OnlyReturned, SoundLongReturned, OnlyLongReturned, YesReturned, SoundSplitReturned, SoundSplitLongReturned, YesSplitReturned, FoundSplitReturned, CheapestReturned, OnlyCheapestReturned}
+use Rattle.soundness.specs.Page.{IsCheapest, SoundReturned, OnlyReturned, SoundLongReturned, OnlyLongReturned, YesReturned, SoundSplitReturned, SoundSplitLongReturned, YesSplitReturned, FoundSplitReturned, OnlySplitReturned, CheapestReturned, OnlyCheapestReturned}
 use Rattle.soundness.proofs.Numbers.{Numbered, within-numbered, read-numbered}
 use Rattle.soundness.proofs.Printed.{sound-printed, only-printed, sound-long, only-long, yes-printed}
-use Rattle.soundness.proofs.Split.{sound-split, sound-split-long, yes-split, found-split}
+use Rattle.soundness.proofs.Split.{sound-split, sound-split-long, yes-split, only-split, found-split}
 use Rattle.soundness.proofs.Cheapest.{cheapest-printed, only-cheapest}
 
 -- The whole check
@@ -136,19 +136,19 @@ yes-returned ws table table′ before more N R s l marks marks′ answer answer�
 -- Sums of up to 64 literals
 
 -- an outcome of which 0 is returned is a text that was written
-abbrev OnlySplit : SplitLeft → Type 0
-OnlySplit x = 0 ≡ splitCode (x .answer) → (b : ℕ) × (a : ℕ) × (r : ℕ) × (n : ℕ) × (x .answer ≡ Sums.Split b a r n)
+abbrev WrittenOnly : SplitLeft → Type 0
+WrittenOnly x = 0 ≡ splitCode (x .answer) → (b : ℕ) × (a : ℕ) × (r : ℕ) × (n : ℕ) × (x .answer ≡ Sums.Split b a r n)
 
 module _ (t o g : ℕ) where
-  reading-split : (x : Reading) → Numbered x → OnlySplit (splitReading t o g x)
+  reading-split : (x : Reading) → Numbered x → WrittenOnly (splitReading t o g x)
   reading-split (refused k n) p = λ e. absurd (omega (arith, p))
   reading-split (program rs) p =
-      by-test OnlySplit (isGroupSize g)
+      by-test WrittenOnly (isGroupSize g)
       (λ q.
-      by-test OnlySplit (isWritable t o (splitProgram (sortedGroups (g - 1)) rs)) (λ w e. (_, _, _, _, refl)) (λ w e. absurd (omega arith)))
+      by-test WrittenOnly (isWritable o (splitProgram (sortedGroups (g - 1)) rs)) (λ w e. (_, _, _, _, refl)) (λ w e. absurd (omega arith)))
       (λ q e. absurd (omega arith))
 
-  split-only : (text : List ℕ) → OnlySplit (splitText t o text g)
+  split-only : (text : List ℕ) → WrittenOnly (splitText t o text g)
   unfolding splitText
   split-only text = reading-split (readTextWithin mostLiterals t text) (within-numbered mostLiterals t text)
 
@@ -192,6 +192,9 @@ found-split-returned ws g table table′ output output′ before more b a r N s 
           t .told .returned
           ∙ ap setCode (f .2 marks marks′ (setAnswer (f .0) (asked words′ R (f .0) (length marks))) e (record { answer = refl; marks = t .left })),
     )
+
+pub only-split-returned : OnlySplitReturned
+only-split-returned text g table table′ output output′ before more b a r N s = only-split text g table table′ output output′ b a r N (split-so s)
 
 -- The cheapest answer set
 

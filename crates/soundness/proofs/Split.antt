@@ -25,6 +25,7 @@ use Rattle.aspif.specs.Claims.{FormedWithin}
 use Rattle.aspif.specs.declared.ProgramReading.the-variants.{Read}
 use Rattle.aspif.specs.Text.{bodyNumbers, ruleNumbers, ruleText, rulesText, programText}
 use Rattle.aspif.proofs.Formed.{within-fits}
+use Rattle.aspif.proofs.Spelled.{within-spelled}
 use Rattle.answer_set.specs.declared.SetAnswer.the-variants.{Yes}
 use Rattle.answer_set.proofs.Answered.{listed-decides}
 use Rattle.costs.specs.Costs.{total, Holds, Costs}
@@ -44,7 +45,7 @@ use Rattle.long_sums.proofs.Answers.{past-first}
 use Rattle.long_sums.specs.Service.{SplitLeft, isGroupSize, isWritable, zeroed, written, splitTo, splitReading, splitText, SplitSums}
 use Rattle.long_sums.specs.declared.SplitAnswer.{SplitAnswer}
 use Rattle.long_sums.specs.declared.SplitAnswer.the-variants.{Split, RefusedProgram, Refused}
-use Rattle.soundness.specs.Page.{IsAnswerSet, HasNone, SoundSplit, SoundSplitLong, YesSplit, FoundSplit, ExtendsSplit, ReadSplit}
+use Rattle.soundness.specs.Page.{IsAnswerSet, HasNone, SoundSplit, SoundSplitLong, YesSplit, FoundSplit, ExtendsSplit, ReadSplit, OnlySplit}
 use Rattle.soundness.proofs.Printed.{InOrder, within-in-order, none-within, has-none, kept, as-written, as-read, yes-printed}
 use Rattle.soundness.proofs.Direct.{plain-set, direct-set}
 
@@ -54,8 +55,8 @@ pub record Writable (vs : List InputRule) : Type 0 where
   pub low : atoms vs ≤ largest
   pub short : length (programText vs) ≤ longest
 
-writable : (t o : ℕ) (vs : List InputRule) → isWritable t o vs ≡ true → Writable vs
-writable t o vs e =
+writable : (o : ℕ) (vs : List InputRule) → isWritable o vs ≡ true → Writable vs
+writable o vs e =
     let a = leb (length vs) mostRules in
     let b = leb (atoms vs) largest in
     let c = leb (length (programText vs)) longest in
@@ -105,7 +106,7 @@ module _ (ws : List InputRule) (g : ℕ) (table table′ : List ℤ) (output out
   unfolding splitText
   wrote = by reading refl
     where
-      split-to : (c : Bool) (rs vs : List InputRule) → isWritable t o vs ≡ c → Left (cond c (written t o rs vs) (zeroed t o (Refused 66))) → Told (take b output′) b a r N rs vs
+      split-to : (c : Bool) (rs vs : List InputRule) → isWritable o vs ≡ c → Left (cond c (written t o rs vs) (zeroed t o (Refused 66))) → Told (take b output′) b a r N rs vs
       split-to true rs vs w e =
           let s = same-split (ap (λ (x : SplitLeft). x .answer) e) in
           record {
@@ -114,7 +115,7 @@ module _ (ws : List InputRule) (g : ℕ) (table table′ : List ℤ) (output out
             atoms-are = s .1;
             rules = s .2;
             old = s .3;
-            can = writable t o vs w;
+            can = writable o vs w;
           }
       split-to false rs vs w e = absurd (zero-one (let q = ap (λ (x : SplitLeft). x .answer) e in cc))
 
@@ -129,7 +130,7 @@ module _ (ws : List InputRule) (g : ℕ) (table table′ : List ℤ) (output out
             formed = f;
             k = g - 1;
             small = omega (arith, leb-true 2 g (and-left (leb 2 g) (leb g mostWeighted) q), leb-true g mostWeighted (and-right (leb 2 g) (leb g mostWeighted) q));
-            told = split-to (isWritable t o vs) rs vs refl e;
+            told = split-to (isWritable o vs) rs vs refl e;
           }
       by-size rs i f false q e = absurd (zero-one (let q = ap (λ (x : SplitLeft). x .answer) e in cc))
 
@@ -292,3 +293,14 @@ found-split ws g table table′ output output′ b a r N s words words′ A R p 
 pub extends-split : ExtendsSplit
 extends-split ws g table table′ output output′ b a r N s =
     let w = wrote ws g table table′ output output′ b a r N s in (vs w, w .told .is, λ M S. let u = up-from w M S in (with-new w M, u .0, u .1))
+
+-- a text whose sums are split was read
+pub only-split : OnlySplit
+unfolding splitText
+only-split text g table table′ output output′ b a r N = by (readTextWithin mostLiterals (length table) text) refl
+  where
+    by : (x : Reading) → readTextWithin mostLiterals (length table) text ≡ x
+        → record { answer = Split b a r N; table = table′; output = output′ } ≡ splitReading (length table) (length output) g x
+        → (ws : List InputRule) × (text ≡ programText ws)
+    by (refused k n) q e = absurd (zero-one (let q = ap (λ (x : SplitLeft). x .answer) e in cc))
+    by (program rs) q e = let s = within-spelled mostLiterals (length table) text rs q in (s .ws, s .is)

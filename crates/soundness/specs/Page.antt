@@ -242,6 +242,14 @@ ReadSplit =
     → (words words′ : List ℤ) (r : ProgramReading) → bytes ≤ length words
     → ProgramRead (take bytes output′) words words′ r → r ≡ Read atoms rules
 
+-- Nothing is missed: a text whose sums are split is the text of a program
+abbrev pub OnlySplit : Type 0
+OnlySplit =
+    (text : List ℕ) (group : ℕ) (table table′ : List ℤ) (output output′ : List ℕ)
+    (bytes atoms rules N : ℕ)
+    → SplitSums text group table table′ output output′ (Split bytes atoms rules N)
+    → (ws : List InputRule) × (text ≡ programText ws)
+
 -- The same of the services for C and Rust: where `aspdrupe_split_sums` returned 0, and its buffer
 -- then begins with the bytes, two numbers and N, and another service returns 0 of what was written
 abbrev pub SoundSplitReturned : Type 1
@@ -287,6 +295,13 @@ FoundSplitReturned =
     → (k : List ℕ) × ((v : ℕ) → v ∈ l ↔ ((v ≤ N) × (v ∈ k)))
     × ((marks marks′ answer answer′ : List ℕ) (code : ℕ) → length marks ≡ entries
     → SetService words′ R k marks marks′ answer answer′ code → code ≡ 0)
+
+abbrev pub OnlySplitReturned : Type 0
+OnlySplitReturned =
+    (text : List ℕ) (group : ℕ) (table table′ : List ℤ) (output output′ before more : List ℕ)
+    (bytes atoms rules N : ℕ)
+    → SplitService text group table table′ output output′ before (bytes ∷ atoms ∷ rules ∷ N ∷ more) 0
+    → (ws : List InputRule) × (text ≡ programText ws)
 
 -- The cheapest answer set: document 02, Change 12
 
