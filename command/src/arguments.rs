@@ -5,6 +5,7 @@ use std::iter::Peekable;
 use std::path::{Path, PathBuf};
 use std::time::Duration;
 
+use crate::certify::Limits;
 use crate::files;
 use crate::outcome::{Failure, Outcome};
 
@@ -21,6 +22,8 @@ pub struct Subcommand {
     pub options: &'static [&'static str],
     /// The options with any number of values: all words up to the next option.
     pub lists: &'static [&'static str],
+    /// The options without a value.
+    pub flags: &'static [&'static str],
     /// The places of the operands that are files to read.
     pub inputs: &'static [usize],
     /// The fewest and the most operands.
@@ -40,6 +43,7 @@ pub struct Words {
     operands: Vec<OsString>,
     values: Vec<(&'static str, OsString)>,
     lists: Vec<(&'static str, Vec<OsString>)>,
+    flags: Vec<&'static str>,
 }
 
 /// The words of a table or a store that may be asked for: 4 GB.
@@ -71,6 +75,11 @@ impl Words {
         self.operands.iter().skip(place).map(|word| word.to_string_lossy().into_owned()).collect()
     }
 
+    /// Whether an option without a value is given.
+    pub fn has(&self, flag: &str) -> bool {
+        self.flags.contains(&flag)
+    }
+
     /// The value of an option, as text.
     pub fn text(&self, option: &str) -> Option<String> {
         self.value(option).map(|value| value.to_string_lossy().into_owned())
@@ -97,8 +106,13 @@ impl Words {
         self.number(option, MOST_WORDS, "words")
     }
 
+    /// What `--table`, `--store` and `--time` say.
+    pub fn limits(&self) -> Result<Limits, Failure> {
+        Ok(Limits { table: self.room("--table")?, store: self.room_told("--store")?, time: self.seconds("--time")? })
+    }
+
     /// The seconds of an option.
-    pub fn seconds(&self, option: &str) -> Result<Option<Duration>, Failure> {
+    fn seconds(&self, option: &str) -> Result<Option<Duration>, Failure> {
         Ok(self.number(option, MOST_SECONDS, "seconds")?.map(|seconds| Duration::from_secs(seconds as u64)))
     }
 
@@ -122,6 +136,10 @@ impl Words {
     ) -> Result<(), String> {
         let of = |known: &'static [&'static str]| known.iter().copied().find(|option| *option == text);
         let twice = || Err(format!("`{text}` stands twice"));
+        if let Some(flag) = of(subcommand.flags) {
+            self.flags.push(flag);
+            return Ok(());
+        }
         if let Some(option) = of(subcommand.lists) {
             if self.lists.iter().any(|(name, _)| *name == option) {
                 return twice();
@@ -214,6 +232,7 @@ mod tests {
         more: "",
         options: &["-o", "--store"],
         lists: &["--set"],
+        flags: &["--all"],
         inputs: &[0],
         operands: (1, 2),
         run: |_| Err(Failure::misuse("")),
@@ -245,6 +264,7 @@ mod tests {
         assert_eq!((words.texts_from(0), words.output("-o")), (vec![String::from("a")], Some(PathBuf::from("out"))));
         assert_eq!(given("--set b -- a").unwrap().texts_from(0), ["a"]);
         assert!(given("a --set").unwrap().texts("--set").is_empty() && given("a").unwrap().texts("--set").is_empty());
+        assert!(given("a --set b --all").unwrap().has("--all") && !given("a --set b").unwrap().has("--all"));
     }
 
     #[test]

@@ -30,6 +30,7 @@ proofs of any length says of it is told.
 --table N and --store N are the words for rules and nogoods, 16384 each where nothing is said, as in `verdict`.",
     options: &["-o", "--table", "--store"],
     lists: &["--set", "--costs"],
+    flags: &[],
     inputs: &[0, 1],
     operands: (1, 2),
     run,

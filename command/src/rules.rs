@@ -52,6 +52,11 @@ impl Rule {
         }
     }
 
+    /// Whether its body is empty.
+    pub fn is_empty(&self) -> bool {
+        matches!(&self.body, Body::Plain(literals) if literals.is_empty())
+    }
+
     /// Its line in a program text.
     pub fn line(&self) -> String {
         let mut numbers = vec![1, i32::from(self.choice), self.heads.len() as i32];

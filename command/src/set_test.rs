@@ -23,6 +23,7 @@ without any it is the empty set. Facts are given by name all together, or by num
 and on the standard error on which side the atom lies, or the constraint with its line.",
     options: &[],
     lists: &[],
+    flags: &[],
     inputs: &[0],
     operands: (1, usize::MAX),
     run,

@@ -23,8 +23,31 @@ pub struct Ground {
     /// Whether that text is what gringo made of a plan, and not the file's own.
     pub of_plan: bool,
     pub names: Names,
+    /// What is to be minimized.
+    pub costs: Vec<Minimize>,
+    /// How many of its atoms, the last ones, were added where long sums were split.
+    pub added: usize,
     /// What was dropped or changed, and why that cannot matter.
     pub notes: Vec<String>,
+}
+
+/// A minimize statement: its priority, and literals with weights.
+#[derive(Debug, Clone, PartialEq, Eq)]
+pub struct Minimize {
+    pub priority: i64,
+    pub weights: Vec<(i32, i64)>,
+}
+
+impl Minimize {
+    /// The statement with these words: `2`, the priority, the count of pairs, and literals each with its weight.
+    fn of(words: &[&str]) -> Option<Minimize> {
+        let numbers: Vec<i64> = words.iter().map(|word| word.parse().ok()).collect::<Option<_>>()?;
+        let [2, priority, count, pairs @ ..] = &numbers[..] else { return None };
+        let weights: Vec<(i32, i64)> =
+            pairs.chunks_exact(2).map(|pair| Some((i32::try_from(pair[0]).ok()?, pair[1]))).collect::<Option<_>>()?;
+        let whole = pairs.len() % 2 == 0 && usize::try_from(*count) == Ok(weights.len());
+        whole.then_some(Minimize { priority: *priority, weights })
+    }
 }
 
 impl Ground {
@@ -87,10 +110,12 @@ pub fn cut_down(text: &[u8]) -> Result<Ground, Failure> {
         let statement = line.strip_suffix(b"\n").unwrap_or(line);
         let words = String::from_utf8_lossy(statement);
         let mut kept = line.to_vec();
-        match fate(&words.split(' ').collect::<Vec<_>>(), place + 1)? {
+        let words: Vec<&str> = words.split(' ').collect();
+        match fate(&words, place + 1)? {
             Fate::Goes(OUTPUT) if ground.names.take(statement) => continue,
             Fate::Goes(which) => {
                 dropped[which] += 1;
+                ground.costs.extend(Minimize::of(&words));
                 continue;
             }
             Fate::Shorter(numbers) => {
@@ -179,6 +204,7 @@ mod tests {
         assert_eq!(ground.lines, [1, 2, 5, 8, 9, 10]);
         assert_eq!([0, 3, 6, 7].map(|line| ground.line(line)), [0, 5, 10, 0]);
         assert_eq!(ground.names.of(1), "a");
+        assert_eq!(ground.costs, [Minimize { priority: 0, weights: vec![(6, 1)] }]);
         let parts = ["1 minimize", "1 comments", "1 rules with an atom and its negation", "1 rules that named"];
         assert!(ground.notes.iter().zip(parts).all(|(note, part)| note.contains(part)), "{:?}", ground.notes);
         assert_eq!(ground.notes.len(), parts.len());

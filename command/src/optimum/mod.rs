@@ -1,0 +1,293 @@
+//! `aspdrupe optimum`: an answer set of least cost, and that none costs less.
+
+mod level;
+
+use std::collections::BTreeSet;
+use std::path::Path;
+
+use aspdrupe::Cheapest;
+
+use crate::arguments::{Subcommand, Words, ROOM};
+use crate::certify::{timed, Answer, AnswerSet, Certifier, Limits, Refuted, Times};
+use crate::files::TEXT_LIMIT;
+use crate::folder::Folder;
+use crate::json::Json;
+use crate::outcome::{Failure, Outcome, Status};
+use crate::progress::Progress;
+use crate::rules::rules;
+use crate::statements::{cut_down, Ground};
+use crate::{constrained, library, prove, source};
+use level::{levels, Level, MOST};
+
+pub const SUBCOMMAND: Subcommand = Subcommand {
+    name: "optimum",
+    form: "PLAN.lp [-o PROOF.drupe] [--assume LITERAL..] [--table N] [--store N] [--time SECONDS]",
+    about: "Finds an answer set of least cost, by #minimize and #maximize, and certifies that none costs less.",
+    more: "A plan is grounded with gringo; a ground program is taken with the minimize statements that it has. Prints
+    optimum C: ATOM..        C is the least cost; of several priorities `optimum C1 C2 ..: ATOM..`, the highest first
+    inconsistent N R S K     there is no answer set, as `prove` says it
+    undecided                the reason is on the standard error
+    refused program NUMBER LINE
+#maximize counts as #minimize with all weights negated. A lower priority is minimized with the higher totals fixed. Certified, for each priority: by
+the service of `cheapest` where costs stand on at most 12 literals, the total is at most 4095 and the proof has at most 65,535 bytes; otherwise by the
+set test and the check of a proof for the program with the constraint that the total is lower. Which it is, is said. Weights are counted from the
+cheapest that each atom can be, and divided by a common divisor; what is certified is that count, and C is reckoned from it.
+-o PROOF.drupe keeps the proof, and PROOF.drupe.aspif the program that it is for; of several priorities PROOF-1.drupe and so on.
+--assume, --table, --store and --time are those of `prove`.",
+    options: &["-o", "--table", "--store", "--time"],
+    lists: &["--assume"],
+    flags: &[],
+    inputs: &[0],
+    operands: (1, 1),
+    run,
+};
+
+fn run(words: &Words) -> Result<Outcome, Failure> {
+    let limits = words.limits()?;
+    let path = words.path(0)?;
+    let mut times = Times::default();
+    let progress = Progress::start();
+    let ground = timed(&mut times.grounding, || source::load_with(path, cut_down, &words.texts("--assume")))?;
+    let given = match library::read_program(&ground.text, limits.table)? {
+        Ok(program) => rules(&program).iter().flat_map(|rule| rule.heads.clone()).collect::<BTreeSet<i32>>(),
+        Err(refusal) => return source::refused(refusal, &ground, path),
+    };
+    if ground.costs.is_empty() {
+        return Err(Failure::refused(format!("{} has nothing to minimize: a #minimize or #maximize statement is missing", path.display())));
+    }
+    let levels = levels(&ground.costs, &given).ok_or_else(|| Failure::refused("the costs add up to more than can be counted"))?;
+    let mut certifier = Certifier::of(limits, ground.added, times, &progress);
+    let search = Search { ground: &ground, levels: &levels, limits };
+    let mut outcome = match search.optimum(&mut certifier)? {
+        Found::Optimum(optimum) => {
+            let mut outcome = optimum.told(&ground);
+            if let Some(output) = words.output("-o") {
+                outcome.words.extend(optimum.kept(&output, &ground).write(path)?);
+            }
+            outcome
+        }
+        Found::Other(other) => search.other(other, words, path)?,
+        Found::TooDear => return Err(Failure::refused(format!("every answer set costs {MOST} units or more: divide the costs"))),
+    };
+    // That they were dropped is not so here.
+    outcome.words.splice(0..0, ground.notes.iter().filter(|note| !note.contains(" minimize statements; ")).cloned());
+    outcome.fields.extend([
+        ("calls", Json::count(certifier.calls)),
+        ("loops", Json::count(certifier.loop_count())),
+        certifier.times.field(),
+    ]);
+    Ok(outcome)
+}
+
+/// What the search comes to.
+enum Found {
+    Optimum(Optimum),
+    /// There is no answer set, or no answer.
+    Other(Answer),
+    TooDear,
+}
+
+/// How a level is certified.
+struct Certified {
+    priority: i64,
+    total: i64,
+    /// The proof; none where nothing can cost less.
+    refuted: Option<Refuted>,
+    /// Whether the service for cheapest sets has certified it.
+    by_cheapest: bool,
+    /// Whether it is the highest.
+    is_first: bool,
+    /// The restriction, by names.
+    restriction: String,
+}
+
+struct Optimum {
+    set: AnswerSet,
+    levels: Vec<Certified>,
+}
+
+struct Search<'a> {
+    ground: &'a Ground,
+    levels: &'a [Level],
+    limits: Limits,
+}
+
+impl Search<'_> {
+    fn optimum(&self, certifier: &mut Certifier) -> Result<Found, Failure> {
+        let mut set = match certifier.answer(&self.ground.text)? {
+            Answer::Set(set) => set,
+            other => return Ok(Found::Other(other)),
+        };
+        let (mut fixed, mut proofs) = (Vec::new(), Vec::new());
+        for level in self.levels {
+            match self.least(level, &fixed, set, certifier)? {
+                Least::Found(least, refuted) => {
+                    let units = level.units(&least.whole);
+                    fixed.push(level.restriction(units + 1).line());
+                    proofs.push((units, refuted));
+                    set = least;
+                }
+                Least::Other(other) => return Ok(Found::Other(other)),
+                Least::TooDear => return Ok(Found::TooDear),
+            }
+        }
+        // The atoms that restrictions brought in are left out.
+        let own = library::read_program(&self.ground.text, self.limits.table)?.map_or(0, |program| program.atoms);
+        set.whole.retain(|atom| usize::from(*atom) <= own);
+        let untested = || Failure::misuse("the set found with restrictions is none of the program");
+        let set = certifier.tested(&self.ground.text, &set)?.ok_or_else(untested)?;
+        let mut levels = Vec::new();
+        for (place, (units, refuted)) in proofs.into_iter().enumerate() {
+            levels.push(self.certified(place, units, refuted, &fixed[..place], &set)?);
+        }
+        Ok(Found::Optimum(Optimum { set, levels }))
+    }
+
+    /// An answer set that costs least by a level, with the higher ones fixed, from one that is known: cheaper and cheaper ones are asked for.
+    fn least(&self, level: &Level, fixed: &[String], first: AnswerSet, certifier: &mut Certifier) -> Result<Least, Failure> {
+        let mut set = first;
+        loop {
+            let units = level.units(&set.whole);
+            if units == 0 {
+                return Ok(Least::Found(set, None));
+            }
+            let bound = units.min(MOST);
+            let constraints = [fixed, &[level.restriction(bound).line()]].concat();
+            match certifier.answer(&constrained::text(&self.ground.text, &constraints))? {
+                Answer::Set(cheaper) => set = cheaper,
+                Answer::Refuted(refuted) if refuted.counts().is_none() => return Ok(Least::Other(Answer::Refuted(refuted))),
+                Answer::Refuted(_) if bound < units => return Ok(Least::TooDear),
+                Answer::Refuted(refuted) => return Ok(Least::Found(set, Some(refuted))),
+                other => return Ok(Least::Other(other)),
+            }
+        }
+    }
+
+    /// The certificate of a level: by the service for cheapest sets where it takes it.
+    fn certified(
+        &self,
+        place: usize,
+        units: i64,
+        refuted: Option<Refuted>,
+        fixed: &[String],
+        set: &AnswerSet,
+    ) -> Result<Certified, Failure> {
+        let level = &self.levels[place];
+        let mut certified = Certified {
+            priority: level.priority,
+            total: level.total(units),
+            by_cheapest: false,
+            is_first: place == 0,
+            restriction: self.ground.names.rule(&level.restriction(units)),
+            refuted,
+        };
+        let proof = certified.refuted.as_ref().map_or(&b""[..], |refuted| refuted.proof.text.as_bytes());
+        let short = self.levels[..place].iter().all(|level| level.costs.len() <= 12) && proof.len() <= TEXT_LIMIT;
+        if let Some(costs) = level.pairs().filter(|_| short) {
+            let text = constrained::text(&self.ground.text, fixed);
+            let words = certified.refuted.as_ref().map_or(0, |refuted| refuted.proof.words);
+            let (mut table, mut store) = (library::lent(self.limits.table)?, library::lent(self.limits.store.unwrap_or(words.max(ROOM)))?);
+            let answer = aspdrupe::check_cheapest(&text, &set.whole, &costs, proof, &mut table, &mut store)?;
+            certified.by_cheapest = matches!(answer, Cheapest::Certified(cost) if i64::try_from(cost) == Ok(units));
+        }
+        Ok(certified)
+    }
+
+    /// What is told where there is no optimum.
+    fn other(&self, other: Answer, words: &Words, path: &Path) -> Result<Outcome, Failure> {
+        match other {
+            Answer::Refused(refusal) => source::refused(refusal, self.ground, path),
+            Answer::Undecided(why) => Ok(prove::undecided(&why)),
+            Answer::Refuted(refuted) => {
+                let mut outcome = prove::refutation(&refuted, self.limits.table);
+                if let (Some(output), Some(_)) = (words.output("-o"), refuted.counts()) {
+                    let mut folder = Folder::of(folder_of(&output), &self.ground.names);
+                    folder.proof_at(&name_of(&output), &refuted);
+                    outcome.words.extend(folder.write(path)?);
+                }
+                Ok(outcome)
+            }
+            Answer::Set(_) => Err(Failure::misuse("an answer set came where none was asked for")),
+        }
+    }
+}
+
+/// What a level comes to.
+enum Least {
+    Found(AnswerSet, Option<Refuted>),
+    Other(Answer),
+    TooDear,
+}
+
+fn folder_of(output: &Path) -> &Path {
+    output.parent().unwrap_or(Path::new(""))
+}
+
+fn name_of(output: &Path) -> String {
+    output.file_name().map_or(String::new(), |name| name.to_string_lossy().into_owned())
+}
+
+impl Optimum {
+    fn told(&self, ground: &Ground) -> Outcome {
+        let shown = ground.names.shown(&self.set.atoms);
+        let costs = self.levels.iter().map(|level| level.total.to_string()).collect::<Vec<_>>().join(" ");
+        let line = format!("optimum {costs}: {}", shown.join(" "));
+        let mut words = vec![String::from("the set test says yes: this is an answer set of the program")];
+        words.extend(self.levels.iter().map(Certified::sentence));
+        let fields = vec![
+            ("answer", Json::text("optimum")),
+            ("costs", Json::List(self.levels.iter().map(|level| Json::Number(level.total)).collect())),
+            ("set", Json::atoms(&self.set.whole)),
+            ("shown", Json::texts(&shown)),
+            ("levels", Json::List(self.levels.iter().map(Certified::json).collect())),
+        ];
+        Outcome { status: Status::Good, line: String::from(line.trim_end()), words, fields }
+    }
+
+    /// The proofs as files: by the name told, with a number where there are several priorities.
+    fn kept(&self, output: &Path, ground: &Ground) -> Folder {
+        let mut folder = Folder::of(folder_of(output), &ground.names);
+        let (stem, ending) =
+            (output.file_stem().unwrap_or_default().to_string_lossy(), output.extension().unwrap_or_default().to_string_lossy());
+        for (place, level) in self.levels.iter().enumerate() {
+            let name = match (self.levels.len(), ending.is_empty()) {
+                (1, _) => name_of(output),
+                (_, true) => format!("{stem}-{}", place + 1),
+                (_, false) => format!("{stem}-{}.{ending}", place + 1),
+            };
+            level.refuted.iter().for_each(|refuted| folder.proof_at(&name, refuted));
+        }
+        folder
+    }
+}
+
+impl Certified {
+    fn sentence(&self) -> String {
+        let Certified { priority, total, restriction, .. } = self;
+        let Some(refuted) = &self.refuted else {
+            return format!("priority {priority}: {total} is the least that it can be, and needs no proof");
+        };
+        let among = if self.is_first { "no answer set" } else { "with the totals before it no answer set" };
+        let size = format!("a proof of {} lines and {} bytes", refuted.proof.lines, refuted.proof.text.len());
+        let by =
+            if self.by_cheapest { String::from("as `cheapest` does") } else { format!("by the check of the program with `{restriction}`") };
+        format!("priority {priority}: {among} costs less than {total}: certified {by}, with {size}")
+    }
+
+    fn json(&self) -> Json {
+        let by = match (&self.refuted, self.by_cheapest) {
+            (_, true) => "check_cheapest",
+            (None, false) => "test_set",
+            (Some(_), false) => "check",
+        };
+        let mut fields = vec![("priority", Json::Number(self.priority)), ("cost", Json::Number(self.total)), ("service", Json::text(by))];
+        if let Some(refuted) = &self.refuted {
+            fields.extend([
+                ("lines", Json::count(refuted.proof.lines)),
+                ("bytes", Json::count(refuted.proof.text.len())),
+                ("store", Json::count(refuted.proof.words)),
+            ]);
+        }
+        Json::Object(fields)
+    }
+}
