@@ -34,6 +34,7 @@ mod source;
 mod spelling;
 mod split;
 mod statements;
+mod sums;
 mod tools;
 mod tree;
 mod trim;

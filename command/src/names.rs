@@ -28,7 +28,12 @@ struct Term {
 pub struct Names {
     shown: Vec<Term>,
     hidden: Vec<Term>,
+    /// Whether it is said that only these are shown, even where there are none.
+    only: bool,
 }
+
+/// The line that says so where there are none.
+const ONLY: &[u8] = b"nothing is shown";
 
 /// What stands before the statement of an atom that is not shown.
 const HIDDEN: &[u8] = b"hidden ";
@@ -74,6 +79,7 @@ impl Names {
         }
         lines.for_each(|line| match line.strip_prefix(HIDDEN) {
             Some(statement) => names.hidden.extend(term_of(statement)),
+            None if line == ONLY => names.only = true,
             None => drop(names.take(line)),
         });
         Ok((names, None))
@@ -103,11 +109,19 @@ impl Names {
             format!("4 {} {} {}{literals}\n", term.text.len(), term.text, term.condition.len())
         };
         let hidden = self.hidden.iter().map(|term| format!("{}{}", String::from_utf8_lossy(HIDDEN), statement(term)));
-        self.shown.iter().map(statement).chain(hidden).collect()
+        let nothing = self.only && self.terms().next().is_none();
+        let nothing = nothing.then(|| format!("{}\n", String::from_utf8_lossy(ONLY)));
+        self.shown.iter().map(statement).chain(hidden).chain(nothing).collect()
     }
 
+    /// Whether there are none, so that atoms are told by number.
     pub fn is_empty(&self) -> bool {
-        self.terms().next().is_none()
+        !self.only && self.terms().next().is_none()
+    }
+
+    /// Says that nothing else is shown.
+    pub fn show_only(&mut self) {
+        self.only = true;
     }
 
     /// How many terms are shown.
@@ -233,6 +247,10 @@ mod tests {
             assert!(all.take(line.as_bytes()));
         }
         names.adopt(&all);
+        let mut none = Names::default();
+        assert_eq!((none.shown(&[7]), none.text().as_str()), (vec![String::from("7")], ""));
+        none.show_only();
+        assert_eq!((none.shown(&[7]), none.text().as_str()), (vec![], "nothing is shown\n"));
         assert_eq!([1, 9, 4].map(|atom| names.of(atom)), ["a(1)", "c(1)", "#4"]);
         assert_eq!((names.atom("c(1)"), names.shown(&[1, 9]), names.count()), (Some(9), vec![String::from("a(1)"), String::from("f")], 4));
         assert!(names.text().ends_with("4 1 t 2 3 -9\nhidden 4 4 c(1) 1 9\n"), "{}", names.text());

@@ -15,6 +15,8 @@ pub enum Kind {
     Show,
     /// `#include`
     Include,
+    /// `#minimize`, `#maximize` or `:~`
+    Minimize,
     Other,
 }
 
@@ -55,6 +57,10 @@ impl Plan {
 
     pub fn shows(&self) -> bool {
         self.statements.iter().any(|statement| statement.kind == Kind::Show)
+    }
+
+    pub fn minimizes(&self) -> bool {
+        self.statements.iter().any(|statement| statement.kind == Kind::Minimize)
     }
 
     pub fn constraints(&self) -> impl Iterator<Item = &Statement> {
@@ -262,6 +268,8 @@ fn kind(text: &str) -> Kind {
         Kind::Show
     } else if begins("#include") {
         Kind::Include
+    } else if text.starts_with(":~") || ["#minimize", "#minimise", "#maximize", "#maximise"].into_iter().any(begins) {
+        Kind::Minimize
     } else {
         Kind::Other
     }
@@ -290,6 +298,7 @@ mod tests {
         ];
         assert_eq!(found, expected);
         assert_eq!(plan.constraints().map(|constraint| constraint.line).collect::<Vec<_>>(), [2, 4, 6]);
+        assert!(plan.minimizes() && Plan::of(b"#maximize{1:a}.").minimizes() && !Plan::of(b"#minimizes. a :- b.").minimizes());
         for text in ["", "a", "\"", "%*", "%", "a. [", ":-", "..", "#script", "\"\\"] {
             assert!(Plan::of(text.as_bytes()).statements.len() <= 1, "{text}");
         }

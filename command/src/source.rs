@@ -101,7 +101,9 @@ pub fn constraint(literal: &str, names: &Names) -> Result<Option<String>, Failur
 /// The ground program with the names of atoms that the plan does not show. They are those of another grounding, without what is said about
 /// showing, where that has the same rules.
 fn named(mut ground: Ground, plan: &Plan, path: &Path) -> Ground {
+    ground.minimizes |= plan.minimizes();
     if plan.shows() {
+        ground.names.show_only();
         let all = grounded(path, Handed::Text(&plan.text_without_shows(folder(path))));
         let rules = |text: &[u8]| text.strip_suffix(b"0\n").map(<[u8]>::to_vec);
         let same = |all: &Ground| rules(&all.text).is_some_and(|rules| ground.text.starts_with(&rules));

@@ -4,9 +4,7 @@ use std::collections::{BTreeMap, BTreeSet};
 
 use crate::rules::{holds, Body, Rule};
 use crate::statements::Minimize;
-
-/// The most that a constraint's weight or bound may be.
-pub const MOST: i64 = 4_095;
+use crate::sums::{divisor, MOST};
 
 /// The costs of a priority. A set costs the constant, and for each literal that it makes true the unit times the literal's cost.
 #[derive(Debug, Clone, PartialEq, Eq)]
@@ -17,9 +15,13 @@ pub struct Level {
     pub costs: Vec<(i32, i64)>,
 }
 
-/// The levels of statements, the highest priority first; none where a number is out of reach. An atom that no rule gives is in no answer set.
+/// The levels of statements, the highest priority first, of no statement one that costs nothing; none where a number is out of reach. An atom that no
+/// rule gives is in no answer set.
 pub fn levels(statements: &[Minimize], given: &BTreeSet<i32>) -> Option<Vec<Level>> {
     let mut by_priority: BTreeMap<i64, Vec<(i32, i64)>> = BTreeMap::new();
+    if statements.is_empty() {
+        by_priority.insert(0, Vec::new());
+    }
     for statement in statements {
         by_priority.entry(statement.priority).or_default().extend(&statement.weights);
     }
@@ -80,15 +82,6 @@ impl Level {
     }
 }
 
-/// The greatest common divisor.
-fn divisor(one: i64, other: i64) -> i64 {
-    if other == 0 {
-        one
-    } else {
-        divisor(other, one % other)
-    }
-}
-
 #[cfg(test)]
 mod tests {
     use super::*;
@@ -124,6 +117,7 @@ mod tests {
         assert_eq!(found.iter().map(|level| (level.priority, level.costs.len())).collect::<Vec<_>>(), [(2, 1), (-1, 2)]);
         assert_eq!(levels(&[of(0, &[(1, i64::MAX), (2, 1)])], &(1..=9).collect()), None);
         assert_eq!(levels(&[of(0, &[(1, i64::MIN)])], &(1..=9).collect()), None);
+        assert_eq!(levels(&[], &BTreeSet::new()).unwrap()[0].total(0), 0);
         let many: Vec<(i32, i64)> = (1..=13).map(|atom| (atom, 1)).collect();
         assert_eq!(levels(&[of(0, &many)], &(1..=13).collect()).unwrap()[0].pairs(), None);
         assert_eq!(levels(&[of(0, &[(1, 4_096), (2, 1)])], &(1..=13).collect()).unwrap()[0].pairs(), None);

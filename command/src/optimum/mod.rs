@@ -16,8 +16,9 @@ use crate::outcome::{Failure, Outcome, Status};
 use crate::progress::Progress;
 use crate::rules::rules;
 use crate::statements::{cut_down, Ground};
+use crate::sums::MOST;
 use crate::{constrained, library, prove, source};
-use level::{levels, Level, MOST};
+use level::{levels, Level};
 
 pub const SUBCOMMAND: Subcommand = Subcommand {
     name: "optimum",
@@ -52,7 +53,7 @@ fn run(words: &Words) -> Result<Outcome, Failure> {
         Ok(program) => rules(&program).iter().flat_map(|rule| rule.heads.clone()).collect::<BTreeSet<i32>>(),
         Err(refusal) => return source::refused(refusal, &ground, path),
     };
-    if ground.costs.is_empty() {
+    if !ground.minimizes {
         return Err(Failure::refused(format!("{} has nothing to minimize: a #minimize or #maximize statement is missing", path.display())));
     }
     let levels = levels(&ground.costs, &given).ok_or_else(|| Failure::refused("the costs add up to more than can be counted"))?;
