@@ -40,6 +40,9 @@ pub enum Given {
 /// Operands, and options with their values.
 #[derive(Debug, Default, PartialEq, Eq)]
 pub struct Words {
+    /// The subcommand's name, and the words as they are written.
+    name: &'static str,
+    written: Vec<OsString>,
     operands: Vec<OsString>,
     values: Vec<(&'static str, OsString)>,
     lists: Vec<(&'static str, Vec<OsString>)>,
@@ -56,6 +59,12 @@ const MOST_SECONDS: usize = 1_000_000;
 pub const ROOM: usize = 16_384;
 
 impl Words {
+    /// The call as it can be written in a shell.
+    pub fn call(&self) -> String {
+        let words = self.written.iter().map(|word| in_shell(&word.to_string_lossy()));
+        ["aspdrupe", self.name].map(String::from).into_iter().chain(words).collect::<Vec<_>>().join(" ")
+    }
+
     /// An operand as a path.
     pub fn path(&self, place: usize) -> Result<&Path, Failure> {
         self.operand(place).map(Path::new)
@@ -158,6 +167,14 @@ impl Words {
     }
 }
 
+/// A word with quotation marks where a shell would not take it as it is.
+pub fn in_shell(word: &str) -> String {
+    if !word.is_empty() && word.chars().all(|letter| letter.is_ascii_alphanumeric() || "-_./=,:@%+".contains(letter)) {
+        return String::from(word);
+    }
+    format!("'{}'", word.replace('\'', "'\\''"))
+}
+
 /// Whether a word is an option, so that a list ends before it; a literal with its sign is none.
 fn ends_list(subcommand: &Subcommand, word: &OsStr) -> bool {
     let text = word.to_str().unwrap_or("");
@@ -166,7 +183,7 @@ fn ends_list(subcommand: &Subcommand, word: &OsStr) -> bool {
 
 /// Reads the words behind a subcommand's name. `--` ends the options.
 pub fn read(subcommand: &Subcommand, words: &[OsString]) -> Result<Given, String> {
-    let mut given = Words::default();
+    let mut given = Words { name: subcommand.name, written: words.to_vec(), ..Words::default() };
     let mut words = words.iter().peekable();
     while let Some(word) = words.next() {
         let text = word.to_str().unwrap_or("");
@@ -187,7 +204,7 @@ pub fn read(subcommand: &Subcommand, words: &[OsString]) -> Result<Given, String
 }
 
 /// The options that name a file to write.
-const OUTPUTS: [&str; 3] = ["-o", "--program", "--proof"];
+const OUTPUTS: [&str; 4] = ["-o", "--program", "--proof", "--html"];
 
 /// Refuses to write over what is read, and two outputs to one place.
 pub fn keep_inputs(subcommand: &Subcommand, words: &Words) -> Result<(), Failure> {
@@ -255,6 +272,7 @@ mod tests {
         assert_eq!(given("-- -o --help").unwrap().texts_from(0), ["-o", "--help"]);
         assert_eq!(given("a --store 7").unwrap().room("--store"), Ok(7));
         assert_eq!(given("- -").unwrap().texts_from(1), ["-"]);
+        assert_eq!(given("a b(1) --set it's").unwrap().call(), "aspdrupe sample a 'b(1)' --set 'it'\\''s'");
     }
 
     #[test]

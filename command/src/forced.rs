@@ -2,21 +2,20 @@
 
 use std::collections::BTreeSet;
 
-use crate::arguments::{Subcommand, Words};
+use crate::arguments::{in_shell, Subcommand, Words};
 use crate::certify::{timed, Answer, AnswerSet, Certifier, Refuted, Times};
-use crate::constrained;
-use crate::folder::Folder;
 use crate::json::Json;
-use crate::library;
 use crate::outcome::{Failure, Outcome, Status};
+use crate::outputs::Outputs;
+use crate::page::{Mark, Page, Part};
 use crate::progress::Progress;
 use crate::rules::holds;
 use crate::statements::{as_it_is, Ground};
-use crate::{prove, source};
+use crate::{constrained, library, prove, source};
 
 pub const SUBCOMMAND: Subcommand = Subcommand {
     name: "forced",
-    form: "PLAN.lp|PROGRAM.aspif [--assume LITERAL..] [-o DIR] [--table N] [--store N] [--time SECONDS]",
+    form: "PLAN.lp|PROGRAM.aspif [--assume LITERAL..] [-o DIR] [--html FILE] [--table N] [--store N] [--time SECONDS]",
     about: "Says which shown atoms are in every answer set, which in none and which in some, each certified.",
     more: "Prints
     always: ATOM..           in every answer set
@@ -29,8 +28,8 @@ Certified: answer sets, which the set test passes, show what is open; and for at
 accepts, that the program has no answer set in which they are not all as said. A fact is always there: gringo says so.
 -o DIR keeps it: answer sets as set-I.aspif and set-I.set for `test`, proofs as always-I and never-I.aspif and .drupe for `check`, I from 1 on;
 where there is no answer set, none.aspif and none.drupe.
---assume, --table, --store and --time are those of `prove`.",
-    options: &["-o", "--table", "--store", "--time"],
+--assume, --html, --table, --store and --time are those of `prove`.",
+    options: &["-o", "--html", "--table", "--store", "--time"],
     lists: &["--assume"],
     flags: &[],
     inputs: &[0],
@@ -48,34 +47,31 @@ fn run(words: &Words) -> Result<Outcome, Failure> {
     let progress = Progress::start();
     let ground = timed(&mut times.grounding, || source::load_with(path, as_it_is, &assumed))?;
     let mut certifier = Certifier::of(limits, ground.added, times, &progress);
+    let mut outputs = Outputs::of(words, &ground.names);
     let mut search = Search { ground: &ground, certifier: &mut certifier, progress: &progress, sets: Vec::new() };
-    let mut outcome = match search.forced()? {
+    let (mut outcome, page) = match search.forced()? {
         Found::All { always, never } => {
-            let folder = words.output("-o").map(|path| Folder::of(&path, &ground.names));
             let forced = Forced { ground: &ground, sets: &search.sets, always: &always, never: &never };
-            let mut outcome = forced.told(limits.table)?;
-            if let Some(folder) = folder {
-                outcome.words.extend(forced.kept(folder).write(path)?);
-            }
-            outcome
+            forced.keep(&mut outputs);
+            forced.told(limits.table, words)?
         }
-        Found::Other(Answer::Refused(refusal)) => return source::refused(refusal, &ground, path),
-        Found::Other(Answer::Refuted(refuted)) => {
-            let mut outcome = prove::refutation(&refuted, limits.table);
-            if let (Some(output), Some(_)) = (words.output("-o"), refuted.counts()) {
-                let mut folder = Folder::of(&output, &ground.names);
-                folder.proof("none", &refuted);
-                outcome.words.extend(folder.write(path)?);
+        Found::Other(answer) => {
+            if let Answer::Refuted(refuted) = &answer {
+                refuted.counts().iter().for_each(|_| outputs.proof("none", refuted));
             }
-            outcome
+            match prove::told(&answer, &ground, limits.table) {
+                Ok((outcome, page)) => (outcome, Page { question: QUESTION, ..page }),
+                Err(refusal) => return source::refused(refusal, &ground, path),
+            }
         }
-        Found::Other(Answer::Undecided(why)) => prove::undecided(&why),
-        Found::Other(Answer::Set(_)) => return Err(Failure::misuse("an answer set came where none was asked for")),
     };
     outcome.words.splice(0..0, ground.notes.iter().cloned());
     outcome.fields.extend([("calls", Json::count(certifier.calls)), certifier.times.field()]);
+    outputs.write(page, path, &mut outcome)?;
     Ok(outcome)
 }
+
+const QUESTION: &str = "What is in every answer set, what in none, and what is open?";
 
 /// Literals that hold in every answer set, with the proof of it.
 struct Group {
@@ -160,23 +156,54 @@ struct Forced<'a> {
     never: &'a [Group],
 }
 
+/// The shown names by what is known of them.
+struct Sorted {
+    facts: usize,
+    always: Vec<String>,
+    never: Vec<String>,
+    open: Vec<String>,
+}
+
 impl Forced<'_> {
-    fn told(&self, table: usize) -> Result<Outcome, Failure> {
+    fn sorted(&self) -> Result<Sorted, Failure> {
         let literals = |groups: &[Group]| groups.iter().flat_map(|group| group.literals.clone()).collect::<BTreeSet<i32>>();
         let (held, not) = (literals(self.always), literals(self.never));
         let facts: Vec<String> = self.ground.names.facts().map(String::from).collect();
-        let (mut always, mut never, mut open) = (facts.clone(), Vec::new(), Vec::new());
+        let mut sorted = Sorted { facts: facts.len(), always: facts, never: Vec::new(), open: Vec::new() };
         for (name, literal) in shown(self.ground)? {
             if held.contains(&literal) {
-                always.push(name);
+                sorted.always.push(name);
             } else if not.contains(&-literal) {
-                never.push(name);
+                sorted.never.push(name);
             } else {
-                open.push(name);
+                sorted.open.push(name);
             }
         }
+        Ok(sorted)
+    }
+
+    fn told(&self, table: usize, words: &Words) -> Result<(Outcome, Page), Failure> {
+        let sorted = self.sorted()?;
         let line = |called: &str, names: &[String]| String::from(format!("{called}: {}", names.join(" ")).trim_end());
-        let lines = [line("always", &always), line("never", &never), line("open", &open)];
+        let lines = [line("always", &sorted.always), line("never", &sorted.never), line("open", &sorted.open)];
+        let proofs = [("always", self.always), ("never", self.never)];
+        let proofs = proofs.iter().flat_map(|(of, groups)| groups.iter().map(|group| group.json(of, table))).collect();
+        let fields = vec![
+            ("answer", Json::text("forced")),
+            ("always", Json::texts(&sorted.always)),
+            ("never", Json::texts(&sorted.never)),
+            ("open", Json::texts(&sorted.open)),
+            ("facts", Json::count(sorted.facts)),
+            ("sets", Json::List(self.sets.iter().map(|set| Json::atoms(&set.whole)).collect())),
+            ("proofs", Json::List(proofs)),
+        ];
+        let outcome = Outcome { status: Status::Good, line: lines.join("\n"), words: self.sentences(sorted.facts, table), fields };
+        let page = self.page(&sorted, words, outcome.words.clone());
+        Ok((outcome, page))
+    }
+
+    /// What it is certified by, in words.
+    fn sentences(&self, facts: usize, table: usize) -> Vec<String> {
         let sentence = |group: &Group, what: &str| {
             let told = prove::refutation(&group.refuted, table);
             let count = group.literals.len();
@@ -185,33 +212,53 @@ impl Forced<'_> {
         let mut words = vec![format!("certified: the set test says yes to {} answer sets, which show what is open", self.sets.len())];
         words.extend(self.always.iter().map(|group| sentence(group, "always there")));
         words.extend(self.never.iter().map(|group| sentence(group, "never there")));
-        if !facts.is_empty() {
-            words.push(format!("{} are facts: gringo says so", facts.len()));
+        if facts > 0 {
+            words.push(format!("{facts} are facts: gringo says so"));
         }
-        let unseen = self.ground.names.count() - facts.len() - self.ground.names.literals().count();
+        let unseen = self.ground.names.count() - facts - self.ground.names.literals().count();
         if unseen > 0 {
             words.push(format!("{unseen} terms are shown under several literals together and are not looked at"));
         }
-        let proofs = [("always", self.always), ("never", self.never)];
-        let proofs = proofs.iter().flat_map(|(of, groups)| groups.iter().map(|group| group.json(of, table))).collect();
-        let fields = vec![
-            ("answer", Json::text("forced")),
-            ("always", Json::texts(&always)),
-            ("never", Json::texts(&never)),
-            ("open", Json::texts(&open)),
-            ("facts", Json::count(facts.len())),
-            ("sets", Json::List(self.sets.iter().map(|set| Json::atoms(&set.whole)).collect())),
-            ("proofs", Json::List(proofs)),
-        ];
-        Ok(Outcome { status: Status::Good, line: lines.join("\n"), words, fields })
+        words
     }
 
-    fn kept(&self, mut folder: Folder) -> Folder {
-        self.sets.iter().enumerate().for_each(|(place, set)| folder.set(&format!("set-{}", place + 1), set));
-        for (name, groups) in [("always", self.always), ("never", self.never)] {
-            groups.iter().enumerate().for_each(|(place, group)| folder.proof(&format!("{name}-{}", place + 1), &group.refuted));
-        }
-        folder
+    fn page(&self, sorted: &Sorted, words: &Words, certified: Vec<String>) -> Page {
+        let marked = |names: &[String], mark: Mark| names.iter().map(|name| (name.clone(), mark)).collect::<Vec<_>>();
+        let atoms = [marked(&sorted.always, Mark::There), marked(&sorted.never, Mark::Never), marked(&sorted.open, Mark::Open)].concat();
+        let answer = format!(
+            "Of what is shown, {} are in every answer set, {} in none, and {} are open.",
+            sorted.always.len(),
+            sorted.never.len(),
+            sorted.open.len()
+        );
+        let parts = vec![Part::Atoms { title: String::from("What is shown"), atoms }];
+        Page { question: QUESTION, answer, parts, certified, again: self.again(words) }
+    }
+
+    /// The certificates by their names.
+    fn proofs(&self) -> impl Iterator<Item = (String, &Group)> {
+        let named =
+            |name: &'static str, groups: &'_ [Group]| groups.iter().enumerate().map(move |(place, _)| (name, place)).collect::<Vec<_>>();
+        let all = [named("always", self.always), named("never", self.never)].concat();
+        all.into_iter().map(|(name, place)| {
+            let groups = if name == "always" { self.always } else { self.never };
+            (format!("{name}-{}", place + 1), &groups[place])
+        })
+    }
+
+    fn keep(&self, outputs: &mut Outputs) {
+        self.sets.iter().enumerate().for_each(|(place, set)| outputs.set(&format!("set-{}", place + 1), set));
+        self.proofs().for_each(|(name, group)| outputs.proof(&name, &group.refuted));
+    }
+
+    /// The calls that check the certificates again that are kept.
+    fn again(&self, words: &Words) -> Vec<String> {
+        let Some(folder) = words.output("-o") else { return Vec::new() };
+        let path = |name: String| in_shell(&folder.join(name).to_string_lossy());
+        let check = |name: &str| format!("aspdrupe check {} {}", path(format!("{name}.aspif")), path(format!("{name}.drupe")));
+        let test =
+            |place: usize| format!("aspdrupe test {} $(cat {})", path(format!("set-{place}.aspif")), path(format!("set-{place}.set")));
+        self.proofs().map(|(name, _)| check(&name)).chain((1..=self.sets.len()).map(test)).collect()
     }
 }
 

@@ -155,7 +155,7 @@ const SHOP: &str = "item(tent, 6, 7). item(stove, 3, 4). item(lamp, 2, 2). item(
 fn optima() {
     let Some(room) = Room::of("optima") else { return };
     room.file("p.lp", SHOP);
-    let (status, out, said) = room.run(&["optimum", "p.lp", "-o", "kept/best.drupe"]);
+    let (status, out, said) = room.run(&["optimum", "p.lp", "-o", "best.drupe"]);
     assert_eq!((status, out.as_str()), (0, "optimum -12 2: buy(tent) buy(rope)\n"));
     let sentences = [
         "priority 2: no answer set costs less than -12: certified as `cheapest` does, with a proof of ",
@@ -163,7 +163,7 @@ fn optima() {
     ];
     assert!(sentences.iter().all(|part| said.contains(part)), "{said}");
     for place in 1..=2 {
-        let line = room.out(0, &format!("check kept/best-{place}.drupe.aspif kept/best-{place}.drupe"));
+        let line = room.out(0, &format!("check best-{place}.drupe.aspif best-{place}.drupe"));
         assert!(line.starts_with("inconsistent "), "{line}");
     }
     let json = room.out(0, "optimum p.lp --json");
@@ -227,4 +227,54 @@ fn forced_atoms() {
     assert_eq!(lengths, [150, 149, 2], "{out}");
     room.file("p.aspif", "asp 1 0 0\n1 1 2 1 3 0 0\n1 0 1 2 0 1 -1\n1 0 0 0 1 -1\n0\n");
     assert_eq!(room.out(0, "forced p.aspif"), "always: 1\nnever: 2\nopen: 3\n");
+}
+
+#[test]
+fn pages() {
+    let Some(room) = Room::of("pages") else { return };
+    room.file("p.lp", DAYS);
+    room.file("shop.lp", SHOP);
+    for (words, parts) in [
+        ("prove p.lp", &["<h1>There is an answer set.</h1>", "<h3>on/2</h3>", "<td><span class=\"there\">\u{25cf}</span></td>"][..]),
+        (
+            "prove p.lp --assume on(ann,1) -o d",
+            &["<h1>There is no answer set.</h1>", "aspdrupe ground p.lp --assume 'on(ann,1)' -o OUT.aspif\naspdrupe check OUT.aspif d"],
+        ),
+        (
+            "core p.lp --assume on(ann,1) -o kept --ground",
+            &[
+                "<h1>There is no answer set, and 2 of 5 constraints together are the reason.</h1>",
+                "<tr><td>line 4</td><td>:- on(ann, 1).</td></tr>",
+                "<h2>Possible without line 4</h2>",
+                "aspdrupe check kept/core.aspif kept/core.drupe\naspdrupe test kept/without-1.aspif $(cat kept/without-1.set)",
+            ],
+        ),
+        ("core p.lp", &["<h1>There is an answer set.</h1>"]),
+        (
+            "optimum shop.lp -o best.drupe",
+            &[
+                "<h1>The least cost is -12 2.</h1>",
+                "<tr><td>2</td><td>-12</td><td>check_cheapest</td></tr>",
+                "aspdrupe check best-1.drupe.aspif best-1.drupe",
+            ],
+        ),
+        (
+            "forced p.lp -o forced",
+            &[
+                "<h1>Of what is shown, 3 are in every answer set, 3 in none, and 0 are open.</h1>",
+                "<span class=\"never\">",
+                "aspdrupe test forced/set-1.aspif $(cat forced/set-1.set)",
+            ],
+        ),
+    ] {
+        room.out(0, &format!("{words} --html page.html"));
+        let page = room.read("page.html");
+        assert!(page.starts_with("<!DOCTYPE html>\n<html lang=\"en\">") && page.ends_with("</html>\n"), "{words}");
+        assert!(parts.iter().all(|part| page.contains(part)), "{words}: {page}");
+        assert!(!page.contains("src=") && !page.contains("href=") && !page.contains("<script"), "{words}");
+    }
+    room.out(2, "prove p.lp --html p.lp");
+    room.out(2, "prove p.lp --html x -o ./x --assume on(ann,1)");
+    room.out(2, "core p.lp --html no/such/page.html");
+    room.out(2, "core p.lp --html .");
 }

@@ -29,26 +29,28 @@ impl Core {
 
 /// What comes of looking for one.
 pub enum Minimal {
-    /// With all constraints there is an answer set.
-    Consistent(AnswerSet),
     Core(Core),
-    /// The proof found is not accepted, for want of a store.
-    Uncertified(Refuted),
-    Undecided(String),
+    /// With all constraints there is an answer set, or the proof found is not accepted, or there is no answer.
+    Other(Answer),
+}
+
+/// There is no answer, for this reason.
+fn undecided(why: String) -> Minimal {
+    Minimal::Other(Answer::Undecided(why))
 }
 
 /// Looks for a minimal set among all constraints of the program, tried in this order.
 pub fn minimal(parts: &Parts, order: &[usize], certifier: &mut Certifier, progress: &Progress) -> Result<Minimal, Failure> {
     let mut deletion = Deletion { parts, kept: order.iter().copied().collect(), needed: BTreeMap::new() };
     match certifier.trial(&parts.text(&deletion.kept), None)? {
-        Trial::Set(set) => return Ok(Minimal::Consistent(set)),
-        Trial::Late(why) => return Ok(Minimal::Undecided(why)),
+        Trial::Set(set) => return Ok(Minimal::Other(Answer::Set(set))),
+        Trial::Late(why) => return Ok(undecided(why)),
         Trial::None(bodies) => deletion.keep_used(bodies),
     }
     let mut time = FIRST;
     while let Some(late) = deletion.round(order, time, certifier, progress)? {
         if certifier.is_late() {
-            return Ok(Minimal::Undecided(late));
+            return Ok(undecided(late));
         }
         time *= LONGER;
     }
@@ -108,8 +110,7 @@ impl Deletion<'_> {
     fn certified(mut self, certifier: &mut Certifier) -> Result<Minimal, Failure> {
         let refuted = match certifier.answer(&self.parts.text(&self.kept))? {
             Answer::Refuted(refuted) if refuted.counts().is_some() => refuted,
-            Answer::Refuted(refuted) => return Ok(Minimal::Uncertified(refuted)),
-            Answer::Undecided(why) => return Ok(Minimal::Undecided(why)),
+            other @ (Answer::Refuted(_) | Answer::Undecided(_)) => return Ok(Minimal::Other(other)),
             Answer::Set(_) | Answer::Refused(_) => return Err(Failure::misuse("cadical refutes a program that has an answer set")),
         };
         let mut members = Vec::new();
@@ -121,7 +122,7 @@ impl Deletion<'_> {
                 Some(set) => set,
                 None => match certifier.answer(&text)? {
                     Answer::Set(set) => set,
-                    Answer::Undecided(why) => return Ok(Minimal::Undecided(why)),
+                    Answer::Undecided(why) => return Ok(undecided(why)),
                     _ => return Err(Failure::misuse("a constraint that was needed is not")),
                 },
             };

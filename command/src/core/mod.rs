@@ -5,11 +5,12 @@ mod parts;
 
 use std::path::Path;
 
-use crate::arguments::{Subcommand, Words};
-use crate::certify::{timed, AnswerSet, Certifier, Times};
-use crate::folder::Folder;
+use crate::arguments::{in_shell, Subcommand, Words};
+use crate::certify::{timed, Answer, AnswerSet, Certifier, Times};
 use crate::json::Json;
-use crate::outcome::{Failure, Outcome, Status};
+use crate::outcome::{Failure, Outcome};
+use crate::outputs::Outputs;
+use crate::page::{Page, Part};
 use crate::plan::Statement;
 use crate::progress::Progress;
 use crate::rules::Rule;
@@ -21,7 +22,7 @@ use parts::{Parts, Place};
 
 pub const SUBCOMMAND: Subcommand = Subcommand {
     name: "core",
-    form: "PLAN.lp|PROGRAM.aspif [--assume LITERAL..] [--ground] [-o DIR] [--table N] [--store N] [--time SECONDS]",
+    form: "PLAN.lp|PROGRAM.aspif [--assume LITERAL..] [--ground] [-o DIR] [--html FILE] [--table N] [--store N] [--time SECONDS]",
     about: "Says why there is no answer set: a minimal set of constraints with which there is none, certified both ways.",
     more: "Of a plan the constraints are its statements that begin with `:-`; rules stay, and so does what is included. Of a ground program, and with
 --ground of a plan too, they are the ground constraints, those that gringo makes of the bounds of choices included. Prints
@@ -36,8 +37,8 @@ whole program, since further constraints reopen nothing; and for each of them an
 -o DIR keeps all of it: core.aspif and core.drupe for `check`, and without-I.aspif and without-I.set for `test`, I from 1 on; with --ground
 also ground.aspif, ground.drupe, ground-without-I.aspif and ground-without-I.set.
 --assume LITERAL.. adds a constraint for each: \"on(2,1,night)\" demands the atom, \"not on(2,1,night)\" forbids it. They are members like others.
---table, --store and --time are those of `prove`.",
-    options: &["-o", "--table", "--store", "--time"],
+--html, --table, --store and --time are those of `prove`.",
+    options: &["-o", "--html", "--table", "--store", "--time"],
     lists: &["--assume"],
     flags: &["--ground"],
     inputs: &[0],
@@ -63,22 +64,20 @@ fn run(words: &Words) -> Result<Outcome, Failure> {
         Err(refused) => return Ok(refused),
     };
     let mut certifier = Certifier::of(limits, asked.ground.added, times, &progress);
-    let folder = words.output("-o").map(|path| Folder::of(&path, &asked.ground.names));
     let whole = asked.parts.text(&(0..asked.parts.places.len()).collect());
     if let Some(refusal) = certifier.refusal(&whole)? {
         return source::refused(refusal, &asked.ground, path);
     }
-    let mut answer = Answer { words, asked: &asked, table: limits.table, folder };
-    let mut outcome = answer.to(&mut certifier, &progress)?;
-    if let Some(folder) = &answer.folder {
-        outcome.words.extend(folder.write(path)?);
-    }
+    let outputs = Outputs::of(words, &asked.ground.names);
+    let mut told = Told { words, asked: &asked, table: limits.table, outputs };
+    let (mut outcome, page) = told.of(&mut certifier, &progress)?;
     outcome.words.splice(0..0, asked.ground.notes.iter().cloned());
     outcome.fields.extend([
         ("calls", Json::count(certifier.calls)),
         ("loops", Json::count(certifier.loop_count())),
         certifier.times.field(),
     ]);
+    told.outputs.write(page, path, &mut outcome)?;
     Ok(outcome)
 }
 
@@ -102,93 +101,122 @@ fn asked(path: &Path, assumed: &[String]) -> Result<Result<Asked, Outcome>, Fail
 }
 
 /// What is asked for, and where certificates are kept.
-struct Answer<'a> {
+struct Told<'a> {
     words: &'a Words,
     asked: &'a Asked,
     table: usize,
-    folder: Option<Folder>,
+    outputs: Outputs<'a>,
 }
 
-impl Answer<'_> {
-    fn to(&mut self, certifier: &mut Certifier, progress: &Progress) -> Result<Outcome, Failure> {
+impl Told<'_> {
+    fn of(&mut self, certifier: &mut Certifier, progress: &Progress) -> Result<(Outcome, Page), Failure> {
         let parts = &self.asked.parts;
         let core = match minimal(parts, &order(parts), certifier, progress)? {
             Minimal::Core(core) => core,
-            other => return Ok(self.none(other)),
+            Minimal::Other(other) => return self.other(&other),
         };
-        let mut outcome = self.told(parts, &core, "core", parts.places.len());
+        let (mut outcome, mut page) = self.core(parts, &core, "core", parts.places.len());
         if self.words.has("--ground") && self.asked.ground.of_plan {
             let ground = parts.by_line(&core.owners());
-            match minimal(&ground, &order(&ground), certifier, progress)? {
-                Minimal::Core(core) => {
-                    let told = self.told(&ground, &core, "ground core", parts.constraint_count());
-                    outcome.line = format!("{}\n{}", outcome.line, told.line);
-                    outcome.words.extend(told.words);
-                    outcome.fields.push(("ground", Json::Object(told.fields)));
-                }
-                other => return Ok(self.none(other)),
-            }
+            let core = match minimal(&ground, &order(&ground), certifier, progress)? {
+                Minimal::Core(core) => core,
+                Minimal::Other(other) => return self.other(&other),
+            };
+            let (told, more) = self.core(&ground, &core, "ground core", parts.constraint_count());
+            outcome.line = format!("{}\n{}", outcome.line, told.line);
+            outcome.words.extend(told.words);
+            outcome.fields.push(("ground", Json::Object(told.fields)));
+            page.parts.extend(more.parts);
+            page.certified.extend(more.certified);
+            page.again.extend(more.again);
         }
-        Ok(outcome)
+        Ok((outcome, page))
     }
 
     /// What is told where there is no core.
-    fn none(&self, minimal: Minimal) -> Outcome {
-        match minimal {
-            Minimal::Consistent(set) => {
-                let mut outcome = prove::answer_set(&set, &self.asked.ground.names);
-                outcome.words.push(String::from("there is nothing to explain: the constraints leave an answer set"));
-                outcome
-            }
-            Minimal::Uncertified(refuted) => prove::refutation(&refuted, self.table),
-            Minimal::Undecided(why) => prove::undecided(&why),
-            Minimal::Core(_) => unreachable!("a core is told"),
+    fn other(&self, answer: &Answer) -> Result<(Outcome, Page), Failure> {
+        let refused = |_| Failure::misuse("a part of the program is refused, and the whole is not");
+        let (mut outcome, mut page) = prove::told(answer, &self.asked.ground, self.table).map_err(refused)?;
+        page.question = QUESTION;
+        if matches!(answer, Answer::Set(_)) {
+            outcome.words.push(String::from("there is nothing to explain: the constraints leave an answer set"));
         }
+        Ok((outcome, page))
     }
 
-    /// A core in words, kept where a folder is named.
-    fn told(&mut self, parts: &Parts, core: &Core, called: &str, of: usize) -> Outcome {
-        let Asked { ground, texts, .. } = self.asked;
-        let spelling = Spelling::of(&ground.names, parts.lines.iter().map(|line| &line.rule));
-        let by_plan = ground.of_plan && called == "core";
-        let text = |owner: usize| {
-            if by_plan {
-                return texts[owner].clone();
-            }
-            parts.rule_of(owner).map_or(String::from("a fact is demanded"), |rule| spelling.constraint(rule))
-        };
-        let member = |(owner, set): &(usize, AnswerSet)| Member {
-            place: parts.places[*owner].clone(),
-            text: text(*owner),
-            shown: ground.names.shown(&set.atoms),
-            never: parts.rule_of(*owner).is_some_and(Rule::is_empty),
-        };
-        let members: Vec<Member> = core.members.iter().map(member).collect();
-        if let Some(folder) = &mut self.folder {
-            keep(folder, core, called);
-        }
+    /// A core in words and on a page; its certificates are kept.
+    fn core(&mut self, parts: &Parts, core: &Core, called: &str, of: usize) -> (Outcome, Page) {
+        let by_plan = self.asked.ground.of_plan && called == "core";
+        let members = self.members(parts, core, by_plan);
+        keep(&mut self.outputs, core, called);
         let mut outcome = prove::refutation(&core.refuted, self.table);
         let verdict = std::mem::take(&mut outcome.line);
         outcome.line = format!("{called} {} of {of}", members.len());
         members.iter().for_each(|member| outcome.line += &format!("\n{}", member.line()));
+        let certified = format!("certified: {verdict} is the check's verdict on the proof for the rules and these constraints");
+        outcome.words.insert(0, certified);
+        if !members.is_empty() {
+            outcome.words.push(String::from("the set test says yes to an answer set without each of them"));
+        }
+        let page = self.page(&members, called, of, outcome.words.clone());
         let mut words: Vec<String> = members.iter().map(Member::without).collect();
         words.extend(members.iter().filter_map(Member::remark));
         if members.is_empty() {
             words.push(String::from("the rules alone have no answer set"));
         }
-        if !by_plan && ground.of_plan {
+        if !by_plan && self.asked.ground.of_plan {
             words.push(String::from("in ground constraints gringo leaves out facts, and what always holds"));
         }
-        words.push(format!("certified: {verdict} is the check's verdict on the proof for the rules and these constraints"));
-        words.append(&mut outcome.words);
-        words.extend((!members.is_empty()).then(|| String::from("the set test says yes to an answer set without each of them")));
-        outcome.words = words;
+        outcome.words.splice(0..0, words);
         let fields = vec![("core", Json::List(members.iter().map(Member::json).collect())), ("of", Json::count(of))];
         outcome.fields.splice(0..0, fields);
-        outcome.status = Status::Good;
-        outcome
+        (outcome, page)
+    }
+
+    /// The members of a core: those of a plan by their statements, ground ones spelled.
+    fn members(&self, parts: &Parts, core: &Core, by_plan: bool) -> Vec<Member> {
+        let Asked { ground, texts, .. } = self.asked;
+        let spelling = Spelling::of(&ground.names, parts.lines.iter().map(|line| &line.rule));
+        let spelled = |owner: usize| parts.rule_of(owner).map_or(String::from("a fact is demanded"), |rule| spelling.constraint(rule));
+        let member = |(owner, set): &(usize, AnswerSet)| Member {
+            place: parts.places[*owner].clone(),
+            text: if by_plan { texts[*owner].clone() } else { spelled(*owner) },
+            shown: ground.names.shown(&set.atoms),
+            never: parts.rule_of(*owner).is_some_and(Rule::is_empty),
+        };
+        core.members.iter().map(member).collect()
+    }
+
+    fn page(&self, members: &[Member], called: &str, of: usize, certified: Vec<String>) -> Page {
+        let rows = members.iter().map(|member| vec![member.place(), member.text.clone()]).collect();
+        let title = if called == "core" { "These constraints together leave nothing" } else { "The same, ground" };
+        let mut parts = vec![Part::Rows { title: String::from(title), heads: vec!["where", "constraint"], rows }];
+        if called == "core" {
+            parts.extend(members.iter().map(|member| Part::set(format!("Possible without {}", member.place()), &member.shown)));
+        }
+        let answer = match members.len() {
+            0 => String::from("There is no answer set, whatever the constraints: the rules alone have none."),
+            1 => format!("There is no answer set, and one of {of} constraints is the reason."),
+            count => format!("There is no answer set, and {count} of {of} constraints together are the reason."),
+        };
+        Page { question: QUESTION, answer, parts, certified, again: self.again(members.len(), called) }
+    }
+
+    /// The calls that check the certificates again that are kept.
+    fn again(&self, members: usize, called: &str) -> Vec<String> {
+        let Some(folder) = self.words.output("-o") else { return Vec::new() };
+        let (name, before) = files_of(called);
+        let path = |name: String| in_shell(&folder.join(name).to_string_lossy());
+        let check = format!("aspdrupe check {} {}", path(format!("{name}.aspif")), path(format!("{name}.drupe")));
+        let test = |place: usize| {
+            let file = |ending: &str| path(format!("{before}without-{place}.{ending}"));
+            format!("aspdrupe test {} $(cat {})", file("aspif"), file("set"))
+        };
+        std::iter::once(check).chain((1..=members).map(test)).collect()
     }
 }
+
+const QUESTION: &str = "Why is there no answer set, no solution of the plan?";
 
 /// The order of the trials: first what is assumed.
 fn order(parts: &Parts) -> Vec<usize> {
@@ -247,11 +275,20 @@ impl Member {
     }
 }
 
+/// How the files of a core are called, and how those without a member begin.
+fn files_of(called: &str) -> (&'static str, &'static str) {
+    if called == "core" {
+        ("core", "")
+    } else {
+        ("ground", "ground-")
+    }
+}
+
 /// Keeps the certificates of a core.
-fn keep(folder: &mut Folder, core: &Core, called: &str) {
-    let (name, before) = if called == "core" { ("core", "") } else { ("ground", "ground-") };
-    folder.proof(name, &core.refuted);
+fn keep(outputs: &mut Outputs, core: &Core, called: &str) {
+    let (name, before) = files_of(called);
+    outputs.proof(name, &core.refuted);
     for (place, (_, set)) in core.members.iter().enumerate() {
-        folder.set(&format!("{before}without-{}", place + 1), set);
+        outputs.set(&format!("{before}without-{}", place + 1), set);
     }
 }

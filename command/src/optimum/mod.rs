@@ -3,16 +3,17 @@
 mod level;
 
 use std::collections::BTreeSet;
-use std::path::Path;
+use std::path::{Path, PathBuf};
 
 use aspdrupe::Cheapest;
 
-use crate::arguments::{Subcommand, Words, ROOM};
+use crate::arguments::{in_shell, Subcommand, Words, ROOM};
 use crate::certify::{timed, Answer, AnswerSet, Certifier, Limits, Refuted, Times};
 use crate::files::TEXT_LIMIT;
-use crate::folder::Folder;
 use crate::json::Json;
 use crate::outcome::{Failure, Outcome, Status};
+use crate::outputs::Outputs;
+use crate::page::{Page, Part};
 use crate::progress::Progress;
 use crate::rules::rules;
 use crate::statements::{cut_down, Ground};
@@ -22,7 +23,7 @@ use level::{levels, Level};
 
 pub const SUBCOMMAND: Subcommand = Subcommand {
     name: "optimum",
-    form: "PLAN.lp [-o PROOF.drupe] [--assume LITERAL..] [--table N] [--store N] [--time SECONDS]",
+    form: "PLAN.lp [-o PROOF.drupe] [--assume LITERAL..] [--html FILE] [--table N] [--store N] [--time SECONDS]",
     about: "Finds an answer set of least cost, by #minimize and #maximize, and certifies that none costs less.",
     more: "A plan is grounded with gringo; a ground program is taken with the minimize statements that it has. Prints
     optimum C: ATOM..        C is the least cost; of several priorities `optimum C1 C2 ..: ATOM..`, the highest first
@@ -34,8 +35,8 @@ the service of `cheapest` where costs stand on at most 12 literals, the total is
 set test and the check of a proof for the program with the constraint that the total is lower. Which it is, is said. Weights are counted from the
 cheapest that each atom can be, and divided by a common divisor; what is certified is that count, and C is reckoned from it.
 -o PROOF.drupe keeps the proof, and PROOF.drupe.aspif the program that it is for; of several priorities PROOF-1.drupe and so on.
---assume, --table, --store and --time are those of `prove`.",
-    options: &["-o", "--table", "--store", "--time"],
+--assume, --html, --table, --store and --time are those of `prove`.",
+    options: &["-o", "--html", "--table", "--store", "--time"],
     lists: &["--assume"],
     flags: &[],
     inputs: &[0],
@@ -59,15 +60,21 @@ fn run(words: &Words) -> Result<Outcome, Failure> {
     let levels = levels(&ground.costs, &given).ok_or_else(|| Failure::refused("the costs add up to more than can be counted"))?;
     let mut certifier = Certifier::of(limits, ground.added, times, &progress);
     let search = Search { ground: &ground, levels: &levels, limits };
-    let mut outcome = match search.optimum(&mut certifier)? {
+    let mut outputs = Outputs::of(words, &ground.names);
+    let (mut outcome, page) = match search.optimum(&mut certifier)? {
         Found::Optimum(optimum) => {
-            let mut outcome = optimum.told(&ground);
-            if let Some(output) = words.output("-o") {
-                outcome.words.extend(optimum.kept(&output, &ground).write(path)?);
-            }
-            outcome
+            optimum.files(words).for_each(|(path, refuted)| outputs.proof_at(&path, refuted));
+            optimum.told(&ground, words)
         }
-        Found::Other(other) => search.other(other, words, path)?,
+        Found::Other(answer) => {
+            if let (Some(output), Answer::Refuted(refuted)) = (words.output("-o"), &answer) {
+                refuted.counts().iter().for_each(|_| outputs.proof_at(&output, refuted));
+            }
+            match prove::told(&answer, &ground, limits.table) {
+                Ok((outcome, page)) => (outcome, Page { question: QUESTION, ..page }),
+                Err(refusal) => return source::refused(refusal, &ground, path),
+            }
+        }
         Found::TooDear => return Err(Failure::refused(format!("every answer set costs {MOST} units or more: divide the costs"))),
     };
     // That they were dropped is not so here.
@@ -77,8 +84,11 @@ fn run(words: &Words) -> Result<Outcome, Failure> {
         ("loops", Json::count(certifier.loop_count())),
         certifier.times.field(),
     ]);
+    outputs.write(page, path, &mut outcome)?;
     Ok(outcome)
 }
+
+const QUESTION: &str = "Which answer set costs least?";
 
 /// What the search comes to.
 enum Found {
@@ -193,24 +203,6 @@ impl Search<'_> {
         }
         Ok(certified)
     }
-
-    /// What is told where there is no optimum.
-    fn other(&self, other: Answer, words: &Words, path: &Path) -> Result<Outcome, Failure> {
-        match other {
-            Answer::Refused(refusal) => source::refused(refusal, self.ground, path),
-            Answer::Undecided(why) => Ok(prove::undecided(&why)),
-            Answer::Refuted(refuted) => {
-                let mut outcome = prove::refutation(&refuted, self.limits.table);
-                if let (Some(output), Some(_)) = (words.output("-o"), refuted.counts()) {
-                    let mut folder = Folder::of(folder_of(&output), &self.ground.names);
-                    folder.proof_at(&name_of(&output), &refuted);
-                    outcome.words.extend(folder.write(path)?);
-                }
-                Ok(outcome)
-            }
-            Answer::Set(_) => Err(Failure::misuse("an answer set came where none was asked for")),
-        }
-    }
 }
 
 /// What a level comes to.
@@ -220,21 +212,11 @@ enum Least {
     TooDear,
 }
 
-fn folder_of(output: &Path) -> &Path {
-    output.parent().unwrap_or(Path::new(""))
-}
-
-fn name_of(output: &Path) -> String {
-    output.file_name().map_or(String::new(), |name| name.to_string_lossy().into_owned())
-}
-
 impl Optimum {
-    fn told(&self, ground: &Ground) -> Outcome {
+    fn told(&self, ground: &Ground, words: &Words) -> (Outcome, Page) {
         let shown = ground.names.shown(&self.set.atoms);
         let costs = self.levels.iter().map(|level| level.total.to_string()).collect::<Vec<_>>().join(" ");
         let line = format!("optimum {costs}: {}", shown.join(" "));
-        let mut words = vec![String::from("the set test says yes: this is an answer set of the program")];
-        words.extend(self.levels.iter().map(Certified::sentence));
         let fields = vec![
             ("answer", Json::text("optimum")),
             ("costs", Json::List(self.levels.iter().map(|level| Json::Number(level.total)).collect())),
@@ -242,23 +224,39 @@ impl Optimum {
             ("shown", Json::texts(&shown)),
             ("levels", Json::List(self.levels.iter().map(Certified::json).collect())),
         ];
-        Outcome { status: Status::Good, line: String::from(line.trim_end()), words, fields }
+        let outcome = Outcome { status: Status::Good, line: String::from(line.trim_end()), words: self.sentences(), fields };
+        (outcome, self.page(&shown, &costs, words))
     }
 
-    /// The proofs as files: by the name told, with a number where there are several priorities.
-    fn kept(&self, output: &Path, ground: &Ground) -> Folder {
-        let mut folder = Folder::of(folder_of(output), &ground.names);
-        let (stem, ending) =
-            (output.file_stem().unwrap_or_default().to_string_lossy(), output.extension().unwrap_or_default().to_string_lossy());
-        for (place, level) in self.levels.iter().enumerate() {
-            let name = match (self.levels.len(), ending.is_empty()) {
-                (1, _) => name_of(output),
-                (_, true) => format!("{stem}-{}", place + 1),
-                (_, false) => format!("{stem}-{}.{ending}", place + 1),
-            };
-            level.refuted.iter().for_each(|refuted| folder.proof_at(&name, refuted));
-        }
-        folder
+    fn sentences(&self) -> Vec<String> {
+        let set = String::from("the set test says yes: this is an answer set of the program");
+        std::iter::once(set).chain(self.levels.iter().map(Certified::sentence)).collect()
+    }
+
+    fn page(&self, shown: &[String], costs: &str, words: &Words) -> Page {
+        let rows = self.levels.iter().map(|level| vec![level.priority.to_string(), level.total.to_string(), String::from(level.service())]);
+        let heads = vec!["priority", "least cost", "certified by"];
+        let parts = vec![
+            Part::set("An answer set that costs least", shown),
+            Part::Rows { title: String::from("What it costs"), heads, rows: rows.collect() },
+        ];
+        let path = |path: &Path, ending: &str| in_shell(&format!("{}{ending}", path.display()));
+        let again = self.files(words).map(|(proof, _)| format!("aspdrupe check {} {}", path(&proof, ".aspif"), path(&proof, "")));
+        let certified = self.sentences();
+        Page { question: QUESTION, answer: format!("The least cost is {costs}."), parts, certified, again: again.collect() }
+    }
+
+    /// The places of the proofs: by the name told, with a number where there are several priorities.
+    fn files<'a>(&'a self, words: &Words) -> impl Iterator<Item = (PathBuf, &'a Refuted)> {
+        let output = words.output("-o");
+        let several = self.levels.len() > 1;
+        let place = move |(place, level): (usize, &'a Certified)| {
+            let output = output.as_ref()?;
+            let ending = output.extension().map_or(String::new(), |ending| format!(".{}", ending.to_string_lossy()));
+            let name = format!("{}-{}{ending}", output.file_stem()?.to_string_lossy(), place + 1);
+            Some((if several { output.with_file_name(name) } else { output.clone() }, level.refuted.as_ref()?))
+        };
+        self.levels.iter().enumerate().filter_map(place)
     }
 }
 
@@ -275,13 +273,18 @@ impl Certified {
         format!("priority {priority}: {among} costs less than {total}: certified {by}, with {size}")
     }
 
-    fn json(&self) -> Json {
-        let by = match (&self.refuted, self.by_cheapest) {
+    /// The service that certifies it.
+    fn service(&self) -> &'static str {
+        match (&self.refuted, self.by_cheapest) {
             (_, true) => "check_cheapest",
             (None, false) => "test_set",
             (Some(_), false) => "check",
-        };
-        let mut fields = vec![("priority", Json::Number(self.priority)), ("cost", Json::Number(self.total)), ("service", Json::text(by))];
+        }
+    }
+
+    fn json(&self) -> Json {
+        let service = Json::text(self.service());
+        let mut fields = vec![("priority", Json::Number(self.priority)), ("cost", Json::Number(self.total)), ("service", service)];
         if let Some(refuted) = &self.refuted {
             fields.extend([
                 ("lines", Json::count(refuted.proof.lines)),
