@@ -59,6 +59,10 @@ impl Plan {
         self.statements.iter().any(|statement| statement.kind == Kind::Show)
     }
 
+    pub fn includes_others(&self) -> bool {
+        self.statements.iter().any(|statement| statement.kind == Kind::Include)
+    }
+
     pub fn minimizes(&self) -> bool {
         self.statements.iter().any(|statement| statement.kind == Kind::Minimize)
     }

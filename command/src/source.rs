@@ -55,8 +55,11 @@ pub fn load_marked(path: &Path, assumed: &[String]) -> Result<Option<Marked>, Fa
         return Ok(None);
     }
     // The plan itself first: what gringo says of it is by its own lines and columns.
-    let notes = load_with(path, cut_down, assumed)?.notes;
+    let mut notes = load_with(path, cut_down, assumed)?.notes;
     let plan = Plan::of(&bytes).with(assumed)?;
+    if plan.includes_others() {
+        notes.push(String::from("the constraints of what the plan includes count as rules"));
+    }
     let (marked, marks) = plan.marked();
     let ground = named(grounded(path, Handed::Text(&marked.text(folder(path))))?, &marked, path);
     let constraints: Vec<(Statement, String)> = plan.constraints().cloned().zip(marks).collect();

@@ -138,6 +138,7 @@ fn included_plans() {
     room.file("sub/q.lp", "{a; b}. :- a.");
     assert_eq!(room.out(0, "core sub/p.lp"), "answer set: b\n");
     assert_eq!(room.out(0, "core sub/p.lp --assume a"), "core 1 of 2\nassumed: a\n");
+    assert!(room.run(&["core", "sub/p.lp"]).2.starts_with("the constraints of what the plan includes count as rules\n"));
     assert_eq!(room.out(0, "prove sub/p.lp --assume b"), "answer set: b\n");
     assert!(room.out(0, "prove sub/p.lp --assume a").starts_with("inconsistent "));
 }

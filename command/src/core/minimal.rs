@@ -50,7 +50,8 @@ pub fn minimal(parts: &Parts, order: &[usize], certifier: &mut Certifier, progre
     let mut time = FIRST;
     while let Some(late) = deletion.round(order, time, certifier, progress)? {
         if certifier.is_late() {
-            return Ok(undecided(late));
+            let (kept, needed) = (deletion.kept.len(), deletion.needed.len());
+            return Ok(undecided(format!("of {kept} constraints that are left {needed} are known to be needed; {late}")));
         }
         time *= LONGER;
     }

@@ -64,9 +64,9 @@ impl Parts {
             Err(refusal) => return Ok(Err(refusal)),
         };
         let marks: Vec<Option<i32>> = marked.iter().map(|(_, mark)| ground.names.atom(mark)).collect();
-        let own = marked.len() - assumed.len();
+        let own = marked.len().saturating_sub(assumed.len());
         let place = |(place, (statement, _)): (usize, &(Statement, String))| match place.checked_sub(own) {
-            Some(later) => Place::Assumed(assumed[later].clone()),
+            Some(later) => Place::Assumed(assumed.get(later).cloned().unwrap_or_default()),
             None => Place::Line(statement.line),
         };
         let places = marked.iter().enumerate().map(place).collect();

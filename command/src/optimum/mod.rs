@@ -5,7 +5,7 @@ mod level;
 use std::collections::BTreeSet;
 use std::path::{Path, PathBuf};
 
-use aspdrupe::Cheapest;
+use aspdrupe::{Cheapest, ProgramRefusal};
 
 use crate::arguments::{in_shell, Subcommand, Words, ROOM};
 use crate::certify::{timed, Answer, AnswerSet, Certifier, Limits, Refuted, Times};
@@ -169,6 +169,12 @@ impl Search<'_> {
                 Answer::Refuted(refuted) if refuted.counts().is_none() => return Ok(Least::Other(Answer::Refuted(refuted))),
                 Answer::Refuted(_) if bound < units => return Ok(Least::TooDear),
                 Answer::Refuted(refuted) => return Ok(Least::Found(set, Some(refuted))),
+                Answer::Refused(refusal) => {
+                    let restriction = self.ground.names.rule(&level.restriction(bound));
+                    let ProgramRefusal { question, .. } = refusal;
+                    let why = format!("the library refuses the program with `{restriction}`, question {}: {question}", question.number());
+                    return Err(Failure::refused(why));
+                }
                 other => return Ok(Least::Other(other)),
             }
         }
