@@ -11,7 +11,7 @@ use crate::page::{Mark, Page, Part};
 use crate::progress::Progress;
 use crate::rules::holds;
 use crate::statements::{as_it_is, Ground};
-use crate::{constrained, library, prove, source};
+use crate::{constrained, prove, source};
 
 pub const SUBCOMMAND: Subcommand = Subcommand {
     name: "forced",
@@ -46,14 +46,14 @@ fn run(words: &Words) -> Result<Outcome, Failure> {
     let mut times = Times::default();
     let progress = Progress::start();
     let ground = timed(&mut times.grounding, || source::load_with(path, as_it_is, &assumed))?;
-    let mut certifier = Certifier::of(limits, ground.added, times, &progress);
+    let mut certifier = Certifier::of(limits, times, &progress);
     let mut outputs = Outputs::of(words, &ground.names);
     let mut search = Search { ground: &ground, certifier: &mut certifier, progress: &progress, sets: Vec::new() };
     let (mut outcome, page) = match search.forced()? {
         Found::All { always, never } => {
             let forced = Forced { ground: &ground, sets: &search.sets, always: &always, never: &never };
             forced.keep(&mut outputs);
-            forced.told(limits.table, words)?
+            forced.told(limits.table, words)
         }
         Found::Other(answer) => {
             if let Answer::Refuted(refuted) = &answer {
@@ -65,7 +65,7 @@ fn run(words: &Words) -> Result<Outcome, Failure> {
             }
         }
     };
-    outcome.words.splice(0..0, ground.notes.iter().cloned());
+    outcome.words.splice(0..0, ground.notes.iter().cloned().chain(certifier.note.clone()));
     outcome.fields.extend([("calls", Json::count(certifier.calls)), certifier.times.field()]);
     outputs.write(page, path, &mut outcome)?;
     Ok(outcome)
@@ -99,7 +99,7 @@ impl Search<'_, '_> {
             Answer::Set(set) => set,
             other => return Ok(Found::Other(other)),
         };
-        let literals: BTreeSet<i32> = shown(self.ground)?.into_iter().map(|(_, literal)| literal).collect();
+        let literals: BTreeSet<i32> = shown(self.ground, first.told).into_iter().map(|(_, literal)| literal).collect();
         let (held, not) = literals.into_iter().partition(|literal| holds(*literal, &first.atoms));
         self.sets.push(first);
         let always = match self.settled(held)? {
@@ -139,13 +139,12 @@ fn not_all(literals: &[i32]) -> String {
     format!("1 0 0 0 {}{words}", literals.len())
 }
 
-/// What is shown under one literal, with the literal; without names all atoms.
-fn shown(ground: &Ground) -> Result<Vec<(String, i32)>, Failure> {
+/// What is shown under one literal, with the literal; without names all of so many atoms.
+fn shown(ground: &Ground, atoms: usize) -> Vec<(String, i32)> {
     if !ground.names.is_empty() {
-        return Ok(ground.names.literals().map(|(name, literal)| (String::from(name), literal)).collect());
+        return ground.names.literals().map(|(name, literal)| (String::from(name), literal)).collect();
     }
-    let atoms = library::read_program(&ground.text, library::EVERY_TABLE)?.map_or(0, |program| program.atoms);
-    Ok((1..=(atoms - ground.added.min(atoms)) as i32).map(|atom| (atom.to_string(), atom)).collect())
+    (1..=atoms as i32).map(|atom| (atom.to_string(), atom)).collect()
 }
 
 /// The answer.
@@ -165,12 +164,12 @@ struct Sorted {
 }
 
 impl Forced<'_> {
-    fn sorted(&self) -> Result<Sorted, Failure> {
+    fn sorted(&self) -> Sorted {
         let literals = |groups: &[Group]| groups.iter().flat_map(|group| group.literals.clone()).collect::<BTreeSet<i32>>();
         let (held, not) = (literals(self.always), literals(self.never));
         let facts: Vec<String> = self.ground.names.facts().map(String::from).collect();
         let mut sorted = Sorted { facts: facts.len(), always: facts, never: Vec::new(), open: Vec::new() };
-        for (name, literal) in shown(self.ground)? {
+        for (name, literal) in shown(self.ground, self.sets.first().map_or(0, |set| set.told)) {
             if held.contains(&literal) {
                 sorted.always.push(name);
             } else if not.contains(&-literal) {
@@ -179,11 +178,11 @@ impl Forced<'_> {
                 sorted.open.push(name);
             }
         }
-        Ok(sorted)
+        sorted
     }
 
-    fn told(&self, table: usize, words: &Words) -> Result<(Outcome, Page), Failure> {
-        let sorted = self.sorted()?;
+    fn told(&self, table: usize, words: &Words) -> (Outcome, Page) {
+        let sorted = self.sorted();
         let line = |called: &str, names: &[String]| String::from(format!("{called}: {}", names.join(" ")).trim_end());
         let lines = [line("always", &sorted.always), line("never", &sorted.never), line("open", &sorted.open)];
         let proofs = [("always", self.always), ("never", self.never)];
@@ -199,7 +198,7 @@ impl Forced<'_> {
         ];
         let outcome = Outcome { status: Status::Good, line: lines.join("\n"), words: self.sentences(sorted.facts, table), fields };
         let page = self.page(&sorted, words, outcome.words.clone());
-        Ok((outcome, page))
+        (outcome, page)
     }
 
     /// What it is certified by, in words.

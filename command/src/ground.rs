@@ -27,7 +27,7 @@ disjunctive heads are refused. --assume LITERAL.. adds a constraint for each: \"
 };
 
 fn run(words: &Words) -> Result<Outcome, Failure> {
-    let ground = source::load_with(words.path(0)?, cut_down, &words.texts("--assume"))?;
+    let ground = source::split(source::load_with(words.path(0)?, cut_down, &words.texts("--assume"))?)?;
     let program = match library::read_program(&ground.text, library::EVERY_TABLE)? {
         Ok(program) => program,
         Err(refusal) => {

@@ -46,7 +46,7 @@ fn run(words: &Words) -> Result<Outcome, Failure> {
     let progress = Progress::start();
     let (path, assumed) = (words.path(0)?, words.texts("--assume"));
     let ground = timed(&mut times.grounding, || source::load_with(path, as_it_is, &assumed))?;
-    let mut certifier = Certifier::of(limits, ground.added, times, &progress);
+    let mut certifier = Certifier::of(limits, times, &progress);
     let mut outputs = Outputs::of(words, &ground.names);
     let answer = certifier.answer(&ground.text)?;
     let (mut outcome, mut page) = match told(&answer, &ground, limits.table) {
@@ -63,7 +63,7 @@ fn run(words: &Words) -> Result<Outcome, Failure> {
             }
         }
     }
-    outcome.words.splice(0..0, ground.notes.iter().cloned());
+    outcome.words.splice(0..0, ground.notes.iter().cloned().chain(certifier.note.clone()));
     outcome.fields.extend([("loops", Json::count(certifier.loop_count())), certifier.times.field()]);
     outputs.write(page, path, &mut outcome)?;
     Ok(outcome)

@@ -30,7 +30,7 @@ pub fn load_with(path: &Path, taken: fn(&[u8]) -> Result<Ground, Failure>, assum
         if !constraints.is_empty() {
             ground.text = constrained::text(&ground.text, &constraints);
         }
-        return shortened(ground);
+        return Ok(ground);
     }
     if bytes.len() > LIMIT {
         return Err(too_large());
@@ -38,11 +38,11 @@ pub fn load_with(path: &Path, taken: fn(&[u8]) -> Result<Ground, Failure>, assum
     let plan = Plan::of(&bytes);
     if assumed.is_empty() {
         let handed = if files::reads_again(path) { Handed::File } else { Handed::Text(&bytes) };
-        return shortened(named(grounded(path, handed)?, &plan, path));
+        return Ok(named(grounded(path, handed)?, &plan, path));
     }
     let plan = plan.with(assumed)?;
     let text = plan.text(folder(path));
-    shortened(named(grounded(path, Handed::Text(&text))?, &plan, path))
+    Ok(named(grounded(path, Handed::Text(&text))?, &plan, path))
 }
 
 /// A plan whose constraints are marked, as gringo grounds it, cut down, with the statement and the mark of each.
@@ -54,16 +54,16 @@ pub fn load_marked(path: &Path, assumed: &[String]) -> Result<Option<Marked>, Fa
     if is_ground(path, &bytes) {
         return Ok(None);
     }
-    // The plan itself first: what gringo says of it is by its own lines and columns.
-    let mut notes = load_with(path, cut_down, assumed)?.notes;
     let plan = Plan::of(&bytes).with(assumed)?;
-    if plan.includes_others() {
-        notes.push(String::from("the constraints of what the plan includes count as rules"));
-    }
     let (marked, marks) = plan.marked();
-    let ground = named(grounded(path, Handed::Text(&marked.text(folder(path))))?, &marked, path);
+    let mut ground = named(grounded(path, Handed::Text(&marked.text(folder(path))))?, &marked, path);
+    // What gringo says of it is by other columns than the plan's.
+    ground.notes.clear();
+    if plan.includes_others() {
+        ground.notes.push(String::from("the constraints of what the plan includes count as rules"));
+    }
     let constraints: Vec<(Statement, String)> = plan.constraints().cloned().zip(marks).collect();
-    Ok(Some((Ground { notes, ..shortened(ground)? }, constraints)))
+    Ok(Some((ground, constraints)))
 }
 
 /// A file that is ground, with the names beside it.
@@ -78,13 +78,15 @@ fn ground_file(path: &Path, bytes: &[u8], taken: fn(&[u8]) -> Result<Ground, Fai
     Ok(ground)
 }
 
-/// The program whose long sums are split, which is said.
-fn shortened(mut ground: Ground) -> Result<Ground, Failure> {
-    let split = split::split(&ground.text)?;
-    if split.rules + split.atoms > 0 {
-        ground.notes.push(format!("long sums are split, which adds {} rules and {} atoms", split.rules, split.atoms));
-        ground.text = split.text;
-        ground.added = split.atoms;
+/// A program that was loaded, its long sums split, which is said; where it is refused, as it was.
+pub fn split(mut ground: Ground) -> Result<Ground, Failure> {
+    if let Ok(split) = split::split(&ground.text)? {
+        if let Some(note) = split.note() {
+            ground.lines = split::lines(&ground.text, &ground.lines, &split.text);
+            ground.notes.push(note);
+            ground.text = split.text;
+            ground.added = split.atoms;
+        }
     }
     Ok(ground)
 }

@@ -27,7 +27,7 @@ pub struct Ground {
     /// What is to be minimized, and whether the plan has a statement that says so: gringo leaves nothing of one that counts nothing.
     pub costs: Vec<Minimize>,
     pub minimizes: bool,
-    /// How many of its atoms, the last ones, were added where long sums were split.
+    /// How many of its atoms, the last ones, are of sums that were split.
     pub added: usize,
     /// What was dropped or changed, and why that cannot matter.
     pub notes: Vec<String>,

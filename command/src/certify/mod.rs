@@ -70,8 +70,9 @@ pub struct AnswerSet {
     pub text: Vec<u8>,
     /// Its atoms, of which those of split sums come last.
     pub whole: Vec<u16>,
-    /// The atoms of the program that was asked.
+    /// Those of the program that was asked, and how many atoms it has.
     pub atoms: Vec<u16>,
+    pub told: usize,
 }
 
 /// A proof, and what the check says of it for the program with its sums split.
@@ -119,8 +120,8 @@ enum Searched {
 pub struct Certifier<'a> {
     limits: Limits,
     progress: &'a Progress,
-    /// The atoms that were added to the program before it was asked, and are not told.
-    added: usize,
+    /// What is said of long sums that were split.
+    pub note: Option<String>,
     /// Loops found so far. They rest on the rules and stay loops whatever the constraints.
     loops: Vec<Vec<i32>>,
     pub times: Times,
@@ -132,13 +133,13 @@ pub struct Certifier<'a> {
 struct Task {
     text: Vec<u8>,
     program: Program,
-    /// Its atoms that are not told.
-    added: usize,
+    /// The atoms of the program that is asked; those of split sums come behind them.
+    told: usize,
 }
 
 impl<'a> Certifier<'a> {
-    pub fn of(limits: Limits, added: usize, times: Times, progress: &'a Progress) -> Certifier<'a> {
-        Certifier { limits, progress, added, loops: Vec::new(), times, calls: 0 }
+    pub fn of(limits: Limits, times: Times, progress: &'a Progress) -> Certifier<'a> {
+        Certifier { limits, progress, note: None, loops: Vec::new(), times, calls: 0 }
     }
 
     pub fn loop_count(&self) -> usize {
@@ -146,7 +147,7 @@ impl<'a> Certifier<'a> {
     }
 
     /// Why the library refuses a program, where it does.
-    pub fn refusal(&self, text: &[u8]) -> Result<Option<ProgramRefusal>, Failure> {
+    pub fn refusal(&mut self, text: &[u8]) -> Result<Option<ProgramRefusal>, Failure> {
         Ok(self.task(text)?.err())
     }
 
@@ -193,11 +194,12 @@ impl<'a> Certifier<'a> {
         })
     }
 
-    /// A set, where the set test says yes to it for this program and no sum of it is split.
+    /// A set, where the set test says yes to it for this program, with the atoms of sums that are split for it.
     pub fn tested(&mut self, text: &[u8], set: &AnswerSet) -> Result<Option<AnswerSet>, Failure> {
         let Ok(task) = self.task(text)? else { return Ok(None) };
-        let (answer, _) = timed(&mut self.times.checking, || library::test_set(&task.program, &set.whole))?;
-        Ok((answer == SetAnswer::Yes).then(|| task.answer_set(set.whole.clone())))
+        let whole = library::extended(&task.program, &set.atoms, task.told)?;
+        let (answer, _) = timed(&mut self.times.checking, || library::test_set(&task.program, &whole))?;
+        Ok((answer == SetAnswer::Yes).then(|| task.answer_set(whole)))
     }
 
     /// Whether cadical has none of its time left.
@@ -206,10 +208,14 @@ impl<'a> Certifier<'a> {
     }
 
     /// The program of a text, its sums split; or the refusal.
-    fn task(&self, text: &[u8]) -> Result<Result<Task, ProgramRefusal>, Failure> {
-        let split = split::split(text)?;
+    fn task(&mut self, text: &[u8]) -> Result<Result<Task, ProgramRefusal>, Failure> {
+        let split = match split::split(text)? {
+            Ok(split) => split,
+            Err(refusal) => return Ok(Err(refusal)),
+        };
+        self.note = self.note.take().or(split.note());
         let read = library::read_program(&split.text, self.limits.table)?;
-        Ok(read.map(|program| Task { text: split.text, program, added: self.added + split.atoms }))
+        Ok(read.map(|program| Task { told: program.atoms.saturating_sub(split.atoms), text: split.text, program }))
     }
 
     /// The completion, with the loops that are known.
@@ -278,8 +284,7 @@ impl<'a> Certifier<'a> {
 
 impl Task {
     fn answer_set(&self, whole: Vec<u16>) -> AnswerSet {
-        let told = self.program.atoms - self.added.min(self.program.atoms);
-        let atoms = whole.iter().copied().filter(|atom| usize::from(*atom) <= told).collect();
-        AnswerSet { text: self.text.clone(), whole, atoms }
+        let atoms = whole.iter().copied().filter(|atom| usize::from(*atom) <= self.told).collect();
+        AnswerSet { text: self.text.clone(), whole, atoms, told: self.told }
     }
 }

@@ -59,19 +59,17 @@ fn run(words: &Words) -> Result<Outcome, Failure> {
     let (path, assumed) = (words.path(0)?, words.texts("--assume"));
     let mut times = Times::default();
     let progress = Progress::start();
-    let asked = match timed(&mut times.grounding, || asked(path, &assumed))? {
-        Ok(asked) => asked,
-        Err(refused) => return Ok(refused),
-    };
-    let mut certifier = Certifier::of(limits, asked.ground.added, times, &progress);
-    let whole = asked.parts.text(&(0..asked.parts.places.len()).collect());
-    if let Some(refusal) = certifier.refusal(&whole)? {
-        return source::refused(refusal, &asked.ground, path);
+    // The program as it is first: what gringo says of it, and what the library refuses, is by its own lines.
+    let plain = timed(&mut times.grounding, || source::load_with(path, as_it_is, &assumed))?;
+    let mut certifier = Certifier::of(limits, times, &progress);
+    if let Some(refusal) = certifier.refusal(&plain.text)? {
+        return source::refused(refusal, &plain, path);
     }
+    let asked = timed(&mut certifier.times.grounding, || asked(path, &assumed, plain.notes))?;
     let outputs = Outputs::of(words, &asked.ground.names);
     let mut told = Told { words, asked: &asked, table: limits.table, outputs };
     let (mut outcome, page) = told.of(&mut certifier, &progress)?;
-    outcome.words.splice(0..0, asked.ground.notes.iter().cloned());
+    outcome.words.splice(0..0, asked.ground.notes.iter().cloned().chain(certifier.note.clone()));
     outcome.fields.extend([
         ("calls", Json::count(certifier.calls)),
         ("loops", Json::count(certifier.loop_count())),
@@ -81,23 +79,18 @@ fn run(words: &Words) -> Result<Outcome, Failure> {
     Ok(outcome)
 }
 
-/// The program of a file, with its constraints; or its refusal.
-fn asked(path: &Path, assumed: &[String]) -> Result<Result<Asked, Outcome>, Failure> {
-    let (mut ground, marked) = match source::load_marked(path, assumed)? {
-        Some((ground, marked)) => (ground, Some(marked)),
-        None => (source::load(path, as_it_is)?, None),
+/// The program of a file, with its constraints, and with what was said of it.
+fn asked(path: &Path, assumed: &[String], notes: Vec<String>) -> Result<Asked, Failure> {
+    let Some((mut ground, marked)) = source::load_marked(path, assumed)? else {
+        let ground = source::load(path, as_it_is)?;
+        let parts = Parts::of_ground(&ground, assumed)?;
+        return Ok(Asked { ground: Ground { notes, ..ground }, parts, texts: Vec::new() });
     };
-    let parts = match &marked {
-        Some(marked) => Parts::of_plan(&ground, marked, assumed)?,
-        None => Parts::of_ground(&ground, assumed)?,
-    };
-    let parts = match parts {
-        Ok(parts) => parts,
-        Err(refusal) => return source::refused(refusal, &ground, path).map(Err),
-    };
-    let (statements, marks): (Vec<Statement>, Vec<String>) = marked.unwrap_or_default().into_iter().unzip();
+    let parts = Parts::of_plan(&ground, &marked, assumed)?;
+    ground.notes.splice(0..0, notes);
+    let (statements, marks): (Vec<Statement>, Vec<String>) = marked.into_iter().unzip();
     ground.names.forget(&marks);
-    Ok(Ok(Asked { ground, parts, texts: statements.into_iter().map(|statement| statement.text).collect() }))
+    Ok(Asked { ground, parts, texts: statements.into_iter().map(|statement| statement.text).collect() })
 }
 
 /// What is asked for, and where certificates are kept.

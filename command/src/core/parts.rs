@@ -3,14 +3,14 @@
 
 use std::collections::BTreeSet;
 
-use aspdrupe::ProgramRefusal;
-
-use crate::library;
 use crate::outcome::Failure;
 use crate::plan::Statement;
-use crate::rules::{rules, Body, Rule};
+use crate::rules::{Body, Rule};
 use crate::source;
 use crate::statements::Ground;
+
+/// The most literals of a sum that is not split.
+const SHORT: usize = 12;
 
 /// A line of the program, and the constraint that it belongs to.
 #[derive(Debug, Clone)]
@@ -40,29 +40,22 @@ pub struct Parts {
 
 impl Parts {
     /// A ground program with each of its constraints by itself, and with those that are assumed.
-    pub fn of_ground(ground: &Ground, assumed: &[String]) -> Result<Result<Parts, ProgramRefusal>, Failure> {
-        let mut lines = match lines(&ground.text)? {
-            Ok(lines) => lines,
-            Err(refusal) => return Ok(Err(refusal)),
-        };
-        let mut places = Vec::new();
+    pub fn of_ground(ground: &Ground, assumed: &[String]) -> Result<Parts, Failure> {
+        let (mut lines, mut places) = (lines(&ground.text), Vec::new());
         for (place, line) in lines.iter_mut().enumerate().filter(|(_, line)| line.is_constraint()) {
             line.owner = Some(places.len());
             places.push(Place::Line(ground.line(place + 2)));
         }
         for literal in assumed {
-            lines.extend(source::constraint(literal, &ground.names)?.map(|text| Line::constraint(text, places.len())));
+            let text = source::constraint(literal, &ground.names)?;
+            lines.extend(text.and_then(Line::of).map(|line| Line { owner: Some(places.len()), ..line }));
             places.push(Place::Assumed(literal.clone()));
         }
-        Ok(Ok(Parts { lines, places }))
+        Ok(Parts { lines, places })
     }
 
     /// A plan whose constraints are marked: the marks go, and say which ground constraint is of which. The last ones are assumed.
-    pub fn of_plan(ground: &Ground, marked: &[(Statement, String)], assumed: &[String]) -> Result<Result<Parts, ProgramRefusal>, Failure> {
-        let lines = match lines(&ground.text)? {
-            Ok(lines) => lines,
-            Err(refusal) => return Ok(Err(refusal)),
-        };
+    pub fn of_plan(ground: &Ground, marked: &[(Statement, String)], assumed: &[String]) -> Result<Parts, Failure> {
         let marks: Vec<Option<i32>> = marked.iter().map(|(_, mark)| ground.names.atom(mark)).collect();
         let own = marked.len().saturating_sub(assumed.len());
         let place = |(place, (statement, _)): (usize, &(Statement, String))| match place.checked_sub(own) {
@@ -70,8 +63,8 @@ impl Parts {
             None => Place::Line(statement.line),
         };
         let places = marked.iter().enumerate().map(place).collect();
-        let lines = lines.into_iter().map(|line| line.unmarked(&marks)).collect::<Result<Vec<_>, _>>()?;
-        Ok(Ok(Parts { lines: lines.into_iter().flatten().collect(), places }))
+        let lines = lines(&ground.text).into_iter().map(|line| line.unmarked(&marks)).collect::<Result<Vec<_>, _>>()?;
+        Ok(Parts { lines: lines.into_iter().flatten().collect(), places })
     }
 
     /// The same program with each ground constraint by itself, where those of the others are left out.
@@ -97,9 +90,9 @@ impl Parts {
         format!("asp 1 0 0\n{rules}0\n").into_bytes()
     }
 
-    /// The constraints with a ground constraint of one of these bodies.
+    /// The constraints with a ground constraint of one of these bodies. A sum that is split has other bodies, and may be one.
     pub fn owners_of(&self, bodies: &[Vec<i32>]) -> BTreeSet<usize> {
-        let used = |line: &&Line| line.rule.bodies().iter().any(|body| bodies.contains(body));
+        let used = |line: &&Line| line.is_long() || line.rule.bodies().iter().any(|body| bodies.contains(body));
         self.lines.iter().filter(|line| line.owner.is_some()).filter(used).filter_map(|line| line.owner).collect()
     }
 
@@ -114,9 +107,14 @@ impl Line {
         self.rule.heads.is_empty()
     }
 
-    fn constraint(text: String, owner: usize) -> Line {
-        let literals = text.split(' ').skip(5).filter_map(|word| word.parse().ok()).collect();
-        Line { text, rule: Rule { choice: false, heads: Vec::new(), body: Body::Plain(literals) }, owner: Some(owner) }
+    /// The line of a rule.
+    fn of(text: String) -> Option<Line> {
+        Rule::of_line(&text).map(|rule| Line { text, rule, owner: None })
+    }
+
+    /// Whether it has a sum that is split.
+    fn is_long(&self) -> bool {
+        matches!(&self.rule.body, Body::Weights { pairs, .. } if pairs.len() > SHORT)
     }
 
     /// The line without a mark, which belongs to the constraint marked so; none of the choice of a mark.
@@ -140,15 +138,9 @@ impl Line {
     }
 }
 
-/// The lines of a text with the rules that the library reads.
-fn lines(text: &[u8]) -> Result<Result<Vec<Line>, ProgramRefusal>, Failure> {
-    let program = match library::read_program(text, library::EVERY_TABLE)? {
-        Ok(program) => program,
-        Err(refusal) => return Ok(Err(refusal)),
-    };
-    let text = String::from_utf8_lossy(text);
-    let lines = text.lines().skip(1).zip(rules(&program));
-    Ok(Ok(lines.map(|(text, rule)| Line { text: String::from(text), rule, owner: None }).collect()))
+/// The rules of a program that the library takes, its long sums split.
+fn lines(text: &[u8]) -> Vec<Line> {
+    String::from_utf8_lossy(text).lines().filter_map(|line| Line::of(String::from(line))).collect()
 }
 
 #[cfg(test)]
@@ -160,7 +152,7 @@ mod tests {
     #[test]
     fn ground_constraints_one_by_one() {
         let ground = as_it_is(b"asp 1 0 0\n1 1 2 1 2 0 0\n1 0 0 0 1 -1\n1 0 1 3 0 1 1\n1 0 0 0 2 2 3\n0\n").unwrap();
-        let parts = Parts::of_ground(&ground, &[String::from("not 2")]).unwrap().unwrap();
+        let parts = Parts::of_ground(&ground, &[String::from("not 2")]).unwrap();
         assert_eq!(parts.places, [Place::Line(3), Place::Line(5), Place::Assumed(String::from("not 2"))]);
         let text = |kept: &[usize]| String::from_utf8(parts.text(&kept.iter().copied().collect())).unwrap();
         assert_eq!(text(&[]), "asp 1 0 0\n1 1 2 1 2 0 0\n1 0 1 3 0 1 1\n0\n");
@@ -173,7 +165,7 @@ mod tests {
         let plan = Plan::of(b"{a; b}.\n:- a.\n:- b, a. :- not a.");
         let marked: Vec<(Statement, String)> = plan.constraints().cloned().zip(["x", "y", "z"].map(String::from)).collect();
         let text = b"asp 1 0 0\n1 1 1 1 0 0\n1 1 1 2 0 0\n1 1 1 3 0 0\n1 1 2 4 5 0 0\n1 0 0 0 2 4 1\n1 0 0 0 3 5 2 4\n1 0 0 0 1 4\n4 1 x 1 1\n4 1 y 1 2\n4 1 z 1 3\n0\n";
-        let parts = Parts::of_plan(&cut_down(text).unwrap(), &marked, &[String::from("a")]).unwrap().unwrap();
+        let parts = Parts::of_plan(&cut_down(text).unwrap(), &marked, &[String::from("a")]).unwrap();
         assert_eq!(parts.places, [Place::Line(2), Place::Line(3), Place::Assumed(String::from("a"))]);
         assert_eq!(parts.text(&BTreeSet::from([1])), b"asp 1 0 0\n1 1 2 4 5 0 0\n1 0 0 0 2 4 5\n1 0 0 0 1 4\n0\n");
         let ground = parts.by_line(&BTreeSet::from([0]));

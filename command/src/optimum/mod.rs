@@ -2,7 +2,6 @@
 
 mod level;
 
-use std::collections::BTreeSet;
 use std::path::{Path, PathBuf};
 
 use aspdrupe::{Cheapest, ProgramRefusal};
@@ -15,7 +14,7 @@ use crate::outcome::{Failure, Outcome, Status};
 use crate::outputs::Outputs;
 use crate::page::{Page, Part};
 use crate::progress::Progress;
-use crate::rules::rules;
+use crate::rules::Rule;
 use crate::statements::{cut_down, Ground};
 use crate::sums::MOST;
 use crate::{constrained, library, prove, source};
@@ -50,15 +49,15 @@ fn run(words: &Words) -> Result<Outcome, Failure> {
     let mut times = Times::default();
     let progress = Progress::start();
     let ground = timed(&mut times.grounding, || source::load_with(path, cut_down, &words.texts("--assume")))?;
-    let given = match library::read_program(&ground.text, limits.table)? {
-        Ok(program) => rules(&program).iter().flat_map(|rule| rule.heads.clone()).collect::<BTreeSet<i32>>(),
-        Err(refusal) => return source::refused(refusal, &ground, path),
-    };
     if !ground.minimizes {
         return Err(Failure::refused(format!("{} has nothing to minimize: a #minimize or #maximize statement is missing", path.display())));
     }
+    let given = String::from_utf8_lossy(&ground.text).lines().filter_map(Rule::of_line).flat_map(|rule| rule.heads).collect();
     let levels = levels(&ground.costs, &given).ok_or_else(|| Failure::refused("the costs add up to more than can be counted"))?;
-    let mut certifier = Certifier::of(limits, ground.added, times, &progress);
+    let mut certifier = Certifier::of(limits, times, &progress);
+    if let Some(refusal) = certifier.refusal(&ground.text)? {
+        return source::refused(refusal, &ground, path);
+    }
     let search = Search { ground: &ground, levels: &levels, limits };
     let mut outputs = Outputs::of(words, &ground.names);
     let (mut outcome, page) = match search.optimum(&mut certifier)? {
@@ -78,7 +77,9 @@ fn run(words: &Words) -> Result<Outcome, Failure> {
         Found::TooDear => return Err(Failure::refused(format!("every answer set costs {MOST} units or more: divide the costs"))),
     };
     // That they were dropped is not so here.
-    outcome.words.splice(0..0, ground.notes.iter().filter(|note| !note.contains(" minimize statements; ")).cloned());
+    outcome
+        .words
+        .splice(0..0, ground.notes.iter().filter(|note| !note.contains(" minimize statements; ")).cloned().chain(certifier.note.clone()));
     outcome.fields.extend([
         ("calls", Json::count(certifier.calls)),
         ("loops", Json::count(certifier.loop_count())),
@@ -133,7 +134,7 @@ impl Search<'_> {
         for level in self.levels {
             match self.least(level, &fixed, set, certifier)? {
                 Least::Found(least, refuted) => {
-                    let units = level.units(&least.whole);
+                    let units = level.units(&least.atoms);
                     fixed.push(level.restriction(units + 1).line());
                     proofs.push((units, refuted));
                     set = least;
@@ -142,14 +143,11 @@ impl Search<'_> {
                 Least::TooDear => return Ok(Found::TooDear),
             }
         }
-        // The atoms that restrictions brought in are left out.
-        let own = library::read_program(&self.ground.text, self.limits.table)?.map_or(0, |program| program.atoms);
-        set.whole.retain(|atom| usize::from(*atom) <= own);
-        let untested = || Failure::misuse("the set found with restrictions is none of the program");
-        let set = certifier.tested(&self.ground.text, &set)?.ok_or_else(untested)?;
+        let set = tested(&self.ground.text, &set, certifier)?;
         let mut levels = Vec::new();
         for (place, (units, refuted)) in proofs.into_iter().enumerate() {
-            levels.push(self.certified(place, units, refuted, &fixed[..place], &set)?);
+            let with_fixed = tested(&constrained::text(&self.ground.text, &fixed[..place]), &set, certifier)?;
+            levels.push(self.certified(place, units, refuted, &with_fixed)?);
         }
         Ok(Found::Optimum(Optimum { set, levels }))
     }
@@ -158,7 +156,7 @@ impl Search<'_> {
     fn least(&self, level: &Level, fixed: &[String], first: AnswerSet, certifier: &mut Certifier) -> Result<Least, Failure> {
         let mut set = first;
         loop {
-            let units = level.units(&set.whole);
+            let units = level.units(&set.atoms);
             if units == 0 {
                 return Ok(Least::Found(set, None));
             }
@@ -180,15 +178,8 @@ impl Search<'_> {
         }
     }
 
-    /// The certificate of a level: by the service for cheapest sets where it takes it.
-    fn certified(
-        &self,
-        place: usize,
-        units: i64,
-        refuted: Option<Refuted>,
-        fixed: &[String],
-        set: &AnswerSet,
-    ) -> Result<Certified, Failure> {
+    /// The certificate of a level, of an answer set of the program with the higher ones fixed: by the service for cheapest sets where it takes it.
+    fn certified(&self, place: usize, units: i64, refuted: Option<Refuted>, set: &AnswerSet) -> Result<Certified, Failure> {
         let level = &self.levels[place];
         let mut certified = Certified {
             priority: level.priority,
@@ -199,16 +190,19 @@ impl Search<'_> {
             refuted,
         };
         let proof = certified.refuted.as_ref().map_or(&b""[..], |refuted| refuted.proof.text.as_bytes());
-        let short = self.levels[..place].iter().all(|level| level.costs.len() <= 12) && proof.len() <= TEXT_LIMIT;
-        if let Some(costs) = level.pairs().filter(|_| short) {
-            let text = constrained::text(&self.ground.text, fixed);
+        if let Some(costs) = level.pairs().filter(|_| proof.len() <= TEXT_LIMIT) {
             let words = certified.refuted.as_ref().map_or(0, |refuted| refuted.proof.words);
             let (mut table, mut store) = (library::lent(self.limits.table)?, library::lent(self.limits.store.unwrap_or(words.max(ROOM)))?);
-            let answer = aspdrupe::check_cheapest(&text, &set.whole, &costs, proof, &mut table, &mut store)?;
+            let answer = aspdrupe::check_cheapest(&set.text, &set.whole, &costs, proof, &mut table, &mut store)?;
             certified.by_cheapest = matches!(answer, Cheapest::Certified(cost) if i64::try_from(cost) == Ok(units));
         }
         Ok(certified)
     }
+}
+
+/// A set that was found with restrictions, tested for a program with fewer.
+fn tested(text: &[u8], set: &AnswerSet, certifier: &mut Certifier) -> Result<AnswerSet, Failure> {
+    certifier.tested(text, set)?.ok_or_else(|| Failure::misuse("the set found with restrictions is none of the program"))
 }
 
 /// What a level comes to.
