@@ -9,6 +9,9 @@ pub enum Body {
     Weights { bound: i32, pairs: Vec<(i32, i32)> },
 }
 
+/// The most literals of a sum that is not split.
+pub const SHORT: usize = 12;
+
 /// A rule, in the order of the table's words.
 #[derive(Debug, Clone, PartialEq, Eq)]
 pub struct Rule {

@@ -194,7 +194,14 @@ fn costs_of_every_kind() {
         assert_eq!(room.out(0, "optimum p.lp"), line, "{plan}");
     }
     room.file("p.lp", "{a; b}. :- not a. #minimize { 5003: a; 7: b }.");
-    assert!(room.run(&["optimum", "p.lp"]).2.ends_with("every answer set costs 4095 units or more: divide the costs\n"));
+    let (status, _, said) = room.run(&["optimum", "p.lp"]);
+    assert!(
+        status == 20 && said.contains("the library refuses the program with `:- #sum { 4096: a; 7: b } >= 4096.`, question 54: "),
+        "{said}"
+    );
+    // Where the first set found is beyond the bounds, one below them is asked for.
+    room.file("p.lp", "1 { a; b }. #minimize { 9001: a; 3: b }. :- not a, not c. {c}.");
+    assert_eq!(room.out(0, "optimum p.lp"), "optimum 3: b c\n");
     room.file("p.lp", "{a}.");
     assert!(room.run(&["optimum", "p.lp"]).2.contains("has nothing to minimize"));
     room.out(20, "optimum p.lp");

@@ -171,13 +171,14 @@ impl Told<'_> {
         let Asked { ground, texts, .. } = self.asked;
         let spelling = Spelling::of(&ground.names, parts.lines.iter().map(|line| &line.rule));
         let spelled = |owner: usize| parts.rule_of(owner).map_or(String::from("a fact is demanded"), |rule| spelling.constraint(rule));
-        let member = |(owner, set): &(usize, AnswerSet)| Member {
+        let member = |(number, (owner, set)): (usize, &(usize, AnswerSet))| Member {
+            number: (!by_plan && ground.of_plan).then_some(number + 1),
             place: parts.places[*owner].clone(),
             text: if by_plan { texts[*owner].clone() } else { spelled(*owner) },
             shown: ground.names.shown(&set.atoms),
             never: parts.rule_of(*owner).is_some_and(Rule::is_empty),
         };
-        core.members.iter().map(member).collect()
+        core.members.iter().enumerate().map(member).collect()
     }
 
     fn page(&self, members: &[Member], called: &str, of: usize, certified: Vec<String>) -> Page {
@@ -220,6 +221,8 @@ fn order(parts: &Parts) -> Vec<usize> {
 
 /// A constraint of a core.
 struct Member {
+    /// Its number, where its place does not say which it is.
+    number: Option<usize>,
     place: Place,
     text: String,
     /// What is shown of an answer set without it.
@@ -245,7 +248,8 @@ impl Member {
     }
 
     fn without(&self) -> String {
-        String::from(format!("without {}: {}", self.place(), self.shown.join(" ")).trim_end())
+        let number = self.number.map_or(String::new(), |number| format!("{number}, "));
+        String::from(format!("without {number}{}: {}", self.place(), self.shown.join(" ")).trim_end())
     }
 
     /// What is said where a literal is assumed that never holds.

@@ -5,12 +5,9 @@ use std::collections::BTreeSet;
 
 use crate::outcome::Failure;
 use crate::plan::Statement;
-use crate::rules::{Body, Rule};
+use crate::rules::{Body, Rule, SHORT};
 use crate::source;
 use crate::statements::Ground;
-
-/// The most literals of a sum that is not split.
-const SHORT: usize = 12;
 
 /// A line of the program, and the constraint that it belongs to.
 #[derive(Debug, Clone)]

@@ -2,7 +2,7 @@
 
 use std::collections::{BTreeMap, BTreeSet};
 
-use crate::rules::{holds, Body, Rule};
+use crate::rules::{holds, Body, Rule, SHORT};
 use crate::statements::Minimize;
 use crate::sums::{divisor, MOST};
 
@@ -68,8 +68,10 @@ impl Level {
 
     /// The constraint that a set breaks which costs so many units or more. A cost above that counts as that.
     pub fn restriction(&self, units: i64) -> Rule {
-        let pairs = self.costs.iter().map(|(literal, cost)| (*literal, (*cost).min(units) as i32)).collect();
-        Rule { choice: false, heads: Vec::new(), body: Body::Weights { bound: units as i32, pairs } }
+        // What is beyond these numbers is refused, as is what is near them.
+        let number = |units: i64| i32::try_from(units).unwrap_or(i32::MAX);
+        let pairs = self.costs.iter().map(|(literal, cost)| (*literal, number((*cost).min(units)))).collect();
+        Rule { choice: false, heads: Vec::new(), body: Body::Weights { bound: number(units), pairs } }
     }
 
     /// The costs for the service of cheapest sets, where they are as it takes them.
@@ -78,7 +80,7 @@ impl Level {
             Some([i16::try_from(*literal).ok()?, i16::try_from(*cost).ok().filter(|cost| i64::from(*cost) <= MOST)?])
         };
         let pairs: Vec<[i16; 2]> = self.costs.iter().map(pair).collect::<Option<_>>()?;
-        (pairs.len() <= 12).then(|| pairs.concat())
+        (pairs.len() <= SHORT).then(|| pairs.concat())
     }
 }
 

@@ -14,9 +14,8 @@ use crate::outcome::{Failure, Outcome, Status};
 use crate::outputs::Outputs;
 use crate::page::{Page, Part};
 use crate::progress::Progress;
-use crate::rules::Rule;
+use crate::rules::{Rule, SHORT};
 use crate::statements::{cut_down, Ground};
-use crate::sums::MOST;
 use crate::{constrained, library, prove, source};
 use level::{levels, Level};
 
@@ -74,7 +73,6 @@ fn run(words: &Words) -> Result<Outcome, Failure> {
                 Err(refusal) => return source::refused(refusal, &ground, path),
             }
         }
-        Found::TooDear => return Err(Failure::refused(format!("every answer set costs {MOST} units or more: divide the costs"))),
     };
     // That they were dropped is not so here.
     outcome
@@ -96,7 +94,6 @@ enum Found {
     Optimum(Optimum),
     /// There is no answer set, or no answer.
     Other(Answer),
-    TooDear,
 }
 
 /// How a level is certified.
@@ -109,8 +106,9 @@ struct Certified {
     by_cheapest: bool,
     /// Whether it is the highest.
     is_first: bool,
-    /// The restriction, by names.
+    /// The restriction, by names, and whether it has more literals than a sum that is not split.
     restriction: String,
+    is_long: bool,
 }
 
 struct Optimum {
@@ -140,7 +138,6 @@ impl Search<'_> {
                     set = least;
                 }
                 Least::Other(other) => return Ok(Found::Other(other)),
-                Least::TooDear => return Ok(Found::TooDear),
             }
         }
         let set = tested(&self.ground.text, &set, certifier)?;
@@ -152,30 +149,35 @@ impl Search<'_> {
         Ok(Found::Optimum(Optimum { set, levels }))
     }
 
-    /// An answer set that costs least by a level, with the higher ones fixed, from one that is known: cheaper and cheaper ones are asked for.
+    /// An answer set that costs least by a level, with the higher ones fixed, from one that is known: cheaper and cheaper ones are asked for. Where
+    /// the program with such a constraint is refused, as one with too many rules is, much cheaper ones are asked for first.
     fn least(&self, level: &Level, fixed: &[String], first: AnswerSet, certifier: &mut Certifier) -> Result<Least, Failure> {
-        let mut set = first;
+        let (mut set, mut bound) = (first, None);
+        // No answer set costs less than this.
+        let mut low = 0;
         loop {
             let units = level.units(&set.atoms);
             if units == 0 {
                 return Ok(Least::Found(set, None));
             }
-            let bound = units.min(MOST);
-            let constraints = [fixed, &[level.restriction(bound).line()]].concat();
+            let below = bound.unwrap_or(units);
+            let constraints = [fixed, &[level.restriction(below).line()]].concat();
             match certifier.answer(&constrained::text(&self.ground.text, &constraints))? {
-                Answer::Set(cheaper) => set = cheaper,
+                Answer::Set(cheaper) => (set, bound) = (cheaper, None),
                 Answer::Refuted(refuted) if refuted.counts().is_none() => return Ok(Least::Other(Answer::Refuted(refuted))),
-                Answer::Refuted(_) if bound < units => return Ok(Least::TooDear),
-                Answer::Refuted(refuted) => return Ok(Least::Found(set, Some(refuted))),
-                Answer::Refused(refusal) => {
-                    let restriction = self.ground.names.rule(&level.restriction(bound));
-                    let ProgramRefusal { question, .. } = refusal;
-                    let why = format!("the library refuses the program with `{restriction}`, question {}: {question}", question.number());
-                    return Err(Failure::refused(why));
-                }
+                Answer::Refuted(refuted) if below == units => return Ok(Least::Found(set, Some(refuted))),
+                Answer::Refuted(_) => (low, bound) = (below, Some((below + units + 1) / 2)),
+                Answer::Refused(refusal) if below - low < 2 => return Err(self.refused(level, below, refusal)),
+                Answer::Refused(_) => bound = Some((low + below) / 2),
                 other => return Ok(Least::Other(other)),
             }
         }
+    }
+
+    fn refused(&self, level: &Level, below: i64, refusal: ProgramRefusal) -> Failure {
+        let restriction = self.ground.names.rule(&level.restriction(below));
+        let ProgramRefusal { question, .. } = refusal;
+        Failure::refused(format!("the library refuses the program with `{restriction}`, question {}: {question}", question.number()))
     }
 
     /// The certificate of a level, of an answer set of the program with the higher ones fixed: by the service for cheapest sets where it takes it.
@@ -187,6 +189,7 @@ impl Search<'_> {
             by_cheapest: false,
             is_first: place == 0,
             restriction: self.ground.names.rule(&level.restriction(units)),
+            is_long: level.costs.len() > SHORT,
             refuted,
         };
         let proof = certified.refuted.as_ref().map_or(&b""[..], |refuted| refuted.proof.text.as_bytes());
@@ -209,7 +212,6 @@ fn tested(text: &[u8], set: &AnswerSet, certifier: &mut Certifier) -> Result<Ans
 enum Least {
     Found(AnswerSet, Option<Refuted>),
     Other(Answer),
-    TooDear,
 }
 
 impl Optimum {
@@ -268,8 +270,11 @@ impl Certified {
         };
         let among = if self.is_first { "no answer set" } else { "with the totals before it no answer set" };
         let size = format!("a proof of {} lines and {} bytes", refuted.proof.lines, refuted.proof.text.len());
-        let by =
-            if self.by_cheapest { String::from("as `cheapest` does") } else { format!("by the check of the program with `{restriction}`") };
+        let by = match (self.by_cheapest, self.is_long) {
+            (true, _) => String::from("as `cheapest` does"),
+            (false, false) => format!("by the check of the program with `{restriction}`"),
+            (false, true) => format!("by the check of the program with `{restriction}`, its sum split"),
+        };
         format!("priority {priority}: {among} costs less than {total}: certified {by}, with {size}")
     }
 
