@@ -131,14 +131,16 @@ pub fn cut_down(text: &[u8]) -> Result<Ground, Failure> {
         ground.lines.push(place + 1);
     }
     ground.lines.push(lines.count() + 1);
-    let counted = DROPPED.iter().zip(dropped).filter(|(_, count)| *count > 0);
-    ground.notes.extend(counted.map(|((_, what, why), count)| format!("dropped, which cannot matter: {count} {what}; {why}")));
-    if shortened > 0 {
-        ground
-            .notes
-            .push(format!("rewritten, which cannot matter: {shortened} rules that named a literal twice or had weights above 4095"));
-    }
+    ground.notes = notes(dropped, shortened);
     Ok(ground)
+}
+
+/// What is said of what was dropped, by its place in the list, and of rules that were rewritten.
+fn notes(dropped: [usize; DROPPED.len()], shortened: usize) -> Vec<String> {
+    let counted = DROPPED.iter().zip(dropped).filter(|(_, count)| *count > 0);
+    let said = counted.map(|((_, what, why), count)| format!("dropped, which cannot matter: {count} {what}; {why}"));
+    let rewritten = format!("rewritten, which cannot matter: {shortened} rules that named a literal twice or had weights above 4095");
+    said.chain((shortened > 0).then_some(rewritten)).collect()
 }
 
 /// What becomes of a line.

@@ -977,6 +977,10 @@ fn interrupted_while_a_tool_runs() {
         ("cheapest", "plan.lp", INT, true),
         ("prove", "plan.lp", TERM, true),
         ("prove", "p.aspif", HUP, false),
+        ("core", "p.aspif", INT, false),
+        ("core", "plan.lp", INT, true),
+        ("optimum", "plan.lp", TERM, false),
+        ("forced", "p.aspif", INT, true),
     ] {
         let running = in_foreground(&room, &[way, file, "-o", "out", "--json"]);
         wait_until(|| number.exists());

@@ -120,7 +120,7 @@ fn cores_without_constraints() {
     assert_eq!(room.out(0, "core p.lp"), "core 1 of 3\nline 1: :-.\n");
     assert!(room
         .out(0, "core p.lp --json")
-        .starts_with(r#"{"command": "core", "status": 0, "core": [{"line": 1, "text": ":-.", "without""#));
+        .starts_with(r#"{"command": "core", "status": 0, "answer": "core", "core": [{"line": 1, "text": ":-.", "without""#));
     room.file("p.lp", "");
     assert_eq!(room.out(0, "core p.lp"), "answer set:\n");
     room.file("p.lp", "{b}. :- b. :- not b.");
@@ -285,4 +285,14 @@ fn pages() {
     room.out(2, "prove p.lp --html x -o ./x --assume on(ann,1)");
     room.out(2, "core p.lp --html no/such/page.html");
     room.out(2, "core p.lp --html .");
+    for words in
+        ["prove p.lp --html /dev/full", "core p.lp --assume on(ann,1) -o full --html /dev/full", "forced p.lp -o full --html /dev/full"]
+    {
+        let (status, out, said) = room.run(&words.split(' ').collect::<Vec<_>>());
+        assert!(
+            status == 2 && out.is_empty() && said.ends_with("/dev/full cannot be written: No space left on device\n"),
+            "{words}: {said}"
+        );
+    }
+    assert_eq!(fs::read_dir(room.0.join("full")).unwrap().count(), 0);
 }

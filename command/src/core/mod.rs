@@ -161,7 +161,8 @@ impl Told<'_> {
             words.push(String::from("in ground constraints gringo leaves out facts, and what always holds"));
         }
         outcome.words.splice(0..0, words);
-        let fields = vec![("core", Json::List(members.iter().map(Member::json).collect())), ("of", Json::count(of))];
+        let fields =
+            vec![("answer", Json::text("core")), ("core", Json::List(members.iter().map(Member::json).collect())), ("of", Json::count(of))];
         outcome.fields.splice(0..0, fields);
         (outcome, page)
     }

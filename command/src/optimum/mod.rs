@@ -48,11 +48,7 @@ fn run(words: &Words) -> Result<Outcome, Failure> {
     let mut times = Times::default();
     let progress = Progress::start();
     let ground = timed(&mut times.grounding, || source::load_with(path, cut_down, &words.texts("--assume")))?;
-    if !ground.minimizes {
-        return Err(Failure::refused(format!("{} has nothing to minimize: a #minimize or #maximize statement is missing", path.display())));
-    }
-    let given = String::from_utf8_lossy(&ground.text).lines().filter_map(Rule::of_line).flat_map(|rule| rule.heads).collect();
-    let levels = levels(&ground.costs, &given).ok_or_else(|| Failure::refused("the costs add up to more than can be counted"))?;
+    let levels = levels_of(&ground, path)?;
     let mut certifier = Certifier::of(limits, times, &progress);
     if let Some(refusal) = certifier.refusal(&ground.text)? {
         return source::refused(refusal, &ground, path);
@@ -88,6 +84,15 @@ fn run(words: &Words) -> Result<Outcome, Failure> {
 }
 
 const QUESTION: &str = "Which answer set costs least?";
+
+/// What is to be minimized.
+fn levels_of(ground: &Ground, path: &Path) -> Result<Vec<Level>, Failure> {
+    if !ground.minimizes {
+        return Err(Failure::refused(format!("{} has nothing to minimize: a #minimize or #maximize statement is missing", path.display())));
+    }
+    let given = String::from_utf8_lossy(&ground.text).lines().filter_map(Rule::of_line).flat_map(|rule| rule.heads).collect();
+    levels(&ground.costs, &given).ok_or_else(|| Failure::refused("the costs add up to more than can be counted"))
+}
 
 /// What the search comes to.
 enum Found {
