@@ -110,7 +110,8 @@ impl Search<'_, '_> {
         Ok(never.map_or_else(Found::Other, |never| Found::All { always, never }))
     }
 
-    /// Those of the literals that hold in every answer set, by groups. They hold in the first; each further set takes some away.
+    /// Those of the literals that hold in every answer set, by groups. They hold in the first; each further set takes
+    /// some away.
     fn settled(&mut self, literals: BTreeSet<i32>) -> Result<Result<Vec<Group>, Answer>, Failure> {
         let (mut groups, mut left) = (Vec::new(), literals);
         let total = left.len();

@@ -35,7 +35,8 @@ pub fn test_set(program: &Program, set: &[u16]) -> Result<(SetAnswer, Vec<bool>)
     Ok((answer, marks.iter().map(|mark| *mark == 1).collect()))
 }
 
-/// A set of the first so many atoms with those of the others that the rules give, where no rule has one of these negated.
+/// A set of the first so many atoms with those of the others that the rules give, where no rule has one of these
+/// negated.
 pub fn extended(program: &Program, set: &[u16], told: usize) -> Result<Vec<u16>, Failure> {
     if told >= program.atoms {
         return Ok(set.to_vec());

@@ -1,4 +1,5 @@
-//! What a subcommand leaves behind: certificates (programs with their names, proofs, answer sets) and a page, all written together.
+//! What a subcommand leaves behind: certificates (programs with their names, proofs, answer sets) and a page, all
+//! written together.
 
 use std::fs;
 use std::path::{Path, PathBuf};
@@ -43,7 +44,8 @@ impl<'a> Outputs<'a> {
         self.in_folder(&format!("{name}.set"), format!("{atoms}\n").as_bytes());
     }
 
-    /// A proof as this file, and its program beside it, with `.aspif` behind the name; a device or a pipe has nothing beside it.
+    /// A proof as this file, and its program beside it, with `.aspif` behind the name; a device or a pipe has nothing
+    /// beside it.
     pub fn proof_at(&mut self, path: &Path, refuted: &Refuted) {
         self.file(path, refuted.proof.text.as_bytes());
         if !path.exists() || path.is_file() {

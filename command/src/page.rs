@@ -1,5 +1,5 @@
-//! A page in HTML for a person who decides, without outside parts: what was asked, the answer in a sentence, tables, what it is certified by,
-//! and how to check it again.
+//! A page in HTML for a person who decides, without outside parts: what was asked, the answer in a sentence, tables,
+//! what it is certified by, and how to check it again.
 
 use crate::arguments::Words;
 use crate::terms::{self, Table};

@@ -1,5 +1,5 @@
-//! A plan's text by statements, as far as constraints, what is shown and what is included are concerned, and the text with some
-//! of that changed. What a statement means is gringo's to say: here only its ends are found.
+//! A plan's text by statements, as far as constraints, what is shown and what is included are concerned, and the text
+//! with some of that changed. What a statement means is gringo's to say: here only its ends are found.
 
 use std::ops::Range;
 use std::path::Path;

@@ -1,4 +1,5 @@
-//! `aspdrupe prove`: the whole way, from a plan to an answer set that the set test passes or to a proof that the whole check accepts.
+//! `aspdrupe prove`: the whole way, from a plan to an answer set that the set test passes or to a proof that the whole
+//! check accepts.
 
 use std::path::Path;
 

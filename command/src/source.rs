@@ -48,7 +48,8 @@ pub fn load_with(path: &Path, taken: fn(&[u8]) -> Result<Ground, Failure>, assum
 /// A plan whose constraints are marked, as gringo grounds it, cut down, with the statement and the mark of each.
 pub type Marked = (Ground, Vec<(Statement, String)>);
 
-/// The plan of a file with marks. The constraints that demand or forbid literals are the last. None where the file is ground.
+/// The plan of a file with marks. The constraints that demand or forbid literals are the last. None where the file is
+/// ground.
 pub fn load_marked(path: &Path, assumed: &[String]) -> Result<Option<Marked>, Failure> {
     let bytes = files::read(path, LIMIT)?;
     if is_ground(path, &bytes) {
@@ -103,8 +104,8 @@ pub fn constraint(literal: &str, names: &Names) -> Result<Option<String>, Failur
     Ok(Some(format!("1 0 0 0 1 {}", if forbidden { number } else { -number })))
 }
 
-/// The ground program with the names of atoms that the plan does not show. They are those of another grounding, without what is said about
-/// showing, where that has the same rules.
+/// The ground program with the names of atoms that the plan does not show. They are those of another grounding, without
+/// what is said about showing, where that has the same rules.
 fn named(mut ground: Ground, plan: &Plan, path: &Path) -> Ground {
     ground.minimizes |= plan.minimizes();
     if plan.shows() {

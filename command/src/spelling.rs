@@ -1,5 +1,5 @@
-//! Ground constraints by names. An atom without a name, as gringo makes them for sums and for bounds of choices, is spelled by the
-//! bodies of its rules; a fact without a name is left out.
+//! Ground constraints by names. An atom without a name, as gringo makes them for sums and for bounds of choices, is
+//! spelled by the bodies of its rules; a fact without a name is left out.
 
 use std::collections::HashMap;
 

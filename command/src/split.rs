@@ -1,5 +1,6 @@
-//! Long sums: the place where a ground program gets the form that the checker takes, its long sums split into short ones. The
-//! library's service for that is not here yet; until then a text stays as it is, and the library refuses long sums with 55.
+//! Long sums: the place where a ground program gets the form that the checker takes, its long sums split into short
+//! ones. The library's service for that is not here yet; until then a text stays as it is, and the library refuses long
+//! sums with 55.
 
 use aspdrupe::ProgramRefusal;
 
@@ -9,7 +10,8 @@ use crate::rules::Rule;
 /// A ground program with short sums only.
 pub struct Split {
     pub text: Vec<u8>,
-    /// How many rules and atoms it has more than before. The new atoms' numbers are above those of before, and no rule has one negated.
+    /// How many rules and atoms it has more than before. The new atoms' numbers are above those of before, and no rule
+    /// has one negated.
     pub rules: usize,
     pub atoms: usize,
 }
@@ -22,12 +24,14 @@ impl Split {
     }
 }
 
-/// The program whose long sums are split, which has the same answer sets, the new atoms aside; or its refusal, with a line of its own.
+/// The program whose long sums are split, which has the same answer sets, the new atoms aside; or its refusal, with a
+/// line of its own.
 pub fn split(text: &[u8]) -> Result<Result<Split, ProgramRefusal>, Failure> {
     Ok(Ok(Split { text: text.to_vec(), rules: 0, atoms: 0 }))
 }
 
-/// By line of the text after splitting, the line that it is of, where those before it are of these. A rule that is split is several lines in its place.
+/// By line of the text after splitting, the line that it is of, where those before it are of these. A rule that is
+/// split is several lines in its place.
 pub fn lines(before: &[u8], from: &[usize], after: &[u8]) -> Vec<usize> {
     let read =
         |text: &[u8]| String::from_utf8_lossy(text).lines().map(|line| (Rule::of_line(line), String::from(line))).collect::<Vec<_>>();

@@ -24,7 +24,8 @@ pub struct Ground {
     /// Whether that text is what gringo made of a plan, and not the file's own.
     pub of_plan: bool,
     pub names: Names,
-    /// What is to be minimized, and whether the plan has a statement that says so: gringo leaves nothing of one that counts nothing.
+    /// What is to be minimized, and whether the plan has a statement that says so: gringo leaves nothing of one that
+    /// counts nothing.
     pub costs: Vec<Minimize>,
     pub minimizes: bool,
     /// How many of its atoms, the last ones, are of sums that were split.
@@ -165,8 +166,9 @@ fn fate(words: &[&str], line: usize) -> Result<Fate, Failure> {
     }
 }
 
-/// A rule with a plain body is a set of literals: one that is written twice counts once, and with its complement the body never holds. In a sum the
-/// weights of a literal that is written twice are added up. What is no rule but for that stays, and is refused.
+/// A rule with a plain body is a set of literals: one that is written twice counts once, and with its complement the
+/// body never holds. In a sum the weights of a literal that is written twice are added up. What is no rule but for that
+/// stays, and is refused.
 fn rule(words: &[&str], line: usize) -> Result<Fate, Failure> {
     let numbers = words.iter().map(|word| word.parse().ok().filter(|number: &i64| number.to_string() == *word));
     let Some(numbers) = numbers.collect::<Option<Vec<_>>>() else { return Ok(Fate::Stays) };

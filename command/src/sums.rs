@@ -1,12 +1,14 @@
-//! Sums as a grounder writes them, made to fit: the weights of a literal that is named twice are added up, and where a weight or the bound is too
-//! large, weights count as the bound at most and all are divided by a common divisor. Which sets of literals reach the bound stays as it was.
+//! Sums as a grounder writes them, made to fit: the weights of a literal that is named twice are added up, and where a
+//! weight or the bound is too large, weights count as the bound at most and all are divided by a common divisor. Which
+//! sets of literals reach the bound stays as it was.
 
 use std::collections::BTreeMap;
 
 /// The most that a weight or a bound may be.
 pub const MOST: i64 = 4_095;
 
-/// The bound, the count, and the literals each with its weight, changed; none where they are no sum, or there is nothing to change.
+/// The bound, the count, and the literals each with its weight, changed; none where they are no sum, or there is
+/// nothing to change.
 pub fn smaller(numbers: &[i64]) -> Option<Vec<i64>> {
     let [bound, count, pairs @ ..] = numbers else { return None };
     let whole = *bound >= 0 && pairs.len() % 2 == 0 && usize::try_from(*count) == Ok(pairs.len() / 2);

@@ -768,7 +768,7 @@ fn proofs_beyond_the_limits() {
     let (status, out, _) = room.run(&["prove", "none.aspif", "--store", "6", "-o", "d"]);
     assert_eq!((status, out.as_str()), (20, "refused proof 34 1\n"));
     assert_eq!(room.files(), ["none.aspif", "p.aspif"]);
-    let readme = fs::read_to_string(concat!(env!("CARGO_MANIFEST_DIR"), "/../README.md")).unwrap();
+    let readme = fs::read_to_string(concat!(env!("CARGO_MANIFEST_DIR"), "/../README.md")).unwrap().replace('\n', " ");
     assert!(readme.contains("A proof beyond 65,535 bytes goes to the long check") && readme.contains("beyond the store (34)"));
 }
 

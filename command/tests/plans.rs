@@ -1,4 +1,5 @@
-//! The command on plans, with gringo and cadical themselves. Where they are not installed nothing is run, and that is said.
+//! The command on plans, with gringo and cadical themselves. Where they are not installed nothing is run, and that is
+//! said.
 
 use std::fs;
 use std::path::{Path, PathBuf};

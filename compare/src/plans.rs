@@ -1,5 +1,6 @@
-//! Runs `aspdrupe core`, `optimum` and `forced` on random plans and holds what they say to every set of atoms. A plan has few atoms and no
-//! variables, so that its rules are known here too: gringo is the command's alone. Every third one is given as a ground program.
+//! Runs `aspdrupe core`, `optimum` and `forced` on random plans and holds what they say to every set of atoms. A plan
+//! has few atoms and no variables, so that its rules are known here too: gringo is the command's alone. Every third one
+//! is given as a ground program.
 
 use std::collections::BTreeMap;
 use std::fs;
@@ -260,8 +261,8 @@ impl Printed {
     }
 }
 
-/// The lists of totals that may be printed: gringo leaves nothing of a priority that counts nothing, so that one with 0 in every answer set may be
-/// missing, and all of them together are 0.
+/// The lists of totals that may be printed: gringo leaves nothing of a priority that counts nothing, so that one with 0
+/// in every answer set may be missing, and all of them together are 0.
 fn lists(least: &[i32], never: &[bool]) -> Vec<String> {
     let kept = |out: usize| {
         (0..least.len()).filter(|level| !(never[*level] && out >> level & 1 == 1)).map(|level| least[level].to_string()).collect()

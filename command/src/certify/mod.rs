@@ -1,5 +1,6 @@
-//! Answers to ground programs that the library certifies: an answer set that the set test passes, or a proof that the check
-//! accepts. What is written here only looks for them: the library decides. `prove`, `core`, `optimum` and `forced` ask it.
+//! Answers to ground programs that the library certifies: an answer set that the set test passes, or a proof that the
+//! check accepts. What is written here only looks for them: the library decides. `prove`, `core`, `optimum` and
+//! `forced` ask it.
 
 mod clauses;
 mod completion;
@@ -228,8 +229,8 @@ impl<'a> Certifier<'a> {
         completion
     }
 
-    /// Solves, and adds the loops that a model rests on without reason, until the model is an answer set or there is none, or the
-    /// time is over.
+    /// Solves, and adds the loops that a model rests on without reason, until the model is an answer set or there is
+    /// none, or the time is over.
     fn search(&mut self, program: &Program, completion: &mut Completion, limit: Option<Duration>) -> Result<Searched, Failure> {
         self.progress.begin(Part::Solving);
         loop {

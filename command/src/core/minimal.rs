@@ -1,5 +1,6 @@
-//! A minimal set of constraints with which there is no answer set, by deletion: each is left out in its turn, and stays out where
-//! there is still none. A refutation says which others are not needed either. Trials that take long are put off.
+//! A minimal set of constraints with which there is no answer set, by deletion: each is left out in its turn, and stays
+//! out where there is still none. A refutation says which others are not needed either. Trials that take long are put
+//! off.
 
 use std::collections::{BTreeMap, BTreeSet};
 use std::time::Duration;
@@ -106,8 +107,8 @@ impl Deletion<'_> {
         }
     }
 
-    /// The set that is left, with its certificates: a proof, and for each constraint an answer set of the program without it. One that
-    /// was found with more constraints is one with fewer too, and is tested again.
+    /// The set that is left, with its certificates: a proof, and for each constraint an answer set of the program
+    /// without it. One that was found with more constraints is one with fewer too, and is tested again.
     fn certified(mut self, certifier: &mut Certifier) -> Result<Minimal, Failure> {
         let refuted = match certifier.answer(&self.parts.text(&self.kept))? {
             Answer::Refuted(refuted) if refuted.counts().is_some() => refuted,

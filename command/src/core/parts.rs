@@ -1,5 +1,5 @@
-//! A ground program by lines, of which some belong to constraints that may be left out: those of a plan, each with the ground
-//! constraints that gringo makes of it, or ground constraints one by one.
+//! A ground program by lines, of which some belong to constraints that may be left out: those of a plan, each with the
+//! ground constraints that gringo makes of it, or ground constraints one by one.
 
 use std::collections::BTreeSet;
 
@@ -51,7 +51,8 @@ impl Parts {
         Ok(Parts { lines, places })
     }
 
-    /// A plan whose constraints are marked: the marks go, and say which ground constraint is of which. The last ones are assumed.
+    /// A plan whose constraints are marked: the marks go, and say which ground constraint is of which. The last ones
+    /// are assumed.
     pub fn of_plan(ground: &Ground, marked: &[(Statement, String)], assumed: &[String]) -> Result<Parts, Failure> {
         let marks: Vec<Option<i32>> = marked.iter().map(|(_, mark)| ground.names.atom(mark)).collect();
         let own = marked.len().saturating_sub(assumed.len());
@@ -87,7 +88,8 @@ impl Parts {
         format!("asp 1 0 0\n{rules}0\n").into_bytes()
     }
 
-    /// The constraints with a ground constraint of one of these bodies. A sum that is split has other bodies, and may be one.
+    /// The constraints with a ground constraint of one of these bodies. A sum that is split has other bodies, and may
+    /// be one.
     pub fn owners_of(&self, bodies: &[Vec<i32>]) -> BTreeSet<usize> {
         let used = |line: &&Line| line.is_long() || line.rule.bodies().iter().any(|body| bodies.contains(body));
         self.lines.iter().filter(|line| line.owner.is_some()).filter(used).filter_map(|line| line.owner).collect()

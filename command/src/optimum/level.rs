@@ -6,7 +6,8 @@ use crate::rules::{holds, Body, Rule, SHORT};
 use crate::statements::Minimize;
 use crate::sums::{divisor, MOST};
 
-/// The costs of a priority. A set costs the constant, and for each literal that it makes true the unit times the literal's cost.
+/// The costs of a priority. A set costs the constant, and for each literal that it makes true the unit times the
+/// literal's cost.
 #[derive(Debug, Clone, PartialEq, Eq)]
 pub struct Level {
     pub priority: i64,
@@ -15,8 +16,8 @@ pub struct Level {
     pub costs: Vec<(i32, i64)>,
 }
 
-/// The levels of statements, the highest priority first, of no statement one that costs nothing; none where a number is out of reach. An atom that no
-/// rule gives is in no answer set.
+/// The levels of statements, the highest priority first, of no statement one that costs nothing; none where a number is
+/// out of reach. An atom that no rule gives is in no answer set.
 pub fn levels(statements: &[Minimize], given: &BTreeSet<i32>) -> Option<Vec<Level>> {
     let mut by_priority: BTreeMap<i64, Vec<(i32, i64)>> = BTreeMap::new();
     if statements.is_empty() {

@@ -154,8 +154,9 @@ impl Search<'_> {
         Ok(Found::Optimum(Optimum { set, levels }))
     }
 
-    /// An answer set that costs least by a level, with the higher ones fixed, from one that is known: cheaper and cheaper ones are asked for. Where
-    /// the program with such a constraint is refused, as one with too many rules is, much cheaper ones are asked for first.
+    /// An answer set that costs least by a level, with the higher ones fixed, from one that is known: cheaper and
+    /// cheaper ones are asked for. Where the program with such a constraint is refused, as one with too many rules is,
+    /// much cheaper ones are asked for first.
     fn least(&self, level: &Level, fixed: &[String], first: AnswerSet, certifier: &mut Certifier) -> Result<Least, Failure> {
         let (mut set, mut bound) = (first, None);
         // No answer set costs less than this.
@@ -185,7 +186,8 @@ impl Search<'_> {
         Failure::refused(format!("the library refuses the program with `{restriction}`, question {}: {question}", question.number()))
     }
 
-    /// The certificate of a level, of an answer set of the program with the higher ones fixed: by the service for cheapest sets where it takes it.
+    /// The certificate of a level, of an answer set of the program with the higher ones fixed: by the service for
+    /// cheapest sets where it takes it.
     fn certified(&self, place: usize, units: i64, refuted: Option<Refuted>, set: &AnswerSet) -> Result<Certified, Failure> {
         let level = &self.levels[place];
         let mut certified = Certified {
