@@ -235,7 +235,8 @@ pub fn help(subcommand: &Subcommand) -> String {
 
 const STATUS: &str = "Everywhere: --help; --json prints one object. `--` ends the options.
 Results go to the standard output, words for people to the standard error.
-Exit status: 0 'inconsistent', 'yes' or 'cheapest', 10 'open' or 'no', 20 a refusal, 2 misuse (arguments, files, missing tools).
+Exit status: 0 'inconsistent', 'yes' or 'cheapest', and where prove, core, optimum or forced answers; 10 'open', 'no' or 'undecided',
+20 a refusal, 2 misuse (arguments, files, missing tools).
 At ctrl-C no file is left half-written, and the command ends by the signal, which a shell shows as 130.\n";
 
 #[cfg(test)]

@@ -22,49 +22,72 @@ pub fn load(path: &Path, taken: fn(&[u8]) -> Result<Ground, Failure>) -> Result<
 
 /// The same with constraints that demand or forbid literals.
 pub fn load_with(path: &Path, taken: fn(&[u8]) -> Result<Ground, Failure>, assumed: &[String]) -> Result<Ground, Failure> {
-    let bytes = files::read(path, LIMIT)?;
-    if is_ground(path, &bytes) {
-        let mut ground = ground_file(path, &bytes, taken)?;
-        let constraints: Vec<String> =
-            assumed.iter().filter_map(|literal| constraint(literal, &ground.names).transpose()).collect::<Result<_, _>>()?;
-        if !constraints.is_empty() {
-            ground.text = constrained::text(&ground.text, &constraints);
-        }
-        return Ok(ground);
-    }
-    if bytes.len() > LIMIT {
-        return Err(too_large());
-    }
-    let plan = Plan::of(&bytes);
-    if assumed.is_empty() {
-        let handed = if files::reads_again(path) { Handed::File } else { Handed::Text(&bytes) };
-        return Ok(named(grounded(path, handed)?, &plan, path));
-    }
-    let plan = plan.with(assumed)?;
-    let text = plan.text(folder(path));
-    Ok(named(grounded(path, Handed::Text(&text))?, &plan, path))
+    Source::of(path)?.load(taken, assumed)
+}
+
+/// A file that was read once, since a pipe cannot be read twice.
+pub struct Source<'a> {
+    path: &'a Path,
+    bytes: Vec<u8>,
 }
 
 /// A plan whose constraints are marked, as gringo grounds it, cut down, with the statement and the mark of each.
 pub type Marked = (Ground, Vec<(Statement, String)>);
 
-/// The plan of a file with marks. The constraints that demand or forbid literals are the last. None where the file is
-/// ground.
-pub fn load_marked(path: &Path, assumed: &[String]) -> Result<Option<Marked>, Failure> {
-    let bytes = files::read(path, LIMIT)?;
-    if is_ground(path, &bytes) {
-        return Ok(None);
+impl Source<'_> {
+    pub fn of(path: &Path) -> Result<Source<'_>, Failure> {
+        Ok(Source { path, bytes: files::read(path, LIMIT)? })
     }
-    let plan = Plan::of(&bytes).with(assumed)?;
-    let (marked, marks) = plan.marked();
-    let mut ground = named(grounded(path, Handed::Text(&marked.text(folder(path))))?, &marked, path);
-    // What gringo says of it is by other columns than the plan's.
-    ground.notes.clear();
-    if plan.includes_others() {
-        ground.notes.push(String::from("the constraints of what the plan includes count as rules"));
+
+    pub fn is_ground(&self) -> bool {
+        is_ground(self.path, &self.bytes)
     }
-    let constraints: Vec<(Statement, String)> = plan.constraints().cloned().zip(marks).collect();
-    Ok(Some((ground, constraints)))
+
+    /// The program, with constraints that demand or forbid literals.
+    pub fn load(&self, taken: fn(&[u8]) -> Result<Ground, Failure>, assumed: &[String]) -> Result<Ground, Failure> {
+        let Source { path, bytes } = self;
+        if self.is_ground() {
+            return with_constraints(ground_file(path, bytes, taken)?, assumed);
+        }
+        if bytes.len() > LIMIT {
+            return Err(too_large());
+        }
+        let plan = Plan::of(bytes);
+        if assumed.is_empty() {
+            let handed = if files::reads_again(path) { Handed::File } else { Handed::Text(bytes) };
+            return Ok(named(grounded(path, handed)?, &plan, path));
+        }
+        let plan = plan.with(assumed)?;
+        let text = plan.text(folder(path));
+        Ok(named(grounded(path, Handed::Text(&text))?, &plan, path))
+    }
+
+    /// The plan with marks. The constraints that demand or forbid literals are the last. None where the file is ground.
+    pub fn marked(&self, assumed: &[String]) -> Result<Option<Marked>, Failure> {
+        if self.is_ground() {
+            return Ok(None);
+        }
+        let plan = Plan::of(&self.bytes).with(assumed)?;
+        let (marked, marks) = plan.marked();
+        let text = marked.text(folder(self.path));
+        let mut ground = named(grounded(self.path, Handed::Text(&text))?, &marked, self.path);
+        // What gringo says of it is by other columns than the plan's.
+        ground.notes.clear();
+        if plan.includes_others() {
+            ground.notes.push(String::from("the constraints of what the plan includes count as rules"));
+        }
+        Ok(Some((ground, plan.constraints().cloned().zip(marks).collect())))
+    }
+}
+
+/// A ground program with constraints that demand or forbid literals.
+fn with_constraints(mut ground: Ground, assumed: &[String]) -> Result<Ground, Failure> {
+    let lines = assumed.iter().filter_map(|literal| constraint(literal, &ground.names).transpose());
+    let lines: Vec<String> = lines.collect::<Result<_, _>>()?;
+    if !lines.is_empty() {
+        ground.text = constrained::text(&ground.text, &lines);
+    }
+    Ok(ground)
 }
 
 /// A file that is ground, with the names beside it.

@@ -144,6 +144,25 @@ fn included_plans() {
     assert!(room.out(0, "prove sub/p.lp --assume a").starts_with("inconsistent "));
 }
 
+// A pipe is read once.
+#[test]
+fn a_plan_from_a_pipe() {
+    let Some(room) = Room::of("pipe") else { return };
+    room.file("p.lp", DAYS);
+    room.file("p.aspif", "asp 1 0 0\n1 1 1 1 0 0\n1 0 0 0 1 1\n0\n");
+    for (file, words, line) in [
+        ("p.lp", "core /dev/stdin --assume on(ann,1)", "core 2 of 5\nline 4: :- on(ann, 1).\nassumed: on(ann,1)\n"),
+        ("p.lp", "prove /dev/stdin --assume on(ann,2)", "answer set: on(ann,2) on(bob,1) on(bob,3)\n"),
+        ("p.aspif", "core /dev/stdin --assume 1", "core 2 of 2\nline 3: :- #1.\nassumed: 1\n"),
+    ] {
+        let mut cat = Command::new("cat").arg(room.0.join(file)).stdout(Stdio::piped()).spawn().unwrap();
+        let mut command = Command::new(env!("CARGO_BIN_EXE_aspdrupe"));
+        let output = command.args(words.split(' ')).current_dir(&room.0).stdin(cat.stdout.take().unwrap()).output().unwrap();
+        cat.wait().unwrap();
+        assert_eq!(String::from_utf8(output.stdout).unwrap(), line, "{words}");
+    }
+}
+
 /// What to buy for ten: the worth first, then how many things.
 const SHOP: &str = "item(tent, 6, 7). item(stove, 3, 4). item(lamp, 2, 2). item(rope, 4, 5). item(map, 1, 1).
 { buy(I) : item(I, _, _) }.

@@ -3,8 +3,6 @@
 mod minimal;
 mod parts;
 
-use std::path::Path;
-
 use crate::arguments::{in_shell, Subcommand, Words};
 use crate::certify::{timed, Answer, AnswerSet, Certifier, Times};
 use crate::json::Json;
@@ -13,10 +11,11 @@ use crate::outputs::Outputs;
 use crate::page::{Page, Part};
 use crate::plan::Statement;
 use crate::progress::Progress;
+use crate::prove;
 use crate::rules::Rule;
+use crate::source::{self, Source};
 use crate::spelling::Spelling;
 use crate::statements::{as_it_is, Ground};
-use crate::{prove, source};
 use minimal::{minimal, Core, Minimal};
 use parts::{Parts, Place};
 
@@ -59,13 +58,15 @@ fn run(words: &Words) -> Result<Outcome, Failure> {
     let (path, assumed) = (words.path(0)?, words.texts("--assume"));
     let mut times = Times::default();
     let progress = Progress::start();
+    let source = Source::of(path)?;
     // The program as it is first: what gringo says of it, and what the library refuses, is by its own lines.
-    let plain = timed(&mut times.grounding, || source::load_with(path, as_it_is, &assumed))?;
+    let of_plan = if source.is_ground() { &[][..] } else { &assumed };
+    let plain = timed(&mut times.grounding, || source.load(as_it_is, of_plan))?;
     let mut certifier = Certifier::of(limits, times, &progress);
     if let Some(refusal) = certifier.refusal(&plain.text)? {
         return source::refused(refusal, &plain, path);
     }
-    let asked = timed(&mut certifier.times.grounding, || asked(path, &assumed, plain.notes))?;
+    let asked = timed(&mut certifier.times.grounding, || asked(&source, plain, &assumed))?;
     let outputs = Outputs::of(words, &asked.ground.names);
     let mut told = Told { words, asked: &asked, table: limits.table, outputs };
     let (mut outcome, page) = told.of(&mut certifier, &progress)?;
@@ -79,15 +80,13 @@ fn run(words: &Words) -> Result<Outcome, Failure> {
     Ok(outcome)
 }
 
-/// The program of a file, with its constraints, and with what was said of it.
-fn asked(path: &Path, assumed: &[String], notes: Vec<String>) -> Result<Asked, Failure> {
-    let Some((mut ground, marked)) = source::load_marked(path, assumed)? else {
-        let ground = source::load(path, as_it_is)?;
-        let parts = Parts::of_ground(&ground, assumed)?;
-        return Ok(Asked { ground: Ground { notes, ..ground }, parts, texts: Vec::new() });
+/// The program of a file, with its constraints, and with what was said of it as it is.
+fn asked(source: &Source, plain: Ground, assumed: &[String]) -> Result<Asked, Failure> {
+    let Some((mut ground, marked)) = source.marked(assumed)? else {
+        return Ok(Asked { parts: Parts::of_ground(&plain, assumed)?, ground: plain, texts: Vec::new() });
     };
     let parts = Parts::of_plan(&ground, &marked, assumed)?;
-    ground.notes.splice(0..0, notes);
+    ground.notes.splice(0..0, plain.notes);
     let (statements, marks): (Vec<Statement>, Vec<String>) = marked.into_iter().unzip();
     ground.names.forget(&marks);
     Ok(Asked { ground, parts, texts: statements.into_iter().map(|statement| statement.text).collect() })
