@@ -175,7 +175,10 @@ impl Search<'_> {
                 Answer::Refuted(_) => (low, bound) = (below, Some((below + units + 1) / 2)),
                 Answer::Refused(refusal) if below - low < 2 => return Err(self.refused(level, below, refusal)),
                 Answer::Refused(_) => bound = Some((low + below) / 2),
-                other => return Ok(Least::Other(other)),
+                Answer::Undecided(why) => {
+                    let found = format!("an answer set that costs {} by priority {} is known; {why}", level.total(units), level.priority);
+                    return Ok(Least::Other(Answer::Undecided(found)));
+                }
             }
         }
     }
