@@ -5,6 +5,7 @@ use std::iter::Peekable;
 use std::path::{Path, PathBuf};
 use std::time::Duration;
 
+use crate::certify::Limits;
 use crate::files;
 use crate::outcome::{Failure, Outcome};
 
@@ -21,6 +22,8 @@ pub struct Subcommand {
     pub options: &'static [&'static str],
     /// The options with any number of values: all words up to the next option.
     pub lists: &'static [&'static str],
+    /// The options without a value.
+    pub flags: &'static [&'static str],
     /// The places of the operands that are files to read.
     pub inputs: &'static [usize],
     /// The fewest and the most operands.
@@ -37,9 +40,13 @@ pub enum Given {
 /// Operands, and options with their values.
 #[derive(Debug, Default, PartialEq, Eq)]
 pub struct Words {
+    /// The subcommand's name, and the words as they are written.
+    name: &'static str,
+    written: Vec<OsString>,
     operands: Vec<OsString>,
     values: Vec<(&'static str, OsString)>,
     lists: Vec<(&'static str, Vec<OsString>)>,
+    flags: Vec<&'static str>,
 }
 
 /// The words of a table or a store that may be asked for: 4 GB.
@@ -52,6 +59,12 @@ const MOST_SECONDS: usize = 1_000_000;
 pub const ROOM: usize = 16_384;
 
 impl Words {
+    /// The call as it can be written in a shell.
+    pub fn call(&self) -> String {
+        let words = self.written.iter().map(|word| in_shell(&word.to_string_lossy()));
+        ["aspdrupe", self.name].map(String::from).into_iter().chain(words).collect::<Vec<_>>().join(" ")
+    }
+
     /// An operand as a path.
     pub fn path(&self, place: usize) -> Result<&Path, Failure> {
         self.operand(place).map(Path::new)
@@ -69,6 +82,11 @@ impl Words {
     /// The operands from a place on, as text.
     pub fn texts_from(&self, place: usize) -> Vec<String> {
         self.operands.iter().skip(place).map(|word| word.to_string_lossy().into_owned()).collect()
+    }
+
+    /// Whether an option without a value is given.
+    pub fn has(&self, flag: &str) -> bool {
+        self.flags.contains(&flag)
     }
 
     /// The value of an option, as text.
@@ -97,8 +115,13 @@ impl Words {
         self.number(option, MOST_WORDS, "words")
     }
 
+    /// What `--table`, `--store` and `--time` say.
+    pub fn limits(&self) -> Result<Limits, Failure> {
+        Ok(Limits { table: self.room("--table")?, store: self.room_told("--store")?, time: self.seconds("--time")? })
+    }
+
     /// The seconds of an option.
-    pub fn seconds(&self, option: &str) -> Result<Option<Duration>, Failure> {
+    fn seconds(&self, option: &str) -> Result<Option<Duration>, Failure> {
         Ok(self.number(option, MOST_SECONDS, "seconds")?.map(|seconds| Duration::from_secs(seconds as u64)))
     }
 
@@ -122,6 +145,10 @@ impl Words {
     ) -> Result<(), String> {
         let of = |known: &'static [&'static str]| known.iter().copied().find(|option| *option == text);
         let twice = || Err(format!("`{text}` stands twice"));
+        if let Some(flag) = of(subcommand.flags) {
+            self.flags.push(flag);
+            return Ok(());
+        }
         if let Some(option) = of(subcommand.lists) {
             if self.lists.iter().any(|(name, _)| *name == option) {
                 return twice();
@@ -140,6 +167,14 @@ impl Words {
     }
 }
 
+/// A word with quotation marks where a shell would not take it as it is.
+pub fn in_shell(word: &str) -> String {
+    if !word.is_empty() && word.chars().all(|letter| letter.is_ascii_alphanumeric() || "-_./=,:@%+".contains(letter)) {
+        return String::from(word);
+    }
+    format!("'{}'", word.replace('\'', "'\\''"))
+}
+
 /// Whether a word is an option, so that a list ends before it; a literal with its sign is none.
 fn ends_list(subcommand: &Subcommand, word: &OsStr) -> bool {
     let text = word.to_str().unwrap_or("");
@@ -148,7 +183,7 @@ fn ends_list(subcommand: &Subcommand, word: &OsStr) -> bool {
 
 /// Reads the words behind a subcommand's name. `--` ends the options.
 pub fn read(subcommand: &Subcommand, words: &[OsString]) -> Result<Given, String> {
-    let mut given = Words::default();
+    let mut given = Words { name: subcommand.name, written: words.to_vec(), ..Words::default() };
     let mut words = words.iter().peekable();
     while let Some(word) = words.next() {
         let text = word.to_str().unwrap_or("");
@@ -169,7 +204,7 @@ pub fn read(subcommand: &Subcommand, words: &[OsString]) -> Result<Given, String
 }
 
 /// The options that name a file to write.
-const OUTPUTS: [&str; 3] = ["-o", "--program", "--proof"];
+const OUTPUTS: [&str; 4] = ["-o", "--program", "--proof", "--html"];
 
 /// Refuses to write over what is read, and two outputs to one place.
 pub fn keep_inputs(subcommand: &Subcommand, words: &Words) -> Result<(), Failure> {
@@ -200,7 +235,8 @@ pub fn help(subcommand: &Subcommand) -> String {
 
 const STATUS: &str = "Everywhere: --help; --json prints one object. `--` ends the options.
 Results go to the standard output, words for people to the standard error.
-Exit status: 0 'inconsistent', 'yes' or 'cheapest', 10 'open' or 'no', 20 a refusal, 2 misuse (arguments, files, missing tools).
+Exit status: 0 'inconsistent', 'yes' or 'cheapest', and where prove, core, optimum or forced answers; 10 'open', 'no' or 'undecided',
+20 a refusal, 2 misuse (arguments, files, missing tools).
 At ctrl-C no file is left half-written, and the command ends by the signal, which a shell shows as 130.\n";
 
 #[cfg(test)]
@@ -214,6 +250,7 @@ mod tests {
         more: "",
         options: &["-o", "--store"],
         lists: &["--set"],
+        flags: &["--all"],
         inputs: &[0],
         operands: (1, 2),
         run: |_| Err(Failure::misuse("")),
@@ -236,6 +273,7 @@ mod tests {
         assert_eq!(given("-- -o --help").unwrap().texts_from(0), ["-o", "--help"]);
         assert_eq!(given("a --store 7").unwrap().room("--store"), Ok(7));
         assert_eq!(given("- -").unwrap().texts_from(1), ["-"]);
+        assert_eq!(given("a b(1) --set it's").unwrap().call(), "aspdrupe sample a 'b(1)' --set 'it'\\''s'");
     }
 
     #[test]
@@ -245,6 +283,7 @@ mod tests {
         assert_eq!((words.texts_from(0), words.output("-o")), (vec![String::from("a")], Some(PathBuf::from("out"))));
         assert_eq!(given("--set b -- a").unwrap().texts_from(0), ["a"]);
         assert!(given("a --set").unwrap().texts("--set").is_empty() && given("a").unwrap().texts("--set").is_empty());
+        assert!(given("a --set b --all").unwrap().has("--all") && !given("a --set b").unwrap().has("--all"));
     }
 
     #[test]

@@ -30,6 +30,7 @@ proofs of any length says of it is told.
 --table N and --store N are the words for rules and nogoods, 16384 each where nothing is said, as in `verdict`.",
     options: &["-o", "--table", "--store"],
     lists: &["--set", "--costs"],
+    flags: &[],
     inputs: &[0, 1],
     operands: (1, 2),
     run,
@@ -52,13 +53,13 @@ struct Question<'a> {
 
 fn run(words: &Words) -> Result<Outcome, Failure> {
     let (table, store) = (words.room("--table")?, words.room_told("--store")?);
-    let ground = source::load(words.path(0)?, as_it_is)?;
+    let ground = source::split(source::load(words.path(0)?, as_it_is)?)?;
     let proof = words.path(1).ok().map(|path| files::read(path, PROOF_LIMIT)).transpose()?;
     let program = match library::read_program(&ground.text, table)? {
         Ok(program) => program,
         Err(refusal) => return source::refused(refusal, &ground, words.path(0)?),
     };
-    let set = set_test::named(&words.texts("--set"), &program, &ground.names)?;
+    let set = set_test::named(&words.texts("--set"), &program, &ground)?;
     let costs = costs_of(&words.texts("--costs"), &ground.names)?;
     let question = Question { ground: &ground, program: &program, set: &set.atoms, costs, proof, table, store };
     let Answered { mut told, restricted } = match question.put()? {

@@ -20,6 +20,7 @@ A proof beyond 65,535 bytes goes to the check for proofs of any length; `verdict
 as long a store as it needs.",
     options: &["--table", "--store"],
     lists: &[],
+    flags: &[],
     inputs: &[0, 1],
     operands: (2, 2),
     run,

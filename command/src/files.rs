@@ -4,6 +4,7 @@ use std::fs::{self, File, OpenOptions};
 use std::io::{self, Read, Write};
 use std::os::unix::fs::MetadataExt;
 use std::path::{Path, PathBuf};
+use std::sync::atomic::{AtomicUsize, Ordering};
 
 use crate::interrupt;
 use crate::outcome::Failure;
@@ -90,13 +91,15 @@ impl Drop for Staged {
     }
 }
 
-/// The names beside a place that are tried.
+/// The names beside a place that are tried, from the one after the last that was taken.
 const MOST_NAMES: usize = 100;
+static NEXT_NAME: AtomicUsize = AtomicUsize::new(0);
 
 /// A new file in the same folder, with a hidden name that no other run takes.
 fn beside(place: &Path) -> io::Result<(PathBuf, File)> {
     place.file_name().ok_or(io::ErrorKind::InvalidInput)?;
-    let mut names = (0..MOST_NAMES).map(|number| place.with_file_name(format!(".aspdrupe.{}.{number}", std::process::id())));
+    let number = || NEXT_NAME.fetch_add(1, Ordering::Relaxed);
+    let mut names = (0..MOST_NAMES).map(|_| place.with_file_name(format!(".aspdrupe.{}.{}", std::process::id(), number())));
     let made = names.find_map(|path| match interrupt::create(&path) {
         // One that another run with this number was made to leave.
         Err(error) if error.kind() == io::ErrorKind::AlreadyExists => None,
@@ -145,10 +148,11 @@ mod tests {
         }
         fs::write(&one, "").unwrap();
         fs::set_permissions(&one, fs::Permissions::from_mode(0o600)).unwrap();
-        // As a run that was killed leaves it.
-        fs::write(folder.join(format!(".aspdrupe.{}.0", std::process::id())), "").unwrap();
+        // As a run that was killed leaves it; other tests may take numbers too.
+        let next = NEXT_NAME.load(Ordering::Relaxed);
+        (next..next + 9).for_each(|number| fs::write(folder.join(format!(".aspdrupe.{}.{number}", std::process::id())), "").unwrap());
         write_together(&[(&one, b"1"), (&two, b"2")]).unwrap();
-        assert_eq!((fs::read(&one).unwrap(), fs::read(&two).unwrap(), count()), (b"1".to_vec(), b"2".to_vec(), 4));
+        assert_eq!((fs::read(&one).unwrap(), fs::read(&two).unwrap(), count()), (b"1".to_vec(), b"2".to_vec(), 12));
         assert_eq!(fs::metadata(&one).unwrap().permissions().mode() & 0o777, 0o600);
         fs::remove_dir_all(folder).unwrap();
     }

@@ -11,22 +11,23 @@ use crate::{explain, files, library, source};
 
 pub const SUBCOMMAND: Subcommand = Subcommand {
     name: "ground",
-    form: "PLAN.lp [-o OUT.aspif]",
+    form: "PLAN.lp [-o OUT.aspif] [--assume LITERAL..]",
     about: "Grounds a plan with gringo and keeps what the checker takes; says of everything dropped why it cannot matter.",
     more: "Without -o the ground program goes to the standard output. With it the names of atoms are kept too, in the file OUT.aspif.names:
 `prove`, `test` and `cheapest` then show atoms by name, as long as OUT.aspif is the program that they are of. A program that is ground already
 is cut down in the same way.
 Output, minimize, project and heuristic statements are dropped. External, assumption, edge and theory statements and
-disjunctive heads are refused.",
+disjunctive heads are refused. --assume LITERAL.. adds a constraint for each: \"on(2,1,night)\" demands the atom, \"not on(2,1,night)\" forbids it.",
     options: &["-o"],
-    lists: &[],
+    lists: &["--assume"],
+    flags: &[],
     inputs: &[0],
     operands: (1, 1),
     run,
 };
 
 fn run(words: &Words) -> Result<Outcome, Failure> {
-    let ground = source::load(words.path(0)?, cut_down)?;
+    let ground = source::split(source::load_with(words.path(0)?, cut_down, &words.texts("--assume"))?)?;
     let program = match library::read_program(&ground.text, library::EVERY_TABLE)? {
         Ok(program) => program,
         Err(refusal) => {

@@ -21,6 +21,10 @@ impl Json {
         Json::Number(i64::try_from(number).unwrap_or(i64::MAX))
     }
 
+    pub fn atoms(set: &[u16]) -> Json {
+        Json::List(set.iter().map(|atom| Json::Number(i64::from(*atom))).collect())
+    }
+
     pub fn texts(texts: &[String]) -> Json {
         Json::List(texts.iter().map(|text| Json::text(text)).collect())
     }

@@ -35,6 +35,18 @@ pub fn test_set(program: &Program, set: &[u16]) -> Result<(SetAnswer, Vec<bool>)
     Ok((answer, marks.iter().map(|mark| *mark == 1).collect()))
 }
 
+/// A set of the first so many atoms with those of the others that the rules give, where no rule has one of these
+/// negated.
+pub fn extended(program: &Program, set: &[u16], told: usize) -> Result<Vec<u16>, Failure> {
+    if told >= program.atoms {
+        return Ok(set.to_vec());
+    }
+    let (_, least_model) = test_set(program, set)?;
+    let given = |atom: &u16| least_model.get(usize::from(*atom)) == Some(&true);
+    let others = (told + 1..=program.atoms).filter_map(|atom| u16::try_from(atom).ok()).filter(given);
+    Ok(set.iter().copied().filter(|atom| usize::from(*atom) <= told).chain(others).collect())
+}
+
 /// The whole check, with a table and a store of so many words.
 pub fn check_texts(program: &[u8], proof: &[u8], table: usize, store: usize) -> Result<Verdict, Failure> {
     let (mut table, mut store) = (lent(table)?, lent(store)?);

@@ -4,11 +4,14 @@
 #![deny(unsafe_code)] // save in `signals`
 
 mod arguments;
+mod certify;
 mod cheapest;
 mod check;
 mod constrained;
+mod core;
 mod explain;
 mod files;
+mod forced;
 mod ground;
 mod interrupt;
 mod json;
@@ -16,8 +19,12 @@ mod library;
 mod locate;
 mod merge;
 mod names;
+mod optimum;
 mod outcome;
+mod outputs;
 mod packet;
+mod page;
+mod plan;
 mod progress;
 mod prove;
 mod quote;
@@ -25,7 +32,11 @@ mod rules;
 mod set_test;
 mod signals;
 mod source;
+mod spelling;
+mod split;
 mod statements;
+mod sums;
+mod terms;
 mod tools;
 mod tree;
 mod trim;
@@ -40,8 +51,11 @@ use json::Json;
 use outcome::{Failure, Outcome, Status};
 
 /// In the order in which `--help` lists them.
-const SUBCOMMANDS: [&Subcommand; 9] = [
+const SUBCOMMANDS: [&Subcommand; 12] = [
     &prove::SUBCOMMAND,
+    &core::SUBCOMMAND,
+    &optimum::SUBCOMMAND,
+    &forced::SUBCOMMAND,
     &check::SUBCOMMAND,
     &set_test::SUBCOMMAND,
     &cheapest::SUBCOMMAND,

@@ -20,6 +20,7 @@ pub const SUBCOMMAND: Subcommand = Subcommand {
 --table N and --store N are the words for rules and nogoods, 16384 each where nothing is said, as in `verdict`.",
     options: &["-o", "--table", "--store"],
     lists: &[],
+    flags: &[],
     inputs: &[0, 2, 3],
     operands: (4, 4),
     run,

@@ -1,6 +1,7 @@
 //! Names of atoms: the output statements of a ground program. They say which term is shown where a condition holds. They stand in a file beside the
 //! program's, with `.names` behind its name; the first line says what it is, with a digest of the program that the names are of.
 
+use std::collections::HashSet;
 use std::ffi::OsString;
 use std::path::{Path, PathBuf};
 use std::str::FromStr;
@@ -22,16 +23,45 @@ struct Term {
     condition: Vec<i32>,
 }
 
-/// All terms, in the order of the statements.
+/// All terms, in the order of the statements, and the atoms that are not shown and have a name all the same.
 #[derive(Debug, Clone, Default, PartialEq, Eq)]
-pub struct Names(Vec<Term>);
+pub struct Names {
+    shown: Vec<Term>,
+    hidden: Vec<Term>,
+    /// Whether it is said that only these are shown, even where there are none.
+    only: bool,
+}
+
+/// The line that says so where there are none.
+const ONLY: &[u8] = b"nothing is shown";
+
+/// What stands before the statement of an atom that is not shown.
+const HIDDEN: &[u8] = b"hidden ";
 
 impl Names {
     /// Takes an output statement in: `4`, the term's bytes and the term, the count of literals and the literals. Whether it is one.
     pub fn take(&mut self, statement: &[u8]) -> bool {
         let term = term_of(statement);
-        self.0.extend(term.clone());
+        self.shown.extend(term.clone());
         term.is_some()
+    }
+
+    /// Takes in the names that another list has of atoms without one: they are known, and not shown.
+    pub fn adopt(&mut self, all: &Names) {
+        let named: HashSet<Vec<i32>> = self.terms().map(|term| term.condition.clone()).collect();
+        let new = |term: &&Term| matches!(term.condition[..], [atom] if atom > 0) && !named.contains(&term.condition);
+        self.hidden.extend(all.shown.iter().filter(new).cloned());
+    }
+
+    /// Forgets the names of these terms.
+    pub fn forget(&mut self, texts: &[String]) {
+        self.shown.retain(|term| !texts.contains(&term.text));
+        self.hidden.retain(|term| !texts.contains(&term.text));
+    }
+
+    /// Those that are shown, and then the others.
+    fn terms(&self) -> impl Iterator<Item = &Term> {
+        self.shown.iter().chain(&self.hidden)
     }
 
     /// The names that stand beside a program's file; none where there are none of the program with these bytes, and why where there is such a file.
@@ -47,8 +77,10 @@ impl Names {
             let why = format!("{} is not of this program, and its names are not used: `aspdrupe ground -o` writes both", path.display());
             return Ok((names, Some(why)));
         }
-        lines.for_each(|line| {
-            names.take(line);
+        lines.for_each(|line| match line.strip_prefix(HIDDEN) {
+            Some(statement) => names.hidden.extend(term_of(statement)),
+            None if line == ONLY => names.only = true,
+            None => drop(names.take(line)),
         });
         Ok((names, None))
     }
@@ -76,21 +108,31 @@ impl Names {
             let literals: String = term.condition.iter().map(|literal| format!(" {literal}")).collect();
             format!("4 {} {} {}{literals}\n", term.text.len(), term.text, term.condition.len())
         };
-        self.0.iter().map(statement).collect()
+        let hidden = self.hidden.iter().map(|term| format!("{}{}", String::from_utf8_lossy(HIDDEN), statement(term)));
+        let nothing = self.only && self.terms().next().is_none();
+        let nothing = nothing.then(|| format!("{}\n", String::from_utf8_lossy(ONLY)));
+        self.shown.iter().map(statement).chain(hidden).chain(nothing).collect()
     }
 
+    /// Whether there are none, so that atoms are told by number.
     pub fn is_empty(&self) -> bool {
-        self.0.is_empty()
+        !self.only && self.terms().next().is_none()
     }
 
+    /// Says that nothing else is shown.
+    pub fn show_only(&mut self) {
+        self.only = true;
+    }
+
+    /// How many terms are shown.
     pub fn count(&self) -> usize {
-        self.0.len()
+        self.shown.len()
     }
 
     /// The atom with that name.
     pub fn atom(&self, name: &str) -> Option<i32> {
         let named = |term: &&Term| term.text == name && matches!(term.condition[..], [atom] if atom > 0);
-        self.0.iter().find(named).map(|term| term.condition[0])
+        self.terms().find(named).map(|term| term.condition[0])
     }
 
     /// The number that a word is, or that of the atom with that name.
@@ -100,17 +142,25 @@ impl Names {
 
     /// The terms that are shown whatever the set: facts, whose statements name no atom.
     pub fn facts(&self) -> impl Iterator<Item = &str> {
-        self.0.iter().filter(|term| term.condition.is_empty()).map(|term| term.text.as_str())
+        self.shown.iter().filter(|term| term.condition.is_empty()).map(|term| term.text.as_str())
+    }
+
+    /// The terms that are shown under one literal, with the literal.
+    pub fn literals(&self) -> impl Iterator<Item = (&str, i32)> {
+        self.shown.iter().filter_map(|term| match term.condition[..] {
+            [literal] => Some((term.text.as_str(), literal)),
+            _ => None,
+        })
     }
 
     /// Whether the atom has a name.
     pub fn has(&self, atom: i32) -> bool {
-        self.0.iter().any(|term| term.condition[..] == [atom])
+        self.terms().any(|term| term.condition[..] == [atom])
     }
 
     /// An atom's name, or its number where it has none.
     pub fn of(&self, atom: i32) -> String {
-        let named = self.0.iter().find(|term| term.condition[..] == [atom]);
+        let named = self.terms().find(|term| term.condition[..] == [atom]);
         named.map_or(format!("#{atom}"), |term| term.text.clone())
     }
 
@@ -120,7 +170,7 @@ impl Names {
             return set.iter().map(u16::to_string).collect();
         }
         let is_shown = |term: &&Term| term.condition.iter().all(|literal| holds(*literal, set));
-        self.0.iter().filter(is_shown).map(|term| term.text.clone()).collect()
+        self.shown.iter().filter(is_shown).map(|term| term.text.clone()).collect()
     }
 
     /// A rule by names.
@@ -187,6 +237,23 @@ mod tests {
         assert_eq!((names.atom("a(1)"), names.atom("f"), names.atom("t")), (Some(1), None, None));
         assert_eq!((names.number("a(1)"), names.number("-7"), names.number::<i16>("f")), (Some(1i16), Some(-7), None));
         assert_eq!([1, 3, 9].map(|atom| names.of(atom)), ["a(1)", "#3", "#9"]);
+    }
+
+    #[test]
+    fn names_of_atoms_that_are_not_shown() {
+        let mut names = names();
+        let mut all = Names::default();
+        for line in ["4 1 x 1 1", "4 4 c(1) 1 9", "4 1 g 0", "4 1 n 1 -4"] {
+            assert!(all.take(line.as_bytes()));
+        }
+        names.adopt(&all);
+        let mut none = Names::default();
+        assert_eq!((none.shown(&[7]), none.text().as_str()), (vec![String::from("7")], ""));
+        none.show_only();
+        assert_eq!((none.shown(&[7]), none.text().as_str()), (vec![], "nothing is shown\n"));
+        assert_eq!([1, 9, 4].map(|atom| names.of(atom)), ["a(1)", "c(1)", "#4"]);
+        assert_eq!((names.atom("c(1)"), names.shown(&[1, 9]), names.count()), (Some(9), vec![String::from("a(1)"), String::from("f")], 4));
+        assert!(names.text().ends_with("4 1 t 2 3 -9\nhidden 4 4 c(1) 1 9\n"), "{}", names.text());
     }
 
     #[test]

@@ -25,6 +25,7 @@ Prints
     refused packet NUMBER",
     options: &["-o", "--program", "--proof", "--version"],
     lists: &[],
+    flags: &[],
     inputs: &[1, 2],
     operands: (2, 3),
     run,

@@ -33,6 +33,9 @@ struct Counts {
     rounds: AtomicUsize,
     /// The bytes of the proof that is checked.
     bytes: AtomicUsize,
+    /// How many of how many things are settled that are tried one after another.
+    settled: AtomicUsize,
+    tried: AtomicUsize,
 }
 
 /// Tells about it after 1, 2, 4 seconds and so on, until it is dropped.
@@ -78,6 +81,12 @@ impl Progress {
         self.begin(Part::Checking);
     }
 
+    /// So many of so many things that are tried are settled.
+    pub fn trial(&self, settled: usize, of: usize) {
+        self.counts.settled.store(settled, Ordering::Relaxed);
+        self.counts.tried.store(of, Ordering::Relaxed);
+    }
+
     pub fn learned_so_far(&self) -> usize {
         self.counts.learned.load(Ordering::Relaxed)
     }
@@ -93,6 +102,12 @@ impl Progress {
 
 impl Counts {
     fn text(&self) -> String {
+        let [settled, tried] = [&self.settled, &self.tried].map(|count| count.load(Ordering::Relaxed));
+        let before = if tried > 0 { format!("{settled} of {tried} settled; ") } else { String::new() };
+        before + &self.part_text()
+    }
+
+    fn part_text(&self) -> String {
         let part = self.part.load(Ordering::Relaxed);
         let what = TOLD.get(part).copied().unwrap_or("");
         let [learned, loops, done, of, rounds, bytes] =
@@ -139,5 +154,7 @@ mod tests {
         assert_eq!(progress.counts.text(), "checking; a proof of 99000 bytes");
         progress.begin(Part::Trimming);
         assert_eq!(progress.counts.text(), "trimming");
+        progress.trial(3, 7);
+        assert_eq!(progress.counts.text(), "3 of 7 settled; trimming");
     }
 }

@@ -9,6 +9,9 @@ pub enum Body {
     Weights { bound: i32, pairs: Vec<(i32, i32)> },
 }
 
+/// The most literals of a sum that is not split.
+pub const SHORT: usize = 12;
+
 /// A rule, in the order of the table's words.
 #[derive(Debug, Clone, PartialEq, Eq)]
 pub struct Rule {
@@ -44,12 +47,40 @@ pub fn holds(literal: i32, set: &[u16]) -> bool {
 }
 
 impl Rule {
+    /// The rule of a line of a program text, its literals ascending by atom; none where it is no rule.
+    pub fn of_line(line: &str) -> Option<Rule> {
+        let numbers: Vec<i32> = line.split(' ').map(|word| word.parse().ok()).collect::<Option<_>>()?;
+        let [1, kind @ (0 | 1), count, rest @ ..] = &numbers[..] else { return None };
+        let (heads, body) = rest.split_at_checked(usize::try_from(*count).ok()?)?;
+        let body = match body {
+            [0, size, literals @ ..] if usize::try_from(*size) == Ok(literals.len()) => {
+                let mut literals = literals.to_vec();
+                literals.sort_by_key(|literal| literal.saturating_abs());
+                Body::Plain(literals)
+            }
+            [1, bound, size, pairs @ ..] if usize::try_from(*size).ok()?.checked_mul(2) == Some(pairs.len()) => {
+                let mut pairs: Vec<(i32, i32)> = pairs.chunks(2).map(|pair| (pair[0], pair[1])).collect();
+                pairs.sort_by_key(|(literal, _)| literal.saturating_abs());
+                Body::Weights { bound: *bound, pairs }
+            }
+            _ => return None,
+        };
+        let mut heads = heads.to_vec();
+        heads.sort_unstable();
+        Some(Rule { choice: *kind == 1, heads, body })
+    }
+
     /// The bodies of the plain rules that it stands for, each ascending by atom.
     pub fn bodies(&self) -> Vec<Vec<i32>> {
         match &self.body {
             Body::Plain(literals) => vec![literals.clone()],
             Body::Weights { bound, pairs } => minimal_sets(*bound, pairs),
         }
+    }
+
+    /// Whether its body is empty.
+    pub fn is_empty(&self) -> bool {
+        matches!(&self.body, Body::Plain(literals) if literals.is_empty())
     }
 
     /// Its line in a program text.
@@ -112,6 +143,19 @@ mod tests {
         let held = |literal: i32| holds(literal, &[1, 7, 32_768]);
         assert!([1, 7, -2, 32_768, -40_000, -70_000, i32::MIN].into_iter().all(held));
         assert!(![-1, -7, 2, -32_768, 40_000, 70_000, 65_543].into_iter().any(held));
+    }
+
+    #[test]
+    fn rules_of_lines() {
+        for line in ["1 1 2 1 3 0 1 -2", "1 0 1 1 0 2 -3 4", "1 0 0 0 0", "1 0 1 1 1 3 2 -2 4 3 2"] {
+            assert_eq!(Rule::of_line(line).as_ref(), read(&[line]).first(), "{line}");
+        }
+        assert_eq!(Rule::of_line("1 1 2 3 1 0 2 -4 2").map(|rule| rule.line()), Some(String::from("1 1 2 1 3 0 2 2 -4")));
+        for line in
+            ["", "0", "2 0 1 1 1", "1 0 1 1 0 2 3", "1 0 9 1", "1 0 0 1 2 3 1 1", "1 0 0 2 0", "1 0 -1 0 0", "1 0 1 x 0 0", "1 0 0 1 2 -1"]
+        {
+            assert_eq!(Rule::of_line(line), None, "{line}");
+        }
     }
 
     #[test]

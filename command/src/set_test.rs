@@ -23,18 +23,19 @@ without any it is the empty set. Facts are given by name all together, or by num
 and on the standard error on which side the atom lies, or the constraint with its line.",
     options: &[],
     lists: &[],
+    flags: &[],
     inputs: &[0],
     operands: (1, usize::MAX),
     run,
 };
 
 fn run(words: &Words) -> Result<Outcome, Failure> {
-    let ground = source::load(words.path(0)?, as_it_is)?;
+    let ground = source::split(source::load(words.path(0)?, as_it_is)?)?;
     let program = match library::read_program(&ground.text, library::EVERY_TABLE)? {
         Ok(program) => program,
         Err(refusal) => return source::refused(refusal, &ground, words.path(0)?),
     };
-    let set = named(&words.texts_from(1), &program, &ground.names)?;
+    let set = named(&words.texts_from(1), &program, &ground)?;
     let mut outcome = told(&set.atoms, &program, &ground)?;
     outcome.words.extend(set.note());
     Ok(outcome)
@@ -55,13 +56,17 @@ impl Named {
     }
 }
 
-/// The set that the words name.
-pub fn named(words: &[String], program: &Program, names: &Names) -> Result<Named, Failure> {
+/// The set that the words name, with the atoms of split sums that belong to it.
+pub fn named(words: &[String], program: &Program, ground: &Ground) -> Result<Named, Failure> {
+    let names = &ground.names;
     let mut atoms = set_of(words, names)?;
     let facts = if names_facts(words, names)? { nameless_facts(program, names) } else { Vec::new() };
     atoms.extend(&facts);
     atoms.sort_unstable();
     atoms.dedup();
+    if ground.added > 0 {
+        atoms = library::extended(program, &atoms, program.atoms.saturating_sub(ground.added))?;
+    }
     Ok(Named { atoms, facts })
 }
 

@@ -5,6 +5,7 @@ use std::collections::HashSet;
 
 use crate::names::Names;
 use crate::outcome::Failure;
+use crate::sums;
 
 /// The most bytes of a ground program, the statements that go included.
 pub const LIMIT: usize = 1 << 24;
@@ -23,8 +24,33 @@ pub struct Ground {
     /// Whether that text is what gringo made of a plan, and not the file's own.
     pub of_plan: bool,
     pub names: Names,
+    /// What is to be minimized, and whether the plan has a statement that says so: gringo leaves nothing of one that
+    /// counts nothing.
+    pub costs: Vec<Minimize>,
+    pub minimizes: bool,
+    /// How many of its atoms, the last ones, are of sums that were split.
+    pub added: usize,
     /// What was dropped or changed, and why that cannot matter.
     pub notes: Vec<String>,
+}
+
+/// A minimize statement: its priority, and literals with weights.
+#[derive(Debug, Clone, PartialEq, Eq)]
+pub struct Minimize {
+    pub priority: i64,
+    pub weights: Vec<(i32, i64)>,
+}
+
+impl Minimize {
+    /// The statement with these words: `2`, the priority, the count of pairs, and literals each with its weight.
+    fn of(words: &[&str]) -> Option<Minimize> {
+        let numbers: Vec<i64> = words.iter().map(|word| word.parse().ok()).collect::<Option<_>>()?;
+        let [2, priority, count, pairs @ ..] = &numbers[..] else { return None };
+        let weights: Vec<(i32, i64)> =
+            pairs.chunks_exact(2).map(|pair| Some((i32::try_from(pair[0]).ok()?, pair[1]))).collect::<Option<_>>()?;
+        let whole = pairs.len() % 2 == 0 && usize::try_from(*count) == Ok(weights.len());
+        whole.then_some(Minimize { priority: *priority, weights })
+    }
 }
 
 impl Ground {
@@ -87,10 +113,13 @@ pub fn cut_down(text: &[u8]) -> Result<Ground, Failure> {
         let statement = line.strip_suffix(b"\n").unwrap_or(line);
         let words = String::from_utf8_lossy(statement);
         let mut kept = line.to_vec();
-        match fate(&words.split(' ').collect::<Vec<_>>(), place + 1)? {
+        let words: Vec<&str> = words.split(' ').collect();
+        match fate(&words, place + 1)? {
             Fate::Goes(OUTPUT) if ground.names.take(statement) => continue,
             Fate::Goes(which) => {
                 dropped[which] += 1;
+                ground.costs.extend(Minimize::of(&words));
+                ground.minimizes |= !ground.costs.is_empty();
                 continue;
             }
             Fate::Shorter(numbers) => {
@@ -103,18 +132,22 @@ pub fn cut_down(text: &[u8]) -> Result<Ground, Failure> {
         ground.lines.push(place + 1);
     }
     ground.lines.push(lines.count() + 1);
-    let counted = DROPPED.iter().zip(dropped).filter(|(_, count)| *count > 0);
-    ground.notes.extend(counted.map(|((_, what, why), count)| format!("dropped, which cannot matter: {count} {what}; {why}")));
-    if shortened > 0 {
-        ground.notes.push(format!("shortened, which cannot matter: {shortened} rules that named a literal twice"));
-    }
+    ground.notes = notes(dropped, shortened);
     Ok(ground)
+}
+
+/// What is said of what was dropped, by its place in the list, and of rules that were rewritten.
+fn notes(dropped: [usize; DROPPED.len()], shortened: usize) -> Vec<String> {
+    let counted = DROPPED.iter().zip(dropped).filter(|(_, count)| *count > 0);
+    let said = counted.map(|((_, what, why), count)| format!("dropped, which cannot matter: {count} {what}; {why}"));
+    let rewritten = format!("rewritten, which cannot matter: {shortened} rules that named a literal twice or had weights above 4095");
+    said.chain((shortened > 0).then_some(rewritten)).collect()
 }
 
 /// What becomes of a line.
 enum Fate {
     Stays,
-    /// A rule that is written without a literal's second mention.
+    /// A rule that is written without a literal's second mention, or with smaller weights.
     Shorter(Vec<i64>),
     /// It goes, by its place in the list of what goes.
     Goes(usize),
@@ -133,8 +166,9 @@ fn fate(words: &[&str], line: usize) -> Result<Fate, Failure> {
     }
 }
 
-/// A rule with a plain body is a set of literals: one that is written twice counts once, and with its complement the body never holds. What is no
-/// rule but for that stays, and is refused.
+/// A rule with a plain body is a set of literals: one that is written twice counts once, and with its complement the
+/// body never holds. In a sum the weights of a literal that is written twice are added up. What is no rule but for that
+/// stays, and is refused.
 fn rule(words: &[&str], line: usize) -> Result<Fate, Failure> {
     let numbers = words.iter().map(|word| word.parse().ok().filter(|number: &i64| number.to_string() == *word));
     let Some(numbers) = numbers.collect::<Option<Vec<_>>>() else { return Ok(Fate::Stays) };
@@ -144,27 +178,29 @@ fn rule(words: &[&str], line: usize) -> Result<Fate, Failure> {
         return Err(Failure::refused(format!("line {line} of the ground program is {why}")));
     }
     let body = usize::try_from(count).ok().and_then(|count| count.checked_add(3));
-    let Some((before, [0, size, literals @ ..])) = body.and_then(|at| numbers.split_at_checked(at)) else { return Ok(Fate::Stays) };
+    let Some((before, body)) = body.and_then(|at| numbers.split_at_checked(at)) else { return Ok(Fate::Stays) };
     let heads = &before[3..];
-    if usize::try_from(*size) != Ok(literals.len())
-        || heads.iter().any(|head| *head < 1)
-        || literals.contains(&0)
-        || heads.len() < kind as usize
-    {
+    if heads.iter().any(|head| *head < 1) || heads.len() < kind as usize {
         return Ok(Fate::Stays);
     }
+    Ok(match body {
+        [0, size, literals @ ..] if usize::try_from(*size) == Ok(literals.len()) && !literals.contains(&0) => plain(before, literals),
+        [1, sum @ ..] => sums::smaller(sum).map_or(Fate::Stays, |sum| Fate::Shorter([before, &[1], &sum].concat())),
+        _ => Fate::Stays,
+    })
+}
+
+/// What becomes of a rule with a plain body; its words before the body, and the literals.
+fn plain(before: &[i64], literals: &[i64]) -> Fate {
     let mut seen = HashSet::new();
     let once: Vec<i64> = literals.iter().copied().filter(|literal| seen.insert(*literal)).collect();
     if once.iter().any(|literal| literal.checked_neg().is_some_and(|other| seen.contains(&other))) {
-        return Ok(Fate::Goes(NEVER));
+        return Fate::Goes(NEVER);
     }
     if once.len() == literals.len() {
-        return Ok(Fate::Stays);
+        return Fate::Stays;
     }
-    let mut shorter = before.to_vec();
-    shorter.extend([0, once.len() as i64]);
-    shorter.extend(once);
-    Ok(Fate::Shorter(shorter))
+    Fate::Shorter([before, &[0, once.len() as i64], &once].concat())
 }
 
 #[cfg(test)]
@@ -179,7 +215,8 @@ mod tests {
         assert_eq!(ground.lines, [1, 2, 5, 8, 9, 10]);
         assert_eq!([0, 3, 6, 7].map(|line| ground.line(line)), [0, 5, 10, 0]);
         assert_eq!(ground.names.of(1), "a");
-        let parts = ["1 minimize", "1 comments", "1 rules with an atom and its negation", "1 rules that named"];
+        assert_eq!(ground.costs, [Minimize { priority: 0, weights: vec![(6, 1)] }]);
+        let parts = ["1 minimize", "1 comments", "1 rules with an atom and its negation", "1 rules that named a literal twice"];
         assert!(ground.notes.iter().zip(parts).all(|(note, part)| note.contains(part)), "{:?}", ground.notes);
         assert_eq!(ground.notes.len(), parts.len());
     }

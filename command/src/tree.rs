@@ -22,6 +22,7 @@ tree 0 is one end, a proof of the program itself, written as it stands. Prints t
 --table N and --store N are the words for rules and nogoods, 16384 each where nothing is said, as in `verdict`.",
     options: &["-o", "--table", "--store"],
     lists: &[],
+    flags: &[],
     inputs: &INPUTS,
     operands: (2, usize::MAX),
     run,

@@ -20,6 +20,7 @@ A pass is a whole check for each step, and there can be as many passes as steps:
 --table N and --store N are the words for rules and nogoods, 16384 each where nothing is said, as in `verdict`.",
     options: &["-o", "--table", "--store"],
     lists: &[],
+    flags: &[],
     inputs: &[0, 1],
     operands: (2, 2),
     run,

@@ -768,7 +768,7 @@ fn proofs_beyond_the_limits() {
     let (status, out, _) = room.run(&["prove", "none.aspif", "--store", "6", "-o", "d"]);
     assert_eq!((status, out.as_str()), (20, "refused proof 34 1\n"));
     assert_eq!(room.files(), ["none.aspif", "p.aspif"]);
-    let readme = fs::read_to_string(concat!(env!("CARGO_MANIFEST_DIR"), "/../README.md")).unwrap();
+    let readme = fs::read_to_string(concat!(env!("CARGO_MANIFEST_DIR"), "/../README.md")).unwrap().replace('\n', " ");
     assert!(readme.contains("A proof beyond 65,535 bytes goes to the long check") && readme.contains("beyond the store (34)"));
 }
 
@@ -977,6 +977,10 @@ fn interrupted_while_a_tool_runs() {
         ("cheapest", "plan.lp", INT, true),
         ("prove", "plan.lp", TERM, true),
         ("prove", "p.aspif", HUP, false),
+        ("core", "p.aspif", INT, false),
+        ("core", "plan.lp", INT, true),
+        ("optimum", "plan.lp", TERM, false),
+        ("forced", "p.aspif", INT, true),
     ] {
         let running = in_foreground(&room, &[way, file, "-o", "out", "--json"]);
         wait_until(|| number.exists());

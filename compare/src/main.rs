@@ -3,9 +3,11 @@
 //! cargo run --release --offline --package compare
 //! Usage: compare [--seed N] [--count N] [--verdict PATH|none] [--only FAMILY/INDEX]
 //!        compare --prove PATH [--seed N] [--count N] [--only prove/INDEX]
+//!        compare --plans PATH [--seed N] [--count N] [--only plans/INDEX]
 //! --count says how many programs are refuted; the other random families grow with it. --verdict names the program `verdict`,
 //! which is target/bin/verdict otherwise, or leaves it out. --only runs one input again, as a failure names it. --prove names the command
 //! `aspdrupe`: it is run on --count random programs, and each must get a proof that is accepted or an answer set (prove.rs), nothing else.
+//! --plans names it too: its `core`, `optimum` and `forced` are run on --count random plans each and held to enumeration (plans.rs).
 //! The last line is 'N passed, M failed'; the exit status is 0 exactly when nothing failed.
 
 #![forbid(unsafe_code)]
@@ -20,6 +22,7 @@ mod long;
 mod merges;
 mod one_rate;
 mod packets;
+mod plans;
 mod prove;
 mod reference;
 mod shrink;
@@ -35,6 +38,7 @@ use binary::Binary;
 use comparison::Comparison;
 use families::{families, Family};
 use inputs::random::Random;
+use plans::Planner;
 use prove::Prover;
 
 struct Arguments {
@@ -42,11 +46,13 @@ struct Arguments {
     count: u64,
     verdict: String,
     prove: Option<String>,
+    plans: Option<String>,
     only: Option<(String, u64)>,
 }
 
 fn arguments() -> Result<Arguments, String> {
-    let mut given = Arguments { seed: 20_261_115, count: 2_000, verdict: String::from("target/bin/verdict"), prove: None, only: None };
+    let verdict = String::from("target/bin/verdict");
+    let mut given = Arguments { seed: 20_261_115, count: 2_000, verdict, prove: None, plans: None, only: None };
     let mut words = std::env::args().skip(1);
     while let Some(word) = words.next() {
         let value = words.next().ok_or(format!("{word} needs a value"))?;
@@ -55,8 +61,9 @@ fn arguments() -> Result<Arguments, String> {
             "--count" => given.count = value.parse().map_err(|_| format!("{value} is no count"))?,
             "--verdict" => given.verdict = value,
             "--prove" => given.prove = Some(value),
+            "--plans" => given.plans = Some(value),
             "--only" => given.only = Some(input_named(&value).ok_or(format!("{value} is no FAMILY/INDEX"))?),
-            _ => return Err(format!("{word} is not known; known are --seed, --count, --verdict, --prove and --only")),
+            _ => return Err(format!("{word} is not known; known are --seed, --count, --verdict, --prove, --plans and --only")),
         }
     }
     Ok(given)
@@ -64,12 +71,17 @@ fn arguments() -> Result<Arguments, String> {
 
 fn input_named(place: &str) -> Option<(String, u64)> {
     let (family, index) = place.split_once('/')?;
-    let known = family == "prove" || families().iter().any(|listed| listed.name == family);
+    let known = family == "prove" || family == "plans" || families().iter().any(|listed| listed.name == family);
     Some((String::from(family), index.parse().ok()?)).filter(|_| known)
 }
 
 fn main() -> ExitCode {
-    match arguments().and_then(|given| if given.prove.is_some() { prove(given) } else { compare(given) }) {
+    let run = |given: Arguments| match (&given.prove, &given.plans) {
+        (Some(_), _) => prove(given),
+        (None, Some(_)) => plan(given),
+        (None, None) => compare(given),
+    };
+    match arguments().and_then(run) {
         Ok(true) => ExitCode::SUCCESS,
         Ok(false) => ExitCode::FAILURE,
         Err(message) => {
@@ -86,6 +98,17 @@ fn prove(given: Arguments) -> Result<bool, String> {
     let mut comparison = Comparison::of(None);
     let indexes = given.only.map_or(0..given.count, |(_, index)| index..index.saturating_add(1));
     prove::run(&mut comparison, &prover, given.seed, indexes);
+    println!("{} passed, {} failed", comparison.passed, comparison.failed);
+    Ok(comparison.failed == 0)
+}
+
+/// A run of `aspdrupe core`, `optimum` and `forced` on random plans; whether nothing failed.
+fn plan(given: Arguments) -> Result<bool, String> {
+    let command = given.plans.unwrap_or_default();
+    let planner = Planner::of(&command).map_err(|error| format!("{command}: {error}"))?;
+    let mut comparison = Comparison::of(None);
+    let indexes = given.only.map_or(0..given.count, |(_, index)| index..index.saturating_add(1));
+    plans::run(&mut comparison, &planner, given.seed, indexes);
     println!("{} passed, {} failed", comparison.passed, comparison.failed);
     Ok(comparison.failed == 0)
 }

@@ -3,6 +3,7 @@
 
 use std::collections::{BTreeSet, HashMap, HashSet};
 
+use super::trim::Refutation;
 use crate::rules::Rule;
 
 /// The most numbers of a proof line.
@@ -142,6 +143,17 @@ impl Completion {
             self.axioms.push(Axiom { origin, clause });
         }
         true
+    }
+
+    /// The bodies of the constraints that a refutation rests on.
+    pub fn constraints_of(&self, refutation: &Refutation) -> Vec<Vec<i32>> {
+        let used = refutation.hints.iter().flatten().filter_map(|hint| self.axioms.get(*hint as usize));
+        let body = |axiom: &Axiom| match axiom.origin {
+            Origin::Completion { body, head: None } => Some(body),
+            _ => None,
+        };
+        let bodies: BTreeSet<usize> = used.filter_map(body).collect();
+        bodies.into_iter().map(|body| self.bodies[body].clone()).collect()
     }
 
     pub fn loop_count(&self) -> usize {
