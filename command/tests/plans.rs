@@ -30,11 +30,13 @@ impl Room {
         fs::read_to_string(self.0.join(name)).unwrap()
     }
 
-    /// Runs the command: status, standard output, standard error.
+    /// Runs the command: status, standard output, standard error without the lines on progress, which a busy machine has.
     fn run(&self, words: &[&str]) -> (i32, String, String) {
         let output = Command::new(env!("CARGO_BIN_EXE_aspdrupe")).args(words).current_dir(&self.0).stdin(Stdio::null()).output().unwrap();
         let text = |bytes: Vec<u8>| String::from_utf8(bytes).unwrap();
-        (output.status.code().unwrap_or(-1), text(output.stdout), text(output.stderr))
+        let is_progress = |line: &&str| line.split_once(" s: ").is_some_and(|(seconds, _)| seconds.parse::<u32>().is_ok());
+        let said: String = text(output.stderr).split_inclusive('\n').filter(|line| !is_progress(line)).collect();
+        (output.status.code().unwrap_or(-1), text(output.stdout), said)
     }
 
     /// The same for words that stand apart by spaces, without the standard error; the status is to be this one.
