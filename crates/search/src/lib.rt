@@ -193,15 +193,21 @@ fn push(cells: &mut [u32], n: usize, c: usize, reason: usize) -> usize
     n + 1
 }
 
-// The watch w of the nogood at x is in the chain of c, on the literal d.
-fn link(cells: &mut [u32], x: usize, w: usize, c: usize, d: usize)
+// The watch w of the nogood at x is in the chain of c.
+fn hang(cells: &mut [u32], x: usize, w: usize, c: usize)
     requires { ⌜ (x ≤ largestCell) × (w ≤ 1) × (c ≤ largestCell) ⌝ }
 {
     let first = get(cells, HEAD + c);
-    let at = 2 * (x + w);
-    put(cells, LINK + at, first);
-    put(cells, WATCHED + at, d);
+    put(cells, LINK + 2 * (x + w), first);
     put(cells, HEAD + c, 2 * x + w + 1);
+}
+
+// The same, and it is on a literal, told with where it stands.
+fn link(cells: &mut [u32], x: usize, w: usize, c: usize, own: usize)
+    requires { ⌜ (x ≤ largestCell) × (w ≤ 1) × (c ≤ largestCell) ⌝ }
+{
+    put(cells, WATCHED + 2 * (x + w), own);
+    hang(cells, x, w, c);
 }
 
 // From j on, the place of a literal that is not true, other than one given; else the end.
@@ -222,8 +228,7 @@ fn open_from(store: &[i32], cells: &[u32], j: usize, end: usize, other: usize) -
     end
 }
 
-// The same from a place in the middle on and round to the front, so that what was passed over before is not read again. Of two literals both are
-// watched.
+// The same from a place in the middle on and round to the front, so that what was passed over before is not read again.
 fn open_around(
     store: &[i32],
     cells: &[u32],
@@ -232,12 +237,9 @@ fn open_around(
     end: usize,
     other: usize,
 ) -> usize
-    requires { ⌜ (from ≤ 4294967297) × (middle ≤ 10000000000) × (end ≤ 10000000000) ⌝ }
+    requires { ⌜ (middle ≤ 10000000000) × (end ≤ 10000000000) ⌝ }
     ensures { λ r. ⌜ r ≤ end ⌝ }
 {
-    if end == from + 2 {
-        return end;
-    }
     let later = open_from(store, cells, middle, end, other);
     if later < end {
         return later;
@@ -251,6 +253,50 @@ fn open_around(
     end
 }
 
+// From a place on, that of a literal that is false, other than one given; else the end.
+fn false_from(store: &[i32], cells: &[u32], from: usize, end: usize, other: usize) -> usize
+    requires { ⌜ end ≤ 10000000000 ⌝ }
+    ensures { λ r. ⌜ r ≤ end ⌝ }
+{
+    let mut i = from;
+    while i < end {
+        let c = code_of(words::word_at(store, i));
+        if c != other {
+            if is_true(cells, opposite(c)) {
+                return i;
+            }
+        }
+        i += 1;
+    }
+    end
+}
+
+// The place of a literal to watch in place of one in the middle that is true; else the end. Of two literals both are watched. One that is false is
+// taken before others where that is asked for.
+fn another(
+    store: &[i32],
+    cells: &[u32],
+    from: usize,
+    middle: usize,
+    end: usize,
+    other: usize,
+    choosy: bool,
+) -> usize
+    requires { ⌜ (from ≤ 4294967297) × (middle ≤ 10000000000) × (end ≤ 10000000000) ⌝ }
+    ensures { λ r. ⌜ r ≤ end ⌝ }
+{
+    if end == from + 2 {
+        return end;
+    }
+    if choosy {
+        let j = false_from(store, cells, from, end, other);
+        if j < end {
+            return j;
+        }
+    }
+    open_around(store, cells, from, middle, end, other)
+}
+
 // Where a literal at j stands in a nogood whose first is at a place.
 fn position(from: usize, j: usize) -> usize
     ensures { λ r. ⌜ r ≤ 16383 ⌝ }
@@ -260,7 +306,15 @@ fn position(from: usize, j: usize) -> usize
 
 // What becomes of a watch of the nogood at x, on its own literal, told with where it stands, beside another watched one. The first `mark` of the
 // literals that are true are the root.
-fn look(store: &[i32], cells: &[u32], x: usize, own: usize, other: usize, mark: usize) -> Turn
+fn look(
+    store: &[i32],
+    cells: &[u32],
+    x: usize,
+    own: usize,
+    other: usize,
+    mark: usize,
+    choosy: bool,
+) -> Turn
     requires { ⌜ (x ≤ largestCell) × (own ≤ 10000000000) × (other ≤ largestCell) ⌝ }
     ensures { λ r. ⌜ SmallTurn r ⌝ }
 {
@@ -276,7 +330,7 @@ fn look(store: &[i32], cells: &[u32], x: usize, own: usize, other: usize, mark: 
     }
     let from = x + 2;
     let end = end_of(store, x);
-    let j = open_around(store, cells, from, from + own / CODES, end, other);
+    let j = another(store, cells, from, from + own / CODES, end, other, choosy);
     if j < end {
         let d = code_of(words::word_at(store, j));
         return Turn::Moves(d, CODES * position(from, j) + d);
@@ -305,7 +359,7 @@ fn look_in_chain(store: &[i32], cells: &[u32], x: usize, w: usize, mark: usize) 
 {
     let own = get(cells, WATCHED + 2 * (x + w));
     let other = get(cells, WATCHED + 2 * (x + 1 - w)) % CODES;
-    look(store, cells, x, own, other, mark)
+    look(store, cells, x, own, other, mark, false)
 }
 
 // The nogoods in the chain of a literal that is true now.
@@ -518,8 +572,16 @@ fn move_to(cells: &mut [u32], to: usize, node: usize, own: usize, other: usize)
     set_watched(cells, (node - 1) / 2, (node - 1) % 2, own, other);
 }
 
-// The watch at a place in the row of c, beside which no literal is false by an assumption.
-fn treat(store: &[i32], cells: &mut [u32], c: usize, at: usize, n: usize, mark: usize) -> Visited
+// The watch at a place in the row of c, beside which no literal is false by an assumption. In a long row one that is false is sought.
+fn treat(
+    store: &[i32],
+    cells: &mut [u32],
+    c: usize,
+    at: usize,
+    n: usize,
+    mark: usize,
+    choosy: bool,
+) -> Visited
     requires { ⌜ (c ≤ largestCell) × (at ≤ 2000000000200) × (n ≤ entries) ⌝ }
     ensures { λ r. ⌜ SmallVisit r ⌝ }
 {
@@ -532,7 +594,7 @@ fn treat(store: &[i32], cells: &mut [u32], c: usize, at: usize, n: usize, mark: 
     let other = watched(cells, x, 1 - w);
     let against = opposite(other);
     let beside = get(cells, at);
-    let turn = look(store, cells, x, with_code(beside, c), other, mark);
+    let turn = look(store, cells, x, with_code(beside, c), other, mark, choosy);
     match turn {
         Turn::Stays => {
             put(cells, at, with_code(beside, against));
@@ -556,7 +618,15 @@ fn treat(store: &[i32], cells: &mut [u32], c: usize, at: usize, n: usize, mark: 
 }
 
 // One watch in the row of c: nothing is to be done where the literal beside it is false by an assumption.
-fn pass(store: &[i32], cells: &mut [u32], c: usize, at: usize, n: usize, mark: usize) -> Visited
+fn pass(
+    store: &[i32],
+    cells: &mut [u32],
+    c: usize,
+    at: usize,
+    n: usize,
+    mark: usize,
+    choosy: bool,
+) -> Visited
     requires { ⌜ (c ≤ largestCell) × (at ≤ 2000000000200) × (n ≤ entries) ⌝ }
     ensures { λ r. ⌜ SmallVisit r ⌝ }
 {
@@ -564,7 +634,7 @@ fn pass(store: &[i32], cells: &mut [u32], c: usize, at: usize, n: usize, mark: u
     if mark < get(cells, ORDER + against) {
         return Visited::Queued(n);
     }
-    treat(store, cells, c, at, n, mark)
+    treat(store, cells, c, at, n, mark, choosy)
 }
 
 // The watches of a piece of the row of c, the last first.
@@ -576,6 +646,7 @@ fn visit_piece(
     held: usize,
     start: usize,
     mark: usize,
+    choosy: bool,
 ) -> Visited
     requires { ⌜ (c ≤ largestCell) × (at ≤ 2000000000000) × (held ≤ 63) × (start ≤ entries) ⌝ }
     ensures { λ r. ⌜ SmallVisit r ⌝ }
@@ -583,7 +654,7 @@ fn visit_piece(
     let mut n = start;
     let mut i = held;
     while 0 < i {
-        let given = pass(store, cells, c, at + 2 * i, n, mark);
+        let given = pass(store, cells, c, at + 2 * i, n, mark, choosy);
         i -= 1;
         match given {
             Visited::Clash(x, end) => {
@@ -615,7 +686,7 @@ fn visit_row(store: &[i32], cells: &mut [u32], c: usize, start: usize, mark: usi
         fuel -= 1;
         let at = piece_at(cells, piece);
         piece = get(cells, at + 1);
-        let given = visit_piece(store, cells, c, at, held, n, mark);
+        let given = visit_piece(store, cells, c, at, held, n, mark, 0 < piece);
         held = width;
         match given {
             Visited::Clash(x, end) => {
@@ -993,15 +1064,15 @@ fn list_of(cells: &[u32], c: usize, d: usize) -> usize
 }
 
 // A nogood that stayed where it was: its watches are on the same literals, in chains.
-fn link_again(cells: &mut [u32], x: usize)
+fn hang_again(cells: &mut [u32], x: usize)
     requires { ⌜ x ≤ largestCell ⌝ }
 {
-    let c = get(cells, WATCHED + 2 * x);
-    let d = get(cells, WATCHED + 2 * x + 2);
-    let first = list_of(cells, c % CODES, d % CODES);
-    let second = list_of(cells, d % CODES, c % CODES);
-    link(cells, x, 0, first, c);
-    link(cells, x, 1, second, d);
+    let c = get(cells, WATCHED + 2 * x) % CODES;
+    let d = get(cells, WATCHED + 2 * x + 2) % CODES;
+    let first = list_of(cells, c, d);
+    let second = list_of(cells, d, c);
+    hang(cells, x, 0, first);
+    hang(cells, x, 1, second);
 }
 
 // The same in rows. A nogood of fewer than two literals is watched by the literal of code 0 alone.
@@ -1098,7 +1169,7 @@ fn watch_again(cells: &mut [u32], x: usize)
     requires { ⌜ x ≤ largestCell ⌝ }
 {
     if !has_rows(cells) {
-        link_again(cells, x);
+        hang_again(cells, x);
         return;
     }
     put(cells, LAST, x + 1);
@@ -1157,12 +1228,12 @@ fn release_chain(cells: &mut [u32], c: usize)
         let x = (here - 1) / 2;
         let w = (here - 1) % 2;
         node = get(cells, LINK + 2 * (x + w));
-        let own = get(cells, WATCHED + 2 * (x + w));
-        if own % CODES == c {
+        let own = get(cells, WATCHED + 2 * (x + w)) % CODES;
+        if own == c {
             last = here;
         } else {
             skip(cells, c, last, node);
-            link(cells, x, w, own % CODES, own);
+            hang(cells, x, w, own);
         }
     }
 }
