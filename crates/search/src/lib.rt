@@ -27,14 +27,17 @@ const FAR: usize = 1073741824;
 pub const MOST: usize = ENTRIES;
 
 // The regions: by code, where its list begins; by code, one more than where it stands among those that are true, or 0; the codes that are true,
-// in their order, and at the end the path; by that order, the places that gave them; how many of 64 in that order are needed.
+// in their order; by that order, the places that gave them, and at the end the path, over places that are needed no more; how many of 64 in that
+// order are needed.
 const HEAD: usize = 0;
 
 const ORDER: usize = 16384;
 
-pub const TRAIL: usize = 32768;
+const TRAIL: usize = 32768;
 
 const REASON: usize = 40960;
+
+pub const PATH: usize = REASON;
 
 const BLOCKS: usize = 49152;
 
@@ -812,16 +815,21 @@ fn need_all(store: &[i32], cells: &mut [u32], x: usize)
     }
 }
 
-// A place goes to the front of the path, if there is room. Where the path begins then.
-fn prepend(cells: &mut [u32], first: usize, x: usize) -> usize
+// A place goes to the front of the path, if that begins past a bound. Where it begins then.
+fn prepend(cells: &mut [u32], first: usize, x: usize, bound: usize) -> usize
     requires { ⌜ first ≤ entries ⌝ }
     ensures { λ r. ⌜ r ≤ entries ⌝ }
 {
-    if first <= count(cells) {
+    if first <= bound {
         return first;
     }
-    put(cells, TRAIL + first - 1, x);
+    put(cells, PATH + first - 1, x);
     first - 1
+}
+
+// What gave the root stays, and so does what gave a literal in the order before i: no path is to be written over that.
+fn bound_at(i: usize, mark: usize) -> usize {
+    if i < mark { mark } else { i }
 }
 
 // One less is needed of a block.
@@ -835,7 +843,7 @@ fn met(cells: &mut [u32], block: usize)
 }
 
 // One of the literals in their order: if the path needs it, the nogood that gave it goes to the front, and its literals are needed.
-fn follow(store: &[i32], cells: &mut [u32], i: usize, first: usize) -> usize
+fn follow(store: &[i32], cells: &mut [u32], i: usize, first: usize, mark: usize) -> usize
     requires { ⌜ (i ≤ entries) × (first ≤ entries) ⌝ }
     ensures { λ r. ⌜ r ≤ entries ⌝ }
 {
@@ -850,11 +858,11 @@ fn follow(store: &[i32], cells: &mut [u32], i: usize, first: usize) -> usize
         return first;
     }
     need_all(store, cells, x - 1);
-    prepend(cells, first, x - 1)
+    prepend(cells, first, x - 1, bound_at(i, mark))
 }
 
 // The nogoods that gave what is needed, latest first, go to the front of the path.
-fn gather(store: &[i32], cells: &mut [u32], start: usize) -> usize
+fn gather(store: &[i32], cells: &mut [u32], start: usize, mark: usize) -> usize
     requires { ⌜ start ≤ entries ⌝ }
     ensures { λ r. ⌜ r ≤ entries ⌝ }
 {
@@ -865,14 +873,14 @@ fn gather(store: &[i32], cells: &mut [u32], start: usize) -> usize
         if get(cells, BLOCKS + i / BLOCK) == 0 {
             i -= i % BLOCK;
         } else {
-            first = follow(store, cells, i, first);
+            first = follow(store, cells, i, first, mark);
         }
     }
     first
 }
 
 // All nogoods that gave a literal go to the front of the path.
-fn gather_all(cells: &mut [u32], start: usize) -> usize
+fn gather_all(cells: &mut [u32], start: usize, mark: usize) -> usize
     requires { ⌜ start ≤ entries ⌝ }
 {
     let mut first = start;
@@ -881,7 +889,7 @@ fn gather_all(cells: &mut [u32], start: usize) -> usize
         i -= 1;
         let x = get(cells, REASON + i);
         if 0 < x {
-            first = prepend(cells, first, x - 1);
+            first = prepend(cells, first, x - 1, bound_at(i, mark));
         }
     }
     first
@@ -892,7 +900,7 @@ fn is_small(cells: &[u32], mark: usize) -> bool
     requires { ⌜ mark ≤ entries ⌝ }
 {
     let n = count(cells);
-    if MOST <= 2 * n {
+    if MOST <= n + mark {
         return false;
     }
     if mark <= FEW {
@@ -905,12 +913,12 @@ fn is_small(cells: &[u32], mark: usize) -> bool
 fn lead(store: &[i32], cells: &mut [u32], mark: usize, last: usize) -> usize
     requires { ⌜ (mark ≤ entries) × (1 ≤ last) × (last ≤ largestCell) ⌝ }
 {
-    let first = prepend(cells, MOST, last - 1);
+    let first = prepend(cells, MOST, last - 1, count(cells));
     if is_small(cells, mark) {
-        return gather_all(cells, first);
+        return gather_all(cells, first, mark);
     }
     need_all(store, cells, last - 1);
-    gather(store, cells, first)
+    gather(store, cells, first, mark)
 }
 
 // The path to a literal that is true and was to be false. Where it begins.
@@ -918,10 +926,10 @@ fn contradict(store: &[i32], cells: &mut [u32], mark: usize, c: usize) -> usize
     requires { ⌜ (mark ≤ entries) × (c ≤ largestCell) ⌝ }
 {
     if is_small(cells, mark) {
-        return gather_all(cells, MOST);
+        return gather_all(cells, MOST, mark);
     }
     need(cells, c);
-    gather(store, cells, MOST)
+    gather(store, cells, MOST, mark)
 }
 
 // How wide pieces are that stand in so many cells.
@@ -999,7 +1007,7 @@ fn pursue(store: &[i32], literals: &[i32], cells: &mut [u32], mark: usize) -> us
     if 0 < last {
         return lead(store, cells, mark, last);
     }
-    gather_all(cells, MOST)
+    gather_all(cells, MOST, mark)
 }
 
 // A path: to a nogood that is violated without any assumption, if there is one.
