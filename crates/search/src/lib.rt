@@ -2,13 +2,14 @@
 // nogoods that it went by, and `replay` decides. All that it keeps from step to step stands in the cells that it is lent, read and written by total
 // functions, so that no function here asks for anything but small numbers. Cells of zeros are a right start.
 //
-// A literal's code is the number itself modulo 16,384, found without a branch on its sign; 0 stands for a literal that is true in every nogood, and no
-// literal has the code 8,192. A node is 1 + 2 · place + (0 or 1), for the first and the second watch of the nogood at a place. A place that may be none
-// is one more, or 0.
+// A literal's code is the number itself modulo 16,384, found without a branch on its sign; 0 stands for a literal that
+// is true in every nogood, and no literal has the code 8,192. A node is 1 + 2 · place + (0 or 1), for the first and the
+// second watch of the nogood at a place. A place that may be none is one more, or 0.
 //
-// The nodes that watch a literal are its list. With few cells that is a chain through the cells of the nodes, which ends with 0. With many it is a row,
-// in pieces that each hold some watches one after another, so that little memory is gone through: beside the node stands the complement of another
-// literal of the nogood, and where that is true neither the nogood nor what is kept by its place is read.
+// The nodes that watch a literal are its list. With few cells that is a chain through the cells of the nodes, which
+// ends with 0. With many it is a row, in pieces that each hold some watches one after another, so that little memory is
+// gone through: beside the node stands the complement of another literal of the nogood, and where that is true neither
+// the nogood nor what is kept by its place is read.
 //
 // The root is what is true without any assumption. Where a nogood has a literal that the root makes false, it is not to be looked at as long as the
 // root stays: its watches wait in the list of that literal, which is not gone through.
@@ -26,9 +27,9 @@ const FAR: usize = 1073741824;
 // As many literals as can be true, with the one of code 0.
 pub const MOST: usize = ENTRIES;
 
-// The regions: by code, where its list begins; by code, one more than where it stands among those that are true, or 0; the codes that are true,
-// in their order; by that order, the places that gave them, and at the end the path, over places that are needed no more; how many of 64 in that
-// order are needed.
+// The regions: by code, where its list begins; by code, one more than where it stands among those that are true, or 0;
+// the codes that are true, in their order; by that order, the places that gave them, and at the end the path, over
+// places that are needed no more; how many of 64 in that order are needed.
 const HEAD: usize = 0;
 
 const ORDER: usize = 16384;
@@ -55,18 +56,18 @@ const DEAD: usize = 49284;
 
 const KEPT: usize = 49285;
 
-// With chains: by place and watch, the next node, and after it the code that is watched and where it stands in the nogood. Two cells for each word of
-// the store, as many as there are cells for.
+// With chains: by place and watch, the next node, and after it the code that is watched and where it stands in the
+// nogood. Two cells for each word of the store, as many as there are cells for.
 const LINK: usize = 49286;
 
 const WATCHED: usize = 49287;
 
-// With so many cells there are rows.
+// With so many cells there are rows. With fewer all of them are near to the processor, and chains cost less.
 const MANY: usize = 200000;
 
-// With rows: where their pieces begin; how many watches a piece holds; how many pieces were taken; the first of those that are free; whether one was
-// lacking; where the nogood begins that was entered last, one more; by half of the place, the two codes that are watched, in a quarter of the cells that
-// are left, and after them the pieces.
+// With rows: where their pieces begin; how many watches a piece holds; how many pieces were taken; the first of those
+// that are free; whether one was lacking; where the nogood begins that was entered last, one more; by half of the
+// place, the two codes that are watched, in a quarter of the cells that are left, and after them the pieces.
 const ROWS: usize = 49286;
 
 const WIDTH: usize = 49287;
@@ -114,9 +115,9 @@ enum Visited {
     Queued(usize),
 }
 
-// What becomes of a watch on a literal that is true: it stays, since the other literal is false; it moves to the list of a literal, and is on that
-// or waits there on its own, which is told with where it stands; it goes, since the nogood is dead; it stays, and a literal follows; the nogood is
-// violated.
+// What becomes of a watch on a literal that is true: it stays, since the other literal is false; it moves to the list
+// of a literal, and is on that or waits there on its own, which is told with where it stands; it goes, since the nogood
+// is dead; it stays, and a literal follows; the nogood is violated.
 enum Turn {
     Stays,
     Moves(usize, usize),
@@ -274,8 +275,9 @@ fn false_from(store: &[i32], cells: &[u32], from: usize, end: usize, other: usiz
     end
 }
 
-// The place of a literal to watch in place of one in the middle that is true; else the end. Of two literals both are watched. One that is false is
-// taken before others where that is asked for.
+// The place of a literal to watch in place of one in the middle that is true; else the end. Of two literals both are
+// watched. Where that is asked for, one that is false is taken before others: its list is not gone through as long as
+// it is.
 fn another(
     store: &[i32],
     cells: &[u32],
@@ -307,8 +309,8 @@ fn position(from: usize, j: usize) -> usize
     if from < j { (j - from) % CODES } else { 0 }
 }
 
-// What becomes of a watch of the nogood at x, on its own literal, told with where it stands, beside another watched one. The first `mark` of the
-// literals that are true are the root.
+// What becomes of a watch of the nogood at x, on its own literal, told with where it stands, beside another watched
+// one. The first `mark` of the literals that are true are the root.
 fn look(
     store: &[i32],
     cells: &[u32],
@@ -427,8 +429,8 @@ fn product(a: usize, b: usize) -> usize
     a * b
 }
 
-// The cell before a piece: in the piece stand the one before it in its row, and then each watch, as the complement of a literal of the nogood with where
-// the watched one stands in it, and the node.
+// The cell before a piece: in the piece stand the one before it in its row, and then each watch, as the complement of a
+// literal of the nogood with where the watched one stands in it, and the node.
 fn piece_at(cells: &[u32], piece: usize) -> usize
     requires { ⌜ piece ≤ 10000000000 ⌝ }
     ensures { λ r. ⌜ r ≤ 2000000000000 ⌝ }
@@ -575,7 +577,8 @@ fn move_to(cells: &mut [u32], to: usize, node: usize, own: usize, other: usize)
     set_watched(cells, (node - 1) / 2, (node - 1) % 2, own, other);
 }
 
-// The watch at a place in the row of c, beside which no literal is false by an assumption. In a long row one that is false is sought.
+// The watch at a place in the row of c, beside which no literal is false by an assumption. In a long row one that is
+// false is sought, since the row is shorter then.
 fn treat(
     store: &[i32],
     cells: &mut [u32],
@@ -723,8 +726,8 @@ fn count(cells: &[u32]) -> usize
     if n <= MOST { n } else { MOST }
 }
 
-// To the end, or to a nogood that is violated. Watches wait with the first `mark` literals: 0 for the root itself, whose lists are not gone through
-// again.
+// To the end, or to a nogood that is violated. Watches wait with the first `mark` literals: 0 for the root itself,
+// whose lists are not gone through again.
 fn propagate(store: &[i32], cells: &mut [u32], mark: usize) -> usize
     ensures { λ r. ⌜ r ≤ largestCell ⌝ }
 {
