@@ -16,10 +16,10 @@ use crate::shrink::{cut, shrunk};
 const FIXED: usize = 49_287;
 
 /// The lengths of memory that matter for a store of so many words: none, one, a few, those around the least of use and the least that covers
-/// the store, and many.
+/// the store, and so many that watches stand in rows.
 fn memories(store: usize) -> [usize; 10] {
     let enough = aspdrupe::memory_for(store);
-    [0, 1, 7, FIXED - 1, FIXED, FIXED + 25, FIXED.midpoint(enough), enough - 1, enough, enough + 100_000]
+    [0, 1, 7, FIXED - 1, FIXED, FIXED + 25, FIXED.midpoint(enough), enough - 1, enough, enough + 300_000]
 }
 
 impl Comparison {

@@ -17,7 +17,7 @@ use nogoods::chains::PROVED;
 use nogoods::chains::WORDS;
 use search::FIRST;
 use search::MOST;
-use search::TRAIL;
+use search::PATH;
 use words::ENTRIES;
 
 // What the path came to: a conflict, with every entry from an end on free; or none.
@@ -58,7 +58,7 @@ pub fn replay(
     let mut end = start;
     let mut k = index[at + FIRST] as usize;
     while k < MOST {
-        let x = index[at + TRAIL + k] as usize;
+        let x = index[at + PATH + k] as usize;
         k += 1;
         if is_start(index, m, x) {
             let given = units::derive_at(nogoods, x, assignment);

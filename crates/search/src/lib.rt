@@ -2,13 +2,14 @@
 // nogoods that it went by, and `replay` decides. All that it keeps from step to step stands in the cells that it is lent, read and written by total
 // functions, so that no function here asks for anything but small numbers. Cells of zeros are a right start.
 //
-// A literal's code is the number itself modulo 16,384, found without a branch on its sign; 0 stands for a literal that is true in every nogood, and no
-// literal has the code 8,192. A node is 1 + 2 · place + (0 or 1), for the first and the second watch of the nogood at a place. A place that may be none
-// is one more, or 0.
+// A literal's code is the number itself modulo 16,384, found without a branch on its sign; 0 stands for a literal that
+// is true in every nogood, and no literal has the code 8,192. A node is 1 + 2 · place + (0 or 1), for the first and the
+// second watch of the nogood at a place. A place that may be none is one more, or 0.
 //
-// The nodes that watch a literal are its list. With few cells that is a chain through the cells of the nodes, which ends with 0. With many it is a row,
-// in pieces that each hold some watches one after another, so that little memory is gone through: beside the node stands the complement of another
-// literal of the nogood, and where that is true neither the nogood nor what is kept by its place is read.
+// The nodes that watch a literal are its list. With few cells that is a chain through the cells of the nodes, which
+// ends with 0. With many it is a row, in pieces that each hold some watches one after another, so that little memory is
+// gone through: beside the node stands the complement of another literal of the nogood, and where that is true neither
+// the nogood nor what is kept by its place is read.
 //
 // The root is what is true without any assumption. Where a nogood has a literal that the root makes false, it is not to be looked at as long as the
 // root stays: its watches wait in the list of that literal, which is not gone through.
@@ -26,15 +27,18 @@ const FAR: usize = 1073741824;
 // As many literals as can be true, with the one of code 0.
 pub const MOST: usize = ENTRIES;
 
-// The regions: by code, where its list begins; by code, one more than where it stands among those that are true, or 0; the codes that are true,
-// in their order, and at the end the path; by that order, the places that gave them; how many of 64 in that order are needed.
+// The regions: by code, where its list begins; by code, one more than where it stands among those that are true, or 0;
+// the codes that are true, in their order; by that order, the places that gave them, and at the end the path, over
+// places that are needed no more; how many of 64 in that order are needed.
 const HEAD: usize = 0;
 
 const ORDER: usize = 16384;
 
-pub const TRAIL: usize = 32768;
+const TRAIL: usize = 32768;
 
 const REASON: usize = 40960;
+
+pub const PATH: usize = REASON;
 
 const BLOCKS: usize = 49152;
 
@@ -52,18 +56,18 @@ const DEAD: usize = 49284;
 
 const KEPT: usize = 49285;
 
-// With chains: by place and watch, the next node, and after it the code that is watched and where it stands in the nogood. Two cells for each word of
-// the store, as many as there are cells for.
+// With chains: by place and watch, the next node, and after it the code that is watched and where it stands in the
+// nogood. Two cells for each word of the store, as many as there are cells for.
 const LINK: usize = 49286;
 
 const WATCHED: usize = 49287;
 
-// With so many cells there are rows.
+// With so many cells there are rows. With fewer all of them are near to the processor, and chains cost less.
 const MANY: usize = 200000;
 
-// With rows: where their pieces begin; how many watches a piece holds; how many pieces were taken; the first of those that are free; whether one was
-// lacking; where the nogood begins that was entered last, one more; by half of the place, the two codes that are watched, in a quarter of the cells that
-// are left, and after them the pieces.
+// With rows: where their pieces begin; how many watches a piece holds; how many pieces were taken; the first of those
+// that are free; whether one was lacking; where the nogood begins that was entered last, one more; by half of the
+// place, the two codes that are watched, in a quarter of the cells that are left, and after them the pieces.
 const ROWS: usize = 49286;
 
 const WIDTH: usize = 49287;
@@ -111,9 +115,9 @@ enum Visited {
     Queued(usize),
 }
 
-// What becomes of a watch on a literal that is true: it stays, since the other literal is false; it moves to the list of a literal, and is on that
-// or waits there on its own, which is told with where it stands; it goes, since the nogood is dead; it stays, and a literal follows; the nogood is
-// violated.
+// What becomes of a watch on a literal that is true: it stays, since the other literal is false; it moves to the list
+// of a literal, and is on that or waits there on its own, which is told with where it stands; it goes, since the nogood
+// is dead; it stays, and a literal follows; the nogood is violated.
 enum Turn {
     Stays,
     Moves(usize, usize),
@@ -193,15 +197,21 @@ fn push(cells: &mut [u32], n: usize, c: usize, reason: usize) -> usize
     n + 1
 }
 
-// The watch w of the nogood at x is in the chain of c, on the literal d.
-fn link(cells: &mut [u32], x: usize, w: usize, c: usize, d: usize)
+// The watch w of the nogood at x is in the chain of c.
+fn hang(cells: &mut [u32], x: usize, w: usize, c: usize)
     requires { ⌜ (x ≤ largestCell) × (w ≤ 1) × (c ≤ largestCell) ⌝ }
 {
     let first = get(cells, HEAD + c);
-    let at = 2 * (x + w);
-    put(cells, LINK + at, first);
-    put(cells, WATCHED + at, d);
+    put(cells, LINK + 2 * (x + w), first);
     put(cells, HEAD + c, 2 * x + w + 1);
+}
+
+// The same, and it is on a literal, told with where it stands.
+fn link(cells: &mut [u32], x: usize, w: usize, c: usize, own: usize)
+    requires { ⌜ (x ≤ largestCell) × (w ≤ 1) × (c ≤ largestCell) ⌝ }
+{
+    put(cells, WATCHED + 2 * (x + w), own);
+    hang(cells, x, w, c);
 }
 
 // From j on, the place of a literal that is not true, other than one given; else the end.
@@ -222,8 +232,7 @@ fn open_from(store: &[i32], cells: &[u32], j: usize, end: usize, other: usize) -
     end
 }
 
-// The same from a place in the middle on and round to the front, so that what was passed over before is not read again. Of two literals both are
-// watched.
+// The same from a place in the middle on and round to the front, so that what was passed over before is not read again.
 fn open_around(
     store: &[i32],
     cells: &[u32],
@@ -232,12 +241,9 @@ fn open_around(
     end: usize,
     other: usize,
 ) -> usize
-    requires { ⌜ (from ≤ 4294967297) × (middle ≤ 10000000000) × (end ≤ 10000000000) ⌝ }
+    requires { ⌜ (middle ≤ 10000000000) × (end ≤ 10000000000) ⌝ }
     ensures { λ r. ⌜ r ≤ end ⌝ }
 {
-    if end == from + 2 {
-        return end;
-    }
     let later = open_from(store, cells, middle, end, other);
     if later < end {
         return later;
@@ -251,6 +257,51 @@ fn open_around(
     end
 }
 
+// From a place on, that of a literal that is false, other than one given; else the end.
+fn false_from(store: &[i32], cells: &[u32], from: usize, end: usize, other: usize) -> usize
+    requires { ⌜ end ≤ 10000000000 ⌝ }
+    ensures { λ r. ⌜ r ≤ end ⌝ }
+{
+    let mut i = from;
+    while i < end {
+        let c = code_of(words::word_at(store, i));
+        if c != other {
+            if is_true(cells, opposite(c)) {
+                return i;
+            }
+        }
+        i += 1;
+    }
+    end
+}
+
+// The place of a literal to watch in place of one in the middle that is true; else the end. Of two literals both are
+// watched. Where that is asked for, one that is false is taken before others: its list is not gone through as long as
+// it is.
+fn another(
+    store: &[i32],
+    cells: &[u32],
+    from: usize,
+    middle: usize,
+    end: usize,
+    other: usize,
+    choosy: bool,
+) -> usize
+    requires { ⌜ (from ≤ 4294967297) × (middle ≤ 10000000000) × (end ≤ 10000000000) ⌝ }
+    ensures { λ r. ⌜ r ≤ end ⌝ }
+{
+    if end == from + 2 {
+        return end;
+    }
+    if choosy {
+        let j = false_from(store, cells, from, end, other);
+        if j < end {
+            return j;
+        }
+    }
+    open_around(store, cells, from, middle, end, other)
+}
+
 // Where a literal at j stands in a nogood whose first is at a place.
 fn position(from: usize, j: usize) -> usize
     ensures { λ r. ⌜ r ≤ 16383 ⌝ }
@@ -258,9 +309,17 @@ fn position(from: usize, j: usize) -> usize
     if from < j { (j - from) % CODES } else { 0 }
 }
 
-// What becomes of a watch of the nogood at x, on its own literal, told with where it stands, beside another watched one. The first `mark` of the
-// literals that are true are the root.
-fn look(store: &[i32], cells: &[u32], x: usize, own: usize, other: usize, mark: usize) -> Turn
+// What becomes of a watch of the nogood at x, on its own literal, told with where it stands, beside another watched
+// one. The first `mark` of the literals that are true are the root.
+fn look(
+    store: &[i32],
+    cells: &[u32],
+    x: usize,
+    own: usize,
+    other: usize,
+    mark: usize,
+    choosy: bool,
+) -> Turn
     requires { ⌜ (x ≤ largestCell) × (own ≤ 10000000000) × (other ≤ largestCell) ⌝ }
     ensures { λ r. ⌜ SmallTurn r ⌝ }
 {
@@ -276,7 +335,7 @@ fn look(store: &[i32], cells: &[u32], x: usize, own: usize, other: usize, mark: 
     }
     let from = x + 2;
     let end = end_of(store, x);
-    let j = open_around(store, cells, from, from + own / CODES, end, other);
+    let j = another(store, cells, from, from + own / CODES, end, other, choosy);
     if j < end {
         let d = code_of(words::word_at(store, j));
         return Turn::Moves(d, CODES * position(from, j) + d);
@@ -305,7 +364,7 @@ fn look_in_chain(store: &[i32], cells: &[u32], x: usize, w: usize, mark: usize) 
 {
     let own = get(cells, WATCHED + 2 * (x + w));
     let other = get(cells, WATCHED + 2 * (x + 1 - w)) % CODES;
-    look(store, cells, x, own, other, mark)
+    look(store, cells, x, own, other, mark, false)
 }
 
 // The nogoods in the chain of a literal that is true now.
@@ -370,8 +429,8 @@ fn product(a: usize, b: usize) -> usize
     a * b
 }
 
-// The cell before a piece: in the piece stand the one before it in its row, and then each watch, as the complement of a literal of the nogood with where
-// the watched one stands in it, and the node.
+// The cell before a piece: in the piece stand the one before it in its row, and then each watch, as the complement of a
+// literal of the nogood with where the watched one stands in it, and the node.
 fn piece_at(cells: &[u32], piece: usize) -> usize
     requires { ⌜ piece ≤ 10000000000 ⌝ }
     ensures { λ r. ⌜ r ≤ 2000000000000 ⌝ }
@@ -518,8 +577,17 @@ fn move_to(cells: &mut [u32], to: usize, node: usize, own: usize, other: usize)
     set_watched(cells, (node - 1) / 2, (node - 1) % 2, own, other);
 }
 
-// The watch at a place in the row of c, beside which no literal is false by an assumption.
-fn treat(store: &[i32], cells: &mut [u32], c: usize, at: usize, n: usize, mark: usize) -> Visited
+// The watch at a place in the row of c, beside which no literal is false by an assumption. In a long row one that is
+// false is sought, since the row is shorter then.
+fn treat(
+    store: &[i32],
+    cells: &mut [u32],
+    c: usize,
+    at: usize,
+    n: usize,
+    mark: usize,
+    choosy: bool,
+) -> Visited
     requires { ⌜ (c ≤ largestCell) × (at ≤ 2000000000200) × (n ≤ entries) ⌝ }
     ensures { λ r. ⌜ SmallVisit r ⌝ }
 {
@@ -532,7 +600,7 @@ fn treat(store: &[i32], cells: &mut [u32], c: usize, at: usize, n: usize, mark: 
     let other = watched(cells, x, 1 - w);
     let against = opposite(other);
     let beside = get(cells, at);
-    let turn = look(store, cells, x, with_code(beside, c), other, mark);
+    let turn = look(store, cells, x, with_code(beside, c), other, mark, choosy);
     match turn {
         Turn::Stays => {
             put(cells, at, with_code(beside, against));
@@ -556,7 +624,15 @@ fn treat(store: &[i32], cells: &mut [u32], c: usize, at: usize, n: usize, mark: 
 }
 
 // One watch in the row of c: nothing is to be done where the literal beside it is false by an assumption.
-fn pass(store: &[i32], cells: &mut [u32], c: usize, at: usize, n: usize, mark: usize) -> Visited
+fn pass(
+    store: &[i32],
+    cells: &mut [u32],
+    c: usize,
+    at: usize,
+    n: usize,
+    mark: usize,
+    choosy: bool,
+) -> Visited
     requires { ⌜ (c ≤ largestCell) × (at ≤ 2000000000200) × (n ≤ entries) ⌝ }
     ensures { λ r. ⌜ SmallVisit r ⌝ }
 {
@@ -564,7 +640,7 @@ fn pass(store: &[i32], cells: &mut [u32], c: usize, at: usize, n: usize, mark: u
     if mark < get(cells, ORDER + against) {
         return Visited::Queued(n);
     }
-    treat(store, cells, c, at, n, mark)
+    treat(store, cells, c, at, n, mark, choosy)
 }
 
 // The watches of a piece of the row of c, the last first.
@@ -576,6 +652,7 @@ fn visit_piece(
     held: usize,
     start: usize,
     mark: usize,
+    choosy: bool,
 ) -> Visited
     requires { ⌜ (c ≤ largestCell) × (at ≤ 2000000000000) × (held ≤ 63) × (start ≤ entries) ⌝ }
     ensures { λ r. ⌜ SmallVisit r ⌝ }
@@ -583,7 +660,7 @@ fn visit_piece(
     let mut n = start;
     let mut i = held;
     while 0 < i {
-        let given = pass(store, cells, c, at + 2 * i, n, mark);
+        let given = pass(store, cells, c, at + 2 * i, n, mark, choosy);
         i -= 1;
         match given {
             Visited::Clash(x, end) => {
@@ -615,7 +692,7 @@ fn visit_row(store: &[i32], cells: &mut [u32], c: usize, start: usize, mark: usi
         fuel -= 1;
         let at = piece_at(cells, piece);
         piece = get(cells, at + 1);
-        let given = visit_piece(store, cells, c, at, held, n, mark);
+        let given = visit_piece(store, cells, c, at, held, n, mark, 0 < piece);
         held = width;
         match given {
             Visited::Clash(x, end) => {
@@ -649,8 +726,8 @@ fn count(cells: &[u32]) -> usize
     if n <= MOST { n } else { MOST }
 }
 
-// To the end, or to a nogood that is violated. Watches wait with the first `mark` literals: 0 for the root itself, whose lists are not gone through
-// again.
+// To the end, or to a nogood that is violated. Watches wait with the first `mark` literals: 0 for the root itself,
+// whose lists are not gone through again.
 fn propagate(store: &[i32], cells: &mut [u32], mark: usize) -> usize
     ensures { λ r. ⌜ r ≤ largestCell ⌝ }
 {
@@ -741,16 +818,21 @@ fn need_all(store: &[i32], cells: &mut [u32], x: usize)
     }
 }
 
-// A place goes to the front of the path, if there is room. Where the path begins then.
-fn prepend(cells: &mut [u32], first: usize, x: usize) -> usize
+// A place goes to the front of the path, if that begins past a bound. Where it begins then.
+fn prepend(cells: &mut [u32], first: usize, x: usize, bound: usize) -> usize
     requires { ⌜ first ≤ entries ⌝ }
     ensures { λ r. ⌜ r ≤ entries ⌝ }
 {
-    if first <= count(cells) {
+    if first <= bound {
         return first;
     }
-    put(cells, TRAIL + first - 1, x);
+    put(cells, PATH + first - 1, x);
     first - 1
+}
+
+// What gave the root stays, and so does what gave a literal in the order before i: no path is to be written over that.
+fn bound_at(i: usize, mark: usize) -> usize {
+    if i < mark { mark } else { i }
 }
 
 // One less is needed of a block.
@@ -764,7 +846,7 @@ fn met(cells: &mut [u32], block: usize)
 }
 
 // One of the literals in their order: if the path needs it, the nogood that gave it goes to the front, and its literals are needed.
-fn follow(store: &[i32], cells: &mut [u32], i: usize, first: usize) -> usize
+fn follow(store: &[i32], cells: &mut [u32], i: usize, first: usize, mark: usize) -> usize
     requires { ⌜ (i ≤ entries) × (first ≤ entries) ⌝ }
     ensures { λ r. ⌜ r ≤ entries ⌝ }
 {
@@ -779,11 +861,11 @@ fn follow(store: &[i32], cells: &mut [u32], i: usize, first: usize) -> usize
         return first;
     }
     need_all(store, cells, x - 1);
-    prepend(cells, first, x - 1)
+    prepend(cells, first, x - 1, bound_at(i, mark))
 }
 
 // The nogoods that gave what is needed, latest first, go to the front of the path.
-fn gather(store: &[i32], cells: &mut [u32], start: usize) -> usize
+fn gather(store: &[i32], cells: &mut [u32], start: usize, mark: usize) -> usize
     requires { ⌜ start ≤ entries ⌝ }
     ensures { λ r. ⌜ r ≤ entries ⌝ }
 {
@@ -794,14 +876,14 @@ fn gather(store: &[i32], cells: &mut [u32], start: usize) -> usize
         if get(cells, BLOCKS + i / BLOCK) == 0 {
             i -= i % BLOCK;
         } else {
-            first = follow(store, cells, i, first);
+            first = follow(store, cells, i, first, mark);
         }
     }
     first
 }
 
 // All nogoods that gave a literal go to the front of the path.
-fn gather_all(cells: &mut [u32], start: usize) -> usize
+fn gather_all(cells: &mut [u32], start: usize, mark: usize) -> usize
     requires { ⌜ start ≤ entries ⌝ }
 {
     let mut first = start;
@@ -810,7 +892,7 @@ fn gather_all(cells: &mut [u32], start: usize) -> usize
         i -= 1;
         let x = get(cells, REASON + i);
         if 0 < x {
-            first = prepend(cells, first, x - 1);
+            first = prepend(cells, first, x - 1, bound_at(i, mark));
         }
     }
     first
@@ -821,7 +903,7 @@ fn is_small(cells: &[u32], mark: usize) -> bool
     requires { ⌜ mark ≤ entries ⌝ }
 {
     let n = count(cells);
-    if MOST <= 2 * n {
+    if MOST <= n + mark {
         return false;
     }
     if mark <= FEW {
@@ -834,12 +916,12 @@ fn is_small(cells: &[u32], mark: usize) -> bool
 fn lead(store: &[i32], cells: &mut [u32], mark: usize, last: usize) -> usize
     requires { ⌜ (mark ≤ entries) × (1 ≤ last) × (last ≤ largestCell) ⌝ }
 {
-    let first = prepend(cells, MOST, last - 1);
+    let first = prepend(cells, MOST, last - 1, count(cells));
     if is_small(cells, mark) {
-        return gather_all(cells, first);
+        return gather_all(cells, first, mark);
     }
     need_all(store, cells, last - 1);
-    gather(store, cells, first)
+    gather(store, cells, first, mark)
 }
 
 // The path to a literal that is true and was to be false. Where it begins.
@@ -847,10 +929,10 @@ fn contradict(store: &[i32], cells: &mut [u32], mark: usize, c: usize) -> usize
     requires { ⌜ (mark ≤ entries) × (c ≤ largestCell) ⌝ }
 {
     if is_small(cells, mark) {
-        return gather_all(cells, MOST);
+        return gather_all(cells, MOST, mark);
     }
     need(cells, c);
-    gather(store, cells, MOST)
+    gather(store, cells, MOST, mark)
 }
 
 // How wide pieces are that stand in so many cells.
@@ -928,7 +1010,7 @@ fn pursue(store: &[i32], literals: &[i32], cells: &mut [u32], mark: usize) -> us
     if 0 < last {
         return lead(store, cells, mark, last);
     }
-    gather_all(cells, MOST)
+    gather_all(cells, MOST, mark)
 }
 
 // A path: to a nogood that is violated without any assumption, if there is one.
@@ -993,15 +1075,15 @@ fn list_of(cells: &[u32], c: usize, d: usize) -> usize
 }
 
 // A nogood that stayed where it was: its watches are on the same literals, in chains.
-fn link_again(cells: &mut [u32], x: usize)
+fn hang_again(cells: &mut [u32], x: usize)
     requires { ⌜ x ≤ largestCell ⌝ }
 {
-    let c = get(cells, WATCHED + 2 * x);
-    let d = get(cells, WATCHED + 2 * x + 2);
-    let first = list_of(cells, c % CODES, d % CODES);
-    let second = list_of(cells, d % CODES, c % CODES);
-    link(cells, x, 0, first, c);
-    link(cells, x, 1, second, d);
+    let c = get(cells, WATCHED + 2 * x) % CODES;
+    let d = get(cells, WATCHED + 2 * x + 2) % CODES;
+    let first = list_of(cells, c, d);
+    let second = list_of(cells, d, c);
+    hang(cells, x, 0, first);
+    hang(cells, x, 1, second);
 }
 
 // The same in rows. A nogood of fewer than two literals is watched by the literal of code 0 alone.
@@ -1098,7 +1180,7 @@ fn watch_again(cells: &mut [u32], x: usize)
     requires { ⌜ x ≤ largestCell ⌝ }
 {
     if !has_rows(cells) {
-        link_again(cells, x);
+        hang_again(cells, x);
         return;
     }
     put(cells, LAST, x + 1);
@@ -1157,12 +1239,12 @@ fn release_chain(cells: &mut [u32], c: usize)
         let x = (here - 1) / 2;
         let w = (here - 1) % 2;
         node = get(cells, LINK + 2 * (x + w));
-        let own = get(cells, WATCHED + 2 * (x + w));
-        if own % CODES == c {
+        let own = get(cells, WATCHED + 2 * (x + w)) % CODES;
+        if own == c {
             last = here;
         } else {
             skip(cells, c, last, node);
-            link(cells, x, w, own % CODES, own);
+            hang(cells, x, w, own);
         }
     }
 }

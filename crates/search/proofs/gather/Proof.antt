@@ -7,10 +7,10 @@ use Rattle.search.proofs.gather.Statement.{statement}
 use Rattle.search.proofs.gather.Tie as tie
 
 abbrev Inv-loop : tie.InvT-loop
-Inv-loop store cells₀ start first₀ i₀ cells first i = (first ≤ entries) × (i ≤ entries) × (length cells ≡ length cells₀)
+Inv-loop store cells₀ start mark first₀ i₀ cells first i = (first ≤ entries) × (i ≤ entries) × (length cells ≡ length cells₀)
 
 abbrev μ-loop : tie.MeasureT-loop
-μ-loop store cells₀ start first₀ i₀ cells first i = i
+μ-loop store cells₀ start mark first₀ i₀ cells first i = i
 
 same-length : tie.Need-same-length Inv-loop μ-loop
 same-length c = search needs

@@ -7,10 +7,10 @@ use Rattle.search.proofs.gather_all.Statement.{statement}
 use Rattle.search.proofs.gather_all.Tie as tie
 
 abbrev Inv-loop : tie.InvT-loop
-Inv-loop cells₀ start first₀ i₀ cells first i = (first ≤ entries) × (i ≤ entries) × (length cells ≡ length cells₀)
+Inv-loop cells₀ start mark first₀ i₀ cells first i = (first ≤ entries) × (i ≤ entries) × (length cells ≡ length cells₀)
 
 abbrev μ-loop : tie.MeasureT-loop
-μ-loop cells₀ start first₀ i₀ cells first i = i
+μ-loop cells₀ start mark first₀ i₀ cells first i = i
 
 same-length : tie.Need-same-length Inv-loop μ-loop
 same-length c = search needs
@@ -27,6 +27,7 @@ gather-all-spec =
     (λ c. search needs)
     (λ c κs. search needs)
     (λ c. search needs)
+    (λ c κs. search needs)
     (λ c κs. search needs)
     (λ c. search needs)
     (λ c. search needs)

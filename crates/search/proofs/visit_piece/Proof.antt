@@ -9,10 +9,10 @@ use Rattle.search.proofs.visit_piece.Statement.{statement}
 use Rattle.search.proofs.visit_piece.Tie as tie
 
 abbrev Inv-loop : tie.InvT-loop
-Inv-loop store cells₀ c at held start mark n₀ i₀ cells n i = (n ≤ entries) × (i ≤ 63) × (length cells ≡ length cells₀)
+Inv-loop store cells₀ c at held start mark choosy n₀ i₀ cells n i = (n ≤ entries) × (i ≤ 63) × (length cells ≡ length cells₀)
 
 abbrev μ-loop : tie.MeasureT-loop
-μ-loop store cells₀ c at held start mark n₀ i₀ cells n i = i
+μ-loop store cells₀ c at held start mark choosy n₀ i₀ cells n i = i
 
 same-length : tie.Need-same-length Inv-loop μ-loop
 same-length c = search needs

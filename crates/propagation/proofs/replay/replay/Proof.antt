@@ -19,9 +19,9 @@ use Rattle.propagation.proofs.Closures.{grows-not, grows-on, derived, c
 use Rattle.propagation.proofs.replay.replay.Statement.{statement}
 use Rattle.propagation.proofs.replay.replay.Tie as tie
 
--- the first cell of the search's literals in their order, at whose end the path stands
-abbrev trailAt : ℕ → ℕ
-trailAt m = provedCells m + 32768
+-- the first of the search's cells at whose end the path stands
+abbrev pathAt : ℕ → ℕ
+pathAt m = provedCells m + 40960
 
 -- the cell that says where the path begins
 abbrev firstAt : ℕ → ℕ
@@ -57,7 +57,7 @@ shared-slice-read-x : tie.Need-shared-slice-read-x Inv-loop μ-loop
 shared-slice-read-x c = omega (arith, c .before .loop-test .taken, enough (c .before .before .before .before))
 
 cast-x : tie.Need-cast-x Inv-loop μ-loop
-cast-x c = omega (arith, c .shared-slice-known3 .given (trailAt (scale (c .before .before .before .before)) + c .before .before .loop .k))
+cast-x c = omega (arith, c .shared-slice-known3 .given (pathAt (scale (c .before .before .before .before)) + c .before .before .loop .k))
 
 is-start-requires : tie.Need-is-start-requires Inv-loop μ-loop
 is-start-requires c κs =
@@ -79,7 +79,7 @@ module _ (d : tie.Then2 Inv-loop μ-loop) where
   words = s .args .nogoods .now
 
   abbrev x : ℕ
-  x = getD (s .args .index .now) (trailAt (scale e) + l .loop .k) 0
+  x = getD (s .args .index .now) (pathAt (scale e) + l .loop .k) 0
 
   stands : Stands words x
   stands =
