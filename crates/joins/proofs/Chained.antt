@@ -25,7 +25,7 @@ use Rattle.totalizer.proofs.Emitted.{emits-on, emits-full}
 use Rattle.joins.specs.Joining.{sharesOf, nodeJoins}
 use Rattle.joins.specs.declared.chains.Node.{Node}
 use Rattle.joins.specs.declared.chains.Numbered.{Numbered}
-use Rattle.joins.specs.Chaining.{pairsTo, pairsFrom, pairsWithin, groupLevels, prefixLevels, turnRules, after, sumPlan, longPlan, Written}
+use Rattle.joins.specs.Chaining.{pairsTo, pairsFrom, pairsWithin, groupLevels, prefixLevels, firstRules, turnRules, after, sumPlan, longPlan, Written}
 use Rattle.joins.proofs.Linked.{few-group, few-prefix, count-is, pairs-take, pairs-drop}
 
 -- The rules of a joined node
@@ -296,7 +296,7 @@ module _ {g b : ℕ} {ws : List ℤ} {n : ℕ} {before between : List ℕ} {p : 
 
 -- the first group
 pub chained-start : {g b : ℕ} {ws : List ℤ} {n : ℕ} {before after′ : List ℕ} {p : Place} (node : Node) (left : List ℕ) → allWeights ws ≡ true → 2 ≤ g → 2 * g < length ws
-    → b ≤ mostWeight → Emits (map groupRule (numbered n (pairsWithin 0 g ws) (groupLevels b 0 g ws))) before after′ p (node .place)
+    → b ≤ mostWeight → Emits (firstRules g b ws n) before after′ p (node .place)
     → take (node .count) left ≡ groupLevels b 0 g ws → node .first ≡ n → node .count ≤ length left → Chained g b ws n before after′ p node left g
 unfolding nodeRules levelled
 chained-start {g} {b} {ws} {n} {before} {after′} {p} node left weighed some more light e lv f w =
@@ -318,6 +318,18 @@ chained-start {g} {b} {ws} {n} {before} {after′} {p} node left weighed some mo
       low = omega (arith, f, count-is left w lv, few-group b 0 g ws);
       there = more;
     }
+
+-- the first group's rules, where the number of its first atom has two names
+pub first-at : (g b : ℕ) (ws : List ℤ) {n m : ℕ} {before between : List ℕ} {p q : Place} → m ≡ n → Emits (firstRules g b ws n) before between p q
+    → Emits (firstRules g b ws m) before between p q
+first-at g b ws {n} {m} {before} {between} {p} {q} e = subst (λ (k : ℕ). Emits (firstRules g b ws k) before between p q) (sym e)
+
+-- all of the sum is written where it is behind the first group
+pub from-first : (g b : ℕ) (ws : List ℤ) {n m : ℕ} {before between after′ : List ℕ} {p q : Place} {r : Numbered} → m ≡ n
+    → ((start : List ℕ) (s : Place) → Emits (firstRules g b ws m) start between s q → Written g b ws m start after′ s r)
+    → Emits (firstRules g b ws n) before between p q → Written g b ws n before after′ p r
+from-first g b ws {n} {m} {before} {between} {after′} {p} {q} {r} e f =
+    subst (λ (k : ℕ). Emits (firstRules g b ws k) before between p q → Written g b ws k before after′ p r) e (f before p)
 
 -- What the turns keep: the chain, whatever it began with, and the lengths of the lists
 pub record Turned (g b : ℕ) (ws : List ℤ) (n : ℕ) (output₀ inside₀ outside₀ spare₀ left₀ right₀ next₀ : List ℕ) (node₀ : Node) (from₀ : ℕ)

@@ -34,6 +34,10 @@ groupLevels b n m ws = levelsFor b (pairsTo n ws ++ pairsFrom m ws) (pairsWithin
 abbrev pub prefixLevels : (b n : ℕ) → List ℤ → List ℕ
 prefixLevels b n ws = levelsFor b (pairsFrom n ws) (pairsTo n ws)
 
+-- the rules of the first group
+abbrev pub firstRules : (g b : ℕ) → List ℤ → (n : ℕ) → List InputRule
+firstRules g b ws n = map groupRule (numbered n (pairsWithin 0 g ws) (groupLevels b 0 g ws))
+
 -- the rules of a group and of the node that joins it to what stands before it, which has the levels ts
 unfoldable pub turnRules : (first : ℕ) → (us : List ℕ) → (second : ℕ) → (l : List Weighted) → (vs ts : List ℕ) → List InputRule
 turnRules first us second l vs ts = map groupRule (numbered second l vs) ++ nodeJoins (second + length vs) ts first us second vs

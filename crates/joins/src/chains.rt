@@ -1,9 +1,9 @@
 // The rules of a long sum: group after group, each joined to what stands before it. Once there are more rules than a
-// program may have, nothing further is computed.
+// program may have, no group follows; that is asked before each but the last.
 ghost use mathlib.Core.Path.{_≡_};
 ghost use mathlib.Core.Bool.{true};
-ghost use mathlib.Core.List.{[], _∷_, _++_, map};
-ghost use Prim.Native.Nat.{suc, _+_, _*_, _-_, _≤_, _<_};
+ghost use mathlib.Core.List.{List, [], _∷_, _++_, map};
+ghost use Prim.Native.Nat.{ℕ, suc, _+_, _*_, _-_, _≤_, _<_};
 ghost use lib.ListN.{length, take};
 ghost use Rattle.words.specs.Limits.{mostRules};
 ghost use Rattle.text.specs.Writing.{farthest};
@@ -14,7 +14,7 @@ ghost use Rattle.sums.specs.Levels.{SumShape, both, pairsIn, levelled, inGroups
 ghost use Rattle.totalizer.specs.Lists.{SumsUpTo};
 ghost use Rattle.totalizer.specs.Emitting.{Bounded, Emits};
 ghost use Rattle.joins.specs.Joining.{nodeJoins};
-ghost use Rattle.joins.specs.Chaining.{groupLevels, prefixLevels, pairsWithin, turnRules, after, Written};
+ghost use Rattle.joins.specs.Chaining.{groupLevels, prefixLevels, pairsWithin, firstRules, turnRules, after, Written};
 use crate::joining;
 use totalizer::levels;
 use totalizer::texts;
@@ -278,11 +278,10 @@ fn emit_last(
     }
 }
 
-// The rules of the groups of a long sum, one after another.
-fn emit_chain(
+// The rules of the groups behind the first, one after another: with those of the first, all of the sum's.
+fn emit_rest(
     output: &mut [u8],
-    place: Place,
-    atom: usize,
+    first: Node,
     pairs: &[i32],
     group: usize,
     bound: usize,
@@ -293,27 +292,19 @@ fn emit_chain(
     right: &mut [usize],
     next: &mut [usize],
 ) -> Numbered
-    requires place { ⌜ Bounded place ⌝ }
+    requires first { ⌜ (first .count ≤ length (now left)) × (take (first .count) (now left) ≡ groupLevels bound 0 group (now pairs)) ⌝ }
+    requires written { ⌜ ((before : List ℕ) × (p : Place)
+        × Emits (firstRules group bound (now pairs) (first .first)) before (now output) p (first .place)) ⌝ }
     requires pairs { ⌜ (allWeights (now pairs) ≡ true) × (bound ≤ mostWeight) × (24 < length (now pairs)) × (length (now pairs) ≤ 128) ⌝ }
     requires group { ⌜ (2 ≤ group) × (group ≤ 12) ⌝ }
-    requires atoms { ⌜ atom ≤ 2000000000 ⌝ }
+    requires atoms { ⌜ first .first ≤ 2000000000 ⌝ }
     requires room { ⌜ (suc bound ≤ length (now inside)) × (suc bound ≤ length (now outside)) × (suc bound ≤ length (now spare))
         × (suc bound ≤ length (now left)) × (suc bound ≤ length (now right)) × (suc bound ≤ length (now next)) ⌝ }
-    ensures { λ r. ⌜ Written group bound (now (pairs .entry)) atom (now (output .entry)) (now (output .exit)) place r ⌝ }
+    ensures { λ r. ⌜ ((before : List ℕ) (p : Place)
+        → Emits (firstRules group bound (now (pairs .entry)) (first .first)) before (now (output .entry)) p (first .place)
+        → Written group bound (now (pairs .entry)) (first .first) before (now (output .exit)) p r) ⌝ }
 {
-    let mut node = emit_part(
-        output,
-        place,
-        atom,
-        pairs,
-        0,
-        group,
-        bound,
-        inside,
-        outside,
-        spare,
-        left,
-    );
+    let mut node = first;
     let mut from = group;
     while 2 * (from + group) < pairs.len() {
         let here = node.place;
@@ -351,6 +342,57 @@ fn emit_chain(
         spare,
         left,
         right,
+    )
+}
+
+// The rules of the groups of a long sum, one after another.
+fn emit_chain(
+    output: &mut [u8],
+    place: Place,
+    atom: usize,
+    pairs: &[i32],
+    group: usize,
+    bound: usize,
+    inside: &mut [usize],
+    outside: &mut [usize],
+    spare: &mut [usize],
+    left: &mut [usize],
+    right: &mut [usize],
+    next: &mut [usize],
+) -> Numbered
+    requires place { ⌜ Bounded place ⌝ }
+    requires pairs { ⌜ (allWeights (now pairs) ≡ true) × (bound ≤ mostWeight) × (24 < length (now pairs)) × (length (now pairs) ≤ 128) ⌝ }
+    requires group { ⌜ (2 ≤ group) × (group ≤ 12) ⌝ }
+    requires atoms { ⌜ atom ≤ 2000000000 ⌝ }
+    requires room { ⌜ (suc bound ≤ length (now inside)) × (suc bound ≤ length (now outside)) × (suc bound ≤ length (now spare))
+        × (suc bound ≤ length (now left)) × (suc bound ≤ length (now right)) × (suc bound ≤ length (now next)) ⌝ }
+    ensures { λ r. ⌜ Written group bound (now (pairs .entry)) atom (now (output .entry)) (now (output .exit)) place r ⌝ }
+{
+    let first = emit_part(
+        output,
+        place,
+        atom,
+        pairs,
+        0,
+        group,
+        bound,
+        inside,
+        outside,
+        spare,
+        left,
+    );
+    emit_rest(
+        output,
+        first,
+        pairs,
+        group,
+        bound,
+        inside,
+        outside,
+        spare,
+        left,
+        right,
+        next,
     )
 }
 

@@ -117,7 +117,7 @@ fn emit_share(
     emit_join(output, place, atom, first, i, second, j)
 }
 
-// The rules of one level. Nothing is looked for once there are too many rules.
+// The rules of one level. Nothing is looked for where there are too many rules already.
 fn emit_level(
     output: &mut [u8],
     place: Place,

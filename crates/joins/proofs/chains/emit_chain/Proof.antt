@@ -1,23 +1,11 @@
-use mathlib.Core.Path.{_≡_, refl, _∙_}
-use Prim.Native.Nat.{suc, _+_, _-_, _≤_}
-use native.Mathlib.Nat.{div-add-mod'}
+use Prim.Native.Nat.{suc, _≤_}
 use native.Mathlib.Omega.{arith}
-use lib.ListN.{length}
-use Rattle.text.specs.Writing.{farthest}
-use Rattle.joins.specs.Chaining.{after}
-use Rattle.joins.proofs.Chained.{Chained, Turned, chained-start, chained-on, chained-full, chained-last}
+use borrow.Author.Needs.{needs}
+use Rattle.joins.proofs.Chained.{first-at, from-first}
 use Rattle.joins.proofs.chains.emit_chain.Statement.{statement}
 use Rattle.joins.proofs.chains.emit_chain.Tie as tie
 
-abbrev Inv-loop : tie.InvT-loop
-Inv-loop output₀ atom pairs group bound inside₀ outside₀ spare₀ left₀ right₀ next₀ node₀ from₀ output inside outside spare left right next node from =
-    Turned group bound pairs atom output₀ inside₀ outside₀ spare₀ left₀ right₀ next₀ node₀ from₀ output inside outside spare left right next node from
-
-abbrev μ-loop : tie.MeasureT-loop
-μ-loop output₀ atom pairs group bound inside₀ outside₀ spare₀ left₀ right₀ next₀ node₀ from₀ output inside outside spare left right next node from =
-    length pairs - from
-
-emit-part-requires : tie.Need-emit-part-requires Inv-loop μ-loop
+emit-part-requires : tie.Need-emit-part-requires
 emit-part-requires c κs =
     let s = c .before .before .before .before .before .before .before .before .before .before .before .before in
     let p = s .pre .1 .0 in
@@ -25,229 +13,46 @@ emit-part-requires c κs =
     let r = s .pre .1 .1 .1 .1 in
     (s .pre .0, ((p .0, p .1), ((omega arith, omega (arith, g), omega (arith, g, p .2)), ((r .0, r .1, r .2, r .3), omega (arith, s .pre .1 .1 .1 .0)))))
 
--- where the loop begins
-abbrev start : tie.At-loop Inv-loop μ-loop → tie.Start Inv-loop μ-loop
-start c = c .before .before .before .before .before .before .before .before .before .before .before .before .before .before .before .before .before .before .before .before .before .before .before .before
-
-begun : (c : tie.At-loop Inv-loop μ-loop)
-    → (let a = start c .args in
-    let y = c .before .before .before .before .before .before .before .before .before .before .before .emit-part in
-    Chained (a .group) (a .bound) (a .pairs .now) (a .atom) (a .output .now) (y .last .0) (a .place) (y .result) (y .last .1 .1 .1 .1 .1 .1 .1 .1 .1 .1 .0) (a .group))
-begun c =
-    let p = start c .pre .1 .0 in
-    let g = start c .pre .1 .1 .0 in
-    let y = c .before .before .before .before .before .before .before .before .before .before .before .emit-part in
+emit-rest-requires : tie.Need-emit-rest-requires
+emit-rest-requires c κs =
+    let s = c .before .before .before .before .before .before .before .before .before .before .before .before .before .before .before .before .before .before .before .before .before .before .before .before .before .before .before .before .before .before in
+    let y = c .before .before .before .before .before .before .before .before .before .before .before .before .before .before .before .before .before .emit-part in
     let e = y .ensures in
-    chained-start (y .result) (y .last .1 .1 .1 .1 .1 .1 .1 .1 .1 .1 .0) (p .0) (g .0) (omega (arith, g, p .2)) (p .1) (e .0) (e .1 .0) (e .1 .1 .0) (e .1 .1 .1)
-
--- where it stands
-stands : (c : tie.At-loop Inv-loop μ-loop)
-    → (let a = start c .args in
-    Chained (a .group) (a .bound) (a .pairs .now) (a .atom) (a .output .now) (c .loop .output) (a .place) (c .loop .node) (c .loop .left) (c .loop .from))
-stands c = c .loop .inv .linked _ _ (begun c)
-
-long : (c : tie.At-loop Inv-loop μ-loop)
-    → (let a = start c .args in
-    (length (c .loop .inside) ≡ length (a .inside .now))
-    × (length (c .loop .outside) ≡ length (a .outside .now))
-    × (length (c .loop .spare) ≡ length (a .spare .now))
-    × (length (c .loop .left) ≡ length (a .left .now))
-    × (length (c .loop .right) ≡ length (a .right .now))
-    × (length (c .loop .next) ≡ length (a .next .now)))
-long c =
-    let I = c .loop .inv in
-    let y = c .before .before .before .before .before .before .before .before .before .before .before .emit-part in
-    (I .inside-long ∙ y .kept .1 .1 .1 .1 .1 .1 .1 .0, I .outside-long ∙ y .kept .1 .1 .1 .1 .1 .1 .1 .1 .0, I .spare-long ∙ y .kept .1 .1 .1 .1 .1 .1 .1 .1 .1 .0, I .left-long ∙ y .kept .1 .1 .1 .1 .1 .1 .1 .1 .1 .1 .0, I .right-long, I .next-long)
-
-room : (c : tie.At-loop Inv-loop μ-loop)
-    → (let b = start c .args .bound in
-    (suc b ≤ length (c .loop .inside))
-    × (suc b ≤ length (c .loop .outside))
-    × (suc b ≤ length (c .loop .spare))
-    × (suc b ≤ length (c .loop .left))
-    × (suc b ≤ length (c .loop .right))
-    × (suc b ≤ length (c .loop .next)))
-room c =
-    let r = start c .pre .1 .1 .1 .1 in
-    let l = long c in
-    (omega (arith, r .0, l .0), omega (arith, r .1, l .1), omega (arith, r .2, l .2), omega (arith, r .3, l .3), omega (arith, r .4, l .4), omega (arith, r .5, l .5))
-
--- all atoms are in reach
-atoms : (c : tie.At-loop Inv-loop μ-loop) → after (c .loop .node) + 8192 ≤ farthest
-atoms c =
-    let p = start c .pre .1 .0 in
-    let C = stands c in
-    omega (arith, C .low, C .there, p .3, start c .pre .1 .1 .1 .0)
-
-loop-holds : tie.Need-loop-holds Inv-loop μ-loop
-loop-holds c = record {
-  linked = λ before p C. C;
-  inside-long = refl;
-  outside-long = refl;
-  spare-long = refl;
-  left-long = refl;
-  right-long = refl;
-  next-long = refl;
-}
-
--- sums of places are small
-small : (c : tie.At-loop Inv-loop μ-loop) → c .loop .from + start c .args .group ≤ 100
-small c =
-    let p = start c .pre .1 .0 in
-    let g = start c .pre .1 .1 .0 in
-    omega (arith, stands c .there, p .3, g)
-
-add-loop : tie.Need-add-loop Inv-loop μ-loop
-add-loop c = record { fits = omega (arith, small c) }
-
-mul-loop : tie.Need-mul-loop Inv-loop μ-loop
-mul-loop c = record { fits = omega (arith, small c) }
-
-add-t30 : tie.Need-add-t30 Inv-loop μ-loop
-add-t30 c = record { fits = omega (arith, atoms (c .before .before .before .before .before)) }
-
-same-length : tie.Need-same-length Inv-loop μ-loop
-same-length c = stands (c .before .before .before .before .before) .rules .long
-
-same-length-2 : tie.Need-same-length-2 Inv-loop μ-loop
-same-length-2 c = long (c .before .before .before .before .before) .0
-
-same-length-3 : tie.Need-same-length-3 Inv-loop μ-loop
-same-length-3 c = long (c .before .before .before .before .before) .1
-
-same-length-4 : tie.Need-same-length-4 Inv-loop μ-loop
-same-length-4 c = long (c .before .before .before .before .before) .2
-
-same-length-5 : tie.Need-same-length-5 Inv-loop μ-loop
-same-length-5 c = long (c .before .before .before .before .before) .3
-
-same-length-6 : tie.Need-same-length-6 Inv-loop μ-loop
-same-length-6 c = long (c .before .before .before .before .before) .4
-
-same-length-7 : tie.Need-same-length-7 Inv-loop μ-loop
-same-length-7 c = long (c .before .before .before .before .before) .5
-
-returns : tie.Need-returns Inv-loop μ-loop
-returns c =
-    let d = c .before .before .before .before .before in
-    let p = start d .pre .1 .0 in
-    chained-full (p .0) (stands d) (start d .pre .1 .1 .0 .0) (p .1) (p .3) (c .before .if1 .taken)
-
-add-emit-next : tie.Need-add-emit-next Inv-loop μ-loop
-add-emit-next c = record { fits = omega (arith, small (c .before .before .before .before .before)) }
-
-emit-next-requires : tie.Need-emit-next-requires Inv-loop μ-loop
-emit-next-requires c κs =
-    let d = c .before .before .before .before .before .before .before .before .before .before .before in
-    let C = stands d in
-    let p = start d .pre .1 .0 in
-    let g = start d .pre .1 .1 .0 in (
-      (C .rules .bounded, C .within, C .levels, atoms d),
-      ((p .0, p .1), ((omega arith, omega (arith, g), omega (arith, c .before .before .before .before .before .before .before .before .before .before .loop-test .taken)), room d)),
-    )
-
-add-from : tie.Need-add-from Inv-loop μ-loop
-add-from c = record { fits = omega (arith, small (c .before .before .before .before .before .before .before .before .before .before .before .before .before .before .before .before .before .before .before .before .before .before .before .before .before .before)) }
-
-loop-less : tie.Need-loop-less Inv-loop μ-loop
-loop-less c =
-    let d = c .before .before .before .before .before .before .before .before .before .before .before .before .before .before .before .before .before .before .before .before .before .before .before .before .before .before in
-    omega (arith, c .before .before .before .before .before .before .before .before .before .before .before .before .before .before .before .before .before .before .before .before .before .before .before .before .before .loop-test .taken, start d .pre .1 .1 .0)
-
-loop-again : tie.Need-loop-again Inv-loop μ-loop
-loop-again c =
-    let d = c .before .before .before .before .before .before .before .before .before .before .before .before .before .before .before .before .before .before .before .before .before .before .before .before .before .before in
-    let p = start d .pre .1 .0 in
-    let g = start d .pre .1 .1 .0 in
-    let I = d .loop .inv in
-    let y = c .before .before .before .before .before .before .before .before .before .before .before .before .before .before .emit-next in
-    let e = y .ensures in
-    record {
-      linked = λ before q C. chained-on (p .0) (I .linked before q C) (g .0) (p .1) (c .before .before .before .before .before .before .before .before .before .before .before .before .before .before .before .before .before .before .before .before .before .before .before .before .before .loop-test .taken) (y .result) (y .last .1 .1 .1 .1 .1 .1 .1 .1 .1 .0) (e .0) (e .1 .0) (e .1 .1 .0) (e .1 .1 .1);
-      inside-long = y .kept .1 .1 .1 .1 .1 .1 .0 ∙ I .inside-long;
-      outside-long = y .kept .1 .1 .1 .1 .1 .1 .1 .0 ∙ I .outside-long;
-      spare-long = y .kept .1 .1 .1 .1 .1 .1 .1 .1 .0 ∙ I .spare-long;
-      left-long = y .kept .1 .1 .1 .1 .1 .1 .1 .1 .1 .0 ∙ I .left-long;
-      right-long = y .kept .1 .1 .1 .1 .1 .1 .1 .1 .1 .1 .0 ∙ I .right-long;
-      next-long = y .kept .1 .1 .1 .1 .1 .1 .1 .1 .1 .1 .1 .0 ∙ I .next-long;
-    }
-
-emit-last-requires : tie.Need-emit-last-requires Inv-loop μ-loop
-emit-last-requires c κs =
-    let d = c .before .before .before .before .before .before .before in
-    let C = stands d in
-    let p = start d .pre .1 .0 in
-    let g = start d .pre .1 .1 .0 in
-    let r = room d in
-    let h = div-add-mod' (length (start d .args .pairs .now)) 2 in (
-      (C .rules .bounded, C .within, C .levels, atoms d),
+    let r = s .pre .1 .1 .1 .1 in
+    let k = y .kept .1 .1 .1 .1 .1 .1 .1 in (
+      (e .1 .1 .1, e .1 .0),
       (
-        (p .0, p .1),
+        (s .args .output .now, s .args .place, first-at (s .args .group) (s .args .bound) (s .args .pairs .now) (e .1 .1 .0) (e .0)),
         (
-          (omega (arith, h, C .there), omega (arith, h, c .before .before .before .before .before .before .loop-test .left, g), omega (arith, h)),
-          (r .0, r .1, r .2, r .4),
+          s .pre .1 .0,
+          (
+            s .pre .1 .1 .0,
+            (
+              omega (arith, e .1 .1 .0, s .pre .1 .1 .1 .0),
+              (omega (arith, k .0, r .0), omega (arith, k .1 .0, r .1), omega (arith, k .1 .1 .0, r .2), omega (arith, k .1 .1 .1 .0, r .3), r .4, r .5),
+            ),
+          ),
         ),
       ),
     )
 
-same-length-8 : tie.Need-same-length-8 Inv-loop μ-loop
-same-length-8 c = c .before .before .before .before .before .before .before .before .before .before .emit-last .kept .0 ∙ stands (c .before .before .before .before .before .before .before .before .before .before .before .before .before .before .before .before .before .before) .rules .long
-
-same-length-9 : tie.Need-same-length-9 Inv-loop μ-loop
-same-length-9 c = c .before .before .before .before .before .before .before .before .before .before .emit-last .kept .1 .1 .1 .1 .1 .1 .0 ∙ long (c .before .before .before .before .before .before .before .before .before .before .before .before .before .before .before .before .before .before) .0
-
-same-length-10 : tie.Need-same-length-10 Inv-loop μ-loop
-same-length-10 c = c .before .before .before .before .before .before .before .before .before .before .emit-last .kept .1 .1 .1 .1 .1 .1 .1 .0 ∙ long (c .before .before .before .before .before .before .before .before .before .before .before .before .before .before .before .before .before .before) .1
-
-same-length-11 : tie.Need-same-length-11 Inv-loop μ-loop
-same-length-11 c = c .before .before .before .before .before .before .before .before .before .before .emit-last .kept .1 .1 .1 .1 .1 .1 .1 .1 .0 ∙ long (c .before .before .before .before .before .before .before .before .before .before .before .before .before .before .before .before .before .before) .2
-
-same-length-12 : tie.Need-same-length-12 Inv-loop μ-loop
-same-length-12 c = long (c .before .before .before .before .before .before .before .before .before .before .before .before .before .before .before .before .before .before) .3
-
-same-length-13 : tie.Need-same-length-13 Inv-loop μ-loop
-same-length-13 c = c .before .before .before .before .before .before .before .before .before .before .emit-last .kept .1 .1 .1 .1 .1 .1 .1 .1 .1 .1 .0 ∙ long (c .before .before .before .before .before .before .before .before .before .before .before .before .before .before .before .before .before .before) .4
-
-same-length-14 : tie.Need-same-length-14 Inv-loop μ-loop
-same-length-14 c = long (c .before .before .before .before .before .before .before .before .before .before .before .before .before .before .before .before .before .before) .5
-
-returns-2 : tie.Need-returns-2 Inv-loop μ-loop
-returns-2 c =
-    let d = c .before .before .before .before .before .before .before .before .before .before .before .before .before .before .before .before .before .before in
-    let p = start d .pre .1 .0 in
-    let y = c .before .before .before .before .before .before .before .before .before .before .emit-last in
-    chained-last (p .0) (stands d) (start d .pre .1 .1 .0 .0) (p .1) (c .before .before .before .before .before .before .before .before .before .before .before .before .before .before .before .before .before .loop-test .left) (p .3) (y .result) (y .ensures .0) (y .ensures .1)
+returns : tie.Need-returns
+returns c =
+    let a = c .before .before .before .before .before .before .before .before .before .before .before .before .before .before .before .before .before .before .before .before .before .before .before .before .before .before .before .before .before .before .before .before .before .before .before .before .before .before .before .before .before .before .before .before .before .args in
+    let e = c .before .before .before .before .before .before .before .before .before .before .before .before .before .before .before .before .before .before .before .before .before .before .before .before .before .before .before .before .before .before .before .before .emit-part .ensures in
+    from-first (a .group) (a .bound) (a .pairs .now) (e .1 .1 .0) (c .before .before .before .before .before .before .before .before .before .before .before .before .before .before .emit-rest .ensures) (e .0)
 
 pub emit-chain-spec : {M : Type 1} → statement M
 emit-chain-spec =
     tie.close
     (tie.spec
-    Inv-loop
-    μ-loop
     emit-part-requires
-    loop-holds
-    add-loop
-    mul-loop
-    add-t30
-    same-length
-    same-length-2
-    same-length-3
-    same-length-4
-    same-length-5
-    same-length-6
-    same-length-7
-    returns
-    add-emit-next
-    emit-next-requires
-    add-from
-    loop-less
-    loop-again
-    emit-last-requires
-    same-length-8
-    same-length-9
-    same-length-10
-    same-length-11
-    same-length-12
-    same-length-13
-    same-length-14
-    returns-2)
+    emit-rest-requires
+    (λ c. search needs)
+    (λ c. search needs)
+    (λ c. search needs)
+    (λ c. search needs)
+    (λ c. search needs)
+    (λ c. search needs)
+    (λ c. search needs)
+    returns)
