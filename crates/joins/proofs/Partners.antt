@@ -9,16 +9,14 @@ use borrow.Author.Tests.{ltb-true, ltb-false}
 use lib.Dec.{leb, ltb}
 use lib.ListN.{length, getD, List·getD-eq-default}
 use Rattle.words.specs.Lists.{_∈_, filter}
-use Rattle.words.proofs.Lists.{by-test, Decides, failed, is-true, leb-decides, and-decides, or-decides, not-decides, all-decides}
+use Rattle.words.proofs.Lists.{Decides, failed, is-true, leb-decides, and-decides, or-decides, not-decides, all-decides}
 use Rattle.words.proofs.Places.{in-at, place-of}
 use Rattle.weights.specs.Weights.{mostWeight}
 use Rattle.weights.proofs.Sublists.{filter-none}
 use Rattle.weights.proofs.Minimal.{ltb-decides}
-use Rattle.sums.specs.Levels.{Ascending}
 use Rattle.sums.specs.Plans.{numbered, Share, share, isJustEnough}
-use Rattle.sums.proofs.Attained.{ascending-low}
 use Rattle.totalizer.specs.Lists.{SumsUpTo, below}
-use Rattle.totalizer.proofs.Below.{found-reaches, found-first, beside, rises}
+use Rattle.totalizer.proofs.Below.{found-reaches, found-first, beside, climbs}
 use Rattle.joins.specs.Joining.{shareAt, sharesOf, onlyShare, Partner}
 
 -- one element passes at most
@@ -30,13 +28,6 @@ filter-only d f (x ∷ l) zero h n =
 filter-only d f (x ∷ l) (suc j) h n =
     rw (n 0 (omega arith) (λ e. omega arith))
     (filter-only d f l j (omega arith) (λ k g e. n (suc k) (omega arith) (λ q. e (omega arith))))
-
--- a later number is above an earlier one
-climbs : (low : ℕ) (us : List ℕ) → Ascending low us → (i k : ℕ) → i < k → k < length us → getD us i 0 < getD us k 0
-climbs low [] a i k h l = absurd (omega arith)
-climbs low (u ∷ us) a i zero h l = absurd (omega arith)
-climbs low (u ∷ us) a zero (suc k) h l = ascending-low (a .1) (in-at 0 us k (omega arith))
-climbs low (u ∷ us) a (suc i) (suc k) h l = climbs (suc u) us (a .1) i k (omega arith) (omega arith)
 
 -- Shares by their places
 
@@ -156,7 +147,7 @@ module _ (t : ℕ) (us vs : List ℕ) (a : SumsUpTo mostWeight (0 ∷ us)) (c : 
       where
         by : (x ≤ getD (0 ∷ us) p 0) ⊎ (getD (0 ∷ us) p 0 + level j < t) → getD (0 ∷ us) p 0 + level j < t
         by (inl l) =
-            let s = rises 0 (0 ∷ us) (a .ascend) p (omega arith) in
+            let s = climbs 0 (0 ∷ us) (a .ascend) p (suc p) (omega arith) (omega arith) in
             let z : x ≡ getD (0 ∷ us) (suc p) 0 = ap (λ w. getD (0 ∷ us) w 0) e in
             absurd (omega arith)
         by (inr l) = l
@@ -239,12 +230,6 @@ module _ (t i : ℕ) {us vs : List ℕ} {x need j : ℕ} (a : SumsUpTo mostWeigh
 pub level-after : (ts : List ℕ) (i : ℕ) → ¬ (i ≡ 0) → getD ts (i - 1) 0 ≡ getD (0 ∷ ts) i 0
 level-after ts zero h = absurd (h refl)
 level-after ts (suc i) h = let e : suc i - 1 ≡ i = omega arith in ap (λ k. getD ts k 0) e
-
-pub below-within : (need : ℕ) (us : List ℕ) → below need us ≤ length us
-unfolding below
-below-within need [] = omega arith
-below-within need (u ∷ us) =
-    by-test (λ k. k ≤ suc (length us)) (ltb u need) (λ e. let r = below-within need us in omega arith) (λ e. omega arith)
 
 -- a level is no more than a weight may be, also past the end
 pub level-low : {us : List ℕ} → SumsUpTo mostWeight us → (i : ℕ) → getD us i 0 ≤ mostWeight

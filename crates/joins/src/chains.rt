@@ -396,8 +396,8 @@ fn emit_chain(
     )
 }
 
-// The rules of a long sum whose pairs stand in the order of their groups: the new atoms are numbered from `atom` on, and
-// are at most a million.
+// The rules of a long sum whose pairs stand in the order of their groups: the new atoms are numbered from `atom` on,
+// and are at most a million.
 pub fn emit_long(
     output: &mut [u8],
     place: Place,

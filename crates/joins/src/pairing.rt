@@ -1,5 +1,5 @@
-// Which share of the right side is just enough with a share of the left: `isJustEnough` of crates/sums/specs/Plans.antt.
-// Levels ascend, so it is the lowest that is enough, or there is none.
+// Which share of the right side is just enough with a share of the left: `isJustEnough` of
+// crates/sums/specs/Plans.antt. Levels ascend, so it is the lowest that is enough, or there is none.
 ghost use mathlib.Core.Path.{_≡_};
 ghost use mathlib.Core.List.{_∷_};
 ghost use Prim.Native.Nat.{_-_, _≤_};

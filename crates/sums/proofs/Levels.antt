@@ -1,7 +1,7 @@
 -- `LevelledEnough`, `PlannedIs` and what follows for whole programs. Assumes nothing.
 use mathlib.Core.Path.{_≡_, refl, sym, ap, ap₂, subst, _∙_}
 use mathlib.Core.Logic.{_⊎_, inl, inr, _↔_}
-use mathlib.Core.Bool.{not}
+use mathlib.Core.Bool.{Bool, true, not, cond}
 use mathlib.Core.List.{List, [], _∷_, _++_, append-assoc, append-nil, List·Memᴰ·eq-of-singleton, List·Memᴰ·head, List·Memᴰ·tail, Memᴰ·of-map}
 use Prim.Native.Nat.{ℕ, zero, suc, _+_, _≤_, _<_, min}
 use native.Mathlib.Omega.{arith}
@@ -18,10 +18,10 @@ use Rattle.aspif.specs.Rules.{Body, plain, weights, InputRule, expand, atoms}
 use Rattle.aspif.specs.AnswerSets.{AnswerSet}
 use Rattle.derivation.specs.Claims.{NoneAsWritten}
 use Rattle.derivation.proofs.AsWritten.{soundness-as-written}
-use Rattle.sums.specs.Plans.{joined, pairsOf, levelsOf, Item, written, allNeeds, program, split, allDefinitions}
+use Rattle.sums.specs.Plans.{joined, pairsOf, levelsOf, Item, whole, needs, splitItem, inTurn, firstNew, written, allNeeds, program, split, allDefinitions}
 use Rattle.sums.specs.Levels.{SumShape, few, both, pairsIn, sumsOf, levelsFor, noLevel, isUseful, useful, levelled, dividedBy, isShort, chain, chained, planBody, planned, splitProgram, chunks}
 use Rattle.sums.specs.Extension.{UpTo, Extended}
-use Rattle.sums.specs.Claims.{ReachedByLevels, EnoughLevels, WellPlanned, LevelledEnough, LevelsWithin, Shaping, InGroups, PlannedIs, ProgramSound, ProofOfSplit, ProgramKeeps, ProgramAgrees, ProgramConserves, ProgramDetermines, ProgramAtoms}
+use Rattle.sums.specs.Claims.{ReachedByLevels, EnoughLevels, WellPlanned, LevelledEnough, LevelsWithin, Shaping, InGroups, PlannedIs, ShortKept, ProgramSound, ProofOfSplit, ProgramKeeps, ProgramAgrees, ProgramConserves, ProgramDetermines, ProgramAtoms}
 use Rattle.sums.proofs.Lowest.{Lowest, lowest-at}
 use Rattle.sums.proofs.Attained.{sums-in, sums-low, sums-both}
 use Rattle.sums.proofs.Extension.{extension-agrees}
@@ -196,6 +196,24 @@ module _ (shape : List Weighted → SumShape) (shaping : Shaping shape) where
 
 pub planned-is : PlannedIs
 planned-is = rules-back
+
+-- a short sum is not split
+short-whole : (shape : List Weighted → SumShape) (r : InputRule) (c : Body) → ((b : ℕ) (l : List Weighted) → c ≡ weights b l → isShort l ≡ true)
+    → planBody shape r c ≡ whole r
+short-whole shape r (plain ls) h = refl
+short-whole shape r (weights b l) h = ap (λ (t : Bool). cond t (whole r) (dividedBy r b l (shape l))) (h b l refl)
+
+all-whole : (shape : List Weighted → SumShape) (n : ℕ) (ws : List InputRule)
+    → ((r : InputRule) → r ∈ ws → (b : ℕ) (l : List Weighted) → r .body ≡ weights b l → isShort l ≡ true)
+    → inTurn splitItem n (planned shape ws) ≡ ws
+unfolding inTurn
+all-whole shape n [] h = refl
+all-whole shape n (r ∷ ws) h =
+    ap (λ (i : Item). splitItem n i ++ inTurn splitItem (n + needs i) (planned shape ws)) (short-whole shape r (r .body) (h r (List·Memᴰ·head refl)))
+    ∙ ap (λ (us : List InputRule). r ∷ us) (all-whole shape (n + 0) ws (λ q m. h q (List·Memᴰ·tail m)))
+
+pub short-kept : ShortKept
+short-kept shape ws h = all-whole shape (firstNew (planned shape ws)) ws h
 
 pub program-sound : ProgramSound
 program-sound shape g ws h = subst NoneAsWritten (planned-is shape g ws) (split-sound (planned shape ws) (all-well-planned shape g ws) h)

@@ -11,7 +11,7 @@ use Rattle.words.specs.Limits.{largest, mostLiterals, mostRules}
 use Rattle.words.specs.Literals.{rising}
 use Rattle.weights.specs.Weights.{Weighted, sum, literals, mostWeighted}
 use Rattle.weights.specs.Claims.{_⊑_, Reorder}
-use Rattle.aspif.specs.Rules.{InputRule, expand, atoms, programWords}
+use Rattle.aspif.specs.Rules.{InputRule, weights, expand, atoms, programWords}
 use Rattle.aspif.specs.Text.{programText}
 use Rattle.aspif.specs.Reading.{readLines}
 use Rattle.aspif.specs.Reading as Reading
@@ -22,7 +22,7 @@ use Rattle.derivation.specs.States.{State, start}
 use Rattle.derivation.specs.Steps.{next, steps, emptyLive}
 use Rattle.derivation.specs.Claims.{NoneAsWritten}
 use Rattle.sums.specs.Plans.{Plan, group, joined, pairsOf, levelsOf, root, Item, whole, divided, allNeeds, program, split, allDefinitions}
-use Rattle.sums.specs.Levels.{SumShape, few, both, pairsIn, levelled, planned, splitProgram, inGroups, sortedGroups}
+use Rattle.sums.specs.Levels.{SumShape, few, both, pairsIn, levelled, isShort, planned, splitProgram, inGroups, sortedGroups}
 use Rattle.sums.specs.Extension.{UpTo, Extended}
 
 -- a level of the left side that a reaches and one of the right side that b reaches, enough together
@@ -84,6 +84,12 @@ SortedGroups = (k : ℕ) → Shaping (sortedGroups k)
 -- the items are the program
 abbrev pub PlannedIs : Type 0
 PlannedIs = (shape : List Weighted → SumShape) → Shaping shape → (ws : List InputRule) → program (planned shape ws) ≡ ws
+
+-- a program without long sums is left as it is
+abbrev pub ShortKept : Type 0
+ShortKept =
+    (shape : List Weighted → SumShape) (ws : List InputRule)
+    → ((r : InputRule) → r ∈ ws → (b : ℕ) (l : List Weighted) → r .body ≡ weights b l → isShort l ≡ true) → splitProgram shape ws ≡ ws
 
 -- whatever the shapes, a refutation of the program split is one of the program
 abbrev pub ProgramSound : Type 1

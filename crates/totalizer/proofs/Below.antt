@@ -11,7 +11,7 @@ use lib.Dec.{ltb}
 use lib.ListN.{length, take, drop, getD, set, length-set, drop-of-length-le}
 use lib.Seq.{drop-cons, take-suc, take-suc-set, take-set-le}
 use Rattle.words.specs.Lists.{_∈_, filter}
-use Rattle.words.proofs.Lists.{Decides, failed, is-true, same-test, leb-decides, and-decides, or-decides, not-decides, any-decides, all-decides, one-less}
+use Rattle.words.proofs.Lists.{by-test, Decides, failed, is-true, same-test, leb-decides, and-decides, or-decides, not-decides, any-decides, all-decides, one-less}
 use Rattle.weights.proofs.Minimal.{ltb-decides}
 use Rattle.words.proofs.Places.{in-at}
 use Rattle.sums.specs.Levels.{Ascending, isUseful}
@@ -30,6 +30,12 @@ below-here need us i h k = rw (drop-cons us i 0 h, le-ltb (getD us i 0) need k)
 pub below-end : (need : ℕ) (us : List ℕ) (i : ℕ) → length us ≤ i → below need (drop i us) ≡ 0
 unfolding below
 below-end need us i h = rw (drop-of-length-le us {i = i} h)
+
+pub below-within : (need : ℕ) (us : List ℕ) → below need us ≤ length us
+unfolding below
+below-within need [] = omega arith
+below-within need (u ∷ us) =
+    by-test (λ k. k ≤ suc (length us)) (ltb u need) (λ e. let r = below-within need us in omega arith) (λ e. omega arith)
 
 -- what stands at the place that is found, and before it
 pub found-reaches : (need : ℕ) (us : List ℕ) → below need us < length us → need ≤ getD us (below need us) 0
@@ -67,10 +73,12 @@ beside low (u ∷ us) a (suc i) h v (List·Memᴰ·tail j) = by (beside (suc u) 
     by (inl k) = inl k
     by (inr (p, e, k)) = inr (i, refl, subst (λ n. v ≤ getD (u ∷ us) n 0) (sym e) k)
 
--- the number before one is below it
-pub rises : (low : ℕ) (us : List ℕ) → Ascending low us → (i : ℕ) → suc i < length us → getD us i 0 < getD us (suc i) 0
-rises low (u ∷ us) a zero h = ascending-low (a .1) (in-at 0 us 0 (omega arith))
-rises low (u ∷ us) a (suc i) h = rises (suc u) us (a .1) i (omega arith)
+-- a later number is above an earlier one
+pub climbs : (low : ℕ) (us : List ℕ) → Ascending low us → (i k : ℕ) → i < k → k < length us → getD us i 0 < getD us k 0
+climbs low [] a i k h l = absurd (omega arith)
+climbs low (u ∷ us) a i zero h l = absurd (omega arith)
+climbs low (u ∷ us) a zero (suc k) h l = ascending-low (a .1) (in-at 0 us k (omega arith))
+climbs low (u ∷ us) a (suc i) (suc k) h l = climbs (suc u) us (a .1) i k (omega arith) (omega arith)
 
 -- Levels that make a difference
 
@@ -135,7 +143,7 @@ module _ {b : ℕ} {us others : List ℕ} (g : SumsUpTo b us) (f : SumsUpTo b ot
       where
         by : {o : ℕ} → (u ≤ getD us p 0) ⊎ (getD us p 0 + o < b) → getD others j 0 ≤ o → getD us p 0 + getD others j 0 < b
         by (inl t) r =
-            let s = rises 0 us (g .ascend) p (omega arith) in
+            let s = climbs 0 us (g .ascend) p (suc p) (omega arith) (omega arith) in
             let x : u ≡ getD us (suc p) 0 = ap (λ m. getD us m 0) e in
             absurd (omega arith)
         by (inr t) r = omega arith

@@ -54,7 +54,8 @@ pub record Bounded (p : Place) : Type 0 where
   pub counted : p .rules ≤ tooMany
   pub low : p .at ≤ 10 + (22 * mostLine + 2) * p .rules
 
--- The rules are counted, up to one more than there may be, and where there are not more they stand from the first place up to the second.
+-- The rules are counted, up to one more than there may be, and where there are not more they stand from the first place
+-- up to the second.
 pub record Emits (rs : List InputRule) (before after : List ℕ) (p q : Place) : Type 0 where
   pub rules : q .rules ≡ min tooMany (p .rules + length rs)
   pub text : q .rules ≤ mostRules → Put (textsOf rs) before after (p .at) (q .at)

@@ -1,3 +1,3 @@
--- What the splitting of long sums answers and leaves.
+-- What the functions say of lists of sums and of rules' lines.
 pub mod Lists
 pub mod Emitting

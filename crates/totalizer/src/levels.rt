@@ -1,5 +1,5 @@
-// What the weights of some literals can add up to, and which of these sums make a difference: `sumsOf` and `levelsFor` of
-// crates/sums/specs/Levels.antt. A list of sums ascends, and none is above the bound.
+// What the weights of some literals can add up to, and which of these sums make a difference: `sumsOf` and
+// `levelsFor` of crates/sums/specs/Levels.antt. A list of sums ascends, and none is above the bound.
 ghost use mathlib.Core.Path.{_≡_};
 ghost use mathlib.Core.Bool.{true, cond};
 ghost use Prim.Native.Nat.{suc, _+_, _*_, _-_, _<_, _≤_, min};
@@ -135,7 +135,8 @@ pub fn below_of(sums: &[usize], need: usize) -> usize
     i
 }
 
-// Sum i makes a difference: beside the lowest sum of the others with which it reaches the bound, the sum before it does not.
+// Sum i makes a difference: beside the lowest sum of the others with which it reaches the bound, the sum before it does
+// not.
 fn is_useful(inside: &[usize], i: usize, outside: &[usize], bound: usize) -> bool
     requires sums { ⌜ SumsUpTo bound (now inside) × SumsUpTo bound (now outside) × (bound ≤ mostWeight) ⌝ }
     requires there { ⌜ i < length (now inside) ⌝ }

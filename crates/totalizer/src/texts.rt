@@ -1,5 +1,5 @@
-// Rules' lines written to the lent output, counted up to one rule more than a program may have: `Emits` of specs/Emitting.antt. What
-// stands past the output's end is not stored, and is counted all the same.
+// Rules' lines written to the lent output, counted up to one rule more than a program may have: `Emits` of
+// specs/Emitting.antt. What stands past the output's end is not stored, and is counted all the same.
 ghost use mathlib.Core.Path.{_≡_};
 ghost use mathlib.Core.List.{[], _∷_};
 ghost use Prim.Native.Nat.{_+_, _*_, _≤_};

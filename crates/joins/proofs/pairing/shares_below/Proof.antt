@@ -2,7 +2,7 @@ use native.Mathlib.Omega.{arith}
 use borrow.Author.Needs.{needs}
 use borrow.Author.Tests.{lt-ltb, le-ltb}
 use Rattle.totalizer.specs.Lists.{below}
-use Rattle.joins.proofs.Partners.{below-within}
+use Rattle.totalizer.proofs.Below.{below-within}
 use Rattle.joins.proofs.pairing.shares_below.Statement.{statement}
 use Rattle.joins.proofs.pairing.shares_below.Tie as tie
 
