@@ -35,6 +35,9 @@ pub struct Plan {
     pub statements: Vec<Statement>,
 }
 
+/// What stands before statements that are put behind a plan, which may end in a part that gringo does not ground.
+const BASE: &[u8] = b"\n#program base.";
+
 /// A place in the text, and what is to stand there.
 type Edit = (Range<usize>, Vec<u8>);
 
@@ -48,6 +51,9 @@ impl Plan {
     /// The plan with constraints behind it that demand or forbid literals.
     pub fn with(&self, literals: &[String]) -> Result<Plan, Failure> {
         let mut bytes = self.bytes.clone();
+        if !literals.is_empty() {
+            bytes.extend(BASE);
+        }
         for literal in literals {
             bytes.extend(format!("\n{}", assumption(literal)?).into_bytes());
         }
@@ -84,8 +90,9 @@ impl Plan {
         self.edited(self.includes(folder).into_iter().chain(blanked).collect())
     }
 
-    /// The plan whose constraints each have an atom of their own in the body, which may be chosen; and these atoms.
-    pub fn marked(&self) -> (Plan, Vec<String>) {
+    /// The plan whose constraints each have an atom of their own in the body, which may be chosen; and these atoms. Where
+    /// some atoms are shown only, here or in what is included, they have to be shown too, to be known by name.
+    pub fn marked(&self, shown: bool) -> (Plan, Vec<String>) {
         let mark = self.unused_name();
         let name = |place: usize| format!("{mark}{place}");
         let edit = |(place, constraint): (usize, &Statement)| {
@@ -95,8 +102,8 @@ impl Plan {
         };
         let mut bytes = self.edited(self.constraints().enumerate().map(edit).collect());
         let marks: Vec<String> = (0..self.constraints().count()).map(name).collect();
-        // Where some atoms are shown only, the marks have to be, to be known by name.
-        let show = |mark: &String| if self.shows() { format!(" #show {mark}/0.") } else { String::new() };
+        let show = |mark: &String| if shown { format!(" #show {mark}/0.") } else { String::new() };
+        bytes.extend(BASE);
         bytes.extend(marks.iter().flat_map(|mark| format!("\n{{ {mark} }}.{}", show(mark)).into_bytes()));
         bytes.push(b'\n');
         (Plan::of(&bytes), marks)
@@ -224,7 +231,7 @@ impl Reader<'_> {
             let rest = self.rest();
             let length = match rest {
                 [byte, ..] if byte.is_ascii_whitespace() => 1,
-                [b'%', b'*', inside @ ..] => inside.windows(2).position(|end| end == b"*%").map_or(rest.len(), |end| end + 4),
+                [b'%', b'*', ..] => comment_length(rest),
                 [b'%', ..] => rest.iter().position(|byte| *byte == b'\n').unwrap_or(rest.len()),
                 _ => return,
             };
@@ -250,6 +257,23 @@ impl Reader<'_> {
             }
         }
     }
+}
+
+/// The bytes of the comment at the front, from `%*` to its `*%`: comments stand in comments, those of one line too.
+fn comment_length(text: &[u8]) -> usize {
+    let (mut depth, mut at) = (0, 0);
+    while at < text.len() {
+        match text[at..] {
+            [b'%', b'*', ..] => (depth, at) = (depth + 1, at + 2),
+            [b'*', b'%', ..] => (depth, at) = (depth - 1, at + 2),
+            [b'%', ..] => at += text[at..].iter().take_while(|byte| **byte != b'\n').count(),
+            _ => at += 1,
+        }
+        if depth == 0 {
+            return at;
+        }
+    }
+    text.len()
 }
 
 /// The bytes of the string at the front, with its quotation marks.
@@ -303,6 +327,8 @@ mod tests {
         assert_eq!(found, expected);
         assert_eq!(plan.constraints().map(|constraint| constraint.line).collect::<Vec<_>>(), [2, 4, 6]);
         assert!(plan.minimizes() && Plan::of(b"#maximize{1:a}.").minimizes() && !Plan::of(b"#minimizes. a :- b.").minimizes());
+        let nested = Plan::of(b"%* :- a. %* x *%\n:- b. *% :- c.\n%* % *% :- d.\n*% :- e.");
+        assert_eq!(nested.constraints().map(|constraint| constraint.line).collect::<Vec<_>>(), [2, 4]);
         for text in ["", "a", "\"", "%*", "%", "a. [", ":-", "..", "#script", "\"\\"] {
             assert!(Plan::of(text.as_bytes()).statements.len() <= 1, "{text}");
         }
@@ -312,13 +338,14 @@ mod tests {
     fn texts_with_changes() {
         let plan = Plan::of(b":- a, b.\n#show\n a/0.:-.\nb.");
         assert_eq!(plan.text_without_shows(Path::new("")), b":- a, b.\n     \n     :-.\nb.");
-        let (marked, marks) = plan.marked();
+        let (marked, marks) = plan.marked(true);
         assert_eq!(marks, ["aspdrupe_0", "aspdrupe_1"]);
-        assert_eq!(
-            marked.text(Path::new("")),
-            b":- aspdrupe_0, a, b.\n#show\n a/0.:- aspdrupe_1.\nb.\n{ aspdrupe_0 }. #show aspdrupe_0/0.\n{ aspdrupe_1 }. #show aspdrupe_1/0.\n"
-        );
-        assert_eq!(Plan::of(b"aspdrupe_. :- a.").marked().1, ["aspdrupe__0"]);
+        let rest = "\n#program base.\n{ aspdrupe_0 }. #show aspdrupe_0/0.\n{ aspdrupe_1 }. #show aspdrupe_1/0.\n";
+        let text = format!(":- aspdrupe_0, a, b.\n#show\n a/0.:- aspdrupe_1.\nb.{rest}");
+        assert_eq!(marked.text(Path::new("")), text.as_bytes());
+        assert_eq!(Plan::of(b"aspdrupe_. :- a.").marked(false).1, ["aspdrupe__0"]);
+        let assumed = Plan::of(b"a. #program foo.").with(&[String::from("b")]).unwrap();
+        assert_eq!(assumed.text(Path::new("")), b"a. #program foo.\n#program base.\n:- not b.\n");
     }
 
     #[test]

@@ -68,15 +68,27 @@ impl Source<'_> {
             return Ok(None);
         }
         let plan = Plan::of(&self.bytes).with(assumed)?;
-        let (marked, marks) = plan.marked();
-        let text = marked.text(folder(self.path));
-        let mut ground = named(grounded(self.path, Handed::Text(&text))?, &marked, self.path);
+        let (mut ground, marks) = match self.grounded_marked(&plan, false)? {
+            Some(found) => found,
+            None => self
+                .grounded_marked(&plan, true)?
+                .ok_or_else(|| Failure::misuse("gringo gives no name to a mark of the plan's constraints"))?,
+        };
         // What gringo says of it is by other columns than the plan's.
         ground.notes.clear();
         if plan.includes_others() {
             ground.notes.push(String::from("the constraints of what the plan includes count as rules"));
         }
         Ok(Some((ground, plan.constraints().cloned().zip(marks).collect())))
+    }
+
+    /// The plan with marks, which are shown where that is told, as gringo grounds it; none where a mark has no name.
+    fn grounded_marked(&self, plan: &Plan, shown: bool) -> Result<Option<(Ground, Vec<String>)>, Failure> {
+        let (marked, marks) = plan.marked(shown);
+        let text = marked.text(folder(self.path));
+        let ground = named(grounded(self.path, Handed::Text(&text))?, &marked, self.path);
+        let known = marks.iter().all(|mark| ground.names.atom(mark).is_some());
+        Ok(known.then_some((ground, marks)))
     }
 }
 

@@ -147,6 +147,26 @@ fn included_plans() {
 }
 
 // A pipe is read once.
+/// What the plan's own text does not show at first sight: a `#show` in what is included, a part that gringo does not
+/// ground, comments in comments, and terms that are shown beside all atoms.
+#[test]
+fn plans_with_parts() {
+    let Some(room) = Room::of("parts") else { return };
+    room.file("shows.lp", "#show a/0.");
+    room.file("shown.lp", "#include \"shows.lp\".\n{a; b; c}.\n:- not a.\n:- a, b.\n:- not b.\n:- c, a.");
+    assert_eq!(room.out(0, "core shown.lp"), "core 3 of 4\nline 3: :- not a.\nline 4: :- a, b.\nline 5: :- not b.\n");
+    room.file("part.lp", "{a; b}.\n:- not a.\n:- a.\n#program other.\nx.");
+    assert_eq!(room.out(0, "core part.lp"), "core 2 of 2\nline 2: :- not a.\nline 3: :- a.\n");
+    room.file("later.lp", "{a; b; c}.\n#minimize {1: c; 2: a}.\n#program other.\nx.");
+    assert_eq!(room.out(0, "forced later.lp --assume a b"), "always: a b\nnever:\nopen: c\n");
+    assert_eq!(room.out(0, "optimum later.lp --assume a b"), "optimum 2: a b\n");
+    room.file("nested.lp", "{a; b}.\n%* old: %* x *%\n:- not b. *%\n:- a.\n:- not a.");
+    assert_eq!(room.out(0, "core nested.lp"), "core 2 of 2\nline 4: :- a.\nline 5: :- not a.\n");
+    room.file("terms.lp", "{a; b}.\n#show x(1): a.\n:- not a.\n:- a, b.\n:- not b.");
+    let (_, _, said) = room.run(&["core", "terms.lp"]);
+    assert!(said.contains("without line 4: a b x(1)\n"), "{said}");
+}
+
 #[test]
 fn a_plan_from_a_pipe() {
     let Some(room) = Room::of("pipe") else { return };

@@ -55,6 +55,9 @@ impl Parts {
     /// are assumed.
     pub fn of_plan(ground: &Ground, marked: &[(Statement, String)], assumed: &[String]) -> Result<Parts, Failure> {
         let marks: Vec<Option<i32>> = marked.iter().map(|(_, mark)| ground.names.atom(mark)).collect();
+        if marks.contains(&None) {
+            return Err(Failure::misuse("a mark of the plan's constraints has no name"));
+        }
         let own = marked.len().saturating_sub(assumed.len());
         let place = |(place, (statement, _)): (usize, &(Statement, String))| match place.checked_sub(own) {
             Some(later) => Place::Assumed(assumed.get(later).cloned().unwrap_or_default()),
