@@ -48,8 +48,8 @@ extern "C" {
 /* The most numbers that an answer has. */
 #define ASPDRUPE_ANSWER 4
 
-/* The words of memory in which the index of aspdrupe_check_long reaches a store of so many words. More are of no use: where the store is closed
- * up often, they only take time. */
+/* The words of memory in which the index of aspdrupe_check_long reaches a store of so many words. More reach no further, and where the store is
+ * closed up often they take time. */
 #define ASPDRUPE_MEMORY(store_len) (49287 + ((store_len) + 7) / 8 * 25)
 
 /* The marks that the set test asks for. */

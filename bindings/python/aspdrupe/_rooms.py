@@ -30,7 +30,7 @@ def table_for(program: bytes) -> int:
 
 
 def memory_for(store: int) -> int:
-    """The words of memory with which the long check reaches a store of so many words. More are of no use."""
+    """The words of memory with which the long check reaches a store of so many words. More reach no further."""
     return 49_287 + (store + 7) // 8 * 25
 
 

@@ -87,7 +87,8 @@ const FIXED_CELLS: usize = 49_287;
 const CELLS: usize = 25;
 const WORDS: usize = 8;
 
-/// The words of memory with which a store of so many words is searched and kept without a pass over all of it. More are of no use.
+/// The words of memory with which a store of so many words is searched and kept without a pass over all of it. More
+/// reach no further.
 pub fn memory_for(store: usize) -> usize {
     store.div_ceil(WORDS).saturating_mul(CELLS).saturating_add(FIXED_CELLS)
 }
