@@ -1,5 +1,6 @@
 // Ground programs as ASPIF text, read into a lent table: document 01, 'Program text' and questions 1 to 11, 54 and 55.
 // The public service is `read_program`; what it means is specs/Reading.antt. `read_within` puts question 55 with another number than 12.
+#![tactic(auto)]
 mod lines;
 pub mod rules;
 pub mod tables;
@@ -11,7 +12,7 @@ ghost use Rattle.aspif.specs.declared.ProgramReading.TheVariants.{Refused};
 use lines::Lines;
 
 // "head kind (0 normal, 1 choice)".
-#[derive(Drop)]
+#[derive(Clone, Copy)]
 pub enum Kind {
     Normal,
     Choice,

@@ -8,6 +8,7 @@
 // has a length how many words or bytes are not 0, and what they are. All are 7 before. Of words that are alike one is written, with how many
 // they are, and no more than 72 such runs; a packet and marks are written likewise, in hexadecimal; a text stands on lines of its own, up to its
 // first zero byte and to 600 bytes.
+#![tactic(auto)]
 mod services;
 
 use libc::STDIN_FILENO;

@@ -1,5 +1,6 @@
 // The proof-line reader: document 01, 'The proof's seven letters' and questions 21 to 25.
 // The claim of `read_line` is `ProofLineRead` in specs/Lines.antt, that of `read_into` is `ReadInto` in specs/Rows.antt.
+#![tactic(auto)]
 pub mod reader;
 pub mod writing;
 
@@ -17,7 +18,7 @@ use words::MOST_NUMBERS;
 
 // What stands at a position: a line's letter, how many numbers it has and the position after its newline; the end; or the
 // number of the question that is answered no.
-#[derive(Drop)]
+#[derive(Clone, Copy)]
 pub enum LineAnswer {
     Line {
         letter: Letter,
@@ -37,7 +38,7 @@ pub struct LineReading {
 
 // What a letter asks of its numbers: whether a first one must be there, whether it must be positive, and whether the later
 // ones must be.
-#[derive(Drop)]
+#[derive(Clone, Copy)]
 struct Signs {
     needed: bool,
     first: bool,

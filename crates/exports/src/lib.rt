@@ -2,6 +2,7 @@
 // returned, and its numbers are put at the front of the lent `answer`, as many as fit; what the codes and numbers are
 // is specs/Codes.antt, and what each function returns and leaves is specs/Services.antt. bindings/c/aspdrupe.h declares
 // the functions for C.
+#![tactic(auto)]
 mod answers;
 
 ghost use Rattle.packets.specs.Packets.{up, down};

@@ -27,7 +27,7 @@ pub struct Node {
 }
 
 // Where the next line begins, with how many rules are written, and the next new atom.
-#[derive(Drop)]
+#[derive(Clone, Copy)]
 pub struct Numbered {
     pub place: Place,
     pub atom: usize,

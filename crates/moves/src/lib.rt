@@ -1,6 +1,7 @@
 // A packet moved to the other version: the services `packet_up` and `packet_down`; what they mean is `up` and `down` of the packets crate.
 // Every rule and every step is asked first. Then the packet made is written rule by rule, from a row that holds one, and the steps' bytes,
 // which both versions have alike, are copied.
+#![tactic(auto)]
 ghost use Rattle.std.specs.Prelude.{◌≡◌, true, ◌+◌, ◌*◌, ◌≤◌, length};
 ghost use Rattle.text.specs.Writing.{farthest};
 ghost use Rattle.packets.specs.Bytes.{numbers_from};

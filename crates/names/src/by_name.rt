@@ -24,7 +24,7 @@ const KEYS: usize = 4294967296;
 const FACTOR: usize = 1640531527;
 
 // The body with a name: so many literals of the row, or none of at most 12 literals.
-#[derive(Drop)]
+#[derive(Clone, Copy)]
 pub enum Recorded {
     Body(usize),
     Nothing,

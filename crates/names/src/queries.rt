@@ -19,7 +19,7 @@ use words::ENTRIES;
 
 // The plain rules that a step is about, by their heads: those with a head; those with a head in a set of atoms. Of both, those whose
 // bodies have a positive atom in the set are left out.
-#[derive(Drop)]
+#[derive(Clone, Copy)]
 pub enum Query {
     Head(i32),
     External,

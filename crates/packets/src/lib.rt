@@ -1,5 +1,6 @@
 // Case packets: a program's table and a proof in one sequence of bytes, in two versions. The services are `write_packet` and
 // `read_packet`; what they mean is specs/Packets.antt.
+#![tactic(auto)]
 
 pub mod numbers;
 pub mod reader;
@@ -12,7 +13,7 @@ ghost use Rattle.packets.specs.Packets.{ReadPacket, WrittenPacket};
 pub const HEADER: usize = 13;
 
 // The versions of packets. The first has no words for weight bodies.
-#[derive(Drop)]
+#[derive(Clone, Copy)]
 pub enum Version {
     One,
     Two,

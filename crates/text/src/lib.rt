@@ -1,5 +1,6 @@
 // Bytes to lines and numbers, for the program reader and the proof-line reader alike: document 01, 'Program text'.
 // The claim of `read_line` is `LineScanned` in specs/Scanned.antt. Module `writing` goes the other way.
+#![tactic(auto)]
 pub mod classes;
 pub mod writing;
 
@@ -12,7 +13,7 @@ ghost use Rattle.text.specs.declared.Seen.{Seen};
 ghost use Rattle.text.specs.Scan.{State, Word, end_of, more_of, seeing, value_of, class_from, scan_from, after_digits, after_sign, after_number, NumberBounds};
 
 // The proof's seven letters, by the names of source document 000.
-#[derive(Drop)]
+#[derive(Clone, Copy)]
 pub enum Letter {
     Addition,
     Body,

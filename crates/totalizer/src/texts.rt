@@ -17,7 +17,7 @@ use text::writing;
 use words::MOST_RULES;
 
 // Where the next line begins, and how many rules are written; one more than 1,024 stands for all that are more.
-#[derive(Drop)]
+#[derive(Clone, Copy)]
 pub struct Place {
     pub at: usize,
     pub rules: usize,

@@ -1,6 +1,7 @@
 // A tree of splits, with proof texts at its ends, into one proof text: document 02, Change 14. The public service is `merge_tree`; what
 // it leaves is specs/Service.antt. Recursion goes over the tree, with the remaining depth falling from six: in crate shapes, which decides 64
 // before any end is read, and in sides.rt.
+#![tactic(auto)]
 mod sides;
 
 ghost use Rattle.std.specs.Prelude.{◌≡◌, List, [], ◌≤◌, pos, length, replicate};

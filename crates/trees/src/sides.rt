@@ -17,7 +17,7 @@ use words::LONGEST;
 
 // Where a side stands: the splits that are left below it, the words and rules of the program with the constraints so far, its atoms, and
 // the length that every merge is held to.
-#[derive(Drop)]
+#[derive(Clone, Copy)]
 pub struct Place {
     pub depth: usize,
     pub used: usize,

@@ -1,5 +1,6 @@
 // Reads `case.aspif` and `case.drupe` in the working directory and prints the verdict's one line: document 01, 'What `verdict`
 // prints'. Which line that is, is decided in `checker`.
+#![tactic(auto)]
 ghost use Rattle.std.specs.Prelude.{◌≤◌};
 ghost use Rattle.io.specs.Counts.{IsPrefixLen};
 

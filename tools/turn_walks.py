@@ -1,0 +1,458 @@
+#!/usr/bin/env python3
+"""Turns each proofs/F/Proof.antt that closes a walk by `tie.close (tie.spec ..)` into Invariants.antt and Answers.antt.
+
+usage: turn_walks.py NAMES.json REPOSITORY [CRATE..]
+
+NAMES.json is what `rt check --generated FOLDER --old-names` writes: of each function the old and the new names of its goals, steps and loops.
+Keys of a crate that holds the others as modules are read too (all-proofs.CRATE.PATH). Files of another form are left, and named.
+"""
+import json, os, re, sys
+
+TOKEN = r"[^\s(){}\[\],.:;λ∀→×≡]+"
+
+def norm(s):
+    return s.replace("_", "-")
+
+def blocks(text):
+    """The top-level blocks of a file: comments before a declaration belong to it; signature and clauses of one name are one block."""
+    lines = text.split("\n")
+    out, cur, pend = [], None, []
+    for l in lines:
+        if l == "":
+            if cur is not None:
+                out.append(cur); cur = None
+            elif pend:
+                out.append(pend); pend = []
+            continue
+        if l[0] not in " \t" and not l.startswith("--"):
+            name = decl_name(l)
+            if cur is not None and decl_name_of(cur) == name and name is not None:
+                cur.append(l)
+            else:
+                if cur is not None: out.append(cur)
+                cur = pend + [l]; pend = []
+        elif l.startswith("--"):
+            if cur is not None: out.append(cur); cur = None
+            pend.append(l)
+        else:
+            if cur is None: cur = pend; pend = []
+            cur.append(l)
+    if cur is not None: out.append(cur)
+    if pend: out.append(pend)
+    return ["\n".join(b) for b in out]
+
+def decl_name(l):
+    m = re.match(r"(?:abbrev |unfoldable |pub )*([^\s:(){}]+)", l)
+    if not m: return None
+    w = m.group(1)
+    if w in ("use", "module", "record", "data", "infix", "infixl", "infixr", "unfolding", "mod"): return w if w == "unfolding" else None
+    return w
+
+def decl_name_of(block):
+    for l in block:
+        if l and l[0] not in " -":
+            n = decl_name(l)
+            if n == "unfolding": continue
+            return n
+    return None
+
+def top_args(text):
+    """Splits an application's arguments at depth 0."""
+    out, depth, cur = [], 0, ""
+    for ch in text:
+        if ch in "([{": depth += 1
+        if ch in ")]}": depth -= 1
+        if ch.isspace() and depth == 0:
+            if cur: out.append(cur); cur = ""
+        else:
+            cur += ch
+    if cur: out.append(cur)
+    return out
+
+def unparen(t):
+    t = t.strip()
+    while t.startswith("(") and t.endswith(")"):
+        depth = 0
+        for i, ch in enumerate(t):
+            if ch == "(": depth += 1
+            if ch == ")":
+                depth -= 1
+                if depth == 0 and i < len(t) - 1: return t
+        t = t[1:-1].strip()
+    return t
+
+def sub_tokens(text, table, before=r"(?<![^\s(){}\[\],;])"):
+    """Replaces whole names that do not stand after a dot."""
+    if not table: return text
+    alt = "|".join(re.escape(k) for k in sorted(table, key=len, reverse=True))
+    return re.sub(before + "(" + alt + r")(?![^\s(){}\[\],;.])", lambda m: table[m.group(1)], text)
+
+def labels(text, table):
+    def one(m):
+        w = m.group(1)
+        return "." + table.get(norm(w), w)
+    return re.sub(r"(?<=[^\s(,])\.([A-Za-z][A-Za-z0-9_'-]*)(?![^\s(){}\[\],;.])", one, text)
+
+def flatten(text):
+    return re.sub(r"(\.before)+(?=\.[A-Za-z0-9])", "", text)
+
+def places(text, table, inv_names):
+    def one(m):
+        w = m.group(1)
+        new = table.get(norm(w))
+        return "goal." + (new or w)
+    text = re.sub(r"tie\.([A-Za-z][A-Za-z0-9_-]*)", one, text)
+    for _ in range(8):
+        text = re.sub(r"(goal\.[A-Za-z0-9_-]+)((?: (?:" + "|".join(map(re.escape, inv_names)) + r"))+)(?=[\s)]|$)", r"\1", text) if inv_names else text
+    return text
+
+def index_of(steps, n):
+    """Which of n things that stand in pairs, the last in a pair's second, the projections lead to, and what is left of them."""
+    i = 0
+    while steps and i < n - 1:
+        if steps[0] == "0": return i, steps[1:]
+        if steps[0] != "1": return None, steps
+        i += 1; steps = steps[1:]
+    if i == n - 1: return i, steps
+    return None, steps
+
+class Places:
+    def __init__(self, entry):
+        self.entry = entry
+        self.by = {}
+        for k, p in enumerate(entry["places"]):
+            self.by[norm(p[0])] = k
+    def chain(self, place):
+        out, k = [], self.by.get(norm(place))
+        while k is not None:
+            out.append(k)
+            up = self.entry["places"][k][1]
+            k = self.by.get(norm(up)) if up else None
+        return out
+
+def rewrite(text, P, place, table):
+    """What a declaration at a place cites, in today's names."""
+    e = P.entry
+    ks = P.chain(place) if place else range(len(e["places"]))
+    labels_, callee, clauses, maps, arms = {}, {}, {}, {}, []
+    for l in e["loops"]: labels_[norm(l[0][0])] = l[0][1]
+    for k in ks:
+        p = e["places"][k]
+        old, new = p[2]
+        if not old: continue
+        labels_.setdefault(norm(old), new)
+        if p[3]: callee[new] = e["params"].get(p[3])
+        if e["clauses"][k]: clauses[new] = e["clauses"][k]["fields"]
+        if p[4]: maps[new] = dict((x, y) for x, y in p[4])
+        if e["arms"][k]: arms.append(e["arms"][k])
+    # arms: steps of a match that are one step now
+    for name, n, fields in arms:
+        for field, step, path in sorted(fields, key=lambda f: -len(f[2])):
+            if path:
+                pat = r"\." + re.sub(r"[-_]", "[-_]", re.escape(step).replace("\\-", "-")) + "".join(r"\." + re.escape(x) for x in path) + r"(?![A-Za-z0-9_'-])"
+                text = re.sub(pat, f".{name}.{field}", text)
+    def one(m):
+        path = m.group(0)
+        parts = path.split(".")
+        out, i = [parts[0]], 1
+        while i < len(parts):
+            w = parts[i]
+            n = labels_.get(norm(w))
+            nxt = parts[i + 1] if i + 1 < len(parts) else None
+            if n is not None and n != w and re.fullmatch(re.escape(n.rsplit("-", 1)[0]) + r"-\d+", n) and nxt not in ("given", "result", "ensures", "new", "type-inv", "type_inv", "auto"):
+                n = None
+            if n is None or (w in ("invariant", "initial")):
+                out.append(w); i += 1; continue
+            out.append(n); i += 1
+            if nxt == "ensures" and n in clauses:
+                k, left = index_of(parts[i + 1:], len(clauses[n]))
+                if k is not None and len(clauses[n]) > 1:
+                    out += ["ensures", clauses[n][k]] + left; i = len(parts)
+                elif k is not None:
+                    pass
+            elif nxt in ("new", "last") and callee.get(n):
+                k, left = index_of(parts[i + 1:], len(callee[n]))
+                if k is not None:
+                    out += ["new", callee[n][k]] + left; i = len(parts)
+            elif nxt == "auto" and callee.get(n) and re.fullmatch(r"(1\.)*0(\..*)?", ".".join(parts[i + 1:])):
+                steps = parts[i + 1:]; k = 0
+                while steps[0] == "1": k += 1; steps = steps[1:]
+                if k < len(callee[n]): out += ["auto", callee[n][k]] + steps[1:]; i = len(parts)
+            elif nxt in maps.get(n, {}):
+                out.append(maps[n][nxt] if nxt not in ("fact",) else maps[n][nxt]); i += 1
+        return ".".join(out)
+    text = re.sub(r"(?<![A-Za-z0-9_'.-])[A-Za-z_][A-Za-z0-9_'₀-₉-]*(?:\.[A-Za-z0-9_'-]+)+", one, text)
+    text = re.sub(r"not-(?:true|false) _ \(([^()\s]+)\.(true|false)-raw\)", r"\1.\2", text)
+    text = re.sub(r"not-(?:true|false) _ ([^()\s]+)\.(true|false)-raw", r"\1.\2", text)
+    pre = e.get("pre")
+    if pre and len(pre["fields"]) > 1:
+        f = pre["fields"]
+        def req(m):
+            steps = m.group(1).split(".")[1:]
+            k, left = index_of(steps, len(f))
+            return ".requires" + m.group(1) if k is None else ".".join([".requires." + f[k]] + left)
+        text = re.sub(r"\.requires((?:\.[01])+)", req, text)
+    return text
+
+def record_of(body, labels_):
+    """An answer that is a tuple at its end, as a record of the clauses."""
+    n = len(labels_)
+    # the last expression after the lets at depth 0
+    depth, last = 0, 0
+    for m in re.finditer(r"[(\[{]|[)\]}]|(?<=\s)in(?=\s)", body):
+        w = m.group(0)
+        if w in "([{": depth += 1
+        elif w in ")]}": depth -= 1
+        elif depth == 0: last = m.end()
+    head, expr = body[:last], body[last:].strip()
+    if n == 1:
+        return head + (" " if head and not head.endswith(("\n", " ")) else "") + "record { " + labels_[0] + " = " + expr + " }"
+    if expr.startswith("(") and unparen(expr) != expr:
+        inner = expr[1:-1].strip()
+        if unparen(expr) == unparen(inner) or inner.startswith("("): inner = inner
+        parts, cur, d = [], "", 0
+        for ch in inner:
+            if ch in "([{": d += 1
+            if ch in ")]}": d -= 1
+            if ch == "," and d == 0: parts.append(cur.strip()); cur = ""
+            else: cur += ch
+        if cur.strip(): parts.append(cur.strip())
+        while len(parts) < n and parts and parts[-1].startswith("(") and parts[-1].endswith(")") and unparen(parts[-1]) != parts[-1]:
+            tail = parts.pop()[1:-1].strip()
+            sub, cur, d = [], "", 0
+            for ch in tail:
+                if ch in "([{": d += 1
+                if ch in ")]}": d -= 1
+                if ch == "," and d == 0: sub.append(cur.strip()); cur = ""
+                else: cur += ch
+            if cur.strip(): sub.append(cur.strip())
+            if len(sub) < 2: parts.append("(" + tail + ")"); break
+            parts += sub
+        if len(parts) > n:
+            parts = parts[: n - 1] + ["(" + ", ".join(parts[n - 1:]) + ")"]
+        if len(parts) == n:
+            return head + (" " if head and not head.endswith(("\n", " ")) else "") + "record { " + "; ".join(f"{a} = {b}" for a, b in zip(labels_, parts)) + " }"
+    proj = lambda i: ".0" if i == 0 and n > 1 else ".1" * i + (".0" if i < n - 1 else "")
+    return head + (" " if head else "") + f"let all = {expr} in record {{ " + "; ".join(f"{a} = all{proj(i)}" for i, a in enumerate(labels_)) + " }"
+
+def turn(path, entry, crate, fn):
+    with open(path) as f: text = f.read()
+    bs = blocks(text)
+    spec = None
+    for i, b in enumerate(bs):
+        if re.search(r"tie\.close\s*\(\s*tie\.spec", b.replace("\n", " ")):
+            spec = i
+    if spec is None:
+        return "another form"
+    body = bs[spec].replace("\n", " ")
+    k = body.index("tie.spec") + len("tie.spec")
+    rest, depth, end = body[k:], 0, None
+    for i, ch in enumerate(rest):
+        if ch == "(": depth += 1
+        if ch == ")":
+            if depth == 0: end = i; break
+            depth -= 1
+    if end is None: return "the spec does not end"
+    args = top_args(rest[:end])
+    loops = entry["loops"]; needs = entry["needs"]
+    n_inv = 2 * len(loops)
+    fn_path = fn.replace("/", ".")
+    P = Places(entry)
+    ptable = {norm(p[0]): n for p, n in zip(entry["places"], entry["places_by_name"])}
+    note = []
+    defs = {}
+    for i, b in enumerate(bs):
+        n = decl_name_of([l for l in b.split("\n") if not l.startswith("--")])
+        if n: defs.setdefault(n, i)
+    head = args[:n_inv]
+    invariants, done = [], set()
+    count = {"invariant": 0, "decreases": 0}
+    inv_names = list(dict.fromkeys(head))
+    for n in head:
+        if n not in defs: return f"the invariant {n} is no declaration"
+    for n in head:
+        b = bs[defs[n]]
+        kind = "invariant" if re.search(r"tie\.(invariant|InvT)", b) else "decreases"
+        k = count[kind]; count[kind] += 1
+        (old, new), vs = loops[k]
+        changed = entry["changed"][k]
+        done.add(defs[n])
+        ls = b.split("\n")
+        comments = [l for l in ls if l.startswith("--")]
+        code = "\n".join(l for l in ls if not l.startswith("--"))
+        code = code[code.index("\n") + 1:]
+        m = re.search(r"^" + re.escape(n) + r"((?:\s+[^\s=]+)*)\s*=\s*", code, re.M)
+        if not m: return f"the definition of {n}"
+        names = m.group(1).split()
+        body_i = code[m.end():]
+        want = [("l.initial." if c else "l.") + v for v, c in zip(vs, changed)] + ["l." + v for v, c in zip(vs, changed) if c]
+        if len(want) != len(names): return f"{n} has {len(names)} names for {len(want)} variables"
+        t = {a: w for a, w in zip(names, want) if a != "_"}
+        goal = f"{kind}-{new}"
+        body_i = sub_tokens(body_i, t)
+        body_i = re.sub(r"\(to_z w\d+ (l\.[A-Za-z0-9_.]+)\)", r"\1", body_i)
+        body_i = re.sub(r"to_z w\d+ (l\.[A-Za-z0-9_.]+)", r"\1", body_i)
+        sep = "\n    " if "\n" in body_i else " "
+        invariants.append("\n".join(comments + [f"abbrev pub {goal} : goal.{goal}", f"{goal} l ={sep}{body_i}"]))
+    # which goal each argument answers
+    by_old = {norm(o): k for k, (o, n) in enumerate(needs)}
+    rest_args = [unparen(a) for a in args[n_inv:]]
+    old_of = {}
+    for n, i in defs.items():
+        m = re.search(r"(?m)^(?:pub )?" + re.escape(n) + r" : tie\.Need-([A-Za-z0-9_+-]+)", bs[i])
+        if m: old_of[n] = m.group(1)
+    plan = {}
+    if len(rest_args) == len(needs):
+        for k, a in enumerate(rest_args): plan.setdefault(a, []).append(k)
+    else:
+        anchors = []
+        for j, a in enumerate(rest_args):
+            if a in old_of:
+                o = norm(old_of[a])
+                k = by_old.get(o)
+                if k is None and o.startswith("overflow-"): k = by_old.get(o[9:])
+                anchors.append((j, k, a))
+        known = {j: k for j, k, a in anchors}
+        for j, a in enumerate(rest_args):
+            if re.fullmatch(r"λ c( κs)?\. search rules", a): continue
+            if j in known:
+                if known[j] is None: note.append(f"{a} ({old_of[a]}) is asked no more")
+                else: plan.setdefault(a, []).append(known[j])
+                continue
+            before = max([k for jj, k in known.items() if jj < j and k is not None], default=-1)
+            after = min([k for jj, k in known.items() if jj > j and k is not None], default=len(needs))
+            between = [k for k in range(before + 1, after)]
+            jb = max([jj for jj in known if jj < j], default=-1); ja = min([jj for jj in known if jj > j], default=len(rest_args))
+            if len(between) == ja - jb - 1: plan.setdefault(a, []).append(between[j - jb - 1])
+            elif len(between) == 1: plan.setdefault(a, []).append(between[0])
+            else: note.append(f"which goal: {a[:80]} (one of {', '.join(needs[k][1] for k in between)})")
+    rename, extra = {}, []
+    for a, ks in plan.items():
+        if re.fullmatch(r"λ c( κs)?\. search rules", a): continue
+        if a in old_of and len(ks) == 1:
+            rename[a] = ks[0]
+        else:
+            for k in ks:
+                new = needs[k][1]
+                m = re.fullmatch(r"λ (c|_)( κs)?\. (.*)", a, re.S)
+                if m: body_x = m.group(3); var = m.group(1)
+                else: body_x, var = f"{a} c" if re.fullmatch(r"[^\s]+", a) else f"({a}) c", "c"
+                extra.append((k, f"pub {new} : goal.{new}\n{new} {var} = {body_x}"))
+    out = []
+    refs = {a: needs[k][1] for a, k in rename.items()}
+    dropped = {n for n in old_of if n not in rename}
+    for i, b in enumerate(bs):
+        if i == spec or i in done: continue
+        n = decl_name_of([l for l in b.split("\n") if not l.startswith("--")])
+        place = None
+        if n in rename and defs[n] == i:
+            k = rename[n]; place = entry["asked_at"][k][0]
+            new = needs[k][1]
+            b = sub_tokens(b, refs)
+            b = re.sub(r"(?m)^(?:pub )?" + re.escape(new) + r" : tie\.Need-[^\n]*$", f"pub {new} : goal.{new}", b)
+            b = re.sub(r"(?m)^(" + re.escape(new) + r"(?: [^\s=]+)*?) κs =", r"\1 =", b)
+            labels_ = entry["asked"].get(needs[k][0])
+            if labels_:
+                m = re.search(r"(?m)^" + re.escape(new) + r"((?: [^\s=]+)*) =", b)
+                if m: b = b[:m.end()] + " " + record_of(b[m.end():].strip("\n"), labels_).lstrip(" ")
+        elif n in old_of and n not in rename and defs[n] == i:
+            if not any(re.search(r"(?<![\w.-])" + re.escape(n) + r"(?![\w-])", x) for j, x in enumerate(bs) if j not in (i, spec)):
+                note.append(f"{n} goes"); continue
+            note.append(f"{n} stays, and is cited"); b = sub_tokens(b, refs)
+        else:
+            b = sub_tokens(b, refs)
+            m = re.search(r"tie\.((?:After|In|At|Then|Else|Start|Joined)[A-Za-z0-9_-]*)", b)
+            if m: place = m.group(1)
+        b = rewrite(b, P, place if place and norm(place) in P.by else None, None)
+        out.append(b)
+    for k, b in extra:
+        place = entry["asked_at"][k][0]
+        labels_ = entry["asked"].get(needs[k][0])
+        b = sub_tokens(b, {a: n for a, n in refs.items() if n != needs[k][1]}, before=r"(?<=[ (])")
+        if labels_:
+            new = needs[k][1]
+            m = re.search(r"(?m)^" + re.escape(new) + r"((?: [^\s=]+)*) =", b)
+            if m: b = b[:m.end()] + " " + record_of(b[m.end():].strip("\n"), labels_).lstrip(" ")
+        out.append(rewrite(b, P, place if norm(place) in P.by else None, None))
+    text_out = "\n\n".join(out)
+    text_out = flatten(text_out)
+    text_out = text_out.replace(".type-inv", ".type_inv")
+    used_places = []
+    def place_name(m):
+        w = m.group(1)
+        if w.startswith("Need"): return m.group(0)
+        new = ptable.get(norm(w))
+        if new is None: note.append(f"no place {w}"); return m.group(0)
+        if new not in used_places: used_places.append(new)
+        return new
+    text_out = re.sub(r"tie\.([A-Za-z][A-Za-z0-9_-]*)", place_name, text_out)
+    if inv_names:
+        alt = "|".join(map(re.escape, inv_names))
+        for pl in used_places:
+            text_out = re.sub(r"(?<![\w-])(" + re.escape(pl) + r")((?: (?:" + alt + r"))+)(?=[\s)]|$)", r"\1", text_out)
+    imports = [l for l in text_out.split("\n") if l.startswith("use ")]
+    rest_text = re.sub(r"(?m)^use [^\n]*\n?", "", text_out).strip("\n")
+    imports = [l for l in imports if not re.search(r"\.(Statement\.\{statement\}|Tie as tie)$", l) and "borrow.Author.Rules.{rules}" not in l]
+    rules = ["use borrow.Author.Rules.{rules}"] if re.search(r"(?<![\w-])rules(?![\w-])", rest_text) else []
+    folder = os.path.dirname(path)
+    used = lambda body: [l for l in (trim_import(l, body) for l in imports) if l]
+    if invariants:
+        body = "\n\n".join(invariants)
+        with open(os.path.join(folder, "Invariants.antt"), "w") as f:
+            f.write("\n".join(used(body) + [f"use Rattle.{crate}.proofs.{fn_path}.Given as goal"]) + "\n\n" + body + "\n")
+    if "goal." in rest_text:
+        lead, rest_body = leading(rest_text)
+        more = [f"use Rattle.{crate}.proofs.{fn_path}.Goals.{{{', '.join(used_places)}}}"] if used_places else []
+        with open(os.path.join(folder, "Answers.antt"), "w") as f:
+            f.write((lead + "\n" if lead else "") + "\n".join(used(rest_text) + rules + [f"use Rattle.{crate}.proofs.{fn_path}.Goals as goal"] + more) + "\n\n" + rest_body + "\n")
+    os.remove(path)
+    return ("ok; " + "; ".join(note)) if note else "ok"
+
+def leading(text):
+    """The file's first comment, where a blank line or a use line followed it."""
+    ls = text.split("\n")
+    n = 0
+    while n < len(ls) and ls[n].startswith("--"): n += 1
+    if n and n < len(ls) and ls[n] == "":
+        return "\n".join(ls[:n]), "\n".join(ls[n:]).strip("\n")
+    return "", text
+
+def trim_import(l, body):
+    m = re.match(r"use ([^{]+)\{(.*)\}$", l)
+    if not m: return l
+    names = [x.strip() for x in split_names(m.group(2))]
+    keep = [x for x in names if cited(x, body)]
+    return f"use {m.group(1)}{{{', '.join(keep)}}}" if keep else None
+
+def split_names(s):
+    out, depth, cur = [], 0, ""
+    for ch in s:
+        if ch == "," and depth == 0: out.append(cur); cur = ""; continue
+        if ch in "([{": depth += 1
+        if ch in ")]}": depth -= 1
+        cur += ch
+    if cur.strip(): out.append(cur)
+    return out
+
+def cited(name, body):
+    name = name.split(" as ")[-1].strip()
+    if "◌" in name:
+        return any(p and p in body for p in name.split("◌"))
+    return re.search(r"(?<![\w'-])" + re.escape(name) + r"(?![\w'-])", body) is not None
+
+def main():
+    names = json.load(open(sys.argv[1])); root = sys.argv[2]; only = set(sys.argv[3:])
+    for key, entry in sorted(names.items()):
+        m = re.match(r"Rattle-(\w+)-proofs\.(.*)\.Lts$", key)
+        if not m or not isinstance(entry, dict): continue
+        crate, fn = m.group(1), m.group(2)
+        if crate == "all":
+            crate, _, fn = fn.partition(".")
+        fn = fn.replace(".", "/")
+        if only and crate not in only: continue
+        path = os.path.join(root, "crates", crate, "proofs", fn, "Proof.antt")
+        if not os.path.exists(path): continue
+        said = turn(path, entry, crate, fn)
+        if said != "ok": print(f"{crate}/{fn}: {said}")
+
+main()
