@@ -1,0 +1,70 @@
+use mathlib.Core.Path.{sym, ◌∙◌, ap, refl}
+use mathlib.Core.Bool.{false, true≢false}
+use mathlib.Core.List.{List}
+use mathlib.Core.Logic.{⊎_elim}
+use Prim.Native.Nat.{ℕ}
+use native.Mathlib.Omega.{arith}
+use lib.IntN.{ℤ}
+use lib.ListN.{drop}
+use Rattle.aspif.specs.Rules.{InputRule}
+use Rattle.words.proofs.Parts.{tail_of}
+use Rattle.aspif.specs.Tables.{rule_at}
+use Rattle.marks.specs.Marks.{marked, Marking}
+use Rattle.answer_set.specs.SetTest.{give_rule, round}
+use Rattle.aspif.proofs.Cursors.{AtRule, at-rule, no-rules}
+use borrow.Author.Rules.{rules}
+use Rattle.answer_set.proofs.models.give_all.Goals as goal
+use Rattle.answer_set.proofs.models.give_all.Goals.{After-rest-1, Start, After-give_rule}
+
+-- the words from i on, and the rule there
+module _ (c : After-rest-1) where
+  abbrev s : Start
+  s = c.before
+
+  abbrev t : List ℤ
+  t = s.args.table.now
+
+  abbrev i : ℕ
+  i = c.loop-left.i
+
+  at : AtRule t c.loop-left.left i
+  at = at-rule c.loop-left-test.true c.loop-left.invariant.0
+
+told : (c : After-give_rule)
+    → (let d = c.before in
+    let m = d.loop-left.marks in
+    Marking (give_rule (marked (s d).args.inside.now) (rule_at (drop (i d) (t d))) m) m c.give_rule.new.marks.0 c.give_rule.result)
+told c = let d = c.before in rw (tail_of (i d) (t d)) at c.give_rule.ensures
+
+pub loop-left-init : goal.loop-left-init
+loop-left-init c = (record { within = omega arith; sound = c.requires }, refl, refl, λ e. refl)
+
+pub offset_bounds-table-i : goal.offset_bounds-table-i
+offset_bounds-table-i c = let w = c.loop-left.invariant.0.within in search rules
+
+pub give_rule-requires : goal.give_rule-requires
+give_rule-requires c = let d = c.before in rw (tail_of (i d) (t d)) (at d).sound
+
+pub next_rule-i-requires : goal.next_rule-i-requires
+next_rule-i-requires c = record { here = (at c.before).here }
+
+pub loop-left-smaller : goal.loop-left-smaller
+loop-left-smaller c = omega arith
+
+pub loop-left-preserved : goal.loop-left-preserved
+loop-left-preserved c =
+    let g = c.before in
+    let d = g.before in
+    let l = d.loop-left in
+    rw c.next_rule-i.ensures.0 (
+      (at d).next,
+      c.marks-1.given ∙ l.invariant.1,
+      l.invariant.2 ∙ ap (λ (rs : List InputRule). round (marked (s d).args.inside.now) rs l.marks) (at d).rules ∙ rw (told g).marks,
+      ⊎_elim (λ w z. absurd (true≢false (sym w.1 ∙ z))) (λ w z. (told g).still w.0.left ∙ l.invariant.3 (sym w.1 ∙ z)) c.if-give_rule.branch,
+    )
+
+pub returns : goal.returns
+returns c =
+    let l = c.loop-left in
+    let a = c.args in
+    record { marks = sym (l.invariant.2 ∙ rw (no-rules l.left (drop l.i a.table.now) c.loop-left-test.false)); still = l.invariant.3 }

@@ -1,0 +1,65 @@
+use mathlib.Core.Path.{◌≡◌, sym, ◌∙◌, ap}
+use mathlib.Core.Bool.{true}
+use native.Mathlib.Omega.{arith}
+use lib.ListN.{replicate}
+use Rattle.words.specs.Limits.{entries}
+use Rattle.aspif.specs.Rules.{atoms}
+use Rattle.words.specs.Lists.{ascends}
+use Rattle.aspif.specs.Tables.{rules_at, sound_table}
+use Rattle.marks.specs.Marks.{listed, marked}
+use Rattle.aspif.proofs.Cursors.{sound-rules, atoms-small}
+use Rattle.marks.proofs.Sets.{marks-listed}
+use Rattle.answer_set.proofs.Tested.{refused-41, refused-42, refused-43, tested}
+use borrow.Author.Rules.{rules}
+use Rattle.answer_set.proofs.test_set.Goals as goal
+use Rattle.answer_set.proofs.test_set.Goals.{Else-not-is_readable, After-ascends_within}
+
+-- question 41 is passed
+sound : (c : Else-not-is_readable) → (let a = c.args in sound_table a.table.now a.rules ≡ true)
+sound c = sym c.is_readable.ensures ∙ c.if-not-is_readable.false
+
+-- what is told of question 42
+told : (c : After-ascends_within)
+    → (let a = c.args in
+    c.ascends_within.result ≡ ascends 0 (atoms (rules_at a.rules a.table.now)) a.set.now)
+told c = rw c.largest_atom-atoms.ensures at c.ascends_within.ensures
+
+pub returns-then-not-is_readable : goal.returns-then-not-is_readable
+returns-then-not-is_readable c = refused-41 _ _ _ _ _ c.zero_bytes.ensures (sym c.is_readable.ensures ∙ c.if-not-is_readable.true)
+
+pub largest_atom-atoms-requires : goal.largest_atom-atoms-requires
+largest_atom-atoms-requires c = sound-rules _ _ (sound c)
+
+pub returns-then-not-ascends_within : goal.returns-then-not-ascends_within
+returns-then-not-ascends_within c =
+    let d = c.before in
+    refused-42 _ _ _ _ _ d.zero_bytes.ensures (sound d.before) (sym (told d) ∙ c.if-not-ascends_within.true)
+
+pub returns-then-marks-ne-ENTRIES : goal.returns-then-marks-ne-ENTRIES
+returns-then-marks-ne-ENTRIES c =
+    let d = c.before in
+    let z = d.before in
+    refused-43 _ _ _ _ _ z.zero_bytes.ensures (sound d.before) (sym (told d) ∙ c.if-not-ascends_within.false) (λ e. c.if-marks-ne-ENTRIES.true (z.marks-1.given ∙ e))
+
+pub mark_least-requires : goal.mark_least-requires
+mark_least-requires c = let g = c.before in
+    let d = g.before in
+    let z = d.before in record { rules_value = sound d.before; most_value = d.largest_atom-atoms.ensures; marks_len = (g.if-marks-ne-ENTRIES.false, z.zero_bytes.ensures ∙ ap (λ k. replicate k 0) (sym z.marks-1.given)) }
+
+pub judge-requires : goal.judge-requires
+judge-requires c = let d = c.before in
+    let a = d.args in record { program = (sound d.before, rw d.largest_atom-atoms.ensures (atoms-small a.rules a.table.now (sound-rules _ _ (sound d.before)))) }
+
+pub returns : goal.returns
+returns c =
+    let k = c.before in
+    let m = k.before in
+    let g = m.before in
+    let d = g.before in
+    let z = d.before in
+    let a = z.args in
+    let s = sound d.before in
+    let w = sym (told d) ∙ g.if-not-ascends_within.false in
+    let h = atoms-small a.rules a.table.now (sound-rules _ _ s) in
+    let e : marked m.mark_all.new.marks.0 ≡ listed a.set.now = ap marked m.mark_all.ensures ∙ marks-listed (atoms (rules_at a.rules a.table.now)) entries a.set.now w (omega arith) in
+    tested a.table.now a.rules a.set.now a.marks.now k.mark_least.new.marks.0 s w (sym z.marks-1.given ∙ m.if-marks-ne-ENTRIES.false) e d.largest_atom-atoms.ensures k.mark_least.ensures c.judge.ensures

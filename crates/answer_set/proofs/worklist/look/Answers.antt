@@ -1,0 +1,44 @@
+use Prim.Native.Nat.{◌%◌}
+use native.Mathlib.Omega.{arith}
+use lib.ListN.{drop, get_or}
+use Rattle.words.proofs.Parts.{tail_of}
+use Rattle.aspif.specs.Tables.{rule_at}
+use Rattle.aspif.proofs.Cursors.{shape_of}
+use Rattle.marks.specs.Marks.{marked, Marking}
+use Rattle.answer_set.specs.SetTest.{give_rule}
+use Rattle.answer_set.specs.Private.{RuleStart, nothing}
+use Rattle.answer_set.proofs.Giving.{given-one}
+use borrow.Author.Rules.{rules}
+use Rattle.answer_set.proofs.worklist.look.Goals as goal
+use Rattle.answer_set.proofs.worklist.look.Goals.{After-start-1, After-give_rule}
+
+-- the rule that is looked at
+start : (c : After-start-1) → (let a = c.args in RuleStart a.table.now a.rules (get_or a.starts.now (a.entry % 1025) 0))
+start c = let s = c.before in s.requires.rule_starts (s.args.entry % 1025)
+
+-- and what giving it tells
+told : (c : After-give_rule)
+    → (let a = c.args in
+    Marking (give_rule (marked a.inside.now) (rule_at (drop (get_or a.starts.now (a.entry % 1025) 0) a.table.now)) a.marks.now) a.marks.now c.give_rule.new.marks.0 c.give_rule.result)
+told c =
+    let a = c.args in
+    rw (tail_of (get_or a.starts.now (a.entry % 1025) 0) a.table.now) at c.give_rule.ensures
+
+pub offset_bounds-table-start : goal.offset_bounds-table-start
+offset_bounds-table-start c = let w = (start c).within in search rules
+
+pub is_ready-requires : goal.is_ready-requires
+is_ready-requires c = record { words_value = rw (tail_of _ _) (start c.before).sound; rule_le_most_rules = omega arith }
+
+pub give_rule-requires : goal.give_rule-requires
+give_rule-requires c = rw (tail_of _ _) (start c.before).sound
+
+pub heads_of-requires : goal.heads_of-requires
+heads_of-requires c = rw (tail_of _ _) (shape_of _ (start c.before).sound)
+
+pub returns-then-is_ready : goal.returns-then-is_ready
+returns-then-is_ready c = let g = c.before in
+    let d = g.before in record { upper_bound = c.wake_all.ensures; given = given-one (start d).among (told g).marks }
+
+pub returns : goal.returns
+returns c = record { upper_bound = c.get-work.ensures; given = nothing }

@@ -1,0 +1,66 @@
+use mathlib.Core.Path.{◌≡◌, refl, sym, subst, ◌∙◌}
+use Rattle.aspif.proofs.Rows.{sorted-reads, sorted-fails}
+use native.Mathlib.Omega.{arith}
+use Rattle.aspif.specs.Reading.{shape_within}
+use Rattle.aspif.specs.declared.rules.Shape.TheVariants.{Shaped, Weighed}
+use Rattle.aspif.proofs.Counts.{Counted, shape-counted}
+use Rattle.aspif.proofs.rules.take_rule.Goals as goal
+use Rattle.aspif.proofs.rules.take_rule.Goals.{In-Shaped-2, In-Weighed-2}
+
+-- the shape of the line, and its counts
+module _ (c : In-Shaped-2) where
+  shape : (let a = c.args in let g = c.kind-1.given.0 in
+      shape_within a.most a.row.now a.count ≡ Shaped g.0 g.1.0 g.1.1.0)
+  shape = sym c.rule_shape.ensures ∙ c.in-Shaped.is
+
+  counted : (let a = c.args in let g = c.kind-1.given.0 in
+      Counted a.most a.row.now a.count (Shaped g.0 g.1.0 g.1.1.0))
+  counted = let a = c.args in subst (Counted a.most a.row.now a.count) shape (shape-counted a.most a.row.now a.count)
+
+-- and of one with a weight body
+module _ (c : In-Weighed-2) where
+  shape₂ : (let a = c.args in let g = c.kind-in-Weighed-1.given.0 in
+      shape_within a.most a.row.now a.count ≡ Weighed g.0 g.1.0 g.1.1.0)
+  shape₂ = sym c.rule_shape.ensures ∙ c.in-Weighed.is
+
+  counted₂ : (let a = c.args in let g = c.kind-in-Weighed-1.given.0 in
+      Counted a.most a.row.now a.count (Weighed g.0 g.1.0 g.1.1.0))
+  counted₂ =
+      let a = c.args in
+      subst (Counted a.most a.row.now a.count) shape₂ (shape-counted a.most a.row.now a.count)
+
+pub sort_parts-requires : goal.sort_parts-requires
+sort_parts-requires c = let d = c.before in
+    let k = counted d in
+    let p = d.requires in record { sizes = (k.0, k.1, omega (arith, k, p)) }
+
+pub add_rule-requires : goal.add_rule-requires
+add_rule-requires c = let d = c.before in
+    let k = counted d in
+    let p = d.requires in
+    let l = c.sort_parts.ensures.long in record { sizes = (k.0, k.1, omega (arith, k, p, l)) }
+
+pub returns-then-sort_parts : goal.returns-then-sort_parts
+returns-then-sort_parts c =
+    let d = c.before in
+    let S = rw c.if-sort_parts.true at c.sort_parts.ensures in
+    rw (shape d, sorted-reads _ _ d.in-Shaped.kind _ _ S) c.add_rule.ensures
+
+pub take_weighed-requires : goal.take_weighed-requires
+take_weighed-requires c = let d = c.before in
+    let k = counted₂ d in
+    let p = d.requires in record { sizes = (k.0, k.4, omega (arith, k, p)); weights = k.3 }
+
+pub returns-in-Wrong : goal.returns-in-Wrong
+returns-in-Wrong c =
+    let e = sym c.rule_shape.ensures ∙ c.in-Wrong.is in
+    rw e (record { told = refl; words = refl })
+
+pub returns-else-sort_parts : goal.returns-else-sort_parts
+returns-else-sort_parts c =
+    let d = c.before in
+    let S = rw c.if-sort_parts.false at c.sort_parts.ensures in
+    rw (shape d, sorted-fails _ _ d.in-Shaped.kind _ _ S) (record { told = refl; words = refl })
+
+pub returns-in-Weighed : goal.returns-in-Weighed
+returns-in-Weighed c = rw (shape₂ c.before) c.take_weighed.ensures

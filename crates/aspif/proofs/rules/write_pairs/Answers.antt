@@ -1,0 +1,55 @@
+use mathlib.Core.Path.{◌≡◌, ◌∙◌}
+use mathlib.Core.List.{List}
+use Prim.Native.Nat.{ℕ, ◌-◌}
+use native.Mathlib.Omega.{arith}
+use lib.IntN.{ℤ, pos}
+use lib.ListN.{length, get_or, length-set}
+use lib.Seq.{take-length}
+use mir.Syntax.{w32}
+use mir.Val.{to_z, of_z}
+use mir.Facts.{to_z-of_z}
+use borrow.Author.Rules.{sfits_of}
+use Rattle.words.proofs.Words.{back}
+use Rattle.weights.specs.Weights.{paired}
+use Rattle.aspif.specs.Reading.{weight_in}
+use Rattle.aspif.proofs.Pairs.{pairs-more}
+use Rattle.aspif.proofs.rules.write_pairs.Goals as goal
+use Rattle.aspif.proofs.rules.write_pairs.Goals.{After-free-1}
+
+module _ (c : After-free-1) where
+  abbrev ls : List ℤ
+  ls = c.args.literals.now
+
+  abbrev i : ℕ
+  i = c.loop-i.i
+
+  -- the literal at i and its weight
+  literal : to_z w32 (of_z w32 (get_or ls i (pos 0))) ≡ get_or ls i (pos 0)
+  literal = back (get_or ls i (pos 0)) c.free-1.given
+
+  weight : (let ws = c.args.pairs.now in
+      to_z w32 (of_z w32 c.weight_in-weight.result) ≡ pos (weight_in (paired ws) (get_or ls i (pos 0))))
+  weight =
+      let w = c.weight_in-weight in
+      to_z-of_z (sfits_of {z = w.result} w.type_inv) ∙ rw literal at w.ensures
+
+pub bounds-free-i-in-loop-i : goal.bounds-free-i-in-loop-i
+bounds-free-i-in-loop-i c =
+    let s = c.before in
+    let l = c.loop-i in
+    simp length-set (omega (arith, l.invariant.1, s.requires.sizes.1, c.loop-i-test.true))
+
+pub loop-i-preserved : goal.loop-i-preserved
+loop-i-preserved c =
+    let s = c.before in
+    let l = c.loop-i in
+    let t = c.loop-i-test.true in
+    let m = pairs-more s.args.pairs.now (ls c) s.args.free.now (i c) t s.requires.sizes.1 (literal c) (weight c) in
+    (omega (arith, t), simp length-set l.invariant.1, rw l.invariant.2 m)
+
+pub returns : goal.returns
+returns c =
+    let l = c.loop-i in
+    let ls = c.args.literals.now in
+    let e : l.i ≡ length ls = omega (arith, c.loop-i-test.false, l.invariant.0) in
+    l.invariant.2 ∙ rw (e, take-length ls)

@@ -1,0 +1,61 @@
+use mathlib.Core.Path.{◌≡◌, refl, sym, ◌∙◌}
+use Prim.Native.Nat.{◌+◌, ◌*◌, ◌≤◌}
+use native.Mathlib.Omega.{arith}
+use lib.IntN.{pos}
+use lib.ListN.{length, take, length-replicate}
+use lib.Seq.{length-take-le}
+use Rattle.weights.specs.Weights.{paired, most_weighted}
+use Rattle.cheapest.specs.Private.{Restricts}
+use Rattle.cheapest.proofs.Answers.{same-nothing, proof-accepted, proof-refused}
+use Rattle.cheapest.proofs.Words.{sorted-few, restricts-row}
+use borrow.Author.Rules.{rules}
+use Rattle.cheapest.proofs.judge_proof.Goals as goal
+use Rattle.cheapest.proofs.judge_proof.Goals.{Start, After-write_restriction}
+
+module _ (s : Start) where
+  few : length s.args.sorted.now ≤ most_weighted
+  few = sorted-few s.args.atoms (paired s.args.pairs.now) s.requires.pairs.1 s.requires.sorted
+
+module _ (c : After-write_restriction) where
+  abbrev start : Start
+  start = c.before
+
+  long : length c.write_restriction.new.row ≡ 5 + 2 * most_weighted
+  long = search rules
+
+  words : Restricts start.args.atoms (paired start.args.pairs.now) start.args.cost
+      (take (5 + 2 * length start.args.sorted.now) c.write_restriction.new.row)
+  words =
+      let p = start.pre.1.1 in
+      restricts-row start.args.atoms start.args.pairs.now start.args.sorted.now p.0.0 p.0.1 p.1.0 start.args.cost p.1.1.0 _ _
+      c.write_restriction.ensures
+
+pub write_restriction-requires : goal.write_restriction-requires
+write_restriction-requires c = let s = c.before in
+    let p = s.requires.1.1 in record { pairs = (p.0.0, p.1.1.0); sorted = (p.1.0, few s); row = omega (arith, few s, length-replicate (5 + 2 * most_weighted) (pos 0)) }
+
+pub slice_bounds-row-end : goal.slice_bounds-row-end
+slice_bounds-row-end c = omega (arith, few c.before)
+
+pub slice_bounds-accepts-end : goal.slice_bounds-accepts-end
+slice_bounds-accepts-end c = sym (length-take-le _ _ (omega (arith, few c.before, long c.before)))
+
+pub accepts-requires : goal.accepts-requires
+accepts-requires c = let d = c.before in
+    let p = (start d).requires in record { program = p.0; short = p.1.0; rule = (paired (start d).args.pairs.now, (start d).args.cost, words d); empty = p.1.1.1.1.1 }
+
+pub returns-then-accepts : goal.returns-then-accepts
+returns-then-accepts c = λ ws p w.
+    let d = c.before in
+    let a = (start d).args in
+    proof-accepted (length a.table.now) (length a.store.now) ws (paired a.pairs.now) a.cost a.proof.now
+    (c.accepts.ensures ws p (paired a.pairs.now) a.cost (words d)) c.if-accepts.true w
+
+pub returns : goal.returns
+returns c = λ ws p w.
+    let d = c.before in
+    let a = (start d).args in
+    let s : length c.accepts.new.store.0 ≡ length a.store.now = search rules in
+    c.refuse.ensures ∙ same-nothing 63 (refl {a = length a.table.now}) s
+    ∙ proof-refused (length a.table.now) (length a.store.now) ws (paired a.pairs.now) a.cost a.proof.now
+    (c.accepts.ensures ws p (paired a.pairs.now) a.cost (words d)) c.if-accepts.false

@@ -1,0 +1,91 @@
+use mathlib.Core.Path.{◌≡◌, sym, ◌∙◌, ap, subst}
+use mathlib.Core.Bool.{true}
+use mathlib.Core.List.{List}
+use Prim.Native.Nat.{ℕ}
+use native.Mathlib.Omega.{arith}
+use lib.ListN.{length}
+use Rattle.words.specs.Lists.{ascends}
+use Rattle.weights.specs.Weights.{paired}
+use Rattle.aspif.specs.Rules.{InputRule}
+use Rattle.aspif.proofs.PairWords.{length-paired}
+use Rattle.marks.specs.Marks.{listed}
+use Rattle.answer_set.specs.SetTest.{verdict_of}
+use Rattle.steps.specs.Held.{Program}
+use Rattle.costs.specs.Costs.{total}
+use Rattle.cheapest.specs.Service.{CheapestLeft, is_yes, with_cost}
+use Rattle.cheapest.proofs.Answers.{rules-found, too-dear, no-answer-set, costs-nothing, with-proof}
+use Rattle.cheapest.proofs.Words.{good-few}
+use borrow.Author.Rules.{rules}
+use Rattle.cheapest.proofs.judge_set.Goals as goal
+use Rattle.cheapest.proofs.judge_set.Goals.{After-cost_of-cost, Start, After-is_answer_set}
+
+module _ (c : After-cost_of-cost) where
+  abbrev s : Start
+  s = c.before
+
+  abbrev T : ℕ
+  T = length s.args.table.now
+
+  abbrev S : ℕ
+  S = length s.args.store.now
+
+  -- the cost is the set's
+  cost-is : c.cost_of-cost.result ≡ total (listed s.args.set.now) (paired s.args.pairs.now)
+  cost-is = c.cost_of-cost.ensures s.args.atoms s.pre.0.0.1.high s.pre.1.1.1.1.0
+
+  with-total : {x : CheapestLeft} (ws : List InputRule) → x ≡ with_cost T S ws s.args.set.now (paired s.args.pairs.now) c.cost_of-cost.result s.args.proof.now
+      → x ≡ with_cost T S ws s.args.set.now (paired s.args.pairs.now) (total (listed s.args.set.now) (paired s.args.pairs.now)) s.args.proof.now
+  with-total ws e = e ∙ ap (λ (C : ℕ). with_cost T S ws s.args.set.now (paired s.args.pairs.now) C s.args.proof.now) cost-is
+
+module _ (c : After-is_answer_set) where
+  abbrev before-it : After-cost_of-cost
+  before-it = c.before
+
+  abbrev z : Start
+  z = s before-it
+
+  -- what is told of the set
+  told : (ws : List InputRule) → Program z.args.table.now z.args.rules z.args.atoms ws
+      → c.is_answer_set.result ≡ is_yes (verdict_of (listed z.args.set.now) ws)
+  told ws p =
+      c.is_answer_set.ensures ws (rules-found z.pre.0.1 p.holds)
+      (subst (λ (n : ℕ). ascends 0 n z.args.set.now ≡ true) p.top z.pre.1.1.1.1.0)
+
+pub cost_of-cost-requires : goal.cost_of-cost-requires
+cost_of-cost-requires c =
+    let p = c.requires.pairs in
+    let ps = c.args.pairs.now in
+    (p.0, omega (arith, length-paired ps p.0, good-few c.args.atoms (paired ps) p.1))
+
+pub returns-then-cost-gt-MOST_WEIGHT : goal.returns-then-cost-gt-MOST_WEIGHT
+returns-then-cost-gt-MOST_WEIGHT c = λ ws p w.
+    let d = c.before in
+    let a = (s d).args in
+    with-total d ws (c.refuse.ensures ∙ too-dear (T d) (S d) ws a.set.now (paired a.pairs.now) d.cost_of-cost.result a.proof.now c.if-cost-gt-MOST_WEIGHT.true)
+
+pub returns-then-not-is_answer_set : goal.returns-then-not-is_answer_set
+returns-then-not-is_answer_set c = λ ws p w.
+    let i = c.before in
+    let d = before-it i in
+    let a = (s d).args in
+    with-total d ws (c.refuse-then-not-is_answer_set.ensures
+    ∙ no-answer-set (T d) (S d) ws a.set.now (paired a.pairs.now) d.cost_of-cost.result a.proof.now i.if-cost-gt-MOST_WEIGHT.false (sym (told i ws p) ∙ c.if-not-is_answer_set.true))
+
+pub returns-then-cost-eq0 : goal.returns-then-cost-eq0
+returns-then-cost-eq0 c = λ ws p w.
+    let i = c.before in
+    let d = before-it i in
+    let a = (s d).args in
+    with-total d ws (costs-nothing (T d) (S d) ws a.set.now (paired a.pairs.now) d.cost_of-cost.result a.proof.now i.if-cost-gt-MOST_WEIGHT.false (sym (told i ws p) ∙ c.if-not-is_answer_set.false) c.if-cost-eq0.true w (s d).pre.1.1.1.1.1)
+
+pub judge_proof-requires : goal.judge_proof-requires
+judge_proof-requires c = let i = c.before in
+    let p = (s (before-it i)).pre in record { program = p.0; short = p.1.0; pairs = p.1.1.0; sorted = p.1.1.1.0; cost = i.if-cost-gt-MOST_WEIGHT.false; empty = p.1.1.1.1.1 }
+
+pub returns : goal.returns
+returns c = λ ws p w.
+    let i = c.before in
+    let d = before-it i in
+    let a = (s d).args in
+    with-total d ws (c.judge_proof.ensures ws p w
+    ∙ with-proof (T d) (S d) ws a.set.now (paired a.pairs.now) d.cost_of-cost.result a.proof.now i.if-cost-gt-MOST_WEIGHT.false (sym (told i ws p) ∙ c.if-not-is_answer_set.false) c.if-cost-eq0.false)

@@ -1,0 +1,8 @@
+use lib.ListN.{length}
+use Rattle.cheapest.proofs.Answers.{left-nothing}
+use Rattle.cheapest.proofs.refuse.Goals as goal
+
+pub returns : goal.returns
+returns c =
+    let a = c.args in
+    left-nothing (length a.table.now) (length a.store.now) c.zero_all.ensures c.zero_all-2.ensures

@@ -1,0 +1,43 @@
+use mathlib.Core.Path.{◌≡◌, sym, ◌∙◌}
+use native.Mathlib.Omega.{arith}
+use lib.IntN.{pos}
+use lib.ListN.{length}
+use Rattle.words.specs.Limits.{longest}
+use Rattle.words.proofs.Laws.{zeros}
+use Rattle.aspif.specs.Reading.{ProgramRead}
+use Rattle.checker.proofs.Verdicts.{judged-lengths, program-refused, ReadProgram, program-read, check-read, held}
+use borrow.Author.Rules.{rules}
+use Rattle.checker.proofs.check_texts.Goals as goal
+use Rattle.checker.proofs.check_texts.Goals.{In-Read-2, After-read_program-read, Start}
+
+-- what was read, where a program is
+module _ (c : In-Read-2) where
+  abbrev q : After-read_program-read
+  q = c.before
+
+  abbrev start : Start
+  start = c.before
+
+  abbrev read : ProgramRead start.args.program.now start.args.table.now q.read_program-read.new.table.0 q.read_program-read.result
+  read = q.read_program-read.ensures
+
+  found : ReadProgram (length start.args.table.now) (length start.args.store.now) start.args.program.now start.args.proof.now read.answer read.table c.in-Read.atoms c.in-Read.rules
+  found = program-read _ _ _ _ read.answer read.table _ _ c.in-Read.is
+
+pub check_proof-requires : goal.check_proof-requires
+check_proof-requires c = let d = c.before in
+    let h = held _ _ _ _ (read d).answer (read d).table (found d) (search rules) in record { program = (((found d).P, h.0), omega (arith, h.1)); empty = (zeros (pos 0) {n = length (start d).args.store.now} c.zero_all.ensures).0 }
+
+pub returns-in-Refused : goal.returns-in-Refused
+returns-in-Refused c =
+    let r = c.read_program-read.ensures in
+    program-refused _ _ _ _ r.answer r.table longest _ c.in-Refused.is c.zero_all.ensures
+
+pub returns-in-Read : goal.returns-in-Read
+returns-in-Read c =
+    let d = c.before in
+    let a : length (q d).read-program.new.1.0 ≡ length (start d).args.table.now = search rules in
+    let b : length c.zero_all.new.t.0 ≡ length (start d).args.store.now = search rules in
+    let p = found d in
+    let h = held _ _ _ _ (read d).answer (read d).table p a in
+    c.check_proof.ensures p.P h.0 h.2 ∙ judged-lengths longest p.P (start d).args.proof.now a b ∙ sym (check-read _ _ _ _ (read d).answer (read d).table longest p)

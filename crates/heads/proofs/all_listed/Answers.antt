@@ -1,0 +1,145 @@
+-- The walk along the chain of the atom: each rule of it that is not ahead has hit its name.
+use mathlib.Core.Path.{◌≡◌, refl, sym, ap, subst, ◌∙◌}
+use mathlib.Core.Logic.{inl, inr}
+use mathlib.Core.List.{List, []}
+use Prim.Native.Nat.{ℕ, suc, ◌-◌, ◌<◌}
+use native.Mathlib.Omega.{arith}
+use lib.IntN.{ℤ, pos}
+use lib.ListN.{length, get_or, set, length-set}
+use lib.Seq.{get_or-set_same, get_or-set_other}
+use Rattle.words.specs.Literals.{variable}
+use Rattle.words.proofs.Laws.{padded}
+use Rattle.words.proofs.Places.{equal?}
+use Rattle.heads.specs.Heads.{Headed, headed_to, headed_at, Place, HasHead, Hit}
+use Rattle.heads.proofs.Starts.{head_of, all_seen}
+use Rattle.heads.proofs.Walks.{walk_from, walk-on, next-less}
+use borrow.Author.Rules.{rules}
+use Rattle.heads.proofs.all_listed.Goals as goal
+use Rattle.heads.proofs.all_listed.Goals.{In-loop-p, Start, After-word_of-k, Else-j-listed, After-place_of-j}
+
+-- a hit number is the name of such a rule's body
+abbrev Named : List ℤ → ℕ → List ℕ → ℕ → List ℤ → List ℕ → Type 0
+Named t rules names v ns hits = (j : ℕ) → get_or hits j 0 ≡ 1 → (k : ℕ) × HasHead t rules v k × (get_or names k 0 ≡ variable (get_or ns j (pos 0)))
+
+-- one more hit
+hit-keeps : (names : List ℕ) (ns : List ℤ) (hits : List ℕ) (j : ℕ) → j < length hits → (k : ℕ) → Hit names ns hits k → Hit names ns (set hits j 1) k
+hit-keeps names ns hits j b k h = (
+  h.0,
+  h.1,
+  (
+    h.2.0,
+    elim (equal? h.0 j) [
+      | inl e ↦ rw e (get_or-set_same hits j 1 0 b)
+      | inr d ↦ get_or-set_other hits j h.0 1 0 d ∙ h.2.1
+    ],
+  ),
+
+)
+
+hit-named : (t : List ℤ) (rules : ℕ) (names : List ℕ) (v : ℕ) (ns : List ℤ) (hits : List ℕ) (j k : ℕ) → HasHead t rules v k
+    → get_or names k 0 ≡ variable (get_or ns j (pos 0)) → Named t rules names v ns hits → Named t rules names v ns (set hits j 1)
+hit-named t rules names v ns hits j k H e N i h = elim (equal? i j) [
+  | inl q ↦ rw q (k, H, e)
+  | inr d ↦ N i (sym (get_or-set_other hits j i 1 0 d) ∙ h)
+
+]
+
+pub loop-p-init : goal.loop-p-init
+loop-p-init c =
+    let s = c.before in
+    let z = s.requires.line.2 in (
+      refl,
+      walk_from s.requires.index.0.entered.heads.chains (omega (arith, s.requires.line.0)) c.word_of-p.ensures,
+      λ j e. absurd (omega (arith, e, ap (λ l. get_or l j 0) z, padded {A = ℕ} 0 [] (length s.args.hits.now) j)),
+    )
+
+-- the place at hand
+module _ (c : In-loop-p) where
+  abbrev s : Start
+  s = c.before
+
+  abbrev es : List Headed
+  es = headed_to s.args.rules s.args.table.now
+
+  abbrev x : ℕ
+  x = c.loop-p.p - 1
+
+  is : c.loop-p.p ≡ suc x
+  is = omega (arith, c.loop-p-test.true)
+
+  place : Place es x s.args.v
+  place = c.loop-p.invariant.1.ahead x is
+
+  room : x < 8192
+  room = omega (arith, place.0, s.pre.0.0.entered.heads.few)
+
+-- and its rule
+module _ (c : After-word_of-k) where
+  abbrev i : In-loop-p
+  i = c.before
+
+  owner : c.word_of-k.result ≡ (headed_at (es i) (x i)).rule
+  owner = c.word_of-k.ensures ∙ (s i).pre.0.0.entered.heads.owner (x i) (place i).0
+
+  headed : HasHead (s i).args.table.now (s i).args.rules (s i).args.v c.word_of-k.result
+  headed = subst (HasHead (s i).args.table.now (s i).args.rules (s i).args.v) (sym owner) (head_of (s i).args.table.now (s i).args.rules (s i).args.v (x i) (s i).pre.0.1 (place i))
+
+  in-names : c.word_of-k.result < length (s i).args.names.now
+  in-names = omega (arith, headed.0, (s i).pre.0.2)
+
+pub returns-then-j-listed : goal.returns-then-j-listed
+returns-then-j-listed c =
+    let p = c.before in
+    let w = p.before in
+    (w.word_of-k.result, headed w, rw p.wide.ensures.same at (p.place_of-j.ensures.none c.if-j-listed.true))
+
+-- the name is listed
+module _ (c : Else-j-listed) where
+  abbrev p : After-place_of-j
+  p = c.before
+
+  abbrev w : After-word_of-k
+  w = p.before
+
+  low : p.place_of-j.result < length (s (i w)).args.listed.now
+  low = omega (arith, c.if-j-listed.false, p.place_of-j.ensures.place)
+
+  named : variable (get_or (s (i w)).args.listed.now p.place_of-j.result (pos 0)) ≡ get_or (s (i w)).args.names.now w.word_of-k.result 0
+  named = p.place_of-j.ensures.here low ∙ p.wide.ensures.same
+
+  inside : p.place_of-j.result < length (i w).loop.hits
+  inside = omega (arith, low, (s (i w)).pre.1.1, (i w).loop.inv.0)
+
+pub loop-p-smaller : goal.loop-p-smaller
+loop-p-smaller c =
+    let d = i (w c.before) in
+    let e = c.word_of-p-in-loop-p.ensures in
+    omega (arith, e, next-less (s d).pre.0.0.entered.heads.chains d.loop-p.inv.1 (is d))
+
+pub loop-p-preserved : goal.loop-p-preserved
+loop-p-preserved c =
+    let e = c.before in
+    let o = w e in
+    let d = i o in
+    let j = (p e).place-of.result in
+    let a = (s d).args in
+    let hits = d.loop-p.hits in (
+      length-set hits j 1 ∙ d.loop-p.inv.0,
+      walk-on (s d).pre.0.0.entered.heads.chains d.loop-p.inv.1 (is d) c.word_of-p-in-loop-p.ensures
+          (λ y h. hit-keeps a.names.now a.listed.now hits j (inside e) _ h)
+          (λ m. (j, low e, (named e ∙ ap (λ k. get_or a.names.now k 0) (owner o), get_or-set_same hits j 1 0 (inside e)))),
+      hit-named a.table.now a.rules a.names.now a.v a.listed.now hits j o.word_of-k.result (headed o) (sym (named e)) d.loop-p.inv.2,
+    )
+
+pub returns : goal.returns
+returns c =
+    let s = c.before in
+    let a = s.args in
+    let l = c.loop-p in
+    (all_seen a.table.now a.rules a.v (Hit a.names.now a.listed.now l.hits) l.p c.loop-p-test.false l.invariant.1, l.invariant.2)
+
+pub bounds-hits-j : goal.bounds-hits-j
+bounds-hits-j c = inside c
+
+pub overflow_add-x-in-loop-p : goal.overflow_add-x-in-loop-p
+overflow_add-x-in-loop-p c = let r = room (i (w c)) in search rules

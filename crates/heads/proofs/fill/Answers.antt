@@ -1,0 +1,162 @@
+use mathlib.Core.Path.{◌≡◌, refl, sym, ap, subst, ◌∙◌}
+use mathlib.Core.Bool.{true}
+use mathlib.Core.List.{List, [], map}
+use Prim.Native.Nat.{ℕ, ◌+◌, ◌-◌, ◌≤◌, ◌<◌}
+use native.Mathlib.Numerals.{add-one}
+use native.Mathlib.Omega.{arith}
+use borrow.Author.Tests.{eqb-true}
+use lib.IntN.{ℤ}
+use lib.ListN.{length, drop, get_or, length-append, length-map, length-replicate}
+use Rattle.words.proofs.Laws.{padded}
+use Rattle.words.proofs.Parts.{tail_of}
+use Rattle.aspif.specs.Tables.{size_at, heads_at}
+use Rattle.heads.specs.Heads.{start_of, words_from, index_words, covered, headed_by, headed_to, Entered, Covers}
+use Rattle.names.proofs.ByRule.{Turn}
+use Rattle.heads.proofs.Starts.{start_first, start-on, course-at, rule-turn, heads-few}
+use Rattle.heads.proofs.Entering.{heads-on, none-entered, entered-flag}
+use borrow.Author.Rules.{rules}
+use Rattle.heads.proofs.fill.Goals as goal
+use Rattle.heads.proofs.fill.Goals.{After-rest-1, Start, In-loop-k, After-heads_of-heads}
+
+-- no rule
+no-heads : (t : List ℤ) → ◌≡◌ {A = ℕ} 0 (length (headed_to 0 t))
+
+unfolding headed_to
+
+no-heads t = refl
+
+pub loop-k-init : goal.loop-k-init
+loop-k-init c =
+    let s = c.before in
+    let t = s.args.table.now in
+    let e = s.requires.zero in (
+      omega arith,
+      sym (start_first t),
+      no-heads t,
+      subst (λ l. Entered l t 0) (sym e) (none-entered t),
+      ap (λ l. get_or l 0 0) e ∙ padded {A = ℕ} 0 [] index_words 0,
+      refl,
+    )
+
+-- the next rule
+next_start : (k : ℕ) (t : List ℤ) (i r : ℕ) → i ≡ start_of k t → r ≡ i + size_at (drop i t) → r ≡ start_of (k + 1) t
+next_start k t i r e f = rw (add-one, start-on k t, ← e) f
+
+next-heads : (k : ℕ) (t : List ℤ) (i n : ℕ) (hs : List ℤ) → i ≡ start_of k t → n ≡ length (headed_to k t) → hs ≡ heads_at (drop i t) → n + length hs ≡ length (headed_to (k + 1) t)
+next-heads k t i n hs e f g =
+    rw (add-one, heads-on k t, g, e)
+    (omega (arith, f, length-append (headed_to k t) (map (headed_by k) (heads_at (words_from k t))), length-map (heads_at (words_from k t)) (headed_by k)))
+
+-- an index that says nothing
+nothing_said : {index : List ℕ} {t : List ℤ} {rules : ℕ} → get_or index 0 0 ≡ 0 → covered index ≡ true → Covers index t rules
+nothing_said {index} e c = absurd (omega (arith, e, eqb-true (get_or index 0 0) 1 c))
+
+-- the rule at hand
+module _ (c : After-rest-1) where
+  abbrev s : Start
+  s = c.before
+
+  abbrev t : List ℤ
+  t = s.args.table.now
+
+  abbrev i : ℕ
+  i = c.loop-k.i
+
+  abbrev k : ℕ
+  k = c.loop-k.k
+
+  taken : k < s.args.rules
+  taken = c.loop-k-test.true
+
+  starts : i ≡ start_of k t
+  starts = c.loop-k.invariant.1
+
+  at : Turn (course-at t s.args.rules [] s.pre.0.0 k (omega (arith, taken)))
+  at = rule-turn t s.args.rules [] s.pre.0.0 k taken
+
+  words-at : drop i t ≡ words_from k t
+  words-at = ap (λ j. drop j t) starts
+
+in_table : (c : In-loop-k) → c.loop-k.i ≤ length c.args.table.now
+in_table c =
+    let s = c.before in
+    let l = c.loop-k in
+    rw l.invariant.1 (rule-turn s.args.table.now s.args.rules [] s.requires.program.0 l.k c.loop-k-test.true).here.0
+
+pub offset_bounds-table-i : goal.offset_bounds-table-i
+offset_bounds-table-i c = let w = in_table c in search rules
+
+pub heads_of-heads-requires : goal.heads_of-heads-requires
+heads_of-heads-requires c = rw (tail_of (i c) (t c), words-at c) (at c).here.1
+
+-- the heads of the rule
+module _ (c : After-heads_of-heads) where
+  abbrev r : After-rest-1
+  r = c.before
+
+  heads-are : c.heads_of-heads.result.now ≡ heads_at (drop (i r) (t r))
+  heads-are = c.heads_of-heads.ensures ∙ ap heads_at (tail_of (i r) (t r))
+
+  room : (r.loop-k.n ≤ 8192) × (length c.heads_of-heads.result.now ≤ 64)
+  room = (
+    omega (arith, r.loop-k.inv.2, r.loop-k.inv.3.heads.few),
+    rw (heads-are, words-at r) (heads-few (words_from (k r) (t r)) (at r).here.1),
+  )
+
+pub returns-then-i-gt-LONGEST : goal.returns-then-i-gt-LONGEST
+returns-then-i-gt-LONGEST c = nothing_said c.loop-k.invariant.4
+
+pub overflow_add-n : goal.overflow_add-n
+overflow_add-n c = let w = room c.before in search rules
+
+pub returns-then-n-heads-gt-MOST_HEADS : goal.returns-then-n-heads-gt-MOST_HEADS
+returns-then-n-heads-gt-MOST_HEADS c = nothing_said c.loop-k.invariant.4
+
+pub enter_rule-requires : goal.enter_rule-requires
+enter_rule-requires c = let e = c.before in
+    let h = e.before in
+    let d = r h in
+    let l = d.loop-k in record { index = (
+        l.inv.5 ∙ ap length (s d).pre.1 ∙ length-replicate {A = ℕ} index_words 0,
+        omega (arith, taken d, (s d).pre.0.2),
+        e.if-i-gt-LONGEST.false,
+        rw (tail_of (i d) (t d)) (rw (heads-are h) at e.if-n-heads-gt-MOST_HEADS.false),
+      ); rule = rw (tail_of (i d) (t d), words-at d) (at d).sound }
+
+pub next_rule-i-requires : goal.next_rule-i-requires
+next_rule-i-requires c = let d = c.before in record { here = rw (starts d) (at d).here }
+
+pub overflow_add-n-in-loop-k : goal.overflow_add-n-in-loop-k
+overflow_add-n-in-loop-k c = let w = room c.before in search rules
+
+pub overflow_add-k : goal.overflow_add-k
+overflow_add-k c = let d = c.before in let w = (s d).requires.program.2 in search (rules, taken d)
+
+pub loop-k-smaller : goal.loop-k-smaller
+loop-k-smaller c = let d = c.before in omega (arith, taken d)
+
+pub loop-k-preserved : goal.loop-k-preserved
+loop-k-preserved c =
+    let g = c.enter_rule in
+    let h = c.before in
+    let d = r h in
+    let l = d.loop-k in (
+      omega (arith, taken d),
+      next_start (k d) (t d) (i d) _ (starts d) c.next_rule-i.ensures.0,
+      next-heads (k d) (t d) (i d) _ _ (starts d) l.inv.2 (heads-are h),
+      subst (Entered g.new.0 (t d)) (sym (add-one (k d))) (g.ensures.0 (t d) (tail_of (i d) (t d) ∙ words-at d) (starts d) (sym l.inv.2) l.inv.3),
+      g.ensures.1 ∙ l.inv.4,
+      g.auto.0 ∙ l.inv.5,
+    )
+
+pub bounds-index-0 : goal.bounds-index-0
+bounds-index-0 c =
+    let s = c.before in
+    omega (arith, c.loop-k.invariant.5, ap length s.requires.zero, length-replicate {A = ℕ} index_words 0)
+
+pub returns : goal.returns
+returns c =
+    let s = c.before in
+    let l = c.loop-k in
+    let e : l.k ≡ s.args.rules = omega (arith, l.invariant.0, c.loop-k-test.false) in
+    λ q. record { entered = subst (Entered _ s.args.table.now) e (entered-flag 1 l.invariant.3); plain = s.requires.program.1 }

@@ -1,0 +1,172 @@
+-- The walk along the chain of the atom: each external rule of it that is not ahead has its name in the row.
+use mathlib.Core.Path.{◌≡◌, refl, sym, ap, subst, ◌∙◌}
+use mathlib.Core.Bool.{true}
+use mathlib.Core.List.{List}
+use Prim.Native.Nat.{ℕ, suc, ◌-◌, ◌≤◌, ◌<◌}
+use native.Mathlib.Omega.{arith}
+use lib.IntN.{ℤ}
+use lib.ListN.{length, take, drop}
+use Rattle.words.specs.Limits.{most_held}
+use Rattle.words.specs.Lists.{any}
+use Rattle.words.proofs.Parts.{tail_of}
+use Rattle.aspif.specs.Tables.{heads_at, sound_at, shape_sound}
+use Rattle.names.specs.Queries.{is_inside}
+use Rattle.heads.specs.Heads.{start_of, words_from, Headed, headed_to, headed_at, Place, HasHead, Gathers}
+use Rattle.heads.proofs.Starts.{rule-here, head_of, all_seen}
+use Rattle.heads.proofs.Walks.{walk_from, walk-on, next-less}
+use Rattle.heads.proofs.Bodies.{covers-few}
+use Rattle.heads.proofs.Externals.{Got, collected-few, in-row-keeps, gather-stops, head-inside}
+use borrow.Author.Rules.{rules}
+use Rattle.heads.proofs.gather_head.Goals as goal
+use Rattle.heads.proofs.gather_head.Goals.{In-loop-p, Start, After-word_of-k, After-word_of-at, After-gather_rule-count}
+
+pub loop-p-init : goal.loop-p-init
+loop-p-init c =
+    let s = c.before in
+    (s.requires.row, (λ x i. i), walk_from s.requires.index.0.entered.heads.chains (omega (arith, s.requires.head)) c.word_of-p.ensures)
+
+-- the place at hand
+module _ (c : In-loop-p) where
+  abbrev s : Start
+  s = c.before
+
+  abbrev t : List ℤ
+  t = s.args.table.now
+
+  abbrev es : List Headed
+  es = headed_to s.args.rules t
+
+  abbrev x : ℕ
+  x = c.loop-p.p - 1
+
+  is : c.loop-p.p ≡ suc x
+  is = omega (arith, c.loop-p-test.true)
+
+  place : Place es x s.args.v
+  place = c.loop-p.invariant.2.ahead x is
+
+  room : x < 8192
+  room = omega (arith, place.0, s.pre.0.0.entered.heads.few)
+
+-- its rule
+module _ (c : After-word_of-k) where
+  abbrev i : In-loop-p
+  i = c.before
+
+  abbrev k : ℕ
+  k = c.word_of-k.result
+
+  owner : k ≡ (headed_at (es i) (x i)).rule
+  owner = c.word_of-k.ensures ∙ (s i).pre.0.0.entered.heads.owner (x i) (place i).0
+
+  headed : HasHead (t i) (s i).args.rules (s i).args.v k
+  headed = subst (HasHead (t i) (s i).args.rules (s i).args.v) (sym owner) (head_of (t i) (s i).args.rules (s i).args.v (x i) (s i).pre.0.1 (place i))
+
+  few : k < most_held
+  few = omega (arith, headed.0, covers-few (s i).pre.0.0)
+
+  in-names : k < length (s i).args.names.now
+  in-names = omega (arith, headed.0, (s i).pre.0.2)
+
+  here : (start_of k (t i) ≤ length (t i)) × (sound_at (words_from k (t i)) ≡ true) × (shape_sound (words_from k (t i)) ≡ true)
+  here = rule-here (t i) (s i).args.rules (s i).pre.0.1 k headed.0
+
+  inside : any (is_inside (s i).args.inside.now) (heads_at (words_from k (t i))) ≡ true
+  inside = head-inside (s i).args.inside.now (s i).args.v (heads_at (words_from k (t i))) (s i).pre.1.0.0 (s i).pre.1.0.2 headed.1
+
+-- and where it starts
+module _ (c : After-word_of-at) where
+  abbrev o : After-word_of-k
+  o = c.before
+
+  starts : c.word_of-at.result ≡ start_of (k o) (t (i o))
+  starts = c.word_of-at.ensures ∙ (s (i o)).pre.0.0.entered.starts (k o) (headed o).0
+
+  within : c.word_of-at.result ≤ length (t (i o))
+  within = omega (arith, starts, (here o).0)
+
+  words-at : take (length (t (i o)) - c.word_of-at.result) (drop c.word_of-at.result (t (i o))) ≡ words_from (k o) (t (i o))
+  words-at = tail_of c.word_of-at.result (t (i o)) ∙ ap (λ j. drop j (t (i o))) starts
+
+pub gather_rule-count-requires : goal.gather_rule-count-requires
+gather_rule-count-requires c =
+    let w = c.before in
+    let d = i (o w) in
+    let C = d.loop-p.inv.0 in
+    (subst (λ ws. shape_sound ws ≡ true) (sym (words-at w)) (here (o w)).2, C.is, omega (arith, collected-few (s d).pre.0.2 C, covers-few (s d).pre.0.0))
+
+-- what the call gathers
+module _ (c : After-gather_rule-count) where
+  abbrev w : After-word_of-at
+  w = c.before
+
+  abbrev d : In-loop-p
+  d = i (o w)
+
+  gathers : Gathers (t d) (s d).args.rules (s d).args.names.now (s d).args.inside.now (λ j. j ≡ k (o w)) d.loop-p.row d.loop-p.count
+      c.gather_rule-count.new.row c.gather_rule-count.result
+  gathers = c.gather_rule-count.ensures (t d) (s d).args.rules (s d).args.names.now (k (o w)) (words-at w) refl (headed (o w)).0 (inside (o w)) d.loop-p.inv.0
+
+pub returns-then-count-gt-LARGEST : goal.returns-then-count-gt-LARGEST
+returns-then-count-gt-LARGEST c = gather-stops (gathers c.before) c.if-count-gt-LARGEST.true
+
+pub loop-p-smaller : goal.loop-p-smaller
+loop-p-smaller c =
+    let e = d c.before in
+    let f = c.word_of-p-in-loop-p.ensures in
+    omega (arith, f, next-less (s e).pre.0.0.entered.heads.chains e.loop-p.inv.2 (is e))
+
+pub loop-p-preserved : goal.loop-p-preserved
+loop-p-preserved c =
+    let g = c.before in
+    let h = c.if-count-gt-LARGEST.false in
+    let G = gathers g in
+    let e = d g in
+    let a = (s e).args in
+    let row = g.gather_rule-count.new.row in
+    let r = g.gather_rule-count.result in (
+      G.collected h,
+      (λ y m. G.keeps h y (e.loop-p.inv.1 y m)),
+      walk-on (s e).pre.0.0.entered.heads.chains e.loop-p.inv.2 (is e) c.word_of-p-in-loop-p.ensures
+          (λ y f X. in-row-keeps e.loop-p.row row e.loop-p.count r (G.keeps h) _ (f X))
+          (λ m. subst (Got (t e) a.rules a.names.now a.inside.now row r) (owner (o (w g))) (λ X. G.all h (k (o (w g))) refl X)),
+    )
+
+pub returns : goal.returns
+returns c =
+    let a = c.args in
+    let l = c.loop-p in
+    let b = l.invariant.0.is.within in record {
+      most = omega (arith, b);
+      unnamed = λ e. absurd (omega (arith, b));
+      collected = λ h. l.invariant.0;
+      keeps = λ h. l.invariant.1;
+      all = λ h. all_seen a.table.now a.rules a.v (Got a.table.now a.rules a.names.now a.inside.now l.row l.count) l.p c.loop-p-test.false l.invariant.2;
+    }
+
+pub overflow_add-x : goal.overflow_add-x
+overflow_add-x c = let r = room c in search rules
+
+pub overflow_add-k : goal.overflow_add-k
+overflow_add-k c = let r = few c in search rules
+
+pub offset_bounds-table-at : goal.offset_bounds-table-at
+offset_bounds-table-at c = let r = within c in search rules
+
+pub slice_bounds-rest-start : goal.slice_bounds-rest-start
+slice_bounds-rest-start c = let r = within c in search rules
+
+pub slice_bounds-rest-end : goal.slice_bounds-rest-end
+slice_bounds-rest-end c = let r = within c in search rules
+
+pub slice_bounds-rest-count : goal.slice_bounds-rest-count
+slice_bounds-rest-count c = within c
+
+pub offset_bounds-names-k : goal.offset_bounds-names-k
+offset_bounds-names-k c = let r = few (o c.before) in search rules
+
+pub bounds-names-k : goal.bounds-names-k
+bounds-names-k c = in-names (o c.before)
+
+pub overflow_add-x-in-loop-p : goal.overflow_add-x-in-loop-p
+overflow_add-x-in-loop-p c = let r = room (d c.before) in search rules

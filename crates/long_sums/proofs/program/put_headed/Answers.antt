@@ -1,0 +1,15 @@
+use native.Mathlib.Omega.{arith}
+use Rattle.text.proofs.Puts.{put_on}
+use Rattle.long_sums.proofs.Held.{held-shape}
+use Rattle.long_sums.proofs.Items.{head-put}
+use Rattle.long_sums.proofs.program.put_headed.Goals as goal
+
+pub put_head-heads-requires : goal.put_head-heads-requires
+put_head-heads-requires c = let s = c.before in record { rule = held-shape s.args.words.now s.requires.rule; room = s.requires.room }
+
+pub returns : goal.returns
+returns c = let s = c.before in
+    let heads = c.put_head-heads.ensures in
+    let count = c.put_bytes-count.ensures in
+    let end = c.put_size-end.ensures in
+    let last = c.put_bytes.ensures in record { written = head-put s.args.words.now s.requires.rule s.args.atom (put_on heads.0 (put_on count (put_on end.0 last))); within = omega (arith, heads.1, count.ends, end.1, last.ends) }

@@ -1,0 +1,101 @@
+use mathlib.Core.Path.{◌≡◌, refl, sym, ap, ◌∙◌}
+use mathlib.Core.List.{List, [], ◌∷◌}
+use Prim.Native.Nat.{ℕ, suc, ◌+◌, ◌-◌, ◌<◌}
+use native.Mathlib.Omega.{arith}
+use lib.IntN.{ℤ, pos}
+use lib.ListN.{length, take, drop, get_or}
+use Rattle.words.specs.Lists.{◌∈◌}
+use Rattle.words.specs.Literals.{variable}
+use Rattle.words.proofs.Laws.{any_none}
+use Rattle.words.proofs.Lists.{passed}
+use Rattle.words.proofs.Places.{in-at}
+use Rattle.words.proofs.Words.{back}
+use Rattle.derivation.proofs.Questions.{positive-is}
+use Rattle.loops.specs.Edges.{place_by, is_at}
+use Rattle.loops.proofs.Placing.{placed-low, place-there, place-part}
+use Rattle.loops.proofs.EdgeMarks.{filling-on, filled}
+use Rattle.loops.proofs.Chained.{numbers-left, number-split}
+use borrow.Author.Rules.{rules}
+use Rattle.loops.proofs.edges.look_up.Goals as goal
+use Rattle.loops.proofs.edges.look_up.Goals.{After-variable_of-v, In-loop-j, Start}
+
+pub loop-j-init : goal.loop-j-init
+loop-j-init c =
+    let s = c.before in
+    (omega arith, numbers-left s.args.table.now s.args.rules s.args.places.now s.requires.places.1)
+
+-- the number at hand
+module _ (c : After-variable_of-v) where
+  abbrev i : In-loop-j
+  i = c.before
+
+  abbrev s : Start
+  s = i.before
+
+  abbrev U : List ℤ
+  U = s.args.numbers.now
+
+  abbrev j : ℕ
+  j = i.loop-j.j
+
+  abbrev x : ℤ
+  x = get_or U j (pos 0)
+
+  taken : j < length U
+  taken = i.loop-j-test.taken
+
+  among : x ∈ U
+  among = in-at (pos 0) U j taken
+
+  tells : c.variable_of-v.result ≡ variable x
+  tells = rw (back x c.variable_of-arg-1.given) at c.variable_of-v.ensures
+
+  atom : x ≡ pos c.variable_of-v.result
+  atom = positive-is x ((passed _).from (s.pre.1.0.positive x among)) ∙ ap pos (sym tells)
+
+  abbrev m : List ℕ
+  m = s.args.places.now
+
+  placed : place_by m (pos c.variable_of-v.result) ≡ suc j
+  placed = sym (ap (place_by m) atom) ∙ s.pre.1.1.from j taken
+
+  there : c.variable_of-v.result < length m
+  there = place-there m c.variable_of-v.result placed
+
+  part : (n : ℕ) → n ≡ 1 → take n (drop c.variable_of-v.result m) ≡ place_by m (pos c.variable_of-v.result) ∷ []
+  part n e = place-part m c.variable_of-v.result placed n e
+
+pub mark_chain-requires : goal.mark_chain-requires
+mark_chain-requires c = let v = c.before in
+    let p = (s v).requires in
+    let a = v.variable_of-v.result in record { index = p.0; head = (part v (a + 1 - a) (omega arith), omega (arith, tells v, p.1.0.high (x v) (among v))); sizes = ((i v).loop.invariant.1.long, placed-low p.1.0.few p.1.1, (U v, p.1.1)) }
+
+pub loop-j-preserved : goal.loop-j-preserved
+loop-j-preserved c =
+    let v = c.before in
+    let a = (s v).args in (
+      omega (arith, taken v),
+      filling-on (i v).loop.invariant.1 c.mark_chain.ensures
+          (number-split a.table.now a.rules a.places.now (U v) _ (j v) (taken v) (ap (λ y. y ∷ []) (sym (atom v)))),
+    )
+
+pub returns : goal.returns
+returns c =
+    let l = c.loop-j in
+    let a = c.args in
+    filled l.invariant.1 (λ i b. rw (any_none (is_at a.places.now b) a.numbers.now c.loop-j-test.false) refl)
+
+pub overflow_add-v : goal.overflow_add-v
+overflow_add-v c = let r = there c in search rules
+
+pub slice_bounds-mark_chain-start : goal.slice_bounds-mark_chain-start
+slice_bounds-mark_chain-start c = let r = there c in search rules
+
+pub slice_bounds-mark_chain-end : goal.slice_bounds-mark_chain-end
+slice_bounds-mark_chain-end c = let r = there c in search rules
+
+pub slice_bounds-mark_chain-end-in-loop-j : goal.slice_bounds-mark_chain-end-in-loop-j
+slice_bounds-mark_chain-end-in-loop-j c = sym c.loop-j.invariant.1.long
+
+pub loop-j-smaller : goal.loop-j-smaller
+loop-j-smaller c = omega arith

@@ -1,0 +1,112 @@
+-- The walk along the chain of the atom: the edges of each rule of it that is not ahead are marked.
+use mathlib.Core.Path.{◌≡◌, refl, sym, ap, subst, ◌∙◌}
+use mathlib.Core.Bool.{true}
+use mathlib.Core.List.Memᴰ
+use mathlib.Core.List.{List, [], ◌∷◌}
+use Prim.Native.Nat.{ℕ, suc, ◌-◌, ◌<◌}
+use native.Mathlib.Omega.{arith}
+use lib.IntN.{ℤ, pos}
+use Rattle.words.specs.Lists.{◌∈◌}
+use Rattle.aspif.specs.Tables.{body_words_at, shape_sound}
+use Rattle.heads.specs.Heads.{words_from, Headed, headed_to, headed_at, Place, HasHead}
+use Rattle.heads.proofs.Starts.{rule-here, head_of, all_seen}
+use Rattle.heads.proofs.Walks.{walk_from, walk-on, next-less}
+use Rattle.loops.specs.Edges.{LowPlaces}
+use Rattle.loops.proofs.Chained.{Drawn, drawing-start, drawing-on, drawn-keeps, drawn-here, drawing-end}
+use borrow.Author.Rules.{rules}
+use Rattle.loops.proofs.edges.mark_chain.Goals as goal
+use Rattle.loops.proofs.edges.mark_chain.Goals.{In-loop-p, Start, After-mark_body, After-body_of}
+
+pub loop-p-init : goal.loop-p-init
+loop-p-init c =
+    let s = c.before in
+    let a = s.args in (
+      drawing-start a.table.now a.rules a.places.now (pos a.v ∷ []) a.edges.now s.requires.sizes.0,
+      walk_from s.requires.index.0.entered.heads.chains (omega (arith, s.requires.head)) c.first_head-p.ensures,
+    )
+
+-- the place at hand, and its rule
+module _ (c : In-loop-p) where
+  abbrev s : Start
+  s = c.before
+
+  abbrev t : List ℤ
+  t = s.args.table.now
+
+  abbrev es : List Headed
+  es = headed_to s.args.rules t
+
+  abbrev x : ℕ
+  x = c.loop-p.p - 1
+
+  is : c.loop-p.p ≡ suc x
+  is = omega (arith, c.loop-p-test.true)
+
+  place : Place es x s.args.v
+  place = c.loop-p.invariant.1.ahead x is
+
+  room : x < 8192
+  room = omega (arith, place.0, s.pre.0.0.entered.heads.few)
+
+  abbrev k : ℕ
+  k = (headed_at es x).rule
+
+  headed : HasHead t s.args.rules s.args.v k
+  headed = head_of t s.args.rules s.args.v x s.pre.0.1 place
+
+  shape : shape_sound (words_from k t) ≡ true
+  shape = (rule-here t s.args.rules s.pre.0.1 k headed.0).2
+
+pub words_of-words-requires : goal.words_of-words-requires
+words_of-words-requires c = record { index = (s c).requires.index; place = (place c).0 }
+
+pub body_of-requires : goal.body_of-requires
+body_of-requires c = subst (λ ws. shape_sound ws ≡ true) (sym c.words_of-words.ensures) (shape c.before)
+
+pub mark_body-requires : goal.mark_body-requires
+mark_body-requires c =
+    let i = c.before in
+    let low : LowPlaces (s i).args.head.now = λ p m.
+    rw (Memᴰ.eq_of_singleton (subst (λ l. p ∈ l) (s i).requires.head.0 m)) ((s i).requires.sizes.1 (pos (s i).args.v)) in
+    (i.loop-p.invariant.0.long, (s i).requires.sizes.1, low)
+
+-- what the call marks
+module _ (c : After-mark_body) where
+  abbrev b : After-body_of
+  b = c.before
+
+  abbrev d : In-loop-p
+  d = b.before
+
+  body : b.body_of.result.now ≡ body_words_at (words_from (k d) (t d))
+  body = b.body_of.ensures ∙ ap body_words_at b.words_of-words.ensures
+
+pub next_head-p-requires : goal.next_head-p-requires
+next_head-p-requires c = let r = room (d c.before) in omega (arith, r)
+
+pub loop-p-smaller : goal.loop-p-smaller
+loop-p-smaller c =
+    let i = d c.before in
+    let f = c.next_head-p.ensures in
+    omega (arith, f, next-less (s i).pre.0.0.entered.heads.chains i.loop-p.inv.1 (is i))
+
+pub loop-p-preserved : goal.loop-p-preserved
+loop-p-preserved c =
+    let m = c.before in
+    let i = d m in
+    let a = (s i).args in
+    let p = (s i).pre.0.0.plain in
+    let M = rw (s i).pre.1.0.0 at m.mark_body.ensures in (
+      drawing-on (t i) a.rules a.places.now p refl (headed i) (body m) M i.loop-p.inv.0,
+      walk-on (s i).pre.0.0.entered.heads.chains i.loop-p.inv.1 (is i) c.next_head-p.ensures
+          (λ y f. drawn-keeps (t i) a.rules a.places.now p refl (headed i) (body m) M _ f)
+          (λ q. drawn-here (t i) a.rules a.places.now p refl (headed i) (body m) M),
+    )
+
+pub returns : goal.returns
+returns c =
+    let s = c.before in
+    let a = s.args in
+    let l = c.loop-p in
+    drawing-end a.table.now a.rules a.places.now s.requires.index.0.plain refl s.requires.sizes.2.1 l.invariant.0
+    (all_seen a.table.now a.rules a.v (Drawn a.table.now a.rules a.places.now (pos a.v ∷ []) l.edges) l.p c.loop-p-test.false l.invariant.1)

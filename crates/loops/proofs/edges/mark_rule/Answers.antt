@@ -1,0 +1,98 @@
+use mathlib.Core.Path.{◌≡◌, sym, ◌∙◌}
+use mathlib.Core.Bool.{and-false}
+use mathlib.Core.List.{List}
+use Prim.Native.Nat.{ℕ, ◌≤◌}
+use native.Mathlib.Omega.{arith}
+use lib.IntN.{ℤ}
+use lib.ListN.{length, take}
+use lib.Seq.{length-take-le}
+use Rattle.words.specs.Lists.{any}
+use Rattle.aspif.specs.Rules.{bodies_of}
+use Rattle.aspif.specs.Tables.{is_weighted, heads_at, body_at}
+use Rattle.heads.proofs.Starts.{heads-few}
+use Rattle.loops.specs.Relevance.{RelevantPairs}
+use Rattle.loops.specs.Edges.{is_at, Gathered}
+use Rattle.loops.proofs.EdgeMarks.{more-none}
+use Rattle.loops.proofs.HeadPlaces.{gathered_none}
+use Rattle.loops.proofs.Expanded.{plain_more, weight-more}
+use Rattle.loops.proofs.edges.mark_rule.Goals as goal
+use Rattle.loops.proofs.edges.mark_rule.Goals.{After-gather-n, Start, After-is_weighted}
+
+pub gather-n-requires : goal.gather-n-requires
+gather-n-requires c =
+    let s = c.before in
+    (rw c.heads_of.ensures (heads-few s.args.words.now s.requires.rule.0), s.requires.sizes.1)
+
+-- the places in the row
+module _ (c : After-gather-n) where
+  abbrev s : Start
+  s = c.before
+
+  abbrev ws : List ℤ
+  ws = s.args.words.now
+
+  abbrev row : List ℕ
+  row = c.gather-n.new.row.0
+
+  abbrev n : ℕ
+  n = c.gather-n.result
+
+  here : Gathered s.args.places.now (heads_at ws) row n
+  here = rw c.heads_of.ensures at c.gather-n.ensures
+
+  within : n ≤ length row
+  within = omega (arith, here.most, heads-few ws s.pre.0.0, c.gather-n.auto.row)
+
+pub returns-then-n-eq0 : goal.returns-then-n-eq0
+returns-then-n-eq0 c =
+    let g = c.before in
+    more-none _ _ (s g).requires.sizes.0
+    (λ i j. rw (gathered_none (here g) c.if-n-eq0.true j) (and-false (any (any (is_at (s g).args.places.now i)) (bodies_of (body_at (ws g))))))
+
+-- a rule with a head that has a place
+module _ (c : After-is_weighted) where
+  abbrev g : After-gather-n
+  g = c.before
+
+  weighted : is_weighted (ws g) ≡ c.is_weighted.result
+  weighted = sym c.is_weighted.ensures
+
+  relevant : RelevantPairs (s g).args.relevant.now (body_at (ws g))
+  relevant = (s g).pre.0.1 (omega (arith, (here g).most, c.if-n-eq0.false))
+
+pub mark_pairs-requires : goal.mark_pairs-requires
+mark_pairs-requires c =
+    let a = g c.before in
+    ((s a).pre.1.0, (s a).pre.1.1, (here a).low)
+
+pub returns-then-is_weighted : goal.returns-then-is_weighted
+returns-then-is_weighted c =
+    let m = c.before in
+    let b = m.before in
+    let w = b.before in
+    weight-more (s (g w)).args.places.now (ws (g w)) (take (n (g w)) (row (g w))) b.body_of.ensures (here (g w)).has (s (g w)).args.relevant.now m.mark_pairs.ensures
+    (weighted w ∙ b.if-is_weighted.true) (relevant w)
+
+pub mark_body-requires : goal.mark_body-requires
+mark_body-requires c =
+    let a = g c.before in
+    ((s a).pre.1.0, (s a).pre.1.1, (here a).low)
+
+pub returns : goal.returns
+returns c =
+    let m = c.before in
+    let b = m.before in
+    let w = b.before in
+    plain_more (s (g w)).args.places.now (ws (g w)) (take (n (g w)) (row (g w))) b.body_of-2.ensures (here (g w)).has m.mark_body.ensures (weighted w ∙ b.if-is_weighted.false)
+
+pub slice_bounds-row-end : goal.slice_bounds-row-end
+slice_bounds-row-end c = within (g c.before)
+
+pub slice_bounds-row-end-2 : goal.slice_bounds-row-end-2
+slice_bounds-row-end-2 c = within (g c.before)
+
+pub slice_bounds-mark_pairs-end : goal.slice_bounds-mark_pairs-end
+slice_bounds-mark_pairs-end c = sym (length-take-le _ _ (within (g c.before)))
+
+pub slice_bounds-mark_body-end : goal.slice_bounds-mark_body-end
+slice_bounds-mark_body-end c = sym (length-take-le _ _ (within (g c.before)))

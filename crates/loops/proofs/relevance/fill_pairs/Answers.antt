@@ -1,0 +1,68 @@
+-- `relevance::fill_pairs` meets its contract: an entry for each pair before i.
+-- Assumes nothing.
+use mathlib.Core.Path.{◌≡◌, refl, ap, ◌∙◌}
+use mathlib.Core.Bool.{Bool, cond}
+use mathlib.Core.List.{List}
+use Prim.Native.Nat.{ℕ, ◌+◌, ◌-◌, ◌<◌}
+use lib.IntN.{ℤ, pos}
+use lib.ListN.{length, get_or, length-set}
+use mir.Syntax.{w32}
+use mir.Val.{to_z, of_z}
+use Rattle.words.proofs.Words.{back}
+use Rattle.weights.specs.Weights.{Weighted, paired}
+use Rattle.loops.specs.Relevance.{is_relevant}
+use Rattle.loops.proofs.Filling.{Filled, filled_none, filled-all, filled-room, filled_in, filled_more}
+use borrow.Author.Rules.{rules}
+use Rattle.loops.proofs.relevance.fill_pairs.Goals as goal
+use Rattle.loops.proofs.relevance.fill_pairs.Goals.{After-is_relevant-arg-in-loop-i-1, Start}
+
+-- the entry of a pair
+abbrev entry : ℕ → List ℤ → Weighted → ℕ
+entry bound pairs x = cond (is_relevant bound (paired pairs) x.literal) 1 0
+
+pub loop-i-init : goal.loop-i-init
+loop-i-init c = (filled_none _ _ c.requires.2, refl)
+
+-- the pair at i
+module _ (c : After-is_relevant-arg-in-loop-i-1) where
+  abbrev s : Start
+  s = c.before
+
+  abbrev ws : List ℤ
+  ws = s.args.pairs.now
+
+  abbrev i : ℕ
+  i = c.loop-i.i
+
+  filled : Filled (entry s.args.bound ws) ws c.loop-i.entries c.loop-i.n i
+  filled = c.loop-i.invariant.0
+
+  in-loop : i + 1 < length ws
+  in-loop = c.loop-i-test.true
+
+  literal : to_z w32 (of_z w32 (get_or ws i (pos 0))) ≡ get_or ws i (pos 0)
+  literal = back (get_or ws i (pos 0)) c.is_relevant-arg-1.given
+
+  weight : to_z w32 (of_z w32 (get_or ws (i + 1) (pos 0))) ≡ get_or ws (i + 1) (pos 0)
+  weight = back (get_or ws (i + 1) (pos 0)) c.is_relevant-arg-in-loop-i-1.given
+
+pub is_relevant-requires : goal.is_relevant-requires
+is_relevant-requires c =
+    let p = (s c).requires in (p.0, p.1, rw (literal c, weight c) (filled_in _ _ (filled c) (in-loop c)))
+
+pub bounds-entries-n : goal.bounds-entries-n
+bounds-entries-n c = let d = c.before in filled-room _ _ (filled d) (in-loop d)
+
+pub overflow_add-n : goal.overflow_add-n
+overflow_add-n c = let d = c.before in let h = filled-room _ _ (filled d) (in-loop d) in search rules
+
+pub loop-i-preserved : goal.loop-i-preserved
+loop-i-preserved c =
+    let d = c.before in
+    let l = d.loop-i in
+    let e = rw (literal d) at c.is_relevant.ensures in
+    let more = filled_more _ _ (filled d) (in-loop d) (c.one_if.ensures ∙ ap (λ (t : Bool). cond t 1 0) e) in
+    (more, length-set l.entries l.n _ ∙ l.invariant.1)
+
+pub returns : goal.returns
+returns c = filled-all _ _ c.loop-i.invariant.0 c.loop-i-test.false

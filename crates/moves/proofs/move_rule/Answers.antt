@@ -1,0 +1,37 @@
+-- `moves::move_rule` meets its contract.
+-- Assumes nothing.
+use mathlib.Core.Path.{◌≡◌}
+use mathlib.Core.Bool.{true}
+use mathlib.Core.List.{List}
+use lib.IntN.{ℤ}
+use Rattle.aspif.specs.Tables.{rule_at, sound_at}
+use Rattle.packets.specs.Bytes.{numbers_from}
+use Rattle.packets.specs.Packets.{rule_in}
+use Rattle.moves.proofs.Moving.{row-rule}
+use Rattle.moves.proofs.move_rule.Goals as goal
+use Rattle.moves.proofs.move_rule.Goals.{After-read_rule-read, Start}
+
+-- the row that the rule stands in
+module _ (c : After-read_rule-read) where
+  abbrev s : Start
+  s = c.before
+
+  abbrev row : List ℤ
+  row = c.read_rule-read.new.table
+
+  abbrev ws : List ℤ
+  ws = numbers_from 4 s.args.count s.args.bytes.now
+
+  stands : (sound_at row ≡ true) × (rule_at row ≡ rule_in s.args.from ws)
+  stands = row-rule s.args.from ws s.pre.1.0 c.read_rule-read.ensures
+
+pub put_rule-end-requires : goal.put_rule-end-requires
+put_rule-end-requires c =
+    let d = c.before in
+    ((stands d).0, (rw (stands d).1 (s d).requires.words, (s d).requires.room.1))
+
+pub returns : goal.returns
+returns c =
+    let d = c.before in
+    let p = c.put_rule-end.ensures in
+    record { size = d.read_rule-read.ensures.size; within = d.read_rule-read.ensures.within; put = rw (stands d).1 at p.0; near = p.1 }

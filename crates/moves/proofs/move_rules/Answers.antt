@@ -1,0 +1,81 @@
+-- `moves::move_rules` meets its contract. After some turns the rules before word i stand in the output.
+-- Assumes nothing.
+use mathlib.Core.Path.{◌≡◌}
+use mathlib.Core.List.{List}
+use Prim.Native.Nat.{ℕ, ◌-◌, ◌*◌, ◌<◌, ◌≤◌}
+use native.Mathlib.Omega.{arith}
+use lib.IntN.{ℤ}
+use lib.ListN.{length, drop, length-drop}
+use Rattle.words.proofs.Parts.{tail_of}
+use Rattle.packets.specs.Bytes.{numbers_from}
+use Rattle.packets.proofs.Littles.{length-numbers, numbers-later}
+use Rattle.moves.specs.Moves.{RuleMovedAs}
+use Rattle.moves.proofs.Moving.{moving-start, moving-first, moving-worded, moving-room, moving-less, moving-on, moving-end}
+use borrow.Author.Rules.{rules}
+use Rattle.moves.proofs.move_rules.Goals as goal
+use Rattle.moves.proofs.move_rules.Goals.{In-loop-i, Start, After-move_rule-moved}
+
+pub loop-i-init : goal.loop-i-init
+loop-i-init c = moving-start _ _ _ _ c.requires.1
+
+-- the words, and those that are left
+module _ (c : In-loop-i) where
+  abbrev a : Start
+  a = c.before
+
+  abbrev bytes : List ℕ
+  bytes = a.args.bytes.now
+
+  abbrev ws : List ℤ
+  ws = numbers_from 4 a.args.count bytes
+
+  abbrev i : ℕ
+  i = c.loop-i.i
+
+  some_left : i < length ws
+  some_left = omega (arith, length-numbers 4 a.args.count bytes, c.loop-i-test.true)
+
+  room : 4 * i ≤ length bytes
+  room = omega (arith, a.pre.0, c.loop-i-test.true)
+
+  later : numbers_from 4 (a.args.count - i) (drop (4 * i) bytes) ≡ drop i ws
+  later = numbers-later 4 i a.args.count bytes (omega (arith, c.loop-i-test.true))
+
+pub overflow_mul-at : goal.overflow_mul-at
+overflow_mul-at c = record { fits = omega (arith, room c) }
+
+pub slice_bounds-move_rule-count : goal.slice_bounds-move_rule-count
+slice_bounds-move_rule-count c = room c
+
+pub move_rule-moved-requires : goal.move_rule-moved-requires
+move_rule-moved-requires c = let d = c.before in
+    let m = d.loop-i.invariant in let all = rw (tail_of (4 * i d) (bytes d), later d)
+    ((omega (arith, length-drop (4 * i d) (bytes d), (a d).requires.0), omega (arith, moving-room m (some_left d))), ((moving-first m (some_left d)).passing, moving-worded m (some_left d))) in record { room = all.0; sound = all.1.0; words = all.1.1 }
+
+-- the rule there is moved
+module _ (c : After-move_rule-moved) where
+  abbrev d : In-loop-i
+  d = c.before
+
+  told : RuleMovedAs (a d).args.from (a d).args.to (drop (i d) (ws d)) d.loop-i.output c.move_rule-moved.new.output d.loop-i.end c.move_rule-moved.result
+  told = rw (tail_of (4 * i d) (bytes d), later d) at c.move_rule-moved.ensures
+
+pub overflow_add-i : goal.overflow_add-i
+overflow_add-i c =
+    let e = c.before in
+    let f = d e in
+    record { fits = omega (arith, (told e).within, length-drop (i f) (ws f), length-numbers 4 (a f).args.count (bytes f), (a f).fits.count, some_left f) }
+
+pub loop-i-smaller : goal.loop-i-smaller
+loop-i-smaller c =
+    let e = c.before in
+    let f = d e in
+    omega (arith, moving-less f.loop-i.inv (some_left f) (told e), f.loop-i-test.taken)
+
+pub loop-i-preserved : goal.loop-i-preserved
+loop-i-preserved c = let e = c.before in moving-on (d e).loop.invariant (some_left (d e)) (told e)
+
+pub returns : goal.returns
+returns c =
+    let s = c.args in
+    moving-end c.loop-i.invariant (omega (arith, c.loop-i-test.false, length-numbers 4 s.count s.bytes.now))

@@ -1,0 +1,88 @@
+use mathlib.Core.Path.{◌≡◌, sym, refl, ◌∙◌}
+use mathlib.Core.Bool.{Bool}
+use mathlib.Core.List.{List}
+use Prim.Native.Nat.{ℕ, ◌-◌}
+use native.Mathlib.Omega.{arith}
+use lib.IntN.{ℤ}
+use lib.ListN.{drop}
+use Rattle.words.specs.Lists.{any}
+use Rattle.words.specs.Literals.{same_list}
+use Rattle.words.proofs.Parts.{tail_of}
+use Rattle.aspif.specs.Rules.{Rule, expand_rule}
+use Rattle.aspif.specs.Tables.{rule_at}
+use Rattle.names.proofs.Asked.{any-bodies}
+use Rattle.names.proofs.ByRule.{course-start, no-plain-rules, Turn, turn, one_passes, none_passes}
+use borrow.Author.Rules.{rules}
+use Rattle.names.proofs.queries.body_name.Goals as goal
+use Rattle.names.proofs.queries.body_name.Goals.{After-rest-1, Start, After-has_body}
+
+-- the plain rules with the body
+abbrev with : List ℤ → Rule → Bool
+with body r = same_list body r.body
+
+-- the words from i on, and the rule there
+module _ (c : After-rest-1) where
+  abbrev s : Start
+  s = c.before
+
+  abbrev t : List ℤ
+  t = s.args.table.now
+
+  abbrev i : ℕ
+  i = c.loop-k.i
+
+  abbrev k : ℕ
+  k = c.loop-k.k
+
+  at : Turn c.loop-k.invariant.0
+  at = turn c.loop-k.invariant.0 c.loop-k-test.true
+
+-- what the call tells of the rule
+tells : (c : After-has_body)
+    → (let d = c.before in any (with (s d).args.body.now) (expand_rule (rule_at (drop (i d) (t d)))) ≡ c.has_body.result)
+tells c =
+    let d = c.before in
+    any-bodies (rule_at (drop (i d) (t d))) (same_list (s d).args.body.now) ∙ sym (rw (tail_of (i d) (t d)) at c.has_body.ensures)
+
+pub loop-k-init : goal.loop-k-init
+loop-k-init c = let a = c.args in (course-start a.table.now a.rules a.names.now c.requires.0.1.sound, refl)
+
+pub offset_bounds-table-i : goal.offset_bounds-table-i
+offset_bounds-table-i c = let w = c.loop-k.invariant.0.cursor.within in search rules
+
+pub has_body-requires : goal.has_body-requires
+has_body-requires c = rw (tail_of (i c) (t c)) (at c).sound
+
+pub name_at-requires : goal.name_at-requires
+name_at-requires c = let d = c.before in
+    let has = sym (any-bodies (rule_at (drop (i d) (t d))) _) ∙ tells c.before ∙ c.if-has_body.true in record { rule = rw (tail_of (i d) (t d)) ((at d).sound, has) }
+
+pub returns-then-has_body : goal.returns-then-has_body
+returns-then-has_body c =
+    let b = c.before in
+    let d = b.before in
+    let l = d.loop-k in
+    let here = one_passes (at d) (with (s d).args.body.now) (tells b.before ∙ b.if-has_body.true) in
+    λ ws H. rw (← H.are) (λ called K.
+    rw (l.invariant.1 ∙ here) (c.name_at.ensures called (rw (tail_of (i d) (t d)) (λ w. K.by_name ((at d).weighted w))) (rw (tail_of (i d) (t d)) ((at d).kept called K.by_rule))))
+
+pub next_rule-i-requires : goal.next_rule-i-requires
+next_rule-i-requires c = record { here = (at c.before).here }
+
+pub loop-k-preserved : goal.loop-k-preserved
+loop-k-preserved c =
+    let b = c.before in
+    let d = b.before in
+    let l = d.loop-k in
+    rw c.next_rule-i.ensures.0 ((at d).next, l.invariant.1 ∙ none_passes (at d) (with (s d).args.body.now) (tells b.before ∙ b.if-has_body.false))
+
+pub returns : goal.returns
+returns c =
+    let l = c.loop-k in
+    λ ws H. rw (← H.are) (λ called K. rw (l.invariant.1, no-plain-rules l.invariant.0 c.loop-k-test.false))
+
+pub bounds-names-k : goal.bounds-names-k
+bounds-names-k c = omega (arith, c.loop-k-test.true, (s c.before).pre.1)
+
+pub loop-k-smaller : goal.loop-k-smaller
+loop-k-smaller c = omega arith

@@ -1,0 +1,13 @@
+use mathlib.Core.Path.{◌≡◌}
+use Prim.Native.Nat.{◌-◌}
+use Rattle.words.specs.Lists.{any}
+use Rattle.aspif.specs.Rules.{expand}
+use Rattle.aspif.specs.Tables.{rules_at}
+use Rattle.names.proofs.ByRule.{Course, rest}
+use Rattle.names.proofs.queries.body_name.Given as goal
+
+abbrev pub invariant-loop-k : goal.invariant-loop-k
+invariant-loop-k l = (c : Course l.table l.rules l.names l.names l.k l.i) × (any (with l.body) (expand (rules_at l.rules l.table)) ≡ any (with l.body) (expand (rest c)))
+
+abbrev pub decreases-loop-k : goal.decreases-loop-k
+decreases-loop-k l = l.rules - l.k

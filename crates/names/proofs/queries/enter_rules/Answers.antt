@@ -1,0 +1,88 @@
+use mathlib.Core.Path.{◌≡◌, sym, refl, ◌∙◌}
+use mathlib.Core.Bool.{cond}
+use mathlib.Core.List.{List}
+use Prim.Native.Nat.{ℕ, ◌-◌, ◌<◌}
+use native.Mathlib.Omega.{arith}
+use lib.IntN.{ℤ}
+use lib.ListN.{length, drop, length-set}
+use Rattle.words.specs.Literals.{same_list}
+use Rattle.words.proofs.Parts.{tail_of}
+use Rattle.aspif.specs.Rules.{InputRule}
+use Rattle.aspif.specs.Tables.{rule_at, rules_at}
+use Rattle.names.specs.Queries.{entry}
+use Rattle.names.proofs.ByRule.{ByRule, course-start, course-set, Turn, turn, entered_on, entered_all}
+use borrow.Author.Rules.{rules}
+use Rattle.names.proofs.queries.enter_rules.Goals as goal
+use Rattle.names.proofs.queries.enter_rules.Goals.{After-rest-1, Start, After-name_for}
+
+-- what is to be kept of a rule
+abbrev new : List ℤ → ℕ → (List ℤ → ℕ) → InputRule → ℕ
+new body name called r = entry (λ L. cond (same_list body L) name (called L)) r.body
+
+-- the words from i on, and the rule there
+module _ (c : After-rest-1) where
+  abbrev s : Start
+  s = c.before
+
+  abbrev t : List ℤ
+  t = s.args.table.now
+
+  abbrev i : ℕ
+  i = c.loop-k.i
+
+  abbrev k : ℕ
+  k = c.loop-k.k
+
+  abbrev ns : List ℕ
+  ns = c.loop-k.names
+
+  at : Turn c.loop-k.invariant.0
+  at = turn c.loop-k.invariant.0 c.loop-k-test.true
+
+  room : k < length ns
+  room = omega (arith, s.pre.1, c.loop-k-test.true, c.loop-k.invariant.1)
+
+-- what the call tells of the rule and its entry
+told : (c : After-name_for) (called : List ℤ → ℕ)
+    → (let d = c.before in ByRule called (rules_at (s d).args.rules (t d)) (s d).args.names.now
+    → c.name_for.result ≡ new (s d).args.body.now (s d).args.name called (rule_at (drop (i d) (t d))))
+told c called e =
+    let d = c.before in
+    rw (tail_of (i d) (t d)) at (c.name_for.ensures called (rw (tail_of (i d) (t d)) ((at d).kept called e)))
+
+pub loop-k-init : goal.loop-k-init
+loop-k-init c =
+    let s = c.before in (course-start s.args.table.now s.args.rules s.args.names.now s.requires.0.1.sound, refl, λ called e. refl)
+
+pub offset_bounds-table-i : goal.offset_bounds-table-i
+offset_bounds-table-i c = let w = c.loop-k.invariant.0.cursor.within in search rules
+
+pub name_for-requires : goal.name_for-requires
+name_for-requires c = let d = c.before in rw (tail_of (i d) (t d)) (at d).here.1
+
+pub next_rule-i-requires : goal.next_rule-i-requires
+next_rule-i-requires c = record { here = (at c.before).here }
+
+pub loop-k-preserved : goal.loop-k-preserved
+loop-k-preserved c =
+    let d = c.before in
+    let l = d.loop-k in
+    rw c.next_rule-i.ensures.0 (
+      course-set (k d) _ (at d).next,
+      length-set (ns d) (k d) _ ∙ l.invariant.1,
+      λ called e. sym (entered_on _ (at d) (room d) (told c.before called e)) ∙ l.invariant.2 called e,
+    )
+
+pub returns : goal.returns
+returns c =
+    let l = c.loop-k in
+    λ ws H. rw (← H.are) (λ called e. entered_all l.invariant.0 _ c.loop-k-test.false (l.invariant.2 called e))
+
+pub bounds-names-k : goal.bounds-names-k
+bounds-names-k c = room c.before
+
+pub bounds-names-k-in-loop-k : goal.bounds-names-k-in-loop-k
+bounds-names-k-in-loop-k c = room c.before
+
+pub loop-k-smaller : goal.loop-k-smaller
+loop-k-smaller c = omega arith

@@ -1,0 +1,74 @@
+use mathlib.Core.Path.{◌≡◌, sym, ◌∙◌}
+use mathlib.Core.Bool.{true, false}
+use Rattle.words.specs.Lists.{any}
+use Rattle.aspif.specs.Tables.{is_weighted, heads_at, body_words_at, rule_at}
+use Rattle.aspif.proofs.Cursors.{shape_of}
+use Rattle.aspif.proofs.SoundWeights.{weighing}
+use Rattle.names.specs.Queries.{is_inside, asks_heads}
+use Rattle.names.proofs.Choosing.{also-none, also_one}
+use Rattle.names.proofs.Asked.{asked-bodies, weight-bodies, plain-bodies, plain_entry}
+use Rattle.names.proofs.queries.mark_asked.Goals as goal
+use Rattle.names.proofs.queries.mark_asked.Goals.{After-asks_heads, After-is_weighted, After-any_inside}
+
+heads : (c : After-asks_heads)
+    → (let a = c.args in asks_heads a.query a.inside.now (heads_at a.words.now) ≡ c.asks_heads.result)
+heads c = sym c.asks_heads.ensures
+
+pub returns-then-not-asks_heads : goal.returns-then-not-asks_heads
+returns-then-not-asks_heads c = λ called C e. rw (asked-bodies (rule_at _) _ _ called, heads c.before ∙ c.if-not-asks_heads.true) (also-none _)
+
+-- the query asks for the heads
+module _ (c : After-is_weighted) where
+  weighted : is_weighted c.args.words.now ≡ c.is_weighted.result
+  weighted = sym c.is_weighted.ensures
+
+  asked : (let a = c.args in asks_heads a.query a.inside.now (heads_at a.words.now) ≡ true)
+  asked = heads c.before ∙ c.if-not-asks_heads.false
+
+pub mark_bodies-requires : goal.mark_bodies-requires
+mark_bodies-requires c =
+    let d = c.before in
+    let s = d.before in
+    let w = weighing _ s.requires.rule (weighted d.before ∙ d.if-is_weighted.true) in
+    rw (c.bound_of.ensures, c.body_of.ensures) (w.bound, w.few, w.light, w.rises, s.requires.found)
+
+pub returns-then-is_weighted : goal.returns-then-is_weighted
+returns-then-is_weighted c =
+    let b = c.before in
+    let d = b.before in
+    λ called C e.
+    rw (asked-bodies (rule_at _) _ _ called, asked d.before, weight-bodies _ (weighted d.before ∙ d.if-is_weighted.true))
+    (rw (b.bound_of.ensures, b.body_of.ensures) at (b.mark_bodies.ensures called (C (weighted d.before ∙ d.if-is_weighted.true))))
+
+-- a plain rule
+module _ (c : After-any_inside) where
+  plain : is_weighted c.args.words.now ≡ false
+  plain = let d = c.before in weighted d.before ∙ d.if-is_weighted.false
+
+  inside : (let a = c.args in
+      any (is_inside a.inside.now) (body_words_at a.words.now) ≡ c.any_inside.result)
+  inside = sym (rw c.body_of-2.ensures at c.any_inside.ensures)
+
+pub returns-then-not-any_inside : goal.returns-then-not-any_inside
+returns-then-not-any_inside c =
+    let m = c.before in
+    let d = m.before in
+    let s = d.before in
+    let p = plain d.before in
+    let out = inside d.before ∙ d.if-not-any_inside.true in
+    λ called C e.
+    rw (asked-bodies (rule_at _) _ _ called, asked d.before, plain-bodies _ p, out)
+    (also_one s.requires.found m.mark.ensures.marks (e ∙ plain_entry _ p called))
+
+pub returns-else-not-any_inside : goal.returns-else-not-any_inside
+returns-else-not-any_inside c =
+    let d = c.before in
+    λ called C e.
+    rw (asked-bodies (rule_at _) _ _ called, asked d.before, plain-bodies _ (plain d), inside d ∙ c.if-not-any_inside.false)
+    (also-none _)
+
+pub asks_heads-requires : goal.asks_heads-requires
+asks_heads-requires c = shape_of _ c.requires.rule
+
+pub body_of-requires : goal.body_of-requires
+body_of-requires c = shape_of _ c.requires.rule

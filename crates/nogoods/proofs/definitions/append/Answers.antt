@@ -1,0 +1,67 @@
+use mathlib.Core.Path.{◌≡◌}
+use mathlib.Core.List.{List}
+use Prim.Native.Nat.{◌≤◌}
+use native.Mathlib.Omega.{arith}
+use lib.IntN.{ℤ}
+use lib.ListN.{length, length-drop}
+use Rattle.words.proofs.Parts.{tail_of}
+use Rattle.nogoods.specs.Store.{Stored, added_in, words_of, kept_for}
+use Rattle.nogoods.specs.Index.{Keeps}
+use Rattle.nogoods.specs.Definitions.{defined, defined_size}
+use Rattle.nogoods.proofs.Live.{closed-added}
+use Rattle.nogoods.proofs.Stored.{full, added, added-origins}
+use Rattle.nogoods.proofs.Defined.{defined-size, defined-literals}
+use Rattle.nogoods.proofs.Indexing.{covers_more}
+use Rattle.nogoods.proofs.definitions.append.Goals as goal
+use Rattle.nogoods.proofs.definitions.append.Goals.{After-make_room-end, Start}
+
+-- what is held once there is room
+module _ (c : After-make_room-end) where
+  abbrev s : Start
+  s = c.before
+
+  abbrev l : List ℤ
+  l = s.args.numbers.now
+
+  abbrev new : List Stored
+  new = added_in s.args.origin (defined l)
+
+  size : length (words_of new) ≡ defined_size (length l)
+  size = defined-size s.args.origin l s.pre.1.1.1
+
+  held : (stored : List Stored) → Keeps s.args.store.now s.args.index.now s.args.used stored
+      → Keeps c.make_room-end.new.store c.make_room-end.new.index c.make_room-end.result (kept_for (length s.args.store.now) (length (words_of new)) stored)
+  held stored K = rw size (c.make_room-end.ensures stored K)
+
+  end-in : c.make_room-end.result ≤ length c.make_room-end.new.store
+  end-in = (held s.pre.0.0 s.pre.0.1).holds.fits
+
+pub overflow_sub-store : goal.overflow_sub-store
+overflow_sub-store c = end-in c.before
+
+pub returns-then-store-end : goal.returns-then-store-end
+returns-then-store-end c =
+    λ stored K.
+    let m = c.before in
+    full K.holds (new m) (size m) (closed-added (s m).args.origin (defined (l m))) m.make_room-end.auto.store (held m stored K).holds c.if-store-end.true
+
+pub write_definition-requires : goal.write_definition-requires
+write_definition-requires c = let e = c.before in
+    let m = e.before in
+    let p = (s m).requires.1 in record { origin = p.0.1; numbers = p.1; room = rw (tail_of m.make_room-end.result m.make_room-end.new.store, length-drop) (omega (arith, e.if-store-end.false, p.1)) }
+
+pub returns : goal.returns
+returns c =
+    λ stored K.
+    let w = c.write_definition in
+    let m = c.before in
+    let o = (s m).args.origin in
+    let p = (s m).requires.1 in
+    let G = held m stored K in
+    record {
+      holds = added G.holds (new m) (size m) (defined-literals o (l m) p.1.1 p.1.0) (added-origins o p.0.0 (defined (l m)))
+          w.new.0 w.ensures;
+      scale = G.scale;
+      size = G.size;
+      covers = covers_more (new m) G.covers;
+    }

@@ -1,0 +1,63 @@
+-- The loop: as many nogoods are counted as are not left.
+use mathlib.Core.Path.{◌≡◌, ap, ◌∙◌}
+use mathlib.Core.Bool.{Bool, true, false, cond}
+use mathlib.Core.List.{List, ◌∷◌}
+use Prim.Native.Nat.{◌+◌, ◌-◌, ◌≤◌}
+use native.Mathlib.Omega.{arith}
+use lib.ListN.{length}
+use Rattle.nogoods.specs.Store.{Stored, live}
+use Rattle.nogoods.specs.Records.{dead_at, end_at, stored_at}
+use Rattle.nogoods.proofs.Live.{live-nil, live-cons, live-past, by_answer}
+use Rattle.nogoods.proofs.Recorded.{rest-next, rest_over, ahead, ahead-room}
+use borrow.Author.Rules.{rules}
+use Rattle.nogoods.proofs.store.count.Goals as goal
+use Rattle.nogoods.proofs.store.count.Goals.{In-loop-i, After-live_at-n}
+
+-- the record at i can be read
+room : (c : In-loop-i) → let s = c.args.store.now in end_at s c.loop-i.i ≤ length s
+room c = ahead-room c.loop-i.invariant.1 c.loop-i-test.true c.requires
+
+-- of the first nogood and the others
+more : (e : Stored) (es : List Stored) → length (live (e ∷ es)) ≡ cond e.dead 0 1 + length (live es)
+more e es =
+    by_answer e.dead (λ h. ap length (live-past e es h) ∙ rw h (omega arith)) (λ h. ap length (live-cons e es h) ∙ rw h (omega arith))
+
+few : (b : Bool) → cond b 0 1 ≤ 1
+few true = omega arith
+few false = omega arith
+
+pub loop-i-init : goal.loop-i-init
+loop-i-init c = (omega arith, ahead (λ stored. omega arith))
+
+pub live_at-n-requires : goal.live_at-n-requires
+live_at-n-requires c = room c
+
+-- one at most is counted
+module _ (c : After-live_at-n) where
+  abbrev dead : Bool
+  dead = dead_at c.args.store.now c.loop-i.i
+
+  one : (c.Live-at.result ≡ cond dead 0 1) × (c.Live-at.result ≤ 1)
+  one = (c.Live-at.ensures, omega (arith, c.Live-at.ensures, few dead))
+
+pub overflow_add-n : goal.overflow_add-n
+overflow_add-n c = let k = room c.before in let o = one c in let v = c.loop-i.invariant.0 in search rules
+
+pub end_at-i-requires : goal.end_at-i-requires
+end_at-i-requires c = room c.before
+
+pub loop-i-smaller : goal.loop-i-smaller
+loop-i-smaller c = omega (arith, c.loop-i-test.true, c.end_at-i.ensures)
+
+pub loop-i-preserved : goal.loop-i-preserved
+loop-i-preserved c =
+    let i = c.before in
+    let v = i.loop-i.invariant in
+    let it = stored_at i.args.store.now i.loop-i.i in
+    rw c.end_at-i.ensures (
+      omega (arith, v.0, one c.before),
+      λ stored H. rest-next (v.1 stored H) i.loop-i-test.true (λ es q. omega (arith, q, more it es, (one c.before).0)),
+    )
+
+pub returns : goal.returns
+returns c = λ stored H. omega (arith, rest_over (c.loop-i.invariant.1 stored H) c.loop-i-test.false, ap length live-nil)

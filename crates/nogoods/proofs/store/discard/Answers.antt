@@ -1,0 +1,75 @@
+-- What is kept is kept by covering; then one in front is dead, or one behind.
+use mathlib.Core.Path.{◌≡◌}
+use mathlib.Core.List.{List}
+use Rattle.nogoods.specs.Store.{Stored}
+use Rattle.nogoods.specs.Index.{Keeps, Spotted}
+use Rattle.nogoods.specs.declared.chains.Spot.{Spot}
+use Rattle.nogoods.specs.declared.chains.Spot.TheVariants.{Nowhere}
+use Rattle.nogoods.proofs.Indexing.{spotted, skips, covers-far}
+use Rattle.nogoods.proofs.store.discard.Goals as goal
+use Rattle.nogoods.proofs.store.discard.Goals.{After-cover, Start, After-walk-spot, In-Nowhere}
+
+-- what is kept after covering
+module _ (c : After-cover) where
+  abbrev s : Start
+  s = c.before
+
+  covered : (stored : List Stored) → Keeps s.args.store.now s.args.index.now s.args.used stored
+      → Keeps s.args.store.now c.cover.new.index.0 s.args.used stored
+  covered = c.cover.ensures
+
+pub walk-spot-requires : goal.walk-spot-requires
+walk-spot-requires c = let d = c.before in let p = (s d).requires in (p.0, covered d p.0 p.1)
+
+-- what the walk said
+module _ (c : After-walk-spot) where
+  abbrev d : After-cover
+  d = c.before
+
+  said : (t : Spot) → c.walk-spot.result ≡ t → (stored : List Stored) (K : Keeps (s d).args.store.now d.cover.new.index.0 (s d).args.used stored)
+      → Spotted K.scale K.covers.front (s d).args.literals.now d.cover.new.index.0 t
+  said t e stored K = spotted K.scale K.covers.front (s d).args.literals.now d.cover.new.index.0 c.walk-spot.result t e (c.walk-spot.ensures stored K)
+
+pub delete_near-requires : goal.delete_near-requires
+delete_near-requires c =
+    let w = c.before in
+    let p = (s (d w)).pre in
+    let K = covered (d w) p.0 p.1 in
+    (p.0, K, said w _ c.in-Here.is p.0 K)
+
+-- no nogood in front has the literals
+module _ (c : In-Nowhere) where
+  abbrev w : After-walk-spot
+  w = c.before
+
+  none : (stored : List Stored) (K : Keeps (s (d w)).args.store.now (s (d w)).args.index.now (s (d w)).args.used stored)
+      → Spotted (covered (d w) stored K).scale (covered (d w) stored K).covers.front (s (d w)).args.literals.now (d w).cover.last.1.1.0 Nowhere
+  none stored K = said w _ c.in-Nowhere.is stored (covered (d w) stored K)
+
+pub delete_far-requires : goal.delete_far-requires
+delete_far-requires c =
+    let e = c.before in
+    let p = (s (d (w e))).pre in
+    let K = covered (d (w e)) p.0 p.1 in
+    (p.0, K.holds, skips _ K _ c.covered-from.ensures (none e p.0 p.1))
+
+pub returns-in-Here : goal.returns-in-Here
+returns-in-Here c =
+    λ stored K.
+    let a = c.before in
+    let w = a.before in
+    let G = covered (d w) stored K in
+    c.delete_near.ensures stored G (said w _ a.in-Here.is stored G)
+
+pub returns-in-Nowhere : goal.returns-in-Nowhere
+returns-in-Nowhere c =
+    λ stored K.
+    let a = c.before in
+    let e = a.before in
+    let G = covered (d (w e)) stored K in
+    record {
+      holds = c.delete_far.ensures stored G.holds (skips _ G _ a.covered-from.ensures (none e stored K));
+      scale = G.scale;
+      size = G.size;
+      covers = covers-far _ G (none e stored K);
+    }

@@ -1,0 +1,20 @@
+-- All is kept; or the index is blank, the search has its own cells, and the store is closed up.
+use Rattle.nogoods.specs.Index.{BlankIndex}
+use Rattle.nogoods.proofs.Stored.{kept-all, kept-live}
+use Rattle.nogoods.proofs.Indexing.{keeps-blank, keeps-part}
+use native.Mathlib.Omega.{arith}
+use Rattle.nogoods.proofs.store.make_room.Goals as goal
+
+pub returns-then-size-store : goal.returns-then-size-store
+returns-then-size-store c = λ stored K. rw (kept-all K.holds c.args.size (omega (arith, c.if-size-store.true))) K
+
+pub returns : goal.returns
+returns c stored K =
+    let r = c.reset in
+    let o = c.before in
+    let k = o.before in
+    let e = k.before in
+    let blank : BlankIndex k.clear.new.index.0 = rw k.clear.auto.index k.clear.ensures in
+    rw (kept-live K.holds e.args.size (omega (arith, e.if-size-store.false)))
+    (keeps-part o.start_of_lem.result k.clear.new.index.0 r.new.0 o.start_of_lem.ensures.1 r.auto.0 o.start_of_lem.ensures.0
+    (keeps-blank (c.close.ensures stored K.holds) blank))

@@ -1,0 +1,42 @@
+-- `packets::numbers::signed_of` meets its contract.
+-- Assumes nothing.
+use mathlib.Core.Path.{sym}
+use Prim.Native.Nat.{◌<◌}
+use native.Mathlib.Omega.{arith}
+use lib.IntN.{pos, negsuc}
+use Rattle.words.proofs.Words.{back}
+use Rattle.packets.proofs.Littles.{signed-as, signed-bits, low_bits, minus-fits, minus-word}
+use Rattle.packets.proofs.numbers.signed_of.Goals as goal
+use Rattle.packets.proofs.numbers.signed_of.Goals.{After-value_of-n}
+
+-- the value is in the range of 32 bits
+small : (c : After-value_of-n) → c.value_of_lem.result < 2147483648
+small c =
+    let a = c.before in
+    signed-bits a.args.bytes.now c.value_of_lem.result a.requires.0 a.requires.1 (λ i. (c.shared_slice_known-1.given i).fits) c.value_of_lem.ensures.0
+
+pub overflow_cast-n : goal.overflow_cast-n
+overflow_cast-n c = record { sfits = omega (arith, small c) }
+
+pub overflow_sub-result : goal.overflow_sub-result
+overflow_sub-result c = minus-fits c.value_of_lem.result (small c.before)
+
+pub overflow_cast-result : goal.overflow_cast-result
+overflow_cast-result c = rw (minus-word c.value_of_lem.result (small c.before)) (record { sfits = omega (arith, small c.before) })
+
+pub returns-then-negative : goal.returns-then-negative
+returns-then-negative c =
+    let a = c.before in
+    let n = c.value_of_lem.result in
+    rw (minus-word n (small c.before), back (negsuc n) (omega (arith, small c.before)))
+    (sym (signed-as a.args.bytes.now _ n a.requires.0 c.if-negative.true-raw c.value_of_lem.ensures.0))
+
+pub overflow_cast-result-2 : goal.overflow_cast-result-2
+overflow_cast-result-2 c = rw (low_bits c.value_of_lem.result (small c.before)) (record { sfits = omega (arith, small c.before) })
+
+pub returns : goal.returns
+returns c =
+    let a = c.before in
+    let n = c.value_of_lem.result in
+    rw (low_bits n (small c.before), back (pos n) (omega (arith, small c.before)))
+    (sym (signed-as a.args.bytes.now _ n a.requires.0 c.if-negative.false-raw c.value_of_lem.ensures.0))

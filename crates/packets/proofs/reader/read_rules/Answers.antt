@@ -1,0 +1,107 @@
+-- `packets::reader::read_rules` meets its contract. After some turns the rules before word i stand in the table.
+-- Assumes nothing.
+use mathlib.Core.Path.{◌≡◌, refl, ◌∙◌}
+use mathlib.Core.List.{List}
+use Prim.Native.Nat.{ℕ, ◌-◌, ◌*◌, ◌≤◌, ◌<◌}
+use native.Mathlib.Omega.{arith}
+use lib.IntN.{ℤ}
+use lib.ListN.{length, drop, length-drop}
+use Rattle.words.proofs.Parts.{tail_of}
+use Rattle.packets.specs.Bytes.{numbers_from}
+use Rattle.packets.specs.Parts.{RuleTold}
+use Rattle.packets.proofs.Littles.{length-numbers, numbers-later}
+use Rattle.packets.proofs.RulesRead.{filling-start, filling-kept, filling-full, filling-stop, filling-near, filling-on, filling-end}
+use borrow.Author.Rules.{rules}
+use Rattle.packets.proofs.reader.read_rules.Goals as goal
+use Rattle.packets.proofs.reader.read_rules.Goals.{In-loop-i, Start, After-read_rule-read}
+
+pub loop-i-init : goal.loop-i-init
+loop-i-init c = filling-start _ _ _
+
+-- the words, and those that are left
+module _ (c : In-loop-i) where
+  abbrev a : Start
+  a = c.before
+
+  abbrev ws : List ℤ
+  ws = numbers_from 4 a.args.count a.args.bytes.now
+
+  abbrev i : ℕ
+  i = c.loop-i.i
+
+  long : length ws ≡ a.args.count
+  long = length-numbers 4 a.args.count a.args.bytes.now
+
+  some_left : i < length ws
+  some_left = omega (arith, long, c.loop-i-test.true)
+
+  room : 4 * i ≤ length a.args.bytes.now
+  room = omega (arith, a.pre, c.loop-i-test.true)
+
+-- what is told of the rule there
+module _ (c : After-read_rule-read) where
+  abbrev d : In-loop-i
+  d = c.before
+
+  abbrev after : List ℤ
+  after = c.read_rule-read.new.table
+
+  kept : length after ≡ length (a d).args.table.now
+  kept = c.read_rule-read.auto.table ∙ filling-kept d.loop-i.inv
+
+  told : RuleTold (a d).args.version (drop (i d) (ws d)) d.loop-i.table after d.loop-i.words c.read_rule-read.result
+  told =
+      let bytes = (a d).args.bytes.now in
+      rw (tail_of (4 * i d) bytes, numbers-later 4 (i d) (a d).args.count bytes (omega (arith, d.loop-i-test.taken))) at c.read_rule-read.ensures
+
+pub returns-then-rules-ge-MOST_RULES : goal.returns-then-rules-ge-MOST_RULES
+returns-then-rules-ge-MOST_RULES c = let d = c.before in rw (filling-full d.loop-i.invariant (some_left d) c.if-rules-ge-MOST_RULES.true) refl
+
+pub overflow_mul-from : goal.overflow_mul-from
+overflow_mul-from c = record { fits = omega (arith, room c.before) }
+
+pub slice_bounds-read_rule-count : goal.slice_bounds-read_rule-count
+slice_bounds-read_rule-count c = room c.before
+
+pub read_rule-read-requires : goal.read_rule-read-requires
+read_rule-read-requires c =
+    let d = c.before in
+    let bytes = (a d).args.bytes.now in
+    rw (tail_of (4 * i d) bytes) (omega (arith, length-drop (4 * i d) bytes, (a d).requires))
+
+pub returns-then-read-eq0 : goal.returns-then-read-eq0
+returns-then-read-eq0 c =
+    let e = c.before in
+    let f = d e in
+    rw (filling-stop f.loop-i.inv (some_left f) (told e) c.if-read-eq0.true) refl
+
+pub overflow_add-i : goal.overflow_add-i
+overflow_add-i c =
+    let e = c.before in
+    let f = d e in
+    record { fits = omega (arith, (told e).within, length-drop (i f) (ws f), long f, (a f).fits.count, f.loop-i-test.taken) }
+
+pub overflow_add-words : goal.overflow_add-words
+overflow_add-words c =
+    let e = c.before in
+    let f = d e in
+    let g = f.loop-i.inv in
+    let n = filling-near g (some_left f) (told e) c.if-read-eq0.false in
+    record { fits = omega (arith, n, (told e).within, length-drop (i f) (ws f), long f, room f, (a f).pre, g.near, g.few) }
+
+pub overflow_add-rules : goal.overflow_add-rules
+overflow_add-rules c = record { fits = omega (arith, c.loop-i.invariant.few) }
+
+pub loop-i-smaller : goal.loop-i-smaller
+loop-i-smaller c = let f = d c.before in omega (arith, c.if-read-eq0.false, f.loop-i-test.taken)
+
+pub loop-i-preserved : goal.loop-i-preserved
+loop-i-preserved c =
+    let e = c.before in
+    let f = d e in
+    filling-on f.loop-i.inv (some_left f) (told e) c.if-read-eq0.false c.larger-top.ensures (omega (arith, c.if-rules-ge-MOST_RULES.false))
+
+pub returns : goal.returns
+returns c =
+    let a = c.args in
+    filling-end c.loop-i.invariant (omega (arith, c.loop-i-test.false, length-numbers 4 a.count a.bytes.now))

@@ -1,0 +1,108 @@
+-- `packets::writer::put_lines` meets its contract. After a turn the steps before the position are put.
+-- Assumes nothing.
+use mathlib.Core.Path.{◌≡◌, refl, sym, ap, ◌∙◌}
+use mathlib.Core.List.{List}
+use Prim.Native.Nat.{◌-◌, ◌≤◌, max}
+use native.Mathlib.Omega.{arith}
+use lib.IntN.{ℤ, pos}
+use lib.ListN.{length, take, length-replicate}
+use lib.Seq.{length-take-le}
+use Rattle.words.specs.Limits.{most_numbers}
+use Rattle.text.specs.Classes.{byte_classes}
+use Rattle.drupe.specs.Lines.{line, line_at}
+use Rattle.drupe.proofs.Lines.{passed-line}
+use Rattle.drupe.proofs.Rows.{into-told, into-room}
+use Rattle.packets.proofs.Writes.{put-length, stepping-start, stepping-on, stepping-end, stepping-refused}
+use borrow.Author.Rules.{rules}
+use Rattle.packets.proofs.writer.put_lines.Goals as goal
+use Rattle.packets.proofs.writer.put_lines.Goals.{At-loop-letter, After-step_at-answer, In-Line-2, Start}
+
+pub loop-letter-init : goal.loop-letter-init
+loop-letter-init c = (stepping-start _ _ c.requires.0, length-replicate {A = ℤ} most_numbers (pos 0), length-replicate {A = ℤ} most_numbers (pos 0))
+
+-- no byte is added
+same : (c : At-loop-letter) → length c.loop-letter.buffer ≡ length c.args.buffer.now
+same c = put-length c.loop-letter.invariant.0.put
+
+-- where the loop stands, when a line was read there
+abbrev here : After-step_at-answer → At-loop-letter
+here c = c.before
+
+-- the line that was read
+module _ (c : In-Line-2) where
+  abbrev b : After-step_at-answer
+  b = c.before
+
+  abbrev l : At-loop-letter
+  l = here b
+
+  abbrev a : Start
+  a = l.before
+
+  abbrev numbers : List ℤ
+  numbers = b.step_at-answer.new.numbers
+
+  there : (let g = c.answer-1.given.0 in line_at a.args.text.now l.loop-letter.position ≡ line g.0 (take g.1.0 numbers) g.1.1.0)
+  there = into-told b.step_at-answer.ensures c.in-Line.is
+
+  -- its numbers are within the row
+  room : (let g = c.answer-1.given.0 in (g.1.0 ≤ most_numbers) × (g.1.0 ≤ length numbers))
+  room =
+      let u = into-room b.step_at-answer.ensures c.in-Line.is in
+      (u.2, omega (arith, u.2, b.step_at-answer.kept.1.1.1.0, l.loop-letter.inv.1))
+
+pub slice_bounds-step_at-end : goal.slice_bounds-step_at-end
+slice_bounds-step_at-end c = let p = c.loop-letter.invariant.1 in search rules
+
+pub slice_bounds-step_at-end-in-loop-letter : goal.slice_bounds-step_at-end-in-loop-letter
+slice_bounds-step_at-end-in-loop-letter c = let p = c.loop-letter.invariant.2 in search rules
+
+pub step_at-answer-requires : goal.step_at-answer-requires
+
+unfolding byte_classes
+
+step_at-answer-requires c κs = let i = c.loop-letter.invariant in (refl, (i.1, i.2))
+
+pub returns-in-End : goal.returns-in-End
+returns-in-End c = let b = c.before in stepping-end (here b).loop.invariant.0 (into-told b.step_at-answer.ensures c.in-End.is)
+
+pub returns-in-Refused : goal.returns-in-Refused
+returns-in-Refused c = let b = c.before in stepping-refused (here b).loop.invariant.0 _ (into-told b.step_at-answer.ensures c.in-Refused.is)
+
+pub slice_bounds-numbers-end : goal.slice_bounds-numbers-end
+slice_bounds-numbers-end c = (room c.before).1
+
+pub slice_bounds-put_step-end : goal.slice_bounds-put_step-end
+slice_bounds-put_step-end c = sym (length-take-le _ _ (room c.before).1)
+
+pub put_step-end-requires : goal.put_step-end-requires
+put_step-end-requires c =
+    let d = c.before in
+    let S = (l d).loop.invariant.0 in
+    (rw (length-take-le _ _ (room d).1) (room d).0, omega (arith, S.near, S.within, (a d).requires.0, (a d).requires.1))
+
+pub slice_bounds-numbers-end-in-Line : goal.slice_bounds-numbers-end-in-Line
+slice_bounds-numbers-end-in-Line c = (room c.before).1
+
+pub slice_bounds-largest_variable-end : goal.slice_bounds-largest_variable-end
+slice_bounds-largest_variable-end c = sym (length-take-le _ _ (room c.before).1)
+
+pub overflow_add-steps : goal.overflow_add-steps
+overflow_add-steps c =
+    let d = c.before in
+    let S = (l d).loop.invariant.0 in
+    record { fits = omega (arith, S.few, S.within, (a d).requires.0) }
+
+pub loop-letter-smaller : goal.loop-letter-smaller
+loop-letter-smaller c =
+    let d = c.before in
+    let u = passed-line (a d).args.text.now (l d).loop.position (there d) in
+    omega (arith, u.0, u.1)
+
+pub loop-letter-preserved : goal.loop-letter-preserved
+loop-letter-preserved c =
+    let d = c.before in
+    let p = c.put_step-end.ensures in
+    let i = (l d).loop.invariant in
+    let k = (b d).step-at.auto in
+    (stepping-on i.0 (there d) p.0 p.1 (c.larger-top.ensures ∙ ap (max (l d).loop.top) c.largest_variable.ensures), k.1.1.1.0 ∙ i.1, k.1.1.1.1.0 ∙ i.2)

@@ -1,0 +1,13 @@
+-- `packets::writer::put_step` meets its contract: the letter, the count, and the numbers.
+-- Assumes nothing.
+use native.Mathlib.Omega.{arith}
+use lib.ListN.{length}
+use Rattle.text.specs.Bytes.{byte_of}
+use Rattle.text.proofs.Puts.{put_on}
+use Rattle.packets.proofs.Writes.{put_two}
+use Rattle.packets.proofs.writer.put_step.Goals as goal
+
+pub returns : goal.returns
+returns c = let a = c.before in
+    let n = c.put_all_lem.ensures in
+    let letter = rw c.byte_of.ensures at c.put.ensures in record { put = put_on (put_two (byte_of a.args.letter) (length a.args.numbers.now) letter c.put-2.ensures) n.0; upper_bound = omega (arith, n.1, a.requires.0) }

@@ -1,0 +1,152 @@
+-- The loop: the assignment grows by what follows, and the entries from the end on are free.
+use mathlib.Core.Path.{◌≡◌, sym, subst, ◌∙◌}
+use mathlib.Core.List.{List}
+use Prim.Native.Nat.{ℕ, ◌+◌, ◌*◌, ◌-◌, ◌≤◌, ◌<◌}
+use native.Mathlib.Omega.{arith}
+use lib.IntN.{ℤ}
+use lib.ListN.{length, get_or}
+use Rattle.words.specs.Limits.{entries}
+use Rattle.nogoods.specs.Index.{fixed_cells, cells_per_chain, scale_of, proved_cells, Marked}
+use Rattle.nogoods.proofs.Indexing.{scale-room, roomy}
+use Rattle.nogoods.specs.Records.{Readable, Stands}
+use Rattle.propagation.specs.Propagate.{Grows, DerivesAt}
+use Rattle.propagation.specs.declared.units.Derived.{Derived}
+use Rattle.propagation.specs.declared.units.Derived.TheVariants.{Assigned}
+use Rattle.nogoods.proofs.Recorded.{readable}
+use Rattle.propagation.proofs.Assignments.{blank-set}
+use Rattle.propagation.proofs.Closures.{grows-not, grows-on, derived, conflicting, clashes-before}
+use Rattle.propagation.proofs.replay.replay.Goals as goal
+use Rattle.propagation.proofs.replay.replay.Goals.{Else-m-eq0, Start, Then-is_start, At-loop-k, After-derive_at-given, In-Assigned}
+
+-- the first of the search's cells at whose end the path stands
+abbrev path_at : ℕ → ℕ
+path_at m = proved_cells m + 40960
+
+-- the cell that says where the path begins
+abbrev first_at : ℕ → ℕ
+first_at m = proved_cells m + 49283
+
+-- the cells of an index whose scale is not 0
+cells : (index : List ℕ) (m : ℕ) → m ≡ scale_of (length index) → (m ≡ 0 → ⊥) → cells_per_chain * m + fixed_cells ≤ length index
+cells index m e h = rw e (scale-room (length index) (omega (arith, h, e)))
+
+module _ (c : Else-m-eq0) where
+  abbrev scale : ℕ
+  scale = c.scale_of-m.result
+
+  abbrev started : Start
+  started = c.before
+
+  enough : cells_per_chain * scale + fixed_cells ≤ length started.args.index.now
+  enough = cells started.args.index.now scale c.scale_of-m.ensures.value c.if-m-eq0.false
+
+pub bounds-index-at : goal.bounds-index-at
+bounds-index-at c = omega (arith, enough c.before)
+
+pub bounds-index-at-in-loop-k : goal.bounds-index-at-in-loop-k
+bounds-index-at-in-loop-k c = omega (arith, c.loop-k-test.true, enough c.before)
+
+pub is_start-requires : goal.is_start-requires
+is_start-requires c =
+    let e = c.before in
+    roomy (started e).args.index.now (scale e) e.scale_of-m.ensures.value (omega (arith, e.if-m-eq0.false))
+
+-- the nogood at the place
+module _ (d : Then-is_start) where
+  abbrev l : At-loop-k
+  l = d.before
+
+  abbrev e : Else-m-eq0
+  e = l.before
+
+  abbrev s : Start
+  s = started e
+
+  abbrev words : List ℤ
+  words = s.args.nogoods.now
+
+  abbrev x : ℕ
+  x = get_or s.args.index.now (path_at (scale e) + l.loop-k.k) 0
+
+  stands : Stands words x
+  stands =
+      let t = d.is_start.ensures d.if-is_start.taken in
+      subst (λ (n : ℕ). Marked n words s.args.index.now) (sym e.scale_of-m.ensures.value) s.pre.1.0 x t.0 t.1
+
+  read : Readable words x
+  read = readable words x s.pre.0 stands
+
+  size : length l.loop-k.assignment ≡ entries
+  size = l.loop-k.inv.0.size ∙ s.pre.1.1.0
+
+pub derive_at-given-requires : goal.derive_at-given-requires
+derive_at-given-requires c = let d = c.before in record { record = read d; size = size d }
+
+-- what it gave
+module _ (c : After-derive_at-given) where
+  abbrev at : Then-is_start
+  at = c.before
+
+  told : (y : Derived) → c.derive_at-given.result ≡ y → DerivesAt (words at) (x at) (l at).loop.assignment c.derive_at-given.new.assignment.0 y
+  told y e = rw e at c.derive_at-given.ensures
+
+pub returns-in-Conflicting : goal.returns-in-Conflicting
+returns-in-Conflicting c =
+    let o = c.before in
+    let d = at o in
+    let t = told o _ c.in-Conflicting.is in
+    let v = (l d).loop.inv in (
+      clashes-before _ _ _ v.0 (conflicting _ _ (stands d) t.0 (read d).literals (l d).loop.assignment (size d) t.1.1),
+      (v.1.0, rw t.1.0 v.1.1),
+    )
+
+-- the variable that it assigned
+module _ (c : In-Assigned) where
+  abbrev o : After-derive_at-given
+  o = c.before
+
+  abbrev v : ℕ
+  v = c.in-Assigned.v
+
+  gives : DerivesAt (words (at o)) (x (at o)) (l (at o)).loop.assignment o.derive_at-given.new.assignment.0 (Assigned v)
+  gives = told o _ c.in-Assigned.is
+
+  grown : Grows (words (at o)) (l (at o)).loop.assignment o.derive_at-given.new.assignment.0 × (v < entries)
+  grown =
+      let d = at o in
+      let g = derived _ _ (stands d) gives.0 (read d).literals (l d).loop.assignment (size d) _ _ gives.1 in
+      (g.0, g.3)
+
+pub past-end-requires : goal.past-end-requires
+past-end-requires c = ((l (at (o c))).loop.inv.1.0, (grown c).1)
+
+pub loop-k-smaller-in-Assigned : goal.loop-k-smaller-in-Assigned
+loop-k-smaller-in-Assigned c = omega (arith, (at (o c.before)).loop-test.taken)
+
+pub loop-k-preserved-in-Assigned : goal.loop-k-preserved-in-Assigned
+loop-k-preserved-in-Assigned c =
+    let k = c.before in
+    let i = (l (at (o k))).loop in
+    let p = c.past-end.ensures in
+    (grows-on i.inv.0 (grown k).0, (p.1.1, rw (gives k).1.3 (blank-set i.assignment (v k) _ i.end _ i.inv.1.1 p.0 p.1.0)))
+
+pub loop-k-smaller-in-Nothing : goal.loop-k-smaller-in-Nothing
+loop-k-smaller-in-Nothing c = omega (arith, (at c.before).loop-test.true)
+
+pub loop-k-preserved-in-Nothing : goal.loop-k-preserved-in-Nothing
+loop-k-preserved-in-Nothing c = let o = c.before in rw (told o _ c.in-Nothing.is).0 (l (at o)).loop.inv
+
+pub loop-k-smaller : goal.loop-k-smaller
+loop-k-smaller c = omega (arith, c.loop-k-test.true)
+
+pub loop-k-preserved : goal.loop-k-preserved
+loop-k-preserved c = c.loop-k.invariant
+
+pub returns-then-m-eq0 : goal.returns-then-m-eq0
+returns-then-m-eq0 c = grows-not
+
+pub loop-k-init : goal.loop-k-init
+loop-k-init c = (grows-not, c.requires.start)
+
+pub returns : goal.returns
+returns c = c.loop-k.invariant.0

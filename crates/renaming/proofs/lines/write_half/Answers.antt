@@ -1,0 +1,97 @@
+use mathlib.Core.Path.{◌≡◌, refl, subst, ◌∙◌}
+use mathlib.Core.List.{List}
+use Prim.Native.Nat.{ℕ, ◌-◌, ◌≤◌, ◌<◌}
+use native.Mathlib.Omega.{arith}
+use lib.IntN.{ℤ, pos}
+use lib.ListN.{length, get_or, length-replicate}
+use mir.Syntax.{w32}
+use mir.Val.{to_z, of_z}
+use mir.Facts.{to_z-of_z}
+use Rattle.words.specs.Limits.{longest, most_numbers}
+use Rattle.text.specs.Classes.{byte_classes}
+use Rattle.renaming.specs.Writing.{Writes}
+use Rattle.renaming.specs.Standing.{all_standing}
+use Rattle.renaming.specs.declared.lines.Wrote.TheVariants.{At, Over}
+use Rattle.renaming.proofs.Agrees.{half-stands}
+use Rattle.renaming.proofs.Walk.{Walks, walk_start, walk_ends, walk-over, walk-on}
+use borrow.Author.Rules.{rules}
+use Rattle.renaming.proofs.lines.write_half.Goals as goal
+use Rattle.renaming.proofs.lines.write_half.Goals.{After-write_at, At-loop-next, Start, In-Goes}
+
+-- where the loop stands, and what the turn there left
+module _ (c : After-write_at) where
+  abbrev l : At-loop-next
+  l = c.before
+
+  abbrev start : Start
+  start = l.before
+
+  abbrev new : ℕ → ℕ
+  new v = get_or start.args.new.now v 0
+
+  abbrev output' : List ℕ
+  output' = c.write_at.new.output
+
+  literal : to_z w32 (of_z w32 start.args.x) ≡ start.args.x
+  literal = to_z-of_z start.fits.x
+
+  same-output : length output' ≡ length start.args.output.now
+  same-output = c.write_at.auto.output ∙ l.loop-next.inv.2
+
+pub loop-next-init : goal.loop-next-init
+loop-next-init c =
+    let s = c.before in
+    (walk_start _ _ _ _ _ _ _ _, s.requires.at, refl, length-replicate {A = ℤ} most_numbers (pos 0), length-replicate {A = ℤ} most_numbers (pos 0))
+
+pub slice_bounds-write_at-end : goal.slice_bounds-write_at-end
+slice_bounds-write_at-end c = let p = c.loop-next.invariant.3 in search rules
+
+pub slice_bounds-write_at-end-in-loop-next : goal.slice_bounds-write_at-end-in-loop-next
+slice_bounds-write_at-end-in-loop-next c = let p = c.loop-next.invariant.4 in search rules
+
+pub write_at-requires : goal.write_at-requires
+
+unfolding byte_classes
+
+write_at-requires c κs =
+    let k = c.before in
+    let i = k.loop-next.invariant in
+    let s = k.before in
+    (i.1, (rw (to_z-of_z s.ranges.x) s.requires.literal.1, (s.requires.new, (refl, (i.3, i.4)))))
+
+pub returns-in-Ends : goal.returns-in-Ends
+returns-in-Ends c =
+    let t = c.before in
+    let a = (start t).args in
+    λ N P bodies ts H.
+    rw (half-stands (new t) H)
+    (subst (λ (x : ℤ). Writes (all_standing x (new t) a.shared.now a.has_body a.has-constraint 0 ts) a.output.now (output' t) a.at (At (l t).loop.end)) (literal t)
+    (walk_ends a.text.now _ (new t) a.shared.now a.has_body a.has-constraint a.output.now a.at (l t).loop.invariant.0 (l t).loop.invariant.1 (output' t) c.in-Ends.is t.write_at.ensures ts H.reads))
+
+pub returns-in-Over : goal.returns-in-Over
+returns-in-Over c =
+    let t = c.before in
+    let a = (start t).args in
+    λ N P bodies ts H.
+    rw (half-stands (new t) H)
+    (subst (λ (x : ℤ). Writes (all_standing x (new t) a.shared.now a.has_body a.has-constraint 0 ts) a.output.now (output' t) a.at Over) (literal t)
+    (walk-over a.text.now _ (new t) a.shared.now a.has_body a.has-constraint a.output.now a.at (l t).loop.invariant.0 (l t).loop.invariant.1 (output' t) c.in-Over.is t.write_at.ensures ts H.reads))
+
+onward : (c : In-Goes)
+    → (let t = c.before in let g = c.next-1.given.0 in let a = (start t).args in
+    Walks a.text.now (to_z w32 (of_z w32 a.x)) (new t) a.shared.now a.has_body a.has-constraint a.output.now a.at (output' t) g.0 g.1.0 g.1.1.0
+    × ((g.1.1.0 ≤ longest) × (((l t).loop.position < g.0) × (g.0 ≤ length a.text.now))))
+onward c =
+    let t = c.before in
+    let a = (start t).args in
+    walk-on a.text.now _ (new t) a.shared.now a.has_body a.has-constraint a.output.now a.at (l t).loop.invariant.0 (l t).loop.invariant.1 (output' t) _ _ _ c.in-Goes.is t.write_at.ensures
+
+pub loop-next-smaller : goal.loop-next-smaller
+loop-next-smaller c = let o = onward c in omega (arith, o.1.1.0, o.1.1.1)
+
+pub loop-next-preserved : goal.loop-next-preserved
+loop-next-preserved c =
+    let t = c.before in
+    let o = onward c in
+    let i = (l t).loop.invariant in
+    (o.0, o.1.0, same-output t, t.write_at.auto.numbers ∙ i.3, t.write_at.auto.sorted ∙ i.4)

@@ -1,0 +1,56 @@
+use mathlib.Core.Path.{◌≡◌, refl}
+use mathlib.Core.Bool.{false}
+use mathlib.Core.List.{List}
+use mathlib.Core.Option.{none}
+use Prim.Native.Nat.{◌≤◌}
+use native.Mathlib.Omega.{arith}
+use lib.IntN.{ℤ, pos}
+use lib.ListN.{length, take}
+use Rattle.words.specs.Literals.{has}
+use Rattle.drupe.specs.Lines.{line_refusal, line, line_at}
+use Rattle.drupe.proofs.Lines.{passed-line}
+use Rattle.drupe.proofs.Rows.{into-told, into-room}
+use Rattle.steps.proofs.Turns.{good-line}
+use Rattle.renaming.proofs.Renamed.{turn-bounds}
+use Rattle.renaming.proofs.renames.rename_at.Goals as goal
+use Rattle.renaming.proofs.renames.rename_at.Goals.{In-Line-2, After-step_at-answer, Start}
+
+-- the line that was read
+module _ (c : In-Line-2) where
+  abbrev b : After-step_at-answer
+  b = c.before
+
+  abbrev start : Start
+  start = b.before
+
+  abbrev numbers : List ℤ
+  numbers = b.step_at-answer.new.numbers
+
+  there : (let g = c.answer-1.given.0 in line_at start.args.second.now start.args.at ≡ line g.0 (take g.1.0 numbers) g.1.1.0)
+  there = into-told b.step_at-answer.ensures c.in-Line.is
+
+  -- its numbers are within the row
+  room : c.in-Line.count ≤ length numbers
+  room =
+      let u = into-room b.step_at-answer.ensures c.in-Line.is in
+      let k = b.step_at-answer.kept.1.1.1.0 in
+      let r = start.pre.1.0.0 in
+      omega (arith, u.2, k, r)
+
+  good : (let g = c.answer-1.given.0 in let zs = take g.1.0 numbers in (line_refusal g.0 zs ≡ none) × (has (pos 0) zs ≡ false))
+  good = let u = passed-line start.args.second.now start.args.at there in (u.2, u.3)
+
+pub rename_line-from-requires : goal.rename_line-from-requires
+rename_line-from-requires c = let d = c.before in let all = (good-line d.in-Line.letter (take d.in-Line.count (numbers d)) (good d).0 (good d).1, (start d).requires.1.1) in record { line = all.0; program = all.1.0; index = all.1.1.0; cursor = all.1.1.1 }
+
+pub returns-in-End : goal.returns-in-End
+returns-in-End c = record { within = tt; renamed = λ ws H called K. rw (into-told c.step_at-answer.ensures c.in-End.is) (refl, refl, refl) }
+
+pub returns-in-Refused : goal.returns-in-Refused
+returns-in-Refused c = record { within = tt; renamed = λ ws H called K. rw (into-told c.step_at-answer.ensures c.in-Refused.is) refl }
+
+pub returns-in-Line : goal.returns-in-Line
+returns-in-Line c = let t = c.before in
+    let d = t.before in
+    let g = d.answer-1.given.0 in
+    let u = passed-line (start d).args.second.now (start d).args.at (there d) in record { within = turn-bounds _ _ g.1.1.0 t.rename_line-from.result u.0 u.1 c.turn_to.ensures; renamed = λ ws H called K. rw (there d) (t.rename_line-from.result, c.turn_to.ensures, t.rename_line-from.ensures ws H called K) }

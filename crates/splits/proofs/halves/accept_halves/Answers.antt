@@ -1,0 +1,99 @@
+use mathlib.Core.Path.{◌≡◌, sym, ◌∙◌, ap, subst}
+use mathlib.Core.Bool.{true}
+use Prim.Native.Nat.{ℕ, ◌≤◌}
+use native.Mathlib.Omega.{arith}
+use lib.IntN.{ℤ, pos}
+use lib.ListN.{length, replicate, length-replicate}
+use mir.Syntax.{w32}
+use mir.Val.{to_z, of_z}
+use mir.Facts.{to_z-of_z, to_z_pos}
+use Rattle.words.proofs.Laws.{zeros}
+use Rattle.words.specs.Limits.{largest}
+use Rattle.words.specs.Literals.{complement}
+use Rattle.words.proofs.Lists.{passed, and-decides, leb-decides}
+use Rattle.words.proofs.Literals.{variable-complement}
+use Rattle.derivation.specs.States.{is_atom}
+use Rattle.names.specs.ByName.{body_words}
+use Rattle.heads.specs.Heads.{name_words}
+use Rattle.merging.specs.Claims.{demanding_as_written}
+use Rattle.splits.specs.Halves.{HalfChecked}
+use Rattle.splits.proofs.Accepting.{no-atom, no-half, halves-checked}
+use borrow.Author.Rules.{sfits_of}
+use Rattle.splits.proofs.halves.accept_halves.Goals as goal
+use Rattle.splits.proofs.halves.accept_halves.Goals.{Else-not-is_atom, Start, After-accepts_with, After-complement_of}
+
+-- the number is an atom, and a literal
+module _ (c : Else-not-is_atom) where
+  abbrev s : Start
+  s = c.before
+
+  is-atom : is_atom s.args.atoms s.args.v ≡ true
+  is-atom = sym c.is_atom.ensures ∙ c.if-not-is_atom.false
+
+  small : s.args.v ≤ largest
+  small =
+      let h = (and-decides (leb-decides 1 s.args.v) (leb-decides s.args.v s.args.atoms)).to ((passed _).from is-atom) in
+      omega (arith, h.1, s.pre.0.0.1.high)
+
+  literal : to_z w32 s.args.v ≡ pos s.args.v
+  literal = to_z_pos w32 {n = s.args.v} (omega (arith, small))
+
+-- what the check of the second half left
+module _ (c : After-accepts_with) where
+  abbrev e : Else-not-is_atom
+  e = c.before
+
+  -- as many words as were lent
+  same_store : length c.accepts_with.new.store.0 ≡ length (s e).args.store.now
+  same_store = c.accepts_with.auto.store
+
+  same_names : length c.accepts_with.new.names ≡ name_words
+  same_names = c.accepts_with.auto.names ∙ ap length (s e).pre.1.1.1.0 ∙ length-replicate {A = ℕ} name_words 0
+
+  same-bodies : {n : ℕ} → (s e).args.bodies.now ≡ replicate n (pos 0) → length c.accepts_with.new.bodies ≡ n
+  same-bodies {n} b = c.accepts_with.auto.bodies ∙ ap length b ∙ length-replicate {A = ℤ} n (pos 0)
+
+-- the atom's complement
+module _ (c : After-complement_of) where
+  abbrev d : Else-not-is_atom
+  d = c.before
+
+  other : to_z w32 (of_z w32 c.complement_of.result) ≡ complement (pos (s d).args.v)
+  other = to_z-of_z (sfits_of {z = c.complement_of.result} c.complement_of.type_inv) ∙ c.complement_of.ensures ∙ ap complement (literal d)
+
+pub returns-then-not-is_atom : goal.returns-then-not-is_atom
+returns-then-not-is_atom c = let t = c.before in
+    let q = sym c.is_atom.ensures ∙ c.if-not-is_atom.true in record { empty = t.requires.empty; checked = λ ws p. no-atom _ ws _ _ _ p.top q }
+
+pub overflow_cast-atom : goal.overflow_cast-atom
+overflow_cast-atom c = record { sfits = omega (arith, small c) }
+
+pub accepts_with-requires : goal.accepts_with-requires
+accepts_with-requires c = let x = c.before in
+    let p = (s x).requires in record { program = p.0; short = p.1.0; atom = rw (literal x) (is-atom x); start = (p.1.1.0.1, p.1.1.1.0); bodies = p.1.1.1.1.0; empty = p.1.1.1.1.1 }
+
+pub returns-then-not-accepts_with : goal.returns-then-not-accepts_with
+returns-then-not-accepts_with c = let a = c.before in
+    let x = e a in
+    let r = a.accepts_with.ensures in record { empty = r.0; checked = λ ws p. no-half _ ws _ _ _ p.top (is-atom x) (literal x) (r.1 ws p) (c.if-not-accepts_with.true) }
+
+pub complement_of-requires : goal.complement_of-requires
+complement_of-requires c = let x = c.before in rw (literal x) (small x)
+
+pub accepts_with-requires-2 : goal.accepts_with-requires-2
+accepts_with-requires-2 c = let k = c.before in
+    let x = d k in
+    let a = c.before in
+    let p = (s x).pre in record { program = p.0; short = p.1.0; atom = rw (other k, variable-complement (pos (s x).args.v)) (is-atom x); start = (p.1.1.0.0, c.zero_names.ensures ∙ ap (λ (n : ℕ). replicate n 0) (same_names a)); bodies = λ w. c.zero_bodies.ensures ∙ ap (λ (n : ℕ). replicate n (pos 0)) (same-bodies a {n = body_words} (p.1.1.1.1.0 w)); empty = (zeros (pos 0) {n = length (s x).args.store.now} a.accepts_with.ensures.empty).0 }
+
+pub returns : goal.returns
+returns c = let b = c.accepts-with2 in
+    let k = c.before in
+    let a = c.before in
+    let x = e a in
+    let v = (s x).args.v in record { empty = b.ensures.0 ∙ ap (λ (n : ℕ). replicate n (pos 0)) (same_store a); checked = λ ws p.
+          let Half : ℕ → Type 0 = λ n.
+          HalfChecked (s x).args.atoms (demanding_as_written ws (complement (to_z w32 (of_z w32 k.complement_of.result)))) n (s x).args.first.now
+          b.new.1.1.1.1.1.0 b.new.1.1.1.1.1.1.0 b.new.1.1.1.1.1.1.1.0 b.result in
+          halves-checked (length (s x).args.store.now) ws v _ _ p.top (is-atom x) (literal x) (a.accepts_with.ensures.checked ws p)
+          (c.if-not-accepts_with.false) (other k) (subst Half (same_store a) (b.ensures.1 ws p)) }

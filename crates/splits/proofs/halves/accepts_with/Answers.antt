@@ -1,0 +1,41 @@
+use mathlib.Core.Path.{◌≡◌, sym, ap}
+use mathlib.Core.List.{List}
+use Prim.Native.Nat.{ℕ, ◌+◌, ◌≤◌}
+use native.Mathlib.Omega.{arith}
+use lib.IntN.{pos}
+use lib.ListN.{length, replicate, length-replicate}
+use mir.Facts.{to_z-of_z}
+use Rattle.words.specs.Literals.{complement}
+use Rattle.aspif.specs.Rules.{InputRule}
+use Rattle.steps.specs.Held.{Program}
+use Rattle.merging.specs.Claims.{demanding_as_written}
+use Rattle.splits.proofs.Demands.{demanded, demanded-bodies}
+use borrow.Author.Rules.{rules}
+use Rattle.splits.proofs.halves.accepts_with.Goals as goal
+use Rattle.splits.proofs.halves.accepts_with.Goals.{After-append_demand, Start}
+
+-- zeros are as long as they are
+blank : (n : ℕ) → (n ≤ length (replicate n (pos 0))) × (replicate n (pos 0) ≡ replicate (length (replicate n (pos 0))) (pos 0))
+blank n = (omega (arith, length-replicate n (pos 0)), ap (λ (k : ℕ). replicate k (pos 0)) (sym (length-replicate n (pos 0))))
+
+pub append_demand-requires : goal.append_demand-requires
+append_demand-requires c = let p = c.requires in record { rules = p.0.0.1.holds.sound; short = p.1.0; wide = blank 65565 }
+
+-- the program with the constraint
+module _ (c : After-append_demand) where
+  abbrev s : Start
+  s = c.before
+
+  whole : {ws : List InputRule} → Program s.args.table.now s.args.rules s.args.atoms ws
+      → Program c.append_demand.new.wide.0 (s.args.rules + 1) s.args.atoms (demanding_as_written ws (complement s.args.literal))
+  whole p = let k = rw (to_z-of_z s.fits.literal) at c.append_demand.ensures in demanded p s.args.literal s.pre.1.1.0 k.0 k.1
+
+pub accepts-requires : goal.accepts-requires
+accepts-requires c = let d = c.before in
+    let p = (s d).requires in
+    let q = p.0.0.1 in
+    let w = whole d q in record { program = ((demanding_as_written p.0.0.0 (complement (s d).args.literal), w), omega (arith, p.0.1)); start = p.1.1.1.0; bodies = demanded-bodies q (s d).args.literal p.1.1.0 w p.1.1.1.1.0; empty = p.1.1.1.1.1 }
+
+pub returns : goal.returns
+returns c = let a = c.accepts.ensures in
+    let d = c.before in record { empty = a.0; checked = λ ws p. a.1 (demanding_as_written ws (complement (s d).args.literal)) (whole d p) }

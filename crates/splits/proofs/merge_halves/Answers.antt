@@ -1,0 +1,47 @@
+use mathlib.Core.Path.{◌≡◌, ◌∙◌}
+use lib.IntN.{pos}
+use lib.ListN.{length}
+use Rattle.words.proofs.Laws.{zeros}
+use Rattle.aspif.specs.Reading.{ProgramRead, program}
+use Rattle.aspif.proofs.Shorter.{read-shorter}
+use Rattle.checker.proofs.Verdicts.{ReadProgram, program-read, held}
+use Rattle.splits.proofs.Answers.{unread-halves, merge-read, reading-same}
+use borrow.Author.Rules.{rules}
+use Rattle.splits.proofs.merge_halves.Goals as goal
+use Rattle.splits.proofs.merge_halves.Goals.{In-Read-2, After-read_program-read, Start}
+
+-- what was read, where a program is
+module _ (c : In-Read-2) where
+  abbrev q : After-read_program-read
+  q = c.before
+
+  abbrev start : Start
+  start = q.before
+
+  abbrev read : ProgramRead start.args.program.now start.args.table.now q.read_program-read.new.table.0 q.read_program-read.result
+  read = q.read_program-read.ensures
+
+  found : ReadProgram (length start.args.table.now) (length start.args.store.now) start.args.program.now start.args.first.now read.answer read.table c.in-Read.atoms c.in-Read.rules
+  found = program-read _ _ _ _ read.answer read.table _ _ c.in-Read.is
+
+pub merge_read-requires : goal.merge_read-requires
+merge_read-requires c = let d = c.before in
+    let f = found d in
+    let h = held _ _ _ _ (read d).answer (read d).table f (search rules) in record { program = ((f.P, h.0), h.1); short = rw h.0.holds.are (read-shorter _ _ f.P f.read); empty = ((zeros (pos 0) {n = length (start d).args.store.now} c.zero_all.ensures).0, (zeros 0 {n = length (start d).args.output.now} c.zero_bytes.ensures).0) }
+
+pub returns-in-Refused : goal.returns-in-Refused
+returns-in-Refused c =
+    let r = c.read_program-read.ensures in
+    unread-halves _ _ _ _ _ _ _ r.answer r.table _ c.in-Refused.is c.zero_all.ensures c.zero_bytes.ensures
+
+pub returns-in-Read : goal.returns-in-Read
+returns-in-Read c =
+    let d = c.before in
+    let f = found d in
+    let t : length (q d).read-program.new.1.0 ≡ length (start d).args.table.now = search rules in
+    let s : length c.zero_all.new.t.0 ≡ length (start d).args.store.now = search rules in
+    let o : length c.zero_bytes.new.bytes.0 ≡ length (start d).args.output.now = search rules in
+    let h = held _ _ _ _ (read d).answer (read d).table f t in
+    let a = (start d).args in
+    c.merge_read.ensures f.P h.0 h.2 ∙ reading-same a.atom a.first.now a.second.now (program f.P) t s o
+    ∙ merge-read (length a.table.now) (length a.store.now) (length a.output.now) a.program.now a.atom a.first.now a.second.now (read d).answer (read d).table f.P f.read

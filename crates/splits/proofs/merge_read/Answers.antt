@@ -1,0 +1,76 @@
+use mathlib.Core.Path.{◌≡◌, refl, ◌∙◌}
+use mathlib.Core.List.{List}
+use Prim.Native.Nat.{ℕ}
+use lib.IntN.{ℤ, pos}
+use lib.ListN.{length}
+use Rattle.words.proofs.Laws.{zeros}
+use Rattle.aspif.specs.Rules.{InputRule}
+use Rattle.drupe.specs.Texts.{text_of}
+use Rattle.steps.specs.Held.{Program}
+use Rattle.aspif.specs.Reading.{program}
+use Rattle.splits.specs.Service.{merged_steps, leaves_nothing, merged_reading}
+use Rattle.splits.specs.declared.MergeAnswer.TheVariants.{Refused}
+use Rattle.splits.specs.declared.texts.Written.TheVariants as Written
+use Rattle.splits.proofs.Answers.{same-nothing, judged-same, not_written, Text, is-written}
+use native.Mathlib.Omega.{arith}
+use borrow.Author.Rules.{rules}
+use Rattle.splits.proofs.merge_read.Goals as goal
+use Rattle.splits.proofs.merge_read.Goals.{After-write-written, Start}
+
+-- what 57 and 58 left
+module _ (c : After-write-written) where
+  abbrev start : Start
+  start = c.before
+
+  abbrev store' : List ℤ
+  store' = c.write-written.new.store
+
+  abbrev output' : List ℕ
+  output' = c.write-written.new.output.0
+
+  -- the lengths of what was lent
+  abbrev t : ℕ
+  t = length start.args.table.now
+
+  abbrev s : ℕ
+  s = length start.args.store.now
+
+  abbrev o : ℕ
+  o = length start.args.output.now
+
+  same_store : length store' ≡ s
+  same_store = c.write-written.auto.store
+
+  same-output : length output' ≡ o
+  same-output = c.write-written.auto.output
+
+  module _ (ws : List InputRule) (p : Program start.args.table.now start.args.rules start.args.atoms ws) where
+    -- the merged text
+    abbrev text : List ℕ
+    text = text_of (merged_steps ws start.args.v start.args.first.now start.args.second.now)
+
+    refused : (k : ℕ) → c.write-written.result ≡ Written.Refused k
+        → leaves_nothing t s o (Refused k) ≡ merged_reading t s o start.args.v start.args.first.now start.args.second.now (program ws)
+    refused k e = not_written t s o ws start.args.v start.args.first.now start.args.second.now output' same-output k e (c.write-written.ensures.written ws p)
+
+    written : (n : ℕ) → c.write-written.result ≡ Written.Text n → Text t s o ws start.args.v start.args.first.now start.args.second.now output' same-output n
+    written n e = is-written t s o ws start.args.v start.args.first.now start.args.second.now output' same-output n e (c.write-written.ensures.written ws p)
+
+-- a program that was read is far below the limits of one with constraints behind it
+pub write-written-requires : goal.write-written-requires
+write-written-requires c = let p = c.requires in record { program = (p.0.0, omega (arith, p.0.1)); short = omega (arith, p.1.0); empty = p.1.1 }
+
+pub judge-requires : goal.judge-requires
+judge-requires c = let d = c.before in
+    let q = (start d).requires.program in record { program = q; empty = (zeros (pos 0) {n = s d} d.write-written.ensures.empty).0; text = (written d q.0.0 q.0.1 _ c.in-Text.is).within }
+
+pub returns-in-Refused : goal.returns-in-Refused
+returns-in-Refused c = λ ws p w.
+    let d = c.before in
+    c.refuse.ensures ∙ same-nothing _ (refl {a = t d}) (same_store d) (same-output d) ∙ refused d ws p _ c.in-Refused.is
+
+pub returns-in-Text : goal.returns-in-Text
+returns-in-Text c = λ ws p w.
+    let d = c.before in
+    let T = written d ws p _ c.in-Text.is in
+    c.judge.ensures ws (text d ws p) p w T.is T.holds ∙ judged-same ws (text d ws p) (refl {a = t d}) (same_store d) (same-output d) ∙ T.judged

@@ -1,0 +1,6 @@
+use mathlib.Core.Path.{sym, ◌∙◌}
+use mathlib.Core.Bool.{true≢false}
+use Rattle.splits.proofs.texts.write_plain.Goals as goal
+
+pub write_halves-requires : goal.write_halves-requires
+write_halves-requires c = let p = c.requires in record { program = p.0; short = p.1.0; index = c.fill.ensures; bodies = (λ e. absurd (true≢false (sym p.1.1.0 ∙ e))); empty = p.1.1.1 }

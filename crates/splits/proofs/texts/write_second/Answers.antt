@@ -1,0 +1,49 @@
+use mathlib.Core.Path.{◌≡◌, refl, subst}
+use mathlib.Core.List.{List, []}
+use Prim.Native.Nat.{ℕ}
+use lib.IntN.{ℤ}
+use lib.ListN.{get_or}
+use mir.Facts.{to_z-of_z}
+use Rattle.merging.specs.Merge.{half}
+use Rattle.renaming.specs.Standing.{HalfOf}
+use Rattle.renaming.specs.Writing.{Writes}
+use Rattle.renaming.specs.declared.lines.Wrote.{Wrote}
+use Rattle.renaming.proofs.Written.{then-written, over-more}
+use Rattle.splits.specs.Joined.{HalfText, lines_of, closing}
+use Rattle.splits.proofs.texts.write_second.Goals as goal
+use Rattle.splits.proofs.texts.write_second.Goals.{After-write_half-wrote, Start}
+
+-- the half's lines
+module _ (c : After-write_half-wrote) where
+  abbrev s : Start
+  s = c.before
+
+  abbrev new : ℕ → ℕ
+  new u = get_or s.args.new.now u 0
+
+  abbrev output' : List ℕ
+  output' = c.write_half-wrote.new.output
+
+  abbrev Lines : Wrote → HalfText s.args.second.now s.args.x s.args.shared.now s.args.added → Type 0
+  Lines r h = Writes (lines_of h new) s.args.output.now output' s.args.at r
+
+  wrote : (r : Wrote) → c.write_half-wrote.result ≡ r → (h : HalfText s.args.second.now s.args.x s.args.shared.now s.args.added) → Lines r h
+  wrote r e h =
+      subst (λ (r : Wrote). Lines r h) e
+      (subst (λ (x : ℤ). HalfOf s.args.second.now x s.args.shared.now s.args.added.body s.args.added.constraint h.N h.P h.bodies h.ts
+      → Writes (half h.P x new h.bodies [] h.ts) s.args.output.now output' s.args.at c.write_half-wrote.result) (to_z-of_z s.fits.x)
+      (c.write_half-wrote.ensures h.N h.P h.bodies h.ts) h.is)
+
+pub write_line-requires : goal.write_line-requires
+write_line-requires c = let w = c.before in record { at = (wrote w _ c.in-At.is (s w).requires.half).2; numbers = refl }
+
+pub returns-in-At : goal.returns-in-At
+returns-in-At c = λ h.
+    let w = c.before in
+    let u = c.write_line in
+    then-written (lines_of h (new w)) closing (s w).args.output.now (output' w) u.new.1.1.0 (s w).args.at _ u.result (wrote w _ c.in-At.is h) u.ensures
+
+pub returns-in-Over : goal.returns-in-Over
+returns-in-Over c = λ h.
+    let w = c.before in
+    over-more (lines_of h (new w)) closing (s w).args.output.now (output' w) (output' w) (s w).args.at (wrote w _ c.in-Over.is h)

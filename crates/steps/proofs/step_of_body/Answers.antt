@@ -1,0 +1,34 @@
+use mathlib.Core.Path.{◌≡◌, subst}
+use mathlib.Core.List.{[], ◌∷◌}
+use Rattle.text.specs.declared.Letter.{Letter}
+use Rattle.text.specs.declared.Letter.TheVariants.{Completion}
+use Rattle.steps.specs.Held.{PassedLine}
+use Rattle.steps.proofs.Arms.{second}
+use Rattle.steps.proofs.step_of_body.Goals as goal
+use Rattle.steps.proofs.step_of_body.Goals.{Start, In_default}
+
+-- the line passed 22 to 25 for the letter that was told
+line : (s : Start) {x : Letter} → s.args.letter ≡ x → PassedLine x s.args.line.now
+line s e = subst (λ x. PassedLine x s.args.line.now) e s.requires.line
+
+-- the letter is not `b`
+other : (m : In_default) → (let s = m.before in s.args.letter ≡ Completion)
+other m = second m.requires.letter (0 ∷ 2 ∷ 3 ∷ 4 ∷ 5 ∷ 6 ∷ []) tt m.in_default.keys2
+
+pub body-requires : goal.body-requires
+body-requires c = let t = c.before in
+    let s = t.before in record { program = s.requires.program; index = s.requires.index; store = s.requires.store; line = line s t.in-Body.is }
+
+pub completion-requires : goal.completion-requires
+completion-requires c = let m = c.before in
+    let s = m.before in record { program = s.requires.program; index = s.requires.index; store = s.requires.store; line = line s (other m) }
+
+pub returns-in-Body : goal.returns-in-Body
+returns-in-Body c =
+    let t = c.before in
+    λ N ws h z b tracks K. rw t.in-Body.is (c.body.ensures N ws h z b tracks K)
+
+pub returns-in_default : goal.returns-in_default
+returns-in_default c =
+    let m = c.before in
+    λ N ws h z b tracks K. rw (other m) (c.completion.ensures N ws h z b tracks K)

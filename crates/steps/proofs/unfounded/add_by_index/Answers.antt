@@ -1,0 +1,38 @@
+use mathlib.Core.Path.{refl}
+use mathlib.Core.List.{List}
+use Prim.Native.Nat.{ℕ}
+use lib.IntN.{ℤ, pos}
+use lib.ListN.{get_or}
+use Rattle.aspif.specs.Rules.{InputRule, expand}
+use Rattle.names.specs.Queries.{asked_names}
+use Rattle.names.specs.declared.queries.Query.TheVariants.{External}
+use Rattle.steps.specs.Held.{Above, LoopNogood}
+use borrow.Author.Rules.{rules}
+use Rattle.steps.proofs.unfounded.add_by_index.Goals as goal
+use Rattle.steps.proofs.unfounded.add_by_index.Goals.{After-look_up-found, Start}
+
+pub look_up-found-requires : goal.look_up-found-requires
+look_up-found-requires c = let p = c.requires in record { state = p.0; index = p.1.0; set = p.1.1.0; row = refl }
+
+-- what was found
+module _ (c : After-look_up-found) where
+  abbrev s : Start
+  s = c.before
+
+  abbrev h : ℤ
+  h = get_or s.args.numbers.now 0 (pos 0)
+
+  abbrev asked : List InputRule → (List ℤ → ℕ) → List ℕ
+  asked ws called = asked_names External s.args.inside.now called (expand ws)
+
+  gives : (ws : List InputRule) (called : List ℤ → ℕ) → Above s.args.table.now s.args.rules s.args.names.now s.args.bodies.now h ws called
+      → LoopNogood (asked ws called) h c.look_up-found.new.row.0 c.look_up-found.result
+  gives = c.look_up-found.ensures
+
+pub add_found-requires : goal.add_found-requires
+add_found-requires c = let k = c.before in
+    let p = (s k).requires in
+    let t = p.0 in record { found = (asked k t.0 t.1, h k, gives k t.0 t.1 t.2); store = p.1.1.1 }
+
+pub returns : goal.returns
+returns c = let k = c.before in λ ws called A b K. c.add_found.ensures (asked k ws called) (h k) (gives k ws called A) b K

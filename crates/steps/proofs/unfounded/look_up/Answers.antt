@@ -1,0 +1,96 @@
+use mathlib.Core.Path.{◌≡◌, refl, ap, subst, ◌∙◌}
+use mathlib.Core.List.{List, ◌∷◌, map}
+use Prim.Native.Nat.{ℕ, ◌+◌, ◌-◌, ◌≤◌}
+use native.Mathlib.Omega.{arith}
+use lib.IntN.{ℤ, pos}
+use lib.ListN.{length, take, drop, get_or}
+use borrow.Rule.Slice.PartMut.{put_mid}
+use Rattle.words.specs.Limits.{most_held}
+use Rattle.words.specs.Literals.{complement}
+use Rattle.words.proofs.Words.{back}
+use Rattle.text.specs.declared.Letter.TheVariants.{Loop}
+use Rattle.aspif.specs.Rules.{InputRule, expand}
+use Rattle.names.specs.Queries.{asked_names}
+use Rattle.names.specs.declared.queries.Query.TheVariants.{External}
+use Rattle.heads.specs.Heads.{Externals}
+use Rattle.heads.specs.declared.Found.TheVariants.{Names}
+use Rattle.steps.specs.Held.{Above}
+use Rattle.steps.proofs.Tracking.{rules-held}
+use Rattle.steps.proofs.Letters.{some_number, first-low, first-high}
+use Rattle.steps.proofs.Gathering.{put-others, put-size}
+use Rattle.steps.proofs.LoopSteps.{row-nogood}
+use borrow.Author.Rules.{rules}
+use Rattle.steps.proofs.unfounded.look_up.Goals as goal
+use Rattle.steps.proofs.unfounded.look_up.Goals.{In-Names-2, After-external_names-found, Start}
+
+pub external_names-found-requires : goal.external_names-found-requires
+external_names-found-requires c = let p = c.requires in
+    let A = p.0.2 in
+    let l = p.1.1.0.1.literals in record { program = (A.holds.sound, omega (arith, A.kept.rules, rules-held A.holds)); index = p.1.0; set = (p.1.1.0.0, λ x i. (l.low x i, l.high x i)); row = search (rules, p.1.1.1) }
+
+-- the names in the row after its first word
+module _ (c : In-Names-2) where
+  abbrev e : After-external_names-found
+  e = c.before
+
+  abbrev s : Start
+  s = e.before
+
+  abbrev row : List ℤ
+  row = e.external_names-found.new.row.0
+
+  abbrev n : ℕ
+  n = c.in-Names.n
+
+  abbrev put : List ℤ
+  put = put_mid 1 (length s.args.row.now - 1) s.args.row.now row
+
+  some : 1 ≤ length s.args.row.now
+  some = omega (arith, s.pre.1.1.1)
+
+  others : drop 1 put ≡ row
+  others = put-others s.args.row.now row some
+
+  long : length put ≡ most_held + 2
+  long = put-size s.args.row.now row some ∙ search (rules, e.external_names-found.kept.1.1.1.1.1.1.0, s.pre.1.1.1)
+
+  module _ (ws : List InputRule) (called : List ℤ → ℕ) (A : Above s.args.table.now s.args.rules s.args.names.now s.args.bodies.now (get_or s.args.numbers.now 0 (pos 0)) ws called) where
+    externals : Externals (asked_names External s.args.inside.now called (expand ws)) row (Names n)
+    externals =
+        subst (Externals (asked_names External s.args.inside.now called (expand ws)) row) c.in-Names.is
+        (e.external_names-found.ensures ws A.holds s.args.bodies.now called A.kept)
+
+  -- as it is known before
+  held : (let p = s.pre.0 in Externals (asked_names External s.args.inside.now p.1 (expand p.0)) row (Names n))
+  held = let p = s.pre.0 in externals p.0 p.1 p.2
+
+pub bounds-numbers-0 : goal.bounds-numbers-0
+bounds-numbers-0 c = some_number Loop refl (s c.before).pre.1.1.0.1
+
+pub complete-requires : goal.complete-requires
+complete-requires c = let f = c.before in
+    let E = held f in record { row = (long f, E.0); names = rw (others f) (λ x i. (E.2 x i).2) }
+
+pub overflow_add-result : goal.overflow_add-result
+overflow_add-result c = let E = held c.before in record { fits = omega (arith, E.0) }
+
+pub returns-in-Names : goal.returns-in-Names
+returns-in-Names c =
+    λ ws called A.
+    let k = c.before in
+    let f = k.before in
+    let line = (s f).requires.set.1 in
+    let h = get_or (s f).args.numbers.now 0 (pos 0) in
+    let E = externals f ws called A in
+    row-nogood A (s f).args.inside.now (row f) k.complete.new.row (n f) (first-low Loop refl line) (first-high Loop refl line) E
+    (omega (arith, k.complete.auto.row, long f, E.0))
+    (k.complete.ensures ∙ ap (λ x. x ∷ map complement (take (n f) (drop 1 (put f)))) (back h k.complete-arg-1.given)
+    ∙ ap (λ l. h ∷ map complement (take (n f) l)) (others f))
+
+pub returns-in-Unnamed : goal.returns-in-Unnamed
+returns-in-Unnamed c =
+    let e = c.before in
+    let s = e.before in
+    λ ws called A.
+    subst (Externals (asked_names External s.args.inside.now called (expand ws)) e.external_names-found.new.row.0) c.in-Unnamed.is
+    (e.external_names-found.ensures ws A.holds s.args.bodies.now called A.kept)

@@ -1,0 +1,80 @@
+use mathlib.Core.Path.{◌≡◌, refl, sym, ◌∙◌}
+use mathlib.Core.Bool.{true}
+use mathlib.Core.List.{List}
+use Prim.Native.Nat.{◌≤◌}
+use native.Mathlib.Omega.{arith}
+use lib.IntN.{ℤ}
+use Rattle.words.specs.Lists.{all}
+use Rattle.words.specs.Literals.{variable, top}
+use Rattle.marks.specs.Marks.{marked}
+use Rattle.text.specs.declared.Letter.TheVariants.{Loop}
+use Rattle.aspif.specs.Rules.{expand}
+use Rattle.aspif.specs.Tables.{rules_at}
+use Rattle.derivation.specs.Loops.{is_loop}
+use Rattle.steps.specs.Held.{PassedLine, name_of}
+use Rattle.steps.proofs.Letters.{cited}
+use Rattle.steps.proofs.LoopSteps.{members, names-above, loop-atoms, loop-not, loop-ends}
+use borrow.Author.Rules.{rules}
+use Rattle.steps.proofs.unfounded.loops.Goals as goal
+use Rattle.steps.proofs.unfounded.loops.Goals.{Else-atoms-largest_variable, Start, After-is_loop}
+
+-- what the first two tests leave
+module _ (c : Else-atoms-largest_variable) where
+  abbrev s : Start
+  s = c.before
+
+  abbrev U : List ℤ
+  U = s.args.numbers.now
+
+  line : PassedLine Loop U
+  line = s.pre.1.1.1.1
+
+  known : all (λ x. marked s.args.known.now (variable x)) U ≡ true
+  known = let d = c.before in sym d.all_marked.ensures ∙ d.if-not-all_marked.false
+
+  low : top U ≤ s.args.atoms
+  low = omega (arith, c.if-atoms-largest_variable.false, c.largest_variable.ensures)
+
+pub returns-then-not-all_marked : goal.returns-then-not-all_marked
+returns-then-not-all_marked c =
+    let s = c.before in
+    λ ws p z b tracks K. rw (cited z tracks Loop s.args.numbers.now s.requires.line refl (sym c.all_marked.ensures ∙ c.if-not-all_marked.true)) refl
+
+pub returns-then-atoms-largest_variable : goal.returns-then-atoms-largest_variable
+returns-then-atoms-largest_variable c =
+    let d = c.before in
+    let s = d.before in
+    λ ws p z b tracks K.
+    loop-atoms z tracks s.args.origin _ b _ _ s.args.numbers.now s.requires.line (sym d.all_marked.ensures ∙ d.if-not-all_marked.false)
+    (omega (arith, c.if-atoms-largest_variable.true, c.largest_variable.ensures))
+
+pub is_loop-requires : goal.is_loop-requires
+is_loop-requires c = let p = (s c).requires in record { program = (p.0.2.holds.sound, p.1.1.0); index = p.1.0; numbers = members (U c) (line c) }
+
+-- question 56, of the rules that the table holds
+looped : (c : After-is_loop)
+    → (let e = c.before in is_loop (expand (rules_at (s e).args.rules (s e).args.table.now)) (U e) ≡ c.is_Loop.result)
+looped c = sym c.is_Loop.ensures
+
+pub returns-then-not-is_loop : goal.returns-then-not-is_loop
+returns-then-not-is_loop c =
+    let e = c.before in
+    λ ws p z b tracks K.
+    loop-not z tracks (s e).args.origin _ b _ _ (U e) (line e) (known e) (low e) (rw (← p.holds.are) (looped c.before ∙ c.if-not-is_loop.true))
+
+pub add_nogood-requires : goal.add_nogood-requires
+add_nogood-requires c = let m = c.before in
+    let e = m.before in
+    let p = (s e).requires in
+    let t = p.0 in record { state = (t.0, name_of t.1.named, names-above t.1 t.3 t.2 (U e) (line e) (low e)); index = p.1.0; set = (m.marks_of-inside.ensures, line e); store = p.1.1.1.0 }
+
+pub returns : goal.returns
+returns c =
+    let g = c.add_nogood in
+    let m = c.before in
+    let a = m.before in
+    let d = a.before in
+    λ ws p z b tracks K.
+    loop-ends z tracks (s d).args.origin _ b _ _ m.marks_of-inside.result (U d) (line d) (known d) (low d)
+    (rw (← p.holds.are) (looped a.before ∙ a.if-not-is_loop.false)) m.marks_of-inside.ensures p.high K g.result
+    (g.ensures ws (name_of z.named) (names-above z tracks p (U d) (line d) (low d)) b K.keeps)

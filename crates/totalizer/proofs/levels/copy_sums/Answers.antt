@@ -1,0 +1,22 @@
+use mathlib.Core.Path.{◌≡◌}
+use Prim.Native.Nat.{◌-◌}
+use native.Mathlib.Omega.{arith}
+use lib.ListN.{length, length-set}
+use lib.Seq.{take-length}
+use Rattle.words.proofs.Laws.{copy_more}
+use Rattle.totalizer.proofs.levels.copy_sums.Goals as goal
+
+pub loop-i-preserved : goal.loop-i-preserved
+loop-i-preserved c =
+    let l = c.loop-i in
+    let s = c.args.source.now in
+    let p = c.requires in
+    let t = c.loop-i-test.true in
+    (omega arith, simp length-set l.invariant.1, rw l.invariant.2 (copy_more s _ l.i 0 t (omega arith)))
+
+pub returns : goal.returns
+returns c =
+    let l = c.loop-i in
+    let s = c.args.source.now in
+    let e : l.i ≡ length s = omega (arith, c.loop-i-test.false, l.invariant.0) in
+    simp (l.invariant.2, e, take-length)

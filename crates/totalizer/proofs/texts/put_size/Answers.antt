@@ -1,0 +1,14 @@
+use native.Mathlib.Omega.{arith}
+use Rattle.text.specs.Decimals.{number_bytes}
+use Rattle.text.proofs.Puts.{put_on, decimal-short}
+use Rattle.totalizer.proofs.texts.put_size.Goals as goal
+
+pub returns : goal.returns
+
+unfolding number_bytes
+
+returns c =
+    let a = c.before in
+    let d = c.put_digits.ensures in
+    let p = c.put_bytes-from.ensures in
+    (put_on p d, omega (arith, decimal-short a.args.n a.well-formed.1.1.0.1, p.ends, d.ends))

@@ -1,0 +1,122 @@
+use mathlib.Core.Path.{◌≡◌, refl, sym, ap, ◌∙◌, subst}
+use mathlib.Core.List.{List, []}
+use Prim.Native.Nat.{ℕ, ◌≤◌}
+use native.Mathlib.Omega.{arith}
+use lib.IntN.{ℤ, pos}
+use lib.ListN.{length, take, length-replicate}
+use lib.Seq.{length-take-le}
+use Rattle.words.proofs.Laws.{zeros}
+use Rattle.words.specs.Limits.{longest}
+use Rattle.aspif.specs.Rules.{InputRule}
+use Rattle.steps.specs.Held.{Program}
+use Rattle.splits.proofs.Answers.{same-nothing}
+use Rattle.shapes.specs.Tree.{Shape, most_splits}
+use Rattle.trees.specs.Service.{written_tree}
+use Rattle.trees.specs.Sides.{Standing, Subtree, pending, Merged}
+use Rattle.trees.specs.declared.sides.Place.{Place}
+use Rattle.trees.proofs.Constraints.{room_for, standing-first}
+use borrow.Author.Rules.{rules}
+use Rattle.trees.proofs.merge_whole.Goals as goal
+use Rattle.trees.proofs.merge_whole.Goals.{After-copy, Start, After-merge_side, In-Text-2}
+
+pub slice_bounds-copy-end-3 : goal.slice_bounds-copy-end-3
+slice_bounds-copy-end-3 c = sym (length-take-le _ _ c.words_used-used.ensures.1)
+
+pub copy-requires : goal.copy-requires
+copy-requires c =
+    let u = c.words_used-used in
+    let s = c.before in
+    room_for u.result s.args.table.now 65565 u.ensures.1 (omega (arith, u.ensures.0, s.requires.short))
+
+-- the program in the wider table
+module _ (c : After-copy) where
+  abbrev start : Start
+  start = c.before
+
+  abbrev wide : List ℤ
+  wide = c.copy.new.destination
+
+  abbrev place : Place
+  place = record { depth = most_splits; used = c.words_used-used.result; rules = start.args.rules; atoms = start.args.atoms; limit = length start.args.output.now }
+
+  standing : {ws : List InputRule} → Program start.args.table.now start.args.rules start.args.atoms ws → Standing most_splits place wide ws
+  standing P =
+      let u = c.words_used-used in
+      standing-first P u.result (length start.args.output.now) u.ensures.0 u.ensures.1 (omega (arith, u.ensures.0, start.pre.1.0)) start.pre.0.1 c.copy.ensures
+
+pub merge_side-requires : goal.merge_side-requires
+merge_side-requires c = let d = c.before in
+    let q = (start d).requires in record { place = (q.0.0.0, standing d q.0.0.1); tree = (q.1.1.0.0, [], q.1.1.0.1); empty = q.1.1.1.0; blank = refl }
+
+-- what the tree comes to
+module _ (c : After-merge_side) where
+  abbrev copied : After-copy
+  copied = c.before
+
+  abbrev begun : Start
+  begun = start copied
+
+  abbrev t : ℕ
+  t = length begun.args.table.now
+
+  abbrev s : ℕ
+  s = length begun.args.store.now
+
+  abbrev o : ℕ
+  o = length begun.args.output.now
+
+  abbrev store' : List ℤ
+  store' = c.merge_side.new.store
+
+  abbrev whole : List ℕ
+  whole = c.merge_side.new.output.0
+
+  same_store : length store' ≡ s
+  same_store = c.merge_side.auto.store
+
+  long : length whole ≡ longest
+  long = c.merge_side.auto.output ∙ length-replicate {A = ℕ} longest 0
+
+  module _ {ws : List InputRule} (P : Program begun.args.table.now begun.args.rules begun.args.atoms ws) {u : Shape}
+      (T : Subtree most_splits begun.args.atoms begun.args.tree.now begun.args.texts.now begun.args.lengths.now u []) where
+    merged : Merged s o ws u [] begun.args.tree.now begun.args.texts.now begun.args.lengths.now whole c.merge_side.result
+    merged = c.merge_side.ensures.side ws (standing copied P) u [] T
+
+-- it is a text
+module _ (c : In-Text-2) where
+  abbrev side : After-merge_side
+  side = c.before
+
+  abbrev n : ℕ
+  n = c.in-Text.pending.size
+
+  within : n ≤ longest
+  within =
+      let q = (begun side).pre in
+      (subst (Merged (s side) (o side) q.0.0.0 q.1.1.0.0 [] (begun side).args.tree.now (begun side).args.texts.now (begun side).args.lengths.now (whole side)) c.in-Text.is (merged side q.0.0.1 q.1.1.0.1)).took.0
+
+  inside : n ≤ length (whole side)
+  inside = omega (arith, within, long side)
+
+  size_is : length (take n (whole side)) ≡ n
+  size_is = length-take-le n (whole side) inside
+
+pub write_out-requires : goal.write_out-requires
+write_out-requires c = let d = c.before in
+    let q = (begun (side d)).pre in record { program = q.0; empty = ((zeros (pos 0) {n = s (side d)} (side d).merge-side.ensures.0).0, q.1.1.1.1); text = omega (arith, size_is d, within d) }
+
+pub returns-in-Refused : goal.returns-in-Refused
+returns-in-Refused c = λ ws p w u T.
+    let d = c.before in
+    let a = (begun d).args in
+    c.refuse.ensures ∙ same-nothing _ (refl {a = t d}) (same_store d) (refl {a = o d})
+    ∙ sym (ap (written_tree (t d) (s d) (o d) ws) (subst (Merged (s d) (o d) ws u [] a.tree.now a.texts.now a.lengths.now (whole d)) c.in-Refused.is (merged d p T)).outcome)
+
+pub returns-in-Text : goal.returns-in-Text
+returns-in-Text c = λ ws p w u T.
+    let d = c.before in
+    let e = c.before in
+    let a = (begun d).args in
+    c.write_out.ensures ws p w
+    ∙ (ap (λ (z : ℕ). written_tree (t d) z (o d) ws (pending z ws (take (n e) (whole d)) e.in-Text.pending.refusal)) (same_store d)
+    ∙ sym (ap (written_tree (t d) (s d) (o d) ws) (subst (Merged (s d) (o d) ws u [] a.tree.now a.texts.now a.lengths.now (whole d)) e.in-Text.is (merged d p T)).outcome))

@@ -1,0 +1,47 @@
+use mathlib.Core.Path.{◌≡◌, refl, sym, ap, ◌∙◌}
+use mathlib.Core.Bool.{Bool, cond}
+use mathlib.Core.List.{List}
+use Prim.Native.Nat.{◌+◌}
+use native.Mathlib.Omega.{arith}
+use lib.IntN.{pos}
+use lib.ListN.{take}
+use Rattle.aspif.specs.Rules.{InputRule}
+use Rattle.steps.specs.Held.{Program}
+use Rattle.merging.specs.Claims.{demanding_as_written}
+use Rattle.trees.specs.Sides.{Standing}
+use Rattle.trees.proofs.Constraints.{small-atom, demand-program, same-program}
+use borrow.Author.Rules.{rules}
+use Rattle.trees.proofs.sides.first_refusal.Goals as goal
+use Rattle.trees.proofs.sides.first_refusal.Goals.{After-demand_atom, Start}
+
+pub demand_atom-requires : goal.demand_atom-requires
+demand_atom-requires c =
+    let s = c.before in
+    let S = s.requires.place.1 in
+    (omega (arith, S.room, S.size), small-atom S s.requires.atom)
+
+-- the program with the constraint
+module _ (c : After-demand_atom) where
+  abbrev s : Start
+  s = c.before
+
+  module _ {ws : List InputRule} (S : Standing 1 s.args.place s.args.table.now ws) where
+    whole : Program c.demand_atom.new.table (s.args.place.rules + 1) s.args.place.atoms (demanding_as_written ws (pos s.args.v))
+    whole = demand-program S (pos s.args.v) s.pre.1.0 (omega arith) refl c.demand_atom.ensures
+
+  same : take s.args.place.used c.demand_atom.new.table ≡ take s.args.place.used s.args.table.now
+  same = same-program s.pre.0.1 (pos s.args.v) s.pre.1.0 (omega arith) refl c.demand_atom.ensures
+
+pub is_accepted-requires : goal.is_accepted-requires
+is_accepted-requires c = let d = c.before in
+    let q = (s d).requires in record { program = ((demanding_as_written q.0.0 (pos (s d).args.v), whole d q.0.1), omega (arith, q.0.1.rules)); empty = q.1.1 }
+
+pub returns-then-not-is_accepted : goal.returns-then-not-is_accepted
+returns-then-not-is_accepted c = let d = c.before in
+    let a = c.is_accepted in
+    let x = (s d).args in record { empty = a.ensures.0; program = same d; number = λ ws S. sym (ap (λ (b : Bool). cond b x.two x.one) (sym (a.ensures.1 (demanding_as_written ws (pos x.v)) (whole d S)) ∙ c.if-not-is_accepted.true)) }
+
+pub returns : goal.returns
+returns c = let d = c.before in
+    let a = c.is_accepted in
+    let x = (s d).args in record { empty = a.ensures.0; program = same d; number = λ ws S. sym (ap (λ (b : Bool). cond b x.two x.one) (sym (a.ensures.1 (demanding_as_written ws (pos x.v)) (whole d S)) ∙ c.if-not-is_accepted.false)) }

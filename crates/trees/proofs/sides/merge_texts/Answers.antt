@@ -1,0 +1,119 @@
+use mathlib.Core.Path.{◌≡◌, refl, sym, ap, ◌∙◌, subst}
+use mathlib.Core.Bool.{true, cond}
+use mathlib.Core.List.{List}
+use Prim.Native.Nat.{ℕ, ◌-◌}
+use native.Mathlib.Omega.{arith}
+use borrow.Rule.Slice.PartMut.{put_mid}
+use lib.IntN.{ℤ, pos}
+use Rattle.words.proofs.Parts.{tail-filled}
+use lib.ListN.{length, take, replicate, length-replicate}
+use Rattle.words.proofs.Laws.{zeros}
+use Rattle.words.specs.Limits.{longest}
+use Rattle.aspif.specs.Rules.{InputRule, program_words, atoms}
+use Rattle.derivation.specs.States.{is_atom}
+use Rattle.steps.specs.Held.{Program}
+use Rattle.runs.specs.Course.{is_accepted}
+use Rattle.merging.specs.Claims.{demanding_as_written}
+use Rattle.trees.specs.Service.{fails}
+use Rattle.trees.specs.Sides.{cleared, Standing, side_of, Adds}
+use Rattle.trees.specs.declared.sides.Pending.{Pending}
+use Rattle.trees.specs.declared.sides.Sided.TheVariants.{Text}
+use Rattle.trees.proofs.Constraints.{within, length-cleared, front-cleared, standing-same}
+use Rattle.trees.proofs.Outcomes.{over-buffer, not-halves, text-size, over-limit, text-pending}
+use borrow.Author.Rules.{rules}
+use Rattle.trees.proofs.sides.merge_texts.Goals as goal
+use Rattle.trees.proofs.sides.merge_texts.Goals.{After-zero_all, Start, After-write}
+
+-- the table without constraints of the sides
+module _ (c : After-zero_all) where
+  abbrev s : Start
+  s = c.before
+
+  abbrev used : ℕ
+  used = s.args.place.used
+
+  abbrev table : List ℤ
+  table = s.args.table.now
+
+  abbrev now-table : List ℤ
+  now-table = put_mid used (length table - used) table c.zero_all.new.t.0
+
+  clear : now-table ≡ cleared used table
+  clear = tail-filled used table (pos 0) c.zero_all.new.t.0 (within s.pre.0.1) c.zero_all.ensures
+
+  front : take used now-table ≡ take used table
+  front = ap (take used) clear ∙ front-cleared used table (within s.pre.0.1)
+
+  long : length s.args.output.now ≡ longest
+  long = ap length s.pre.1.1.1.1 ∙ length-replicate {A = ℕ} longest 0
+
+  module _ {ws : List InputRule} (S : Standing 1 s.args.place table ws) where
+    program : Program now-table s.args.place.rules s.args.place.atoms ws
+    program = subst (λ (t : List ℤ). Program t s.args.place.rules s.args.place.atoms ws) (sym clear) S.program
+
+    standing : Standing 1 s.args.place now-table ws
+    standing = standing-same S front (ap length clear ∙ length-cleared used table (within S))
+
+    atom : is_atom (atoms ws) s.args.v ≡ true
+    atom = subst (λ (N : ℕ). is_atom N s.args.v ≡ true) S.program.top s.pre.1.0
+
+pub write-requires : goal.write-requires
+write-requires c = let d = c.before in
+    let S = (s d).requires.place.1 in
+    let P = program d S in record { program = (((s d).requires.place.0, P), omega (arith, S.rules)); short = omega (arith, ap (λ (rs : List InputRule). length (program_words rs)) P.holds.are, S.used, S.room); empty = ((s d).requires.empty, (zeros 0 {n = longest} (s d).requires.blank).0) }
+
+-- what 57 and 58 left
+module _ (c : After-write) where
+  abbrev z : After-zero_all
+  z = c.before
+
+  abbrev store' : List ℤ
+  store' = c.write.new.store
+
+  abbrev output' : List ℕ
+  output' = c.write.new.output.0
+
+  same_store : length store' ≡ length (s z).args.store.now
+  same_store = c.write.auto.store
+
+  same-output : length output' ≡ longest
+  same-output = c.write.auto.output ∙ long z
+
+pub returns-then-number-eq58 : goal.returns-then-number-eq58
+returns-then-number-eq58 c = let w = c.before in
+    let x = (s (z w)).args in record { empty = w.write.ensures.empty; program = front (z w); side = λ ws S.
+              over-buffer (length x.store.now) x.place.limit ws x.v x.first.now x.second.now (output' w) x.one.refusal x.two.refusal (atom (z w) S) (same-output w)
+              c.in-Refused.number c.in-Refused.is c.if-number-eq58.true (w.write.ensures.written ws (program (z w) S)); taken = tt }
+
+pub first_refusal-requires : goal.first_refusal-requires
+first_refusal-requires c = let w = c.before in
+    let q = (s (z w)).pre in record { place = (q.0.0, standing (z w) q.0.1); atom = q.1.0; empty = (zeros (pos 0) {n = length (s (z w)).args.store.now} w.write.ensures.empty).0 }
+
+pub returns-then-place-size : goal.returns-then-place-size
+returns-then-place-size c = let w = c.before in
+    let x = (s (z w)).args in record { empty = w.write.ensures.empty; program = front (z w); side = λ ws S.
+              over-limit (length x.store.now) x.place.limit ws x.v x.first.now x.second.now (output' w) x.one.refusal x.two.refusal (atom (z w) S) (same-output w)
+              c.in-Text.size c.in-Text.is (w.write.ensures.written ws (program (z w) S)) c.if-place-size.true; taken = tt }
+
+pub returns-else-number-eq58 : goal.returns-else-number-eq58
+returns-else-number-eq58 c = let w = c.before in
+    let f = c.first_refusal in
+    let x = (s (z w)).args in record { empty = f.ensures.0 ∙ ap (λ (n : ℕ). replicate n (pos 0)) (same_store w); program = f.ensures.1.0 ∙ front (z w); side = λ ws S.
+              not-halves (length x.store.now) x.place.limit ws x.v x.first.now x.second.now (output' w) x.one.refusal x.two.refusal (atom (z w) S) (same-output w)
+              c.in-Refused.number c.in-Refused.is c.if-number-eq58.false (w.write.ensures.written ws (program (z w) S))
+              ∙ ap fails
+              (ap (λ (n : ℕ). cond (is_accepted n (demanding_as_written ws (pos x.v)) x.first.now) x.two.refusal x.one.refusal) (sym (same_store w))
+              ∙ sym (f.ensures.1.1 ws (standing (z w) S))); taken = tt }
+
+pub returns-else-place-size : goal.returns-else-place-size
+returns-else-place-size c = let w = c.before in
+    let x = (s (z w)).args in
+    let q = (s (z w)).pre.0 in
+    let g = c.size-1.given in record { empty = w.write.ensures.empty; program = front (z w); side = λ ws S.
+              text-pending (length x.store.now) x.place.limit ws x.v x.first.now x.second.now (output' w) x.one.refusal x.two.refusal (atom (z w) S) (same-output w)
+              g.0.0 g.1 (w.write.ensures.written ws (program (z w) S)) (omega (arith, c.if-place-size.false))
+              ∙ ap (λ (p : Pending). side_of (length x.store.now) ws (output' w) (Text p)) (sym c.both.ensures); taken = subst (λ (p : Pending). Adds x.one x.two (Text p)) (sym c.both.ensures) (
+            text-size (length x.store.now) x.place.limit q.0 x.v x.first.now x.second.now (output' w) x.one.refusal x.two.refusal (atom (z w) q.1) (same-output w)
+                g.0.0 g.1 (w.write.ensures.written q.0 (program (z w) q.1)),
+            refl,
+          ) }

@@ -1,0 +1,81 @@
+use mathlib.Core.Path.{◌∙◌, ap}
+use Prim.Native.Nat.{ℕ, ◌<◌, ◌≤◌}
+use native.Mathlib.Omega.{arith}
+use lib.IntN.{pos}
+use lib.ListN.{length, take, replicate}
+use Rattle.words.specs.Limits.{longest}
+use Rattle.words.proofs.Laws.{zeros}
+use Rattle.drupe.proofs.Texts.{steps-exact}
+use Rattle.trimming.proofs.Turns.{try-start, try-on, try-end, try-reads}
+use borrow.Author.Rules.{rules}
+use Rattle.trimming.proofs.trials.pass.Goals as goal
+use Rattle.trimming.proofs.trials.pass.Goals.{In-loop-at, At-loop-at, Start}
+
+pub loop-at-init : goal.loop-at-init
+loop-at-init c =
+    let s = c.before in
+    let a = s.args in
+    record {
+      same_text = search rules;
+      same-trial = search rules;
+      same_store = search rules;
+      zeros = s.requires.empty;
+      ahead = omega arith;
+      within = omega arith;
+      trying = λ ws ts p r. try-start (length a.store.now) ws ts s.requires.within ((steps-exact longest (take a.len a.text.now) ts).0 r).0;
+    }
+
+-- a turn
+module _ (c : In-loop-at) where
+  abbrev l : At-loop-at
+  l = c.before
+
+  abbrev s : Start
+  s = c.before
+
+  some : 0 < l.loop-at.at
+  some = c.loop-at-test.true
+
+  inside : (l.loop-at.at ≤ l.loop-at.left) × (l.loop-at.left ≤ length l.loop-at.text)
+  inside = let I = l.loop-at.inv in (I.ahead, omega (arith, I.within, I.same_text, s.pre.1.0))
+
+pub line_start-start-requires : goal.line_start-start-requires
+line_start-start-requires c = let d = c.before in record { inside = (some d, omega (arith, (inside d).0, (inside d).1)); classes = (s d).requires.classes }
+
+pub try_without-left-requires : goal.try_without-left-requires
+try_without-left-requires c = let b = c.before in
+    let d = b.before in
+    let I = (l d).loop.invariant in
+    let q = (s d).requires in
+    let h = b.line_start-start.ensures.before in record { bounds = ((omega (arith, h), (inside d).0), (inside d).1); room = (omega (arith, I.same_text, q.0.0), I.same-trial ∙ q.0.1); program = q.1.1.0; empty = (zeros (pos 0) {n = length (s d).args.store.now} I.zeros).0 }
+
+pub loop-at-smaller : goal.loop-at-smaller
+loop-at-smaller c = c.line_start-start.ensures.before
+
+pub loop-at-preserved : goal.loop-at-preserved
+loop-at-preserved c =
+    let t = c.before in
+    let b = t.before in
+    let d = b.before in
+    let I = (l d).loop.invariant in
+    let a = (s d).args in
+    let k = t.try_without-left.auto in
+    let e = t.try_without-left.ensures in
+    record {
+      same_text = k.0 ∙ I.same_text;
+      same-trial = k.1.1.1.1.0 ∙ I.same-trial;
+      same_store = k.1.1.1.1.1.1.1.1.0 ∙ I.same_store;
+      zeros = e.1.0 ∙ ap (λ (n : ℕ). replicate n (pos 0)) I.same_store;
+      ahead = e.0.0;
+      within = omega (arith, e.0.1, I.within);
+      trying = λ ws ts p r.
+          let x = (steps-exact longest (take a.len a.text.now) ts).0 r in
+          try-on (length a.store.now) ws ts x.2 (rw (← x.0) x.1) (l d).loop.text t.try_without-left.new.text (l d).loop.at (l d).loop.left
+          b.line_start-start.result t.try_without-left.result (some d) (inside d) b.line_start-start.ensures.line (rw I.same_store at (e.1.1 ws p)) (I.trying ws ts p r);
+    }
+
+pub returns : goal.returns
+returns c = let I = c.loop-at.invariant in
+    let a = c.args in record { within = I.within; empty = I.zeros; left = λ ws ts p r.
+            try-reads (length a.store.now) ws ts a.text.now a.len r c.loop-at.text c.loop-at.left
+            (try-end (length a.store.now) ws ts (I.trying ws ts p r) (omega (arith, c.loop-at-test.false))) }

@@ -1,0 +1,99 @@
+use mathlib.Core.Path.{◌≡◌, refl, sym, ◌∙◌, ap}
+use mathlib.Core.List.{List, []}
+use Prim.Native.Nat.{ℕ, ◌≤◌}
+use native.Mathlib.Omega.{arith}
+use lib.IntN.{pos}
+use lib.ListN.{length, replicate, length-replicate}
+use Rattle.words.proofs.Laws.{zeros}
+use Rattle.words.specs.Limits.{longest}
+use Rattle.text.specs.Classes.{byte_classes}
+use Rattle.aspif.specs.Rules.{InputRule}
+use Rattle.drupe.specs.Texts.{Step, steps, steps_of}
+use Rattle.steps.specs.Held.{Program}
+use Rattle.trimming.specs.Trims.{pass}
+use Rattle.trimming.specs.Service.{accepted}
+use Rattle.trimming.specs.Passing.{Reads}
+use Rattle.trimming.proofs.Turns.{Repeating, reads-start, reads_now, reads_end, reads_on}
+use borrow.Author.Rules.{rules}
+use Rattle.trimming.proofs.trials.passes.Goals as goal
+use Rattle.trimming.proofs.trials.passes.Goals.{After-pass-left, At-loop-len, Start}
+
+pub loop-len-init : goal.loop-len-init
+loop-len-init c =
+    let s = c.before in
+    let a = s.args in
+    record {
+      same_text = search rules;
+      same_store = search rules;
+      zeros = s.requires.empty;
+      room = length-replicate {A = ℕ} longest 0;
+      within = omega arith;
+      repeating = λ ws ts p r. reads-start (length a.store.now) ws ts a.text.now r;
+    }
+
+-- a pass
+module _ (c : After-pass-left) where
+  abbrev l : At-loop-len
+  l = c.before
+
+  abbrev s : Start
+  s = l.before
+
+  abbrev text' : List ℕ
+  text' = c.pass-left.new.text
+
+  most : c.pass-left.result ≤ l.loop-len.len
+  most = c.pass-left.ensures.within
+
+  same_text : length text' ≡ length s.args.text.now
+  same_text = c.pass-left.auto.text ∙ l.loop-len.inv.same_text
+
+  inside : c.pass-left.result ≤ length text'
+  inside = let I = l.loop-len.inv in omega (arith, most, I.within, I.same_text, same_text)
+
+  module _ (ws : List InputRule) (ts : List Step) (p : Program s.args.table.now s.args.rules s.args.atoms ws) (r : steps_of s.args.text.now ≡ steps ts) where
+    abbrev R : Repeating (length s.args.store.now) ws ts l.loop-len.text l.loop-len.len
+    R = l.loop-len.inv.repeating ws ts p r
+
+    after : Reads text' c.pass-left.result (pass (accepted (length s.args.store.now) ws) [] R.steps)
+    after =
+        rw l.loop-len.inv.same_store at
+        (c.pass-left.ensures.left ws R.steps p (reads_now (length s.args.store.now) ws ts s.args.text.now r l.loop-len.text l.loop-len.len R))
+
+pub pass-left-requires : goal.pass-left-requires
+
+unfolding byte_classes
+
+pass-left-requires c κs =
+    let k = c.before in
+    let q = k.requires in
+    let I = k.loop-len.invariant in
+    ((omega (arith, I.same_text, q.0), I.room), (I.within, (q.1.0, ((zeros (pos 0) {n = length k.args.store.now} I.zeros).0, refl {a = byte_classes}))))
+
+pub returns-then-left-len : goal.returns-then-left-len
+returns-then-left-len c = let d = c.before in
+    let a = (s d).args in
+    let I = (l d).loop.invariant in record { within = omega (arith, inside d, same_text d); empty = d.pass-left.ensures.empty ∙ ap (λ (n : ℕ). replicate n (pos 0)) I.same_store; trimmed = λ ws ts p r.
+            reads_end (length a.store.now) ws ts a.text.now r (l d).loop.text (l d).loop.len (R d ws ts p r) I.within (text' d) d.pass-left.result (inside d) (after d ws ts p r) c.if-left-len.true }
+
+pub loop-len-smaller : goal.loop-len-smaller
+loop-len-smaller c = let d = c.before in omega (arith, most d, c.if-left-len.false)
+
+pub loop-len-preserved : goal.loop-len-preserved
+loop-len-preserved c =
+    let d = c.before in
+    let a = (s d).args in
+    let I = (l d).loop.invariant in
+    let k = d.pass-left.auto in
+    record {
+      same_text = same_text d;
+      same_store = k.1.1.1.1.1.1.0 ∙ I.same_store;
+      zeros = d.pass-left.ensures.empty ∙ ap (λ (n : ℕ). replicate n (pos 0)) I.same_store;
+      room = k.1.1.0 ∙ I.room;
+      within = inside d;
+      repeating = λ ws ts p r.
+          reads_on (length a.store.now) ws ts a.text.now r (l d).loop.text (l d).loop.len (R d ws ts p r) I.within (text' d) d.pass-left.result (inside d) (after d ws ts p r) c.if-left-len.false;
+    }
+
+pub slice_bounds-pass-end : goal.slice_bounds-pass-end
+slice_bounds-pass-end c = sym c.loop-len.invariant.room
