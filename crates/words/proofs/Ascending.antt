@@ -31,7 +31,7 @@ pub ascends-end : (low high : ℕ) (l : List ℕ) {i : ℕ} → length l ≤ i �
 ascends-end low high l h = rw (drop_of_length-le l h)
 
 -- the numbers of an ascending list are above `low` and at most `high`
-pub ascends-in : (low high : ℕ) {l : List ℕ} {v : ℕ} → ascends low high l ≡ true → v ∈ l → (low < v) × (v ≤ high)
+pub ascends-in : {v : ℕ} (low high : ℕ) {l : List ℕ} → ascends low high l ≡ true → v ∈ l → (low < v) × (v ≤ high)
 ascends-in low high e (Memᴰ.head {x = x} {xs = l} p) =
     let f = and_right (ltb low x) _ e in
     rw p (ltb-true low x (and_left (ltb low x) _ e), leb-true x high (and_left (leb x high) _ f))
