@@ -26,7 +26,7 @@ def blocks(text):
             continue
         if l[0] not in " \t" and not l.startswith("--"):
             name = decl_name(l)
-            if cur is not None and decl_name_of(cur) == name and name is not None:
+            if cur is not None and name is not None and (name == "unfolding" or decl_name_of(cur) == name):
                 cur.append(l)
             else:
                 if cur is not None: out.append(cur)
@@ -130,7 +130,40 @@ class Places:
             k = self.by.get(norm(up)) if up else None
         return out
 
-def rewrite(text, P, place, table):
+def stops(text, P, place, goal):
+    """In an answer: a place before the goal's that is passed on, by its name; where only its fields are read, the goal's own record."""
+    e = P.entry
+    env = {"c": P.by[norm(place)]}
+    def up(k, n):
+        for _ in range(n):
+            parent = e["places"][k][1] if k is not None else None
+            k = P.by.get(norm(parent)) if parent else None
+        return k
+    name = lambda k: e["places_by_name"][k]
+    lets = []
+    for m in re.finditer(r"let ([A-Za-z0-9_]+) = ([A-Za-z0-9_]+)((?:\.before)+) in", text):
+        if m.group(2) in env and m.group(1) != "c":
+            k = up(env[m.group(2)], m.group(3).count("before"))
+            if k is not None: env[m.group(1)] = k; lets.append(m.group(1))
+    def bare(v, s):
+        return re.search(r"(?<![A-Za-z0-9_'.-])" + re.escape(v) + r"(?![A-Za-z0-9_'-]|\.)", s) or re.search(r"(?<![A-Za-z0-9_'.-])" + re.escape(v) + r"(\.before)+(?![A-Za-z0-9_'.-])", s)
+    def let(m):
+        v, w = m.group(1), m.group(2)
+        if v not in env or w not in env: return m.group(0)
+        rest = text[m.end():]
+        used = re.sub(r"let [A-Za-z0-9_]+ = [A-Za-z0-9_]+((?:\.before)+) in", "", rest)
+        if re.search(r"(?<![A-Za-z0-9_'.-])" + re.escape(v) + r"(?![A-Za-z0-9_'.-])", used):
+            return f"let {v} = (goal.at.{goal} c).{name(env[v])} in"
+        return f"let {v} = c in"
+    out = re.sub(r"let ([A-Za-z0-9_]+) = ([A-Za-z0-9_]+)((?:\.before)+) in", let, text)
+    def end(m):
+        w = m.group(1)
+        if w not in env: return m.group(0)
+        k = up(env[w], m.group(2).count("before"))
+        return m.group(0) if k is None else f"(goal.at.{goal} c).{name(k)}"
+    return re.sub(r"(?<![A-Za-z0-9_'.-])([A-Za-z0-9_]+)((?:\.before)+)(?![A-Za-z0-9_'-]|\.[A-Za-z0-9_])", end, out)
+
+def rewrite(text, P, place, goal=None):
     """What a declaration at a place cites, in today's names."""
     e = P.entry
     ks = P.chain(place) if place else range(len(e["places"]))
@@ -151,15 +184,30 @@ def rewrite(text, P, place, table):
             if path:
                 pat = r"\." + re.sub(r"[-_]", "[-_]", re.escape(step).replace("\\-", "-")) + "".join(r"\." + re.escape(x) for x in path) + r"(?![A-Za-z0-9_'-])"
                 text = re.sub(pat, f".{name}.{field}", text)
+    aliases = {}
     def one(m):
         path = m.group(0)
         parts = path.split(".")
+        if parts[0] in aliases and len(parts) > 1:
+            n = aliases[parts[0]]
+            rest = parts[1:]
+            if rest[0] == "ensures" and n in clauses:
+                k, left = index_of(rest[1:], len(clauses[n]))
+                if k is not None and len(clauses[n]) > 1: return ".".join([parts[0], "ensures", clauses[n][k]] + left)
+            if rest[0] in ("new", "last") and callee.get(n):
+                k, left = index_of(rest[1:], len(callee[n]))
+                if k is not None: return ".".join([parts[0], "new", callee[n][k]] + left)
+            if rest[0] == "auto" and callee.get(n) and re.fullmatch(r"(1\.)*0(\..*)?", ".".join(rest[1:])):
+                steps = rest[1:]; k = 0
+                while steps[0] == "1": k += 1; steps = steps[1:]
+                if k < len(callee[n]): return ".".join([parts[0], "auto", callee[n][k]] + steps[1:])
         out, i = [parts[0]], 1
         while i < len(parts):
             w = parts[i]
-            n = labels_.get(norm(w))
+            plain = w[:-4] if w.endswith("_lem") else w
+            n = labels_.get(norm(plain))
             nxt = parts[i + 1] if i + 1 < len(parts) else None
-            if n is not None and n != w and re.fullmatch(re.escape(n.rsplit("-", 1)[0]) + r"-\d+", n) and nxt not in ("given", "result", "ensures", "new", "type-inv", "type_inv", "auto"):
+            if n is not None and re.fullmatch(re.escape(norm(plain)) + r"(-in-loop-.*|-in-.*|-then-.*|-else-.*)?-\d+", norm(n)) and nxt not in ("given", "result", "ensures", "new", "type-inv", "type_inv", "auto"):
                 n = None
             if n is None or (w in ("invariant", "initial")):
                 out.append(w); i += 1; continue
@@ -181,7 +229,13 @@ def rewrite(text, P, place, table):
             elif nxt in maps.get(n, {}):
                 out.append(maps[n][nxt] if nxt not in ("fact",) else maps[n][nxt]); i += 1
         return ".".join(out)
-    text = re.sub(r"(?<![A-Za-z0-9_'.-])[A-Za-z_][A-Za-z0-9_'₀-₉-]*(?:\.[A-Za-z0-9_'-]+)+", one, text)
+    paths = r"(?<![A-Za-z0-9_'.-])[A-Za-z_][A-Za-z0-9_'₀-₉-]*(?:\.[A-Za-z0-9_'-]+)+"
+    text = re.sub(paths, one, text)
+    for m in re.finditer(r"let ([A-Za-z0-9_]+) = ([A-Za-z0-9_]+(?:\.[A-Za-z0-9_'-]+)+) in", text):
+        last = m.group(2).split(".")[-1]
+        if last in clauses or last in callee: aliases[m.group(1)] = last
+    if aliases: text = re.sub(paths, one, text)
+    if goal is not None: text = stops(text, P, place, goal)
     text = re.sub(r"not-(?:true|false) _ \(([^()\s]+)\.(true|false)-raw\)", r"\1.\2", text)
     text = re.sub(r"not-(?:true|false) _ ([^()\s]+)\.(true|false)-raw", r"\1.\2", text)
     pre = e.get("pre")
@@ -363,7 +417,7 @@ def turn(path, entry, crate, fn):
             b = sub_tokens(b, refs)
             m = re.search(r"tie\.((?:After|In|At|Then|Else|Start|Joined)[A-Za-z0-9_-]*)", b)
             if m: place = m.group(1)
-        b = rewrite(b, P, place if place and norm(place) in P.by else None, None)
+        b = rewrite(b, P, place if place and norm(place) in P.by else None, needs[rename[n]][1] if n in rename and defs[n] == i else None)
         out.append(b)
     for k, b in extra:
         place = entry["asked_at"][k][0]
@@ -373,7 +427,7 @@ def turn(path, entry, crate, fn):
             new = needs[k][1]
             m = re.search(r"(?m)^" + re.escape(new) + r"((?: [^\s=]+)*) =", b)
             if m: b = b[:m.end()] + " " + record_of(b[m.end():].strip("\n"), labels_).lstrip(" ")
-        out.append(rewrite(b, P, place if norm(place) in P.by else None, None))
+        out.append(rewrite(b, P, place if norm(place) in P.by else None, needs[k][1]))
     text_out = "\n\n".join(out)
     text_out = flatten(text_out)
     text_out = text_out.replace(".type-inv", ".type_inv")

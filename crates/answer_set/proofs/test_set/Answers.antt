@@ -32,33 +32,33 @@ largest_atom-atoms-requires c = sound-rules _ _ (sound c)
 
 pub returns-then-not-ascends_within : goal.returns-then-not-ascends_within
 returns-then-not-ascends_within c =
-    let d = c.before in
-    refused-42 _ _ _ _ _ d.zero_bytes.ensures (sound d.before) (sym (told d) ∙ c.if-not-ascends_within.true)
+    let d = (goal.at.returns-then-not-ascends_within c).After-ascends_within in
+    refused-42 _ _ _ _ _ d.zero_bytes.ensures (sound (goal.at.returns-then-not-ascends_within c).Else-not-is_readable) (sym (told d) ∙ c.if-not-ascends_within.true)
 
 pub returns-then-marks-ne-ENTRIES : goal.returns-then-marks-ne-ENTRIES
 returns-then-marks-ne-ENTRIES c =
-    let d = c.before in
-    let z = d.before in
-    refused-43 _ _ _ _ _ z.zero_bytes.ensures (sound d.before) (sym (told d) ∙ c.if-not-ascends_within.false) (λ e. c.if-marks-ne-ENTRIES.true (z.marks-1.given ∙ e))
+    let d = (goal.at.returns-then-marks-ne-ENTRIES c).After-ascends_within in
+    let z = c in
+    refused-43 _ _ _ _ _ z.zero_bytes.ensures (sound (goal.at.returns-then-marks-ne-ENTRIES c).Else-not-is_readable) (sym (told d) ∙ c.if-not-ascends_within.false) (λ e. c.if-marks-ne-ENTRIES.true (z.marks-1.given ∙ e))
 
 pub mark_least-requires : goal.mark_least-requires
-mark_least-requires c = let g = c.before in
-    let d = g.before in
-    let z = d.before in record { rules_value = sound d.before; most_value = d.largest_atom-atoms.ensures; marks_len = (g.if-marks-ne-ENTRIES.false, z.zero_bytes.ensures ∙ ap (λ k. replicate k 0) (sym z.marks-1.given)) }
+mark_least-requires c = let g = c in
+    let d = c in
+    let z = c in record { rules_value = sound (goal.at.mark_least-requires c).Else-not-is_readable; most_value = d.largest_atom-atoms.ensures; marks_len = (g.if-marks-ne-ENTRIES.false, z.zero_bytes.ensures ∙ ap (λ k. replicate k 0) (sym z.marks-1.given)) }
 
 pub judge-requires : goal.judge-requires
-judge-requires c = let d = c.before in
-    let a = d.args in record { program = (sound d.before, rw d.largest_atom-atoms.ensures (atoms-small a.rules a.table.now (sound-rules _ _ (sound d.before)))) }
+judge-requires c = let d = c in
+    let a = d.args in record { program = (sound (goal.at.judge-requires c).After-is_readable, rw d.largest_atom-atoms.ensures (atoms-small a.rules a.table.now (sound-rules _ _ (sound (goal.at.judge-requires c).After-is_readable)))) }
 
 pub returns : goal.returns
 returns c =
-    let k = c.before in
-    let m = k.before in
-    let g = m.before in
-    let d = g.before in
-    let z = d.before in
+    let k = c in
+    let m = c in
+    let g = c in
+    let d = (goal.at.returns c).After-largest_atom-atoms in
+    let z = c in
     let a = z.args in
-    let s = sound d.before in
+    let s = sound (goal.at.returns c).After-is_readable in
     let w = sym (told d) ∙ g.if-not-ascends_within.false in
     let h = atoms-small a.rules a.table.now (sound-rules _ _ s) in
     let e : marked m.mark_all.new.marks.0 ≡ listed a.set.now = ap marked m.mark_all.ensures ∙ marks-listed (atoms (rules_at a.rules a.table.now)) entries a.set.now w (omega arith) in

@@ -31,34 +31,31 @@ returns-then-text-gt-LONGEST c =
 
 pub returns-then-not-starts_with : goal.returns-then-not-starts_with
 returns-then-not-starts_with c =
-    let d = c.before in
+    let d = c in
     let a = c.args in
     rw (c.refuse-then-not-starts_with.ensures.0, c.refuse-then-not-starts_with.ensures.1)
     (read-other a.most a.text.now a.table.now d.if-text-gt-LONGEST.false (sym d.starts_with.ensures ∙ c.if-not-starts_with.true))
 
 pub read_lines-read-requires : goal.read_lines-read-requires
-
 unfolding byte_classes
-
-read_lines-read-requires c κs =
-    (front_long header c.args.text.now (begins c.before), search rules)
+read_lines-read-requires c = record { header_in_bounds = front_long header c.args.text.now (begins (goal.at.read_lines-read-requires c).Else-not-starts_with); classes_value = search rules }
 
 pub offset_bounds-table-used : goal.offset_bounds-table-used
 offset_bounds-table-used c =
-    record { fits = omega (arith, (done c.before).fits, c.read_lines-read.auto.table, c.well-formed.1.0) }
+    record { fits = omega (arith, (done (goal.at.offset_bounds-table-used c).In-Program-2).fits, c.read_lines-read.auto.table, c.well-formed.1.0) }
 
 pub slice_bounds-zero_all-count : goal.slice_bounds-zero_all-count
 slice_bounds-zero_all-count c =
-    (done c.before).fits
+    (done (goal.at.slice_bounds-zero_all-count c).In-Program-2).fits
 
 pub returns-in-Refused : goal.returns-in-Refused
 returns-in-Refused c =
-    let r = c.before in
-    let d = r.before in
+    let r = c in
+    let d = c in
     let a = d.args in
     rw (c.refuse-in-Refused.ensures.0, c.refuse-in-Refused.ensures.1)
-    (read-refused a.most a.text.now a.table.now d.if-text-gt-LONGEST.false (begins d.before) d.read_lines-read.ensures r.in-Refused.is)
+    (read-refused a.most a.text.now a.table.now d.if-text-gt-LONGEST.false (begins (goal.at.returns-in-Refused c).Else-not-starts_with) d.read_lines-read.ensures r.in-Refused.is)
 
 pub returns-in-Program : goal.returns-in-Program
 returns-in-Program c =
-    rw c.zero_all.ensures (done c.before).read
+    rw c.zero_all.ensures (done (goal.at.returns-in-Program c).In-Program-2).read

@@ -54,30 +54,30 @@ returns-then-n-gt-COST_WORDS c = λ ws p w.
     let a = c.args in
     c.refuse-then-n-gt-COST_WORDS.ensures
     ∙ too_many (length a.table.now) (length a.store.now) ws a.set.now a.costs.now a.proof.now (omega (arith, c.if-n-gt-COST_WORDS.true))
-    ∙ with-set (length a.table.now) (length a.store.now) ws a.set.now a.costs.now a.proof.now (of-atoms a.set.now p.top (passed c.before))
+    ∙ with-set (length a.table.now) (length a.store.now) ws a.set.now a.costs.now a.proof.now (of-atoms a.set.now p.top (passed (goal.at.returns-then-n-gt-COST_WORDS c).Else-not-ascends_within))
 
 pub widen-requires : goal.widen-requires
 widen-requires c = omega (arith, c.if-n-gt-COST_WORDS.false, length-replicate 24 (pos 0))
 
 pub slice_bounds-pairs-end : goal.slice_bounds-pairs-end
-slice_bounds-pairs-end c = room c.before
+slice_bounds-pairs-end c = room (goal.at.slice_bounds-pairs-end c).After-widen
 
 pub slice_bounds-judge_list-end : goal.slice_bounds-judge_list-end
-slice_bounds-judge_list-end c = sym (fits c.before)
+slice_bounds-judge_list-end c = sym (fits (goal.at.slice_bounds-judge_list-end c).After-widen)
 
 pub slice_bounds-judge_list-end-2 : goal.slice_bounds-judge_list-end-2
 slice_bounds-judge_list-end-2 c = sym (length-take-le _ _ (omega (arith, c.if-n-gt-COST_WORDS.false, length-replicate 12 (pos 0))))
 
 pub judge_list-requires : goal.judge_list-requires
 judge_list-requires c = let e = c.if-n-gt-COST_WORDS.false in
-    let d = c.before in
+    let d = (goal.at.judge_list-requires c).Else-not-ascends_within in
     let p = (s d).requires in
-    let n = c.before in
+    let n = (goal.at.judge_list-requires c).After-widen in
     let half = length (s d).args.costs.now / 2 in
     let h : length (take half (replicate 12 (pos 0))) ≡ half = length-take-le half (replicate 12 (pos 0)) (omega (arith, e, length-replicate 12 (pos 0))) in record { program = p.0; short = p.1.0; row = (omega (arith, fits n, h), omega (arith, fits n, h), omega (arith, e, h)); set = passed d; empty = p.1.1 }
 
 pub returns : goal.returns
 returns c = λ ws p w.
     let a = c.args in
-    (rw (front c.before) at (c.judge_list.ensures ws p w))
-    ∙ with-set (length a.table.now) (length a.store.now) ws a.set.now a.costs.now a.proof.now (of-atoms a.set.now p.top (passed c.before))
+    (rw (front (goal.at.returns c).After-widen) at (c.judge_list.ensures ws p w))
+    ∙ with-set (length a.table.now) (length a.store.now) ws a.set.now a.costs.now a.proof.now (of-atoms a.set.now p.top (passed (goal.at.returns c).Else-not-ascends_within))

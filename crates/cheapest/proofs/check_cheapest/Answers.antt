@@ -25,19 +25,19 @@ module _ (c : In-Read-2) where
   found = program-read _ _ _ _ read.answer read.table _ _ c.in-Read.is
 
 pub cheapest_read-requires : goal.cheapest_read-requires
-cheapest_read-requires c = let d = c.before in
+cheapest_read-requires c = let d = (goal.at.cheapest_read-requires c).In-Read-2 in
     let f = found d in
     let h = held _ _ _ _ (read d).answer (read d).table f (search rules) in record { program = ((f.P, h.0), h.1); short = rw h.0.holds.are (read-shorter _ _ f.P f.read); empty = (zeros (pos 0) {n = length (start d).args.store.now} (q d).zero-all.ensures).0 }
 
 pub returns-in-Refused : goal.returns-in-Refused
 returns-in-Refused c =
-    let d = c.before in
+    let d = c in
     let r = d.read_program-read.ensures in
     program-unread _ _ _ _ _ _ r.answer r.table _ c.in-Refused.is d.zero_all.ensures
 
 pub returns-in-Read : goal.returns-in-Read
 returns-in-Read c =
-    let d = c.before in
+    let d = (goal.at.returns-in-Read c).In-Read-2 in
     let f = found d in
     let t : length (q d).read-program.new.1.0 ≡ length (start d).args.table.now = search rules in
     let s : length (q d).zero-all.new.0 ≡ length (start d).args.store.now = search rules in

@@ -12,7 +12,7 @@ use Rattle.cheapest.proofs.cost_of.Goals as goal
 
 pub sum_held-requires : goal.sum_held-requires
 sum_held-requires c =
-    let s = c.before in
+    let s = c in
     costs-small s.args.pairs.now s.requires.0 s.requires.1
 
 pub returns : goal.returns

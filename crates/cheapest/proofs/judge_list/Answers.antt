@@ -33,26 +33,26 @@ returns-then-not-all_weights c = λ ws p w.
 
 pub is_good-requires : goal.is_good-requires
 is_good-requires c =
-    let d = c.before in
+    let d = (goal.at.is_good-requires c).Else-not-all_weights in
     let r = (s d).requires.row in
     (omega (arith, length-paired (s d).args.pairs.now (weighed d), r.0, r.1), r.2)
 
 pub returns-then-not-is_good : goal.returns-then-not-is_good
 returns-then-not-is_good c = λ ws p w.
-    let d = c.before in
+    let d = (goal.at.returns-then-not-is_good c).Else-not-all_weights in
     let a = (s d).args in
     c.refuse-then-not-is_good.ensures
     ∙ bad-costs (length a.table.now) (length a.store.now) ws a.set.now a.pairs.now a.proof.now (weighed d)
     (of-atoms a.pairs.now p.top (sym c.is_good.ensures.0 ∙ c.if-not-is_good.true))
 
 pub judge_set-requires : goal.judge_set-requires
-judge_set-requires c = let d = c.before in
+judge_set-requires c = let d = (goal.at.judge_set-requires c).After-all_weights in
     let p = (s d).requires in
     let g = c.is_good.ensures in record { program = p.0; short = p.1.0; pairs = (weighed d, sym g.0 ∙ c.if-not-is_good.false); sorted = g.1; set = p.1.1.1.0; empty = p.1.1.1.1 }
 
 pub returns : goal.returns
 returns c = λ ws p w.
-    let d = c.before in
+    let d = (goal.at.returns c).After-all_weights in
     let a = (s d).args in
     c.judge_set.ensures ws p w
     ∙ good-costs (length a.table.now) (length a.store.now) ws a.set.now a.pairs.now a.proof.now (weighed d)

@@ -31,29 +31,29 @@ module _ (c : After-write_restriction) where
       c.write_restriction.ensures
 
 pub write_restriction-requires : goal.write_restriction-requires
-write_restriction-requires c = let s = c.before in
+write_restriction-requires c = let s = (goal.at.write_restriction-requires c).Start in
     let p = s.requires.1.1 in record { pairs = (p.0.0, p.1.1.0); sorted = (p.1.0, few s); row = omega (arith, few s, length-replicate (5 + 2 * most_weighted) (pos 0)) }
 
 pub slice_bounds-row-end : goal.slice_bounds-row-end
-slice_bounds-row-end c = omega (arith, few c.before)
+slice_bounds-row-end c = omega (arith, few (goal.at.slice_bounds-row-end c).Start)
 
 pub slice_bounds-accepts-end : goal.slice_bounds-accepts-end
-slice_bounds-accepts-end c = sym (length-take-le _ _ (omega (arith, few c.before, long c.before)))
+slice_bounds-accepts-end c = sym (length-take-le _ _ (omega (arith, few (goal.at.slice_bounds-accepts-end c).Start, long (goal.at.slice_bounds-accepts-end c).After-write_restriction)))
 
 pub accepts-requires : goal.accepts-requires
-accepts-requires c = let d = c.before in
+accepts-requires c = let d = (goal.at.accepts-requires c).After-row-1 in
     let p = (start d).requires in record { program = p.0; short = p.1.0; rule = (paired (start d).args.pairs.now, (start d).args.cost, words d); empty = p.1.1.1.1.1 }
 
 pub returns-then-accepts : goal.returns-then-accepts
 returns-then-accepts c = λ ws p w.
-    let d = c.before in
+    let d = (goal.at.returns-then-accepts c).After-row-1 in
     let a = (start d).args in
     proof-accepted (length a.table.now) (length a.store.now) ws (paired a.pairs.now) a.cost a.proof.now
     (c.accepts.ensures ws p (paired a.pairs.now) a.cost (words d)) c.if-accepts.true w
 
 pub returns : goal.returns
 returns c = λ ws p w.
-    let d = c.before in
+    let d = (goal.at.returns c).After-row-1 in
     let a = (start d).args in
     let s : length c.accepts.new.store.0 ≡ length a.store.now = search rules in
     c.refuse.ensures ∙ same-nothing 63 (refl {a = length a.table.now}) s

@@ -59,13 +59,13 @@ cost_of-cost-requires c =
 
 pub returns-then-cost-gt-MOST_WEIGHT : goal.returns-then-cost-gt-MOST_WEIGHT
 returns-then-cost-gt-MOST_WEIGHT c = λ ws p w.
-    let d = c.before in
+    let d = (goal.at.returns-then-cost-gt-MOST_WEIGHT c).After-cost_of-cost in
     let a = (s d).args in
     with-total d ws (c.refuse.ensures ∙ too-dear (T d) (S d) ws a.set.now (paired a.pairs.now) d.cost_of-cost.result a.proof.now c.if-cost-gt-MOST_WEIGHT.true)
 
 pub returns-then-not-is_answer_set : goal.returns-then-not-is_answer_set
 returns-then-not-is_answer_set c = λ ws p w.
-    let i = c.before in
+    let i = (goal.at.returns-then-not-is_answer_set c).After-is_answer_set in
     let d = before-it i in
     let a = (s d).args in
     with-total d ws (c.refuse-then-not-is_answer_set.ensures
@@ -73,18 +73,18 @@ returns-then-not-is_answer_set c = λ ws p w.
 
 pub returns-then-cost-eq0 : goal.returns-then-cost-eq0
 returns-then-cost-eq0 c = λ ws p w.
-    let i = c.before in
+    let i = (goal.at.returns-then-cost-eq0 c).After-is_answer_set in
     let d = before-it i in
     let a = (s d).args in
     with-total d ws (costs-nothing (T d) (S d) ws a.set.now (paired a.pairs.now) d.cost_of-cost.result a.proof.now i.if-cost-gt-MOST_WEIGHT.false (sym (told i ws p) ∙ c.if-not-is_answer_set.false) c.if-cost-eq0.true w (s d).pre.1.1.1.1.1)
 
 pub judge_proof-requires : goal.judge_proof-requires
-judge_proof-requires c = let i = c.before in
+judge_proof-requires c = let i = (goal.at.judge_proof-requires c).After-is_answer_set in
     let p = (s (before-it i)).pre in record { program = p.0; short = p.1.0; pairs = p.1.1.0; sorted = p.1.1.1.0; cost = i.if-cost-gt-MOST_WEIGHT.false; empty = p.1.1.1.1.1 }
 
 pub returns : goal.returns
 returns c = λ ws p w.
-    let i = c.before in
+    let i = (goal.at.returns c).After-is_answer_set in
     let d = before-it i in
     let a = (s d).args in
     with-total d ws (c.judge_proof.ensures ws p w

@@ -31,7 +31,7 @@ module _ (c : In-Read-2) where
   found = program-read _ _ _ _ read.answer read.table _ _ c.in-Read.is
 
 pub check_within-verdict-requires : goal.check_within-verdict-requires
-check_within-verdict-requires c = let d = c.before in
+check_within-verdict-requires c = let d = (goal.at.check_within-verdict-requires c).In-Read-2 in
     let h = held _ _ _ _ (read d).answer (read d).table (found d) (search rules) in record { limit = omega arith; program = (((found d).P, h.0), omega (arith, h.1)); empty = (zeros (pos 0) {n = length (start d).args.store.now} d.zero_all.ensures).0; cells = subst (λ (l : List ℕ). BlankIndex l) (sym d.zero_cells.ensures) (blank-index (length (start d).args.memory.now)) }
 
 pub returns-in-Refused : goal.returns-in-Refused
@@ -44,7 +44,7 @@ returns-in-Refused c =
 
 pub returns-in-Read : goal.returns-in-Read
 returns-in-Read c =
-    let d = c.before in
+    let d = (goal.at.returns-in-Read c).In-Read-2 in
     let a : length (q d).read-program.new.1.0 ≡ length (start d).args.table.now = search rules in
     let b : length d.zero_all.new.t.0 ≡ length (start d).args.store.now = search rules in
     let m : length c.check_within-verdict.new.index.0 ≡ length (start d).args.memory.now = search rules in

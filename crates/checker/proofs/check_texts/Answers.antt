@@ -25,7 +25,7 @@ module _ (c : In-Read-2) where
   found = program-read _ _ _ _ read.answer read.table _ _ c.in-Read.is
 
 pub check_proof-requires : goal.check_proof-requires
-check_proof-requires c = let d = c.before in
+check_proof-requires c = let d = (goal.at.check_proof-requires c).In-Read-2 in
     let h = held _ _ _ _ (read d).answer (read d).table (found d) (search rules) in record { program = (((found d).P, h.0), omega (arith, h.1)); empty = (zeros (pos 0) {n = length (start d).args.store.now} c.zero_all.ensures).0 }
 
 pub returns-in-Refused : goal.returns-in-Refused
@@ -35,7 +35,7 @@ returns-in-Refused c =
 
 pub returns-in-Read : goal.returns-in-Read
 returns-in-Read c =
-    let d = c.before in
+    let d = (goal.at.returns-in-Read c).In-Read-2 in
     let a : length (q d).read-program.new.1.0 ≡ length (start d).args.table.now = search rules in
     let b : length c.zero_all.new.t.0 ≡ length (start d).args.store.now = search rules in
     let p = found d in

@@ -12,7 +12,7 @@ returns-then-numbers-eq0 c = rw (c.signs_of-signs.ensures, signed-none _ _ c.if-
 
 pub returns : goal.returns
 returns c =
-    let b = c.before in
+    let b = c in
     let zs = b.args.numbers.now in
     let first = rw (back (get_or zs 0 (pos 0)) c.is_positive-arg-1.given) at c.is_positive.ensures in
     let later = rw (part_to_end zs 1) at c.all_positive.ensures in

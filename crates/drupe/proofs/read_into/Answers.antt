@@ -17,7 +17,7 @@ returns-then-text-position c =
 
 pub returns : goal.returns
 returns c =
-    let n = c.before in
-    let b = n.before in
+    let n = c in
+    let b = c in
     let a = b.args in
     into-text (into-same (at-line a.text.now a.position b.if-position-text.false) (rw (part_to_end a.text.now a.position) at n.read_letter.ensures))

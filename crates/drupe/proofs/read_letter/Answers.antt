@@ -27,22 +27,22 @@ returns-then-text-eq0 c =
 
 pub returns-in-Step : goal.returns-in-Step
 returns-in-Step c =
-    let n = c.before in
-    let b = n.before in
-    let k = b.before in
+    let n = c in
+    let b = c in
+    let k = (goal.at.returns-in-Step c).After-class_of-class in
     into-same (first k _ b.in-Step.is) (rw (part_to_end k.args.text.now 1) at n.read_space.ensures)
 
 pub returns-in-Newline : goal.returns-in-Newline
-returns-in-Newline c = into-refused 22 (first c.before _ c.in-Newline.is)
+returns-in-Newline c = into-refused 22 (first (goal.at.returns-in-Newline c).After-class_of-class _ c.in-Newline.is)
 
 pub returns-in-Space : goal.returns-in-Space
-returns-in-Space c = into-refused 22 (first c.before _ c.in-Space.is)
+returns-in-Space c = into-refused 22 (first (goal.at.returns-in-Space c).After-class_of-class _ c.in-Space.is)
 
 pub returns-in-Minus : goal.returns-in-Minus
-returns-in-Minus c = into-refused 22 (first c.before _ c.in-Minus.is)
+returns-in-Minus c = into-refused 22 (first (goal.at.returns-in-Minus c).After-class_of-class _ c.in-Minus.is)
 
 pub returns-in-Digit : goal.returns-in-Digit
-returns-in-Digit c = into-refused 22 (first c.before _ c.in-Digit.is)
+returns-in-Digit c = into-refused 22 (first (goal.at.returns-in-Digit c).After-class_of-class _ c.in-Digit.is)
 
 pub returns-in-Other : goal.returns-in-Other
-returns-in-Other c = into-refused 22 (first c.before _ c.in-Other.is)
+returns-in-Other c = into-refused 22 (first (goal.at.returns-in-Other c).After-class_of-class _ c.in-Other.is)

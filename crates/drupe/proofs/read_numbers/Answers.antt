@@ -41,30 +41,30 @@ kept c =
 
 pub returns-then-not-closed : goal.returns-then-not-closed
 returns-then-not-closed c =
-    let f = found c.before in
+    let f = found (goal.at.returns-then-not-closed c).In-Numbers-2 in
     into-refused 22 (rw (f.is, sym f.shut ∙ c.if-not-closed.true))
 
 pub returns-then-outside : goal.returns-then-outside
 returns-then-outside c =
-    let b = c.before in
-    let f = found b.before in
+    let b = (goal.at.returns-then-outside c).Else-not-closed in
+    let f = found (goal.at.returns-then-outside c).In-Numbers-2 in
     into-refused 23 (rw (f.is, shut b, outside-before f.list (shut b) ∙ sym f.large ∙ c.if-outside.true))
 
 pub overflow_sub-before : goal.overflow_sub-before
 overflow_sub-before c =
-    let f = found c.before in
-    omega (arith, f.long, closed_some f.list (shut c.before))
+    let f = found (goal.at.overflow_sub-before c).In-Numbers-2 in
+    omega (arith, f.long, closed_some f.list (shut (goal.at.overflow_sub-before c).Else-not-closed))
 
 pub returns-then-before-gt-MOST_NUMBERS : goal.returns-then-before-gt-MOST_NUMBERS
 returns-then-before-gt-MOST_NUMBERS c =
-    let b = c.before in
-    let f = found b.before in
+    let b = (goal.at.returns-then-before-gt-MOST_NUMBERS c).Else-not-closed in
+    let f = found (goal.at.returns-then-before-gt-MOST_NUMBERS c).In-Numbers-2 in
     let l = length-take-le (length f.list - 1) f.list (omega arith) in
     into-refused 23 (rw (f.is, shut b, l, lt-ltb most_numbers (length f.list - 1) (omega (arith, f.long, c.if-before-gt-MOST_NUMBERS.true)), or-true))
 
 pub slice_bounds-ask-end-in-Numbers : goal.slice_bounds-ask-end-in-Numbers
 slice_bounds-ask-end-in-Numbers c =
-    let r = c.before in
+    let r = c in
     let a = r.before in
     sym (length-take-le _ _ (omega (arith, r.read_line-read.ensures.kept, a.requires.rows.0)))
 
@@ -75,31 +75,31 @@ slice_bounds-ask-end-in-Numbers-3 c =
 
 pub overflow_add-from : goal.overflow_add-from
 overflow_add-from c =
-    let r = c.before in
+    let r = (goal.at.overflow_add-from c).In-Numbers-1 in
     let f = found r in
     omega (arith, bounds_of _ f.list _ f.is, r.requires.text_bound)
 
 pub ask-requires : goal.ask-requires
-ask-requires c = let e = c.before in
-    let b = e.before in
-    let r = b.before in
+ask-requires c = let e = (goal.at.ask-requires c).Else-outside in
+    let b = (goal.at.ask-requires c).Else-not-closed in
+    let r = (goal.at.ask-requires c).In-Numbers-1 in
     let f = found r in
     let a = r.before in
-    let l = length-take-le (length f.list - 1) f.list (omega arith) in let all = rw (kept e) ((outside-before f.list (shut b.before) ∙ inside b, rw l (omega (arith, f.long))), rw (l, length-take-le (r.in-Numbers.count - 1) a.args.sorted.now (omega (arith, a.requires.rows.1))) (omega (arith, f.long))) in record { sizes = all.0; room = all.1 }
+    let l = length-take-le (length f.list - 1) f.list (omega arith) in let all = rw (kept e) ((outside-before f.list (shut (goal.at.ask-requires c).In-Numbers) ∙ inside b, rw l (omega (arith, f.long))), rw (l, length-take-le (r.in-Numbers.count - 1) a.args.sorted.now (omega (arith, a.requires.rows.1))) (omega (arith, f.long))) in record { sizes = all.0; room = all.1 }
 
 pub returns-else-before-gt-MOST_NUMBERS : goal.returns-else-before-gt-MOST_NUMBERS
 returns-else-before-gt-MOST_NUMBERS c =
-    let n = c.before in
-    let e = n.before in
-    let r = e.before in
+    let n = c in
+    let e = (goal.at.returns-else-before-gt-MOST_NUMBERS c).Else-outside in
+    let r = (goal.at.returns-else-before-gt-MOST_NUMBERS c).In-Numbers-1 in
     let f = found r in
     let a = r.before in
     let zs = take (length f.list - 1) f.list in
     let l = length-take-le (length f.list - 1) f.list (omega arith) in
     let m = length-take-le (r.in-Numbers.count - 1) a.args.sorted.now (omega (arith, a.requires.rows.1)) in
     let k : length n.ask.new.sorted ≡ length zs = omega (arith, n.ask.auto.sorted, l, m, f.long) in
-    into-same (rw (f.is, shut e.before))
-    (into-asked a.args.letter zs (a.args.from + r.in-Numbers.next) (rw (kept e) at n.ask.ensures.answer) (omega (arith, l, f.long, a.requires.rows.0)) (row_written f (inside e.before) (shut e.before))
+    into-same (rw (f.is, shut (goal.at.returns-else-before-gt-MOST_NUMBERS c).In-Numbers))
+    (into-asked a.args.letter zs (a.args.from + r.in-Numbers.next) (rw (kept e) at n.ask.ensures.answer) (omega (arith, l, f.long, a.requires.rows.0)) (row_written f (inside (goal.at.returns-else-before-gt-MOST_NUMBERS c).Else-not-closed) (shut (goal.at.returns-else-before-gt-MOST_NUMBERS c).In-Numbers))
     (take_at _ _ _ k ∙ rw (kept e) at n.ask.ensures.sorted))
 
 pub returns-in-Broken : goal.returns-in-Broken

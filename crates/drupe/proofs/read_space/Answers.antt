@@ -13,15 +13,15 @@ returns-then-text-eq0 c =
 
 pub returns-then-not-is_space : goal.returns-then-not-is_space
 returns-then-not-is_space c =
-    let b = c.before in
+    let b = c in
     let a = b.args in
     into-refused 22 (after-other a.letter a.from a.text.now (sym b.is_space.ensures ∙ c.if-not-is_space.true))
 
 pub returns : goal.returns
 returns c =
-    let n = c.before in
-    let e = n.before in
-    let b = e.before in
+    let n = c in
+    let e = c in
+    let b = c in
     let a = b.args in
     into-same (after-space a.letter a.from a.text.now b.if-text-eq0.false (sym b.is_space.ensures ∙ e.if-not-is_space.false))
     (rw (part_to_end a.text.now 1) at n.read_numbers.ensures)

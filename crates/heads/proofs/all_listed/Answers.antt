@@ -46,7 +46,7 @@ hit-named t rules names v ns hits j k H e N i h = elim (equal? i j) [
 
 pub loop-p-init : goal.loop-p-init
 loop-p-init c =
-    let s = c.before in
+    let s = c in
     let z = s.requires.line.2 in (
       refl,
       walk_from s.requires.index.0.entered.heads.chains (omega (arith, s.requires.line.0)) c.word_of-p.ensures,
@@ -89,8 +89,8 @@ module _ (c : After-word_of-k) where
 
 pub returns-then-j-listed : goal.returns-then-j-listed
 returns-then-j-listed c =
-    let p = c.before in
-    let w = p.before in
+    let p = c in
+    let w = (goal.at.returns-then-j-listed c).After-word_of-k in
     (w.word_of-k.result, headed w, rw p.wide.ensures.same at (p.place_of-j.ensures.none c.if-j-listed.true))
 
 -- the name is listed
@@ -112,13 +112,13 @@ module _ (c : Else-j-listed) where
 
 pub loop-p-smaller : goal.loop-p-smaller
 loop-p-smaller c =
-    let d = i (w c.before) in
+    let d = i (w (goal.at.loop-p-smaller c).Else-j-listed) in
     let e = c.word_of-p-in-loop-p.ensures in
     omega (arith, e, next-less (s d).pre.0.0.entered.heads.chains d.loop-p.inv.1 (is d))
 
 pub loop-p-preserved : goal.loop-p-preserved
 loop-p-preserved c =
-    let e = c.before in
+    let e = (goal.at.loop-p-preserved c).Else-j-listed in
     let o = w e in
     let d = i o in
     let j = (p e).place-of.result in
@@ -133,7 +133,7 @@ loop-p-preserved c =
 
 pub returns : goal.returns
 returns c =
-    let s = c.before in
+    let s = c in
     let a = s.args in
     let l = c.loop-p in
     (all_seen a.table.now a.rules a.v (Hit a.names.now a.listed.now l.hits) l.p c.loop-p-test.false l.invariant.1, l.invariant.2)

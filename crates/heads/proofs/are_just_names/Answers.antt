@@ -18,9 +18,9 @@ room c = omega (arith, c.all_listed.auto.hits, c.requires.line.1)
 
 pub returns-then-all_listed : goal.returns-then-all_listed
 returns-then-all_listed c =
-    let b = c.before in
-    let l = b.before in
-    let s = l.before in
+    let b = c in
+    let l = (goal.at.returns-then-all_listed c).After-all_listed in
+    let s = c in
     let a = s.args in
     let hits = l.all_listed.new.hits.0 in
     let L = subst (Listed a.table.now a.rules a.names.now a.v a.listed.now hits) b.if-all_listed.true l.all_listed.ensures in
@@ -29,8 +29,8 @@ returns-then-all_listed c =
 
 pub returns : goal.returns
 returns c =
-    let l = c.before in
-    let s = l.before in
+    let l = c in
+    let s = c in
     let a = s.args in
     let hits = l.all_listed.new.hits.0 in
     let L = subst (Listed a.table.now a.rules a.names.now a.v a.listed.now hits) c.if-all_listed.false l.all_listed.ensures in
@@ -41,7 +41,7 @@ pub slice_bounds-all_listed-end : goal.slice_bounds-all_listed-end
 slice_bounds-all_listed-end c = refl
 
 pub slice_bounds-hits-end : goal.slice_bounds-hits-end
-slice_bounds-hits-end c = room c.before
+slice_bounds-hits-end c = room (goal.at.slice_bounds-hits-end c).After-all_listed
 
 pub slice_bounds-all_hit-end : goal.slice_bounds-all_hit-end
-slice_bounds-all_hit-end c = sym (length-take-le _ _ (room c.before))
+slice_bounds-all_hit-end c = sym (length-take-le _ _ (room (goal.at.slice_bounds-all_hit-end c).After-all_listed))

@@ -29,20 +29,20 @@ in-names c = let s = c.before in omega (arith, (found c).0, s.requires.program.1
 
 pub returns-then-found-gt0 : goal.returns-then-found-gt0
 returns-then-found-gt0 c =
-    let d = c.before in
-    let r = d.before in
-    let e = r.before in
-    let s = e.before in
+    let d = (goal.at.returns-then-found-gt0 c).Then-found-gt0 in
+    let r = c in
+    let e = (goal.at.returns-then-found-gt0 c).Else-not-is_covered in
+    let s = c in
     let a = s.args in
     λ ws H. rw (← H.are) (λ called K.
     one-body a.table.now a.rules s.requires.program.0.1.sound (covers e).plain K a.body.now (r.rule_with-found.result - 1) c.wide.result (found d) c.wide.ensures.same)
 
 pub returns : goal.returns
 returns c =
-    let r = c.before in
+    let r = c in
     let none : r.rule_with-found.result ≡ 0 = omega (arith, c.if-found-gt0.false) in
-    let e = r.before in
-    let s = e.before in
+    let e = (goal.at.returns c).Else-not-is_covered in
+    let s = c in
     let a = s.args in
     λ ws H. rw (← H.are) (λ called K.
     no_body a.table.now a.rules s.requires.program.0.1.sound (covers e).plain K a.body.now
@@ -52,4 +52,4 @@ pub offset_bounds-names-found : goal.offset_bounds-names-found
 offset_bounds-names-found c = let h = in-names c in search rules
 
 pub bounds-names-found : goal.bounds-names-found
-bounds-names-found c = in-names c.before
+bounds-names-found c = in-names (goal.at.bounds-names-found c).Then-found-gt0

@@ -18,29 +18,29 @@ rule_with-newest-requires c = (covers c, c.requires.program.0.1.sound)
 
 pub enter_rules-requires : goal.enter_rules-requires
 enter_rules-requires c =
-    let d = c.before in
+    let d = (goal.at.enter_rules-requires c).Then-is_covered in
     let p = d.requires in
     (covers d, p.0.0.1.sound, p.0.1)
 
 pub put_hint-requires : goal.put_hint-requires
 put_hint-requires c =
-    let r = c.before in
-    let d = r.before in
-    let s = d.before in
+    let r = c in
+    let d = (goal.at.put_hint-requires c).Then-is_covered in
+    let s = c in
     found-few s.args.table.now s.args.rules s.args.body.now _ (covers-few (covers d)) r.rule_with-newest.ensures
 
 pub returns-then-is_covered : goal.returns-then-is_covered
 returns-then-is_covered c =
     let h = c.put_hint in
     let g = c.enter_rules in
-    let d = c.before in
-    let s = d.before in
+    let d = (goal.at.returns-then-is_covered c).Then-is_covered in
+    let s = c in
     let a = s.args in
     let n = rules-count a.rules a.table.now in
     let few = covers-few (covers d) in
     λ ws H. rw (← H.are) (λ called K u f. record {
-      rules = omega (arith, K.rules, g.auto.1.1.1.1.1.0, h.auto.0);
-      by_rule = kept-front g.new.1.1.1.1.1.0 h.new.0 a.rules (hint_of a.name) _ _ _ n (omega (arith, few)) h.ensures
+      rules = omega (arith, K.rules, g.auto.names, h.auto.names);
+      by_rule = kept-front g.new.names.0 h.new.names a.rules (hint_of a.name) _ _ _ n (omega (arith, few)) h.ensures
           (g.ensures called (ap (λ m. take m a.names.now) (sym n) ∙ K.by_rule));
       by_name = λ w. absurd (true≢false (sym (covers d).plain ∙ w));
     })

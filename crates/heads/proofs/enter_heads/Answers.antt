@@ -56,15 +56,15 @@ enter_head-requires c =
 
 pub loop-j-preserved : goal.loop-j-preserved
 loop-j-preserved c =
-    let v = c.before in
+    let v = (goal.at.loop-j-preserved c).After-variable_of in
     let l = v.loop-j in
     let t = v.loop-j-test.true in
     let g = c.enter_head in (
       omega (arith, t),
-      g.auto.0 ∙ l.invariant.1,
+      g.auto.index ∙ l.invariant.1,
       (λ es H e. rw (one_more (hs v) (j v) (s v).args.k t es) (
-          as-head (es ++ map (headed_by (s v).args.k) (take (j v) (hs v))) (s v).args.k _ _ (tells v) (g.ensures.0 (es ++ map (headed_by (s v).args.k) (take (j v) (hs v))) (l.invariant.2 es H e) (size (hs v) (j v) (s v).args.k (omega (arith, t)) es e)))),
-      λ i h. g.ensures.1 i h ∙ l.invariant.3 i h,
+          as-head (es ++ map (headed_by (s v).args.k) (take (j v) (hs v))) (s v).args.k _ _ (tells v) (g.ensures.chains (es ++ map (headed_by (s v).args.k) (take (j v) (hs v))) (l.invariant.2 es H e) (size (hs v) (j v) (s v).args.k (omega (arith, t)) es e)))),
+      λ i h. g.ensures.others i h ∙ l.invariant.3 i h,
     )
 
 pub returns : goal.returns

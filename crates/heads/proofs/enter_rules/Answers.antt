@@ -22,7 +22,7 @@ use Rattle.heads.proofs.enter_rules.Goals.{In-loop-p, Start, After-word_of-at}
 
 pub loop-p-init : goal.loop-p-init
 loop-p-init c =
-    let s = c.before in
+    let s = c in
     let h = c.hash_of.ensures in
     let e = c.word_of-p.ensures ∙ ap (λ k. get_or s.args.index.now (bucket_at + k) 0) h.0 in
     let D = s.requires.0.entered.bodies in (
@@ -76,19 +76,19 @@ module _ (c : After-word_of-at) where
 
 pub name_for-requires : goal.name_for-requires
 name_for-requires c =
-    let w = c.before in
+    let w = (goal.at.name_for-requires c).After-word_of-at in
     subst (λ ws. shape_sound ws ≡ true) (sym (tail_of w.word_of-at.result (t (i w)) ∙ words-at w)) (here (i w)).2
 
 pub loop-p-smaller : goal.loop-p-smaller
 loop-p-smaller c =
-    let d = i c.before in
+    let d = i (goal.at.loop-p-smaller c).After-word_of-at in
     let e = c.word_of-p-in-loop-p.ensures in
     omega (arith, e, less d, is d)
 
 pub loop-p-preserved : goal.loop-p-preserved
 loop-p-preserved c =
-    let f = c.before in
-    let w = f.before in
+    let f = c in
+    let w = (goal.at.loop-p-preserved c).After-word_of-at in
     let d = i w in
     let a = (s d).args in
     let x = f.name_for.result in
@@ -106,7 +106,7 @@ loop-p-preserved c =
 
 pub returns : goal.returns
 returns c =
-    let s = c.before in
+    let s = c in
     let a = s.args in
     let l = c.loop-p in
     λ called B.
@@ -132,16 +132,16 @@ pub slice_bounds-rest-count : goal.slice_bounds-rest-count
 slice_bounds-rest-count c = within c
 
 pub offset_bounds-names-k : goal.offset_bounds-names-k
-offset_bounds-names-k c = let h = few (i c.before) in search rules
+offset_bounds-names-k c = let h = few (i (goal.at.offset_bounds-names-k c).After-word_of-at) in search rules
 
 pub bounds-names-k : goal.bounds-names-k
-bounds-names-k c = room (i c.before)
+bounds-names-k c = room (i (goal.at.bounds-names-k c).After-word_of-at)
 
 pub offset_bounds-names-k-in-loop-p : goal.offset_bounds-names-k-in-loop-p
-offset_bounds-names-k-in-loop-p c = let h = few (i c.before) in search rules
+offset_bounds-names-k-in-loop-p c = let h = few (i (goal.at.offset_bounds-names-k-in-loop-p c).After-word_of-at) in search rules
 
 pub overflow_add-k-in-loop-p : goal.overflow_add-k-in-loop-p
-overflow_add-k-in-loop-p c = let h = few (i c.before) in search rules
+overflow_add-k-in-loop-p c = let h = few (i (goal.at.overflow_add-k-in-loop-p c).After-word_of-at) in search rules
 
 pub bounds-names-k-in-loop-p : goal.bounds-names-k-in-loop-p
-bounds-names-k-in-loop-p c = room (i c.before)
+bounds-names-k-in-loop-p c = room (i (goal.at.bounds-names-k-in-loop-p c).After-word_of-at)

@@ -15,30 +15,30 @@ gather_all-count-requires c = let p = c.requires in record { index = (p.1.0.0 p.
 
 pub returns-then-count-gt-LARGEST : goal.returns-then-count-gt-LARGEST
 returns-then-count-gt-LARGEST c =
-    let g = c.before in
-    let s = g.before in
+    let g = c in
+    let s = c in
     let a = s.args in
     λ ws H. rw (← H.are) (λ bodies called K.
     none_named a.table.now a.rules s.requires.program.0 (s.requires.index.0 s.requires.index.1).plain K a.inside.now g.gather_all-count.ensures c.if-count-gt-LARGEST.true)
 
 -- the words that are gathered
-room : (c : Else-count-gt-LARGEST) → (let g = c.gather_all-count in g.result ≤ length g.new.1.1.1.1.1.1.0)
+room : (c : Else-count-gt-LARGEST) → (let g = c.gather_all-count in g.result ≤ length g.new.row.0)
 room c = let R = (c.gather_all-count.ensures.collected c.if-count-gt-LARGEST.false).is in omega (arith, R.long, R.within)
 
 size : (c : Else-count-gt-LARGEST)
-    → (let g = c.gather_all-count in length (take g.result g.new.1.1.1.1.1.1.0) ≡ g.result)
-size c = let g = c.gather_all-count in length-take-le g.result g.new.1.1.1.1.1.1.0 (room c)
+    → (let g = c.gather_all-count in length (take g.result g.new.row.0) ≡ g.result)
+size c = let g = c.gather_all-count in length-take-le g.result g.new.row.0 (room c)
 
 pub returns : goal.returns
 returns c =
     let o = c.sort in
-    let e = c.before in
-    let g = e.before in
-    let s = g.before in
+    let e = (goal.at.returns c).Else-count-gt-LARGEST in
+    let g = c in
+    let s = c in
     let a = s.args in
     let r = g.gather_all-count.result in
     let row = g.gather_all-count.new.row.0 in
-    let n : length o.new.0 ≡ r = ap length o.ensures ∙ length-ascending (take r row) ∙ size e in
+    let n : length o.new.words.0 ≡ r = ap length o.ensures ∙ length-ascending (take r row) ∙ size e in
     λ ws H. rw (← H.are) (λ bodies called K.
-    all_told a.table.now a.rules s.requires.program.0 (s.requires.index.0 s.requires.index.1).plain K a.inside.now (o.new.0 ++ drop r row) g.gather_all-count.ensures e.if-count-gt-LARGEST.false
-    (take_at o.new.0 (drop r row) r n ∙ o.ensures))
+    all_told a.table.now a.rules s.requires.program.0 (s.requires.index.0 s.requires.index.1).plain K a.inside.now (o.new.words.0 ++ drop r row) g.gather_all-count.ensures e.if-count-gt-LARGEST.false
+    (take_at o.new.words.0 (drop r row) r n ∙ o.ensures))

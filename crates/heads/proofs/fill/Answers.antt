@@ -20,14 +20,12 @@ use Rattle.heads.proofs.fill.Goals.{After-rest-1, Start, In-loop-k, After-heads_
 
 -- no rule
 no-heads : (t : List ℤ) → ◌≡◌ {A = ℕ} 0 (length (headed_to 0 t))
-
 unfolding headed_to
-
 no-heads t = refl
 
 pub loop-k-init : goal.loop-k-init
 loop-k-init c =
-    let s = c.before in
+    let s = c in
     let t = s.args.table.now in
     let e = s.requires.zero in (
       omega arith,
@@ -107,14 +105,14 @@ pub returns-then-i-gt-LONGEST : goal.returns-then-i-gt-LONGEST
 returns-then-i-gt-LONGEST c = nothing_said c.loop-k.invariant.4
 
 pub overflow_add-n : goal.overflow_add-n
-overflow_add-n c = let w = room c.before in search rules
+overflow_add-n c = let w = room (goal.at.overflow_add-n c).After-heads_of-heads in search rules
 
 pub returns-then-n-heads-gt-MOST_HEADS : goal.returns-then-n-heads-gt-MOST_HEADS
 returns-then-n-heads-gt-MOST_HEADS c = nothing_said c.loop-k.invariant.4
 
 pub enter_rule-requires : goal.enter_rule-requires
-enter_rule-requires c = let e = c.before in
-    let h = e.before in
+enter_rule-requires c = let e = c in
+    let h = (goal.at.enter_rule-requires c).After-heads_of-heads in
     let d = r h in
     let l = d.loop-k in record { index = (
         l.inv.5 ∙ ap length (s d).pre.1 ∙ length-replicate {A = ℕ} index_words 0,
@@ -124,39 +122,39 @@ enter_rule-requires c = let e = c.before in
       ); rule = rw (tail_of (i d) (t d), words-at d) (at d).sound }
 
 pub next_rule-i-requires : goal.next_rule-i-requires
-next_rule-i-requires c = let d = c.before in record { here = rw (starts d) (at d).here }
+next_rule-i-requires c = let d = (goal.at.next_rule-i-requires c).After-rest-1 in record { here = rw (starts d) (at d).here }
 
 pub overflow_add-n-in-loop-k : goal.overflow_add-n-in-loop-k
-overflow_add-n-in-loop-k c = let w = room c.before in search rules
+overflow_add-n-in-loop-k c = let w = room (goal.at.overflow_add-n-in-loop-k c).After-heads_of-heads in search rules
 
 pub overflow_add-k : goal.overflow_add-k
-overflow_add-k c = let d = c.before in let w = (s d).requires.program.2 in search (rules, taken d)
+overflow_add-k c = let d = (goal.at.overflow_add-k c).After-rest-1 in let w = (s d).requires.program.2 in search (rules, taken d)
 
 pub loop-k-smaller : goal.loop-k-smaller
-loop-k-smaller c = let d = c.before in omega (arith, taken d)
+loop-k-smaller c = let d = (goal.at.loop-k-smaller c).After-rest-1 in omega (arith, taken d)
 
 pub loop-k-preserved : goal.loop-k-preserved
 loop-k-preserved c =
     let g = c.enter_rule in
-    let h = c.before in
+    let h = (goal.at.loop-k-preserved c).After-heads_of-heads in
     let d = r h in
     let l = d.loop-k in (
       omega (arith, taken d),
       next_start (k d) (t d) (i d) _ (starts d) c.next_rule-i.ensures.0,
       next-heads (k d) (t d) (i d) _ _ (starts d) l.inv.2 (heads-are h),
-      subst (Entered g.new.0 (t d)) (sym (add-one (k d))) (g.ensures.0 (t d) (tail_of (i d) (t d) ∙ words-at d) (starts d) (sym l.inv.2) l.inv.3),
-      g.ensures.1 ∙ l.inv.4,
-      g.auto.0 ∙ l.inv.5,
+      subst (Entered g.new.index (t d)) (sym (add-one (k d))) (g.ensures.entered (t d) (tail_of (i d) (t d) ∙ words-at d) (starts d) (sym l.inv.2) l.inv.3),
+      g.ensures.first ∙ l.inv.4,
+      g.auto.index ∙ l.inv.5,
     )
 
 pub bounds-index-0 : goal.bounds-index-0
 bounds-index-0 c =
-    let s = c.before in
+    let s = c in
     omega (arith, c.loop-k.invariant.5, ap length s.requires.zero, length-replicate {A = ℕ} index_words 0)
 
 pub returns : goal.returns
 returns c =
-    let s = c.before in
+    let s = c in
     let l = c.loop-k in
     let e : l.k ≡ s.args.rules = omega (arith, l.invariant.0, c.loop-k-test.false) in
     λ q. record { entered = subst (Entered _ s.args.table.now) e (entered-flag 1 l.invariant.3); plain = s.requires.program.1 }

@@ -20,7 +20,7 @@ use Rattle.heads.proofs.gather_all.Goals.{After-variable_of, Start}
 
 pub loop-i-init : goal.loop-i-init
 loop-i-init c =
-    let s = c.before in
+    let s = c in
     (omega arith, none-collected s.args.table.now s.args.rules s.args.names.now s.args.inside.now s.args.row.now s.requires.row, λ j h. absurd (omega arith))
 
 -- the atom at hand
@@ -49,7 +49,7 @@ module _ (c : After-variable_of) where
       (b.0, b.1, atom-marked s.args.inside.now s.args.atoms.now s.pre.1.0.0 x among b.1)
 
 pub gather_head-count-requires : goal.gather_head-count-requires
-gather_head-count-requires c = let v = c.before in
+gather_head-count-requires c = let v = (goal.at.gather_head-count-requires c).After-variable_of in
     let p = (s v).requires in record { index = p.0; head = subst (λ n. (1 ≤ n) × (n ≤ largest) × (marked (s v).args.inside.now n ≡ true)) (sym (tells v)) (good v); row = v.loop-i.invariant.1 }
 
 pub returns-then-count-gt-LARGEST : goal.returns-then-count-gt-LARGEST
@@ -69,18 +69,18 @@ got-on t rules names m atoms before row i v count r e h G f j b k H X = elim (eq
 pub loop-i-preserved : goal.loop-i-preserved
 loop-i-preserved c =
     let g = c.gather_head-count in
-    let v = c.before in
+    let v = (goal.at.loop-i-preserved c).After-variable_of in
     let l = v.loop-i in
     let a = (s v).args in
     let h = c.if-count-gt-LARGEST.false in (
       omega (arith, taken v),
       g.ensures.collected h,
-      got-on a.table.now a.rules a.names.now a.inside.now a.atoms.now l.row g.new.1.1.1.1.1.1.0 l.i _ l.count g.result (tells v) h g.ensures l.invariant.2,
+      got-on a.table.now a.rules a.names.now a.inside.now a.atoms.now l.row g.new.row l.i _ l.count g.result (tells v) h g.ensures l.invariant.2,
     )
 
 pub returns : goal.returns
 returns c =
-    let s = c.before in
+    let s = c in
     let a = s.args in
     let l = c.loop-i in
     let b = l.invariant.1.is.within in record {

@@ -22,7 +22,7 @@ use Rattle.heads.proofs.gather_head.Goals.{In-loop-p, Start, After-word_of-k, Af
 
 pub loop-p-init : goal.loop-p-init
 loop-p-init c =
-    let s = c.before in
+    let s = c in
     (s.requires.row, (λ x i. i), walk_from s.requires.index.0.entered.heads.chains (omega (arith, s.requires.head)) c.word_of-p.ensures)
 
 -- the place at hand
@@ -90,7 +90,7 @@ module _ (c : After-word_of-at) where
 
 pub gather_rule-count-requires : goal.gather_rule-count-requires
 gather_rule-count-requires c =
-    let w = c.before in
+    let w = (goal.at.gather_rule-count-requires c).After-word_of-at in
     let d = i (o w) in
     let C = d.loop-p.inv.0 in
     (subst (λ ws. shape_sound ws ≡ true) (sym (words-at w)) (here (o w)).2, C.is, omega (arith, collected-few (s d).pre.0.2 C, covers-few (s d).pre.0.0))
@@ -108,17 +108,17 @@ module _ (c : After-gather_rule-count) where
   gathers = c.gather_rule-count.ensures (t d) (s d).args.rules (s d).args.names.now (k (o w)) (words-at w) refl (headed (o w)).0 (inside (o w)) d.loop-p.inv.0
 
 pub returns-then-count-gt-LARGEST : goal.returns-then-count-gt-LARGEST
-returns-then-count-gt-LARGEST c = gather-stops (gathers c.before) c.if-count-gt-LARGEST.true
+returns-then-count-gt-LARGEST c = gather-stops (gathers (goal.at.returns-then-count-gt-LARGEST c).After-gather_rule-count) c.if-count-gt-LARGEST.true
 
 pub loop-p-smaller : goal.loop-p-smaller
 loop-p-smaller c =
-    let e = d c.before in
+    let e = d (goal.at.loop-p-smaller c).After-gather_rule-count in
     let f = c.word_of-p-in-loop-p.ensures in
     omega (arith, f, next-less (s e).pre.0.0.entered.heads.chains e.loop-p.inv.2 (is e))
 
 pub loop-p-preserved : goal.loop-p-preserved
 loop-p-preserved c =
-    let g = c.before in
+    let g = (goal.at.loop-p-preserved c).After-gather_rule-count in
     let h = c.if-count-gt-LARGEST.false in
     let G = gathers g in
     let e = d g in
@@ -163,10 +163,10 @@ pub slice_bounds-rest-count : goal.slice_bounds-rest-count
 slice_bounds-rest-count c = within c
 
 pub offset_bounds-names-k : goal.offset_bounds-names-k
-offset_bounds-names-k c = let r = few (o c.before) in search rules
+offset_bounds-names-k c = let r = few (o (goal.at.offset_bounds-names-k c).After-word_of-at) in search rules
 
 pub bounds-names-k : goal.bounds-names-k
-bounds-names-k c = in-names (o c.before)
+bounds-names-k c = in-names (o (goal.at.bounds-names-k c).After-word_of-at)
 
 pub overflow_add-x-in-loop-p : goal.overflow_add-x-in-loop-p
-overflow_add-x-in-loop-p c = let r = room (d c.before) in search rules
+overflow_add-x-in-loop-p c = let r = room (d (goal.at.overflow_add-x-in-loop-p c).After-gather_rule-count) in search rules

@@ -13,15 +13,15 @@ tells c = sym (c.any_inside.ensures ∙ ap (any (is_inside c.args.inside.now)) c
 
 pub returns-then-any_inside : goal.returns-then-any_inside
 returns-then-any_inside c =
-    let b = c.before in
+    let b = (goal.at.returns-then-any_inside c).After-any_inside in
     let a = b.args in
     λ t rules names k w e h i C.
     rule-inside t rules names a.inside.now a.row.now a.n k C (ap (λ ws. any (is_inside a.inside.now) (body_words_at ws)) (sym w) ∙ tells b ∙ c.if-any_inside.true)
 
 pub returns-then-name-eq0 : goal.returns-then-name-eq0
 returns-then-name-eq0 c =
-    let d = c.before in
-    let b = d.before in
+    let d = c in
+    let b = (goal.at.returns-then-name-eq0 c).After-any_inside in
     let a = b.args in
     λ t rules names k w e h i C.
     rule-unnamed t rules names a.inside.now a.row.now a.n k (h, i, ap (λ ws. any (is_inside a.inside.now) (body_words_at ws)) (sym w) ∙ tells b ∙ d.if-any_inside.false) (sym e ∙ c.if-name-eq0.true)
@@ -29,8 +29,8 @@ returns-then-name-eq0 c =
 pub returns : goal.returns
 returns c =
     let n = c.note in
-    let d = c.before in
-    let b = d.before in
+    let d = c in
+    let b = (goal.at.returns c).After-any_inside in
     let a = b.args in
     λ t rules names k w e h i C.
-    rule-noted t rules names a.inside.now a.row.now a.n k (h, i, ap (λ ws. any (is_inside a.inside.now) (body_words_at ws)) (sym w) ∙ tells b ∙ d.if-any_inside.false) e C n.ensures.0 n.ensures.1
+    rule-noted t rules names a.inside.now a.row.now a.n k (h, i, ap (λ ws. any (is_inside a.inside.now) (body_words_at ws)) (sym w) ∙ tells b ∙ d.if-any_inside.false) e C n.ensures.row n.ensures.same

@@ -11,15 +11,11 @@ use Rattle.heads.specs.Heads.{mixed, hash_from}
 use Rattle.heads.proofs.hash_of.Goals as goal
 
 hash-on : (h : ℕ) (l : List ℤ) (i : ℕ) → i < length l → hash_from h (drop i l) ≡ hash_from (mixed h (get_or l i (pos 0))) (drop (i + 1) l)
-
 unfolding hash_from
-
 hash-on h l i k = rw (add-one, drop-cons l i (pos 0) k)
 
 hash-end : (h : ℕ) (l : List ℤ) (i : ℕ) → length l ≤ i → hash_from h (drop i l) ≡ h
-
 unfolding hash_from
-
 hash-end h l i k = rw (drop_of_length-le l {i = i} k)
 
 pub loop-i-init : goal.loop-i-init

@@ -14,8 +14,8 @@ is_found-requires c = let p = c.requires in (covers c, p.0.0.1.sound, p.0.1)
 
 pub returns-then-is_found : goal.returns-then-is_found
 returns-then-is_found c =
-    let d = c.before in
-    let s = d.before in
+    let d = (goal.at.returns-then-is_found c).Then-is_covered in
+    let s = c in
     let a = s.args in
     let q = c.is_found.ensures c.if-is_found.true in
     λ ws H. rw (← H.are) (λ called K.

@@ -54,13 +54,13 @@ module _ (c : After-word_of-at) where
 
 pub completes-requires : goal.completes-requires
 completes-requires c =
-    let w = c.before in
+    let w = (goal.at.completes-requires c).After-word_of-at in
     subst (λ ws. shape_sound ws ≡ true) (sym (tail_of w.word_of-at.result (t (i w)) ∙ words-at w)) (here (i w)).2
 
 pub returns-then-completes : goal.returns-then-completes
 returns-then-completes c =
-    let g = c.before in
-    let w = g.before in
+    let g = c in
+    let w = (goal.at.returns-then-completes c).After-word_of-at in
     let d = i w in
     let a = (s d).args in
     let q = g.completes.ensures c.if-completes.true in
@@ -69,13 +69,13 @@ returns-then-completes c =
 
 pub loop-p-preserved : goal.loop-p-preserved
 loop-p-preserved c =
-    let d = i c.before in
+    let d = i (goal.at.loop-p-preserved c).After-word_of-at in
     let e = c.word_of-p-in-loop-p.ensures in
     omega (arith, e, before-less (s d).pre.0 (k d) (low d), low d)
 
 pub loop-p-smaller : goal.loop-p-smaller
 loop-p-smaller c =
-    let d = i c.before in
+    let d = i (goal.at.loop-p-smaller c).After-word_of-at in
     let e = c.word_of-p-in-loop-p.ensures in
     omega (arith, e, before-less (s d).pre.0 (k d) (low d), d.loop-p-test.taken)
 
@@ -104,10 +104,10 @@ pub slice_bounds-rest-count : goal.slice_bounds-rest-count
 slice_bounds-rest-count c = within c
 
 pub offset_bounds-names-k : goal.offset_bounds-names-k
-offset_bounds-names-k c = let h = few (i c.before) in search rules
+offset_bounds-names-k c = let h = few (i (goal.at.offset_bounds-names-k c).After-word_of-at) in search rules
 
 pub bounds-names-k : goal.bounds-names-k
-bounds-names-k c = in-names (i c.before)
+bounds-names-k c = in-names (i (goal.at.bounds-names-k c).After-word_of-at)
 
 pub overflow_add-k-in-loop-p : goal.overflow_add-k-in-loop-p
-overflow_add-k-in-loop-p c = let h = few (i c.before) in search rules
+overflow_add-k-in-loop-p c = let h = few (i (goal.at.overflow_add-k-in-loop-p c).After-word_of-at) in search rules

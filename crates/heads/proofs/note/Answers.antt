@@ -17,7 +17,7 @@ use Rattle.heads.proofs.note.Goals as goal
 use Rattle.heads.proofs.note.Goals.{Else-wide-gt-LARGEST, After-contains}
 
 pub returns-then-wide-gt-LARGEST : goal.returns-then-wide-gt-LARGEST
-returns-then-wide-gt-LARGEST c = let s = c.before in record { row = (s.requires.0, (s.requires.2, λ h. absurd (omega (arith, c.if-wide-gt-LARGEST.true, c.wide.ensures.same)))); same = ((λ x i. i), λ x i. inl i) }
+returns-then-wide-gt-LARGEST c = let s = c in record { row = (s.requires.0, (s.requires.2, λ h. absurd (omega (arith, c.if-wide-gt-LARGEST.true, c.wide.ensures.same)))); same = ((λ x i. i), λ x i. inl i) }
 
 -- the name is a variable, and its word is the name
 module _ (c : Else-wide-gt-LARGEST) where
@@ -38,12 +38,12 @@ tells : (c : After-contains)
 tells c = sym (rw (word c.before) at c.contains.ensures)
 
 pub returns-then-contains : goal.returns-then-contains
-returns-then-contains c = let b = c.before in
+returns-then-contains c = let b = (goal.at.returns-then-contains c).After-contains in
     let s = b.before in record { row = (s.requires.0, (s.requires.2, λ h. if-true (has-decides (pos s.args.name) (take s.args.n s.args.row.now)) (tells b ∙ c.if-contains.true))); same = ((λ x i. i), λ x i. inl i) }
 
 pub returns : goal.returns
-returns c = let b = c.before in
-    let e = b.before in
+returns c = let b = (goal.at.returns c).After-contains in
+    let e = (goal.at.returns c).After-wide in
     let s = e.before in
     let a = s.args in
     let new = tells b ∙ c.if-contains.false in record { row = (note-row a.row.now a.n a.name _ s.requires.0 s.requires.1 s.requires.2 (high e) (word e) new, note-in a.row.now a.n a.name _ s.requires.0 s.requires.1 s.requires.2 (high e) (word e) new); same = (note-keeps a.row.now a.n a.name _ s.requires.0 s.requires.1 s.requires.2 (high e) (word e) new, note-cases a.row.now a.n a.name _ s.requires.0 s.requires.1 s.requires.2 (high e) (word e) new) }

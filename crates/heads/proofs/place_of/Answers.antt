@@ -18,11 +18,11 @@ tells c =
     rw (back x c.variable_of-arg-1.given) at c.variable_of.ensures
 
 pub returns-then-variable_of-name : goal.returns-then-variable_of-name
-returns-then-variable_of-name c = let b = c.before in record { place = omega (arith, b.loop-j-test.true); here = λ h. sym (tells b) ∙ c.if-variable_of-name.true; none = λ e. absurd (omega (arith, b.loop-j-test.true)) }
+returns-then-variable_of-name c = let b = (goal.at.returns-then-variable_of-name c).After-variable_of in record { place = omega (arith, b.loop-j-test.true); here = λ h. sym (tells b) ∙ c.if-variable_of-name.true; none = λ e. absurd (omega (arith, b.loop-j-test.true)) }
 
 pub loop-j-preserved : goal.loop-j-preserved
 loop-j-preserved c =
-    let b = c.before in
+    let b = (goal.at.loop-j-preserved c).After-variable_of in
     let l = b.loop-j in
     let t = b.loop-j-test.true in
     (omega (arith, t), l.invariant.1 ∙ any-on _ _ l.j (pos 0) t (ne_eqb _ _ (λ e. c.if-variable_of-name.false (tells b ∙ sym e))))

@@ -19,7 +19,7 @@ use Rattle.heads.proofs.rule_with.Goals.{In-loop-p, Start, After-word_of-at, Aft
 
 pub loop-p-init : goal.loop-p-init
 loop-p-init c =
-    let s = c.before in
+    let s = c in
     let h = c.hash_of.ensures in
     walk_from s.requires.0.entered.bodies (omega (arith, h)) (c.word_of-p.ensures ∙ ap (λ k. get_or s.args.index.now (bucket_at + k) 0) h.0)
 
@@ -62,7 +62,7 @@ module _ (c : After-word_of-at) where
 
 pub body_of-requires : goal.body_of-requires
 body_of-requires c =
-    let w = c.before in
+    let w = (goal.at.body_of-requires c).After-word_of-at in
     subst (λ ws. shape_sound ws ≡ true) (sym (tail_of w.word_of-at.result (t (i w)) ∙ words-at w)) (here (i w)).2
 
 -- what the calls tell of its body
@@ -74,25 +74,25 @@ tells c =
 
 pub returns-then-is_same_list : goal.returns-then-is_same_list
 returns-then-is_same_list c =
-    let b = c.before in
-    let d = i b.before in
+    let b = (goal.at.returns-then-is_same_list c).After-is_same_list in
+    let d = i (goal.at.returns-then-is_same_list c).After-word_of-at in
     subst (RuleWith (t d) (s d).args.rules (s d).args.body.now) (sym (is d)) ((place d).0, tells b ∙ c.if-is_same_list.true)
 
 pub loop-p-smaller : goal.loop-p-smaller
 loop-p-smaller c =
-    let d = i c.before in
+    let d = i (goal.at.loop-p-smaller c).After-word_of-at in
     let e = c.word_of-p-in-loop-p.ensures in
     omega (arith, e, next-less (s d).pre.0.entered.bodies d.loop-p.inv (is d))
 
 pub loop-p-preserved : goal.loop-p-preserved
 loop-p-preserved c =
-    let b = c.before in
-    let d = i b.before in
+    let b = (goal.at.loop-p-preserved c).After-is_same_list in
+    let d = i (goal.at.loop-p-preserved c).After-word_of-at in
     walk-on (s d).pre.0.entered.bodies d.loop-p.inv (is d) c.word_of-p-in-loop-p.ensures (λ x o. o) (λ m. tells b ∙ c.if-is_same_list.false)
 
 pub returns : goal.returns
 returns c =
-    let s = c.before in
+    let s = c in
     none-with s.args.table.now s.args.rules s.args.body.now c.loop-p.p c.loop-p-test.false c.loop-p.invariant
 
 pub overflow_add-hash_of : goal.overflow_add-hash_of
@@ -114,4 +114,4 @@ pub slice_bounds-rest-count : goal.slice_bounds-rest-count
 slice_bounds-rest-count c = within c
 
 pub overflow_add-k-in-loop-p : goal.overflow_add-k-in-loop-p
-overflow_add-k-in-loop-p c = let h = few (i c.before) in search rules
+overflow_add-k-in-loop-p c = let h = few (i (goal.at.overflow_add-k-in-loop-p c).After-word_of-at) in search rules

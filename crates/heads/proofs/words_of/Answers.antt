@@ -43,9 +43,9 @@ module _ (c : After-word_of-at) where
 
 pub returns : goal.returns
 returns c =
-    let w = c.before in
-    let a = t w.before in
-    tail_of w.word_of-at.result a ∙ ap (λ j. drop j a) (starts w ∙ ap (λ i. start_of i a) (owner w.before))
+    let w = (goal.at.returns c).After-word_of-at in
+    let a = t (goal.at.returns c).After-word_of-k in
+    tail_of w.word_of-at.result a ∙ ap (λ j. drop j a) (starts w ∙ ap (λ i. start_of i a) (owner (goal.at.returns c).After-word_of-k))
 
 pub overflow_add-k : goal.overflow_add-k
 overflow_add-k c = let r = few c in search rules

@@ -11,7 +11,7 @@ use Rattle.long_sums.proofs.finish.Goals.{Else-not-is_writable}
 
 pub returns-then-not-is_writable : goal.returns-then-not-is_writable
 returns-then-not-is_writable c =
-    let s = c.before in
+    let s = c in
     let o = length s.args.output.now in
     let t = length s.args.table.now in
     λ ws rs before w n e a.
@@ -32,12 +32,12 @@ pub slice_bounds-zero_bytes-count : goal.slice_bounds-zero_bytes-count
 slice_bounds-zero_bytes-count c = (there c).1
 
 pub overflow_sub-result : goal.overflow_sub-result
-overflow_sub-result c = let d = c.before in d.requires (there d).0
+overflow_sub-result c = let d = (goal.at.overflow_sub-result c).Else-not-is_writable in d.requires (there d).0
 
 pub returns : goal.returns
 returns c =
-    let d = c.before in
-    let s = d.before in
+    let d = (goal.at.returns c).Else-not-is_writable in
+    let s = c in
     let o = length s.args.output.now in
     let t = length s.args.table.now in
     λ ws rs before w n e a.

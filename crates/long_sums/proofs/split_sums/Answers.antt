@@ -19,19 +19,19 @@ told c =
     long-read (length s.args.table.now) s.args.text.now _ refl (sym l.answer ∙ c.in-Read.is) r.read_within-read.new.table l.table r.read_within-read.auto.table
 
 pub split_table-requires : goal.split_table-requires
-split_table-requires c = (told c.before).long
+split_table-requires c = (told (goal.at.split_table-requires c).In-Read-2).long
 
 pub returns-in-Refused : goal.returns-in-Refused
 returns-in-Refused c =
-    let e = c.before in
-    let r = e.before in
+    let e = c in
+    let r = c in
     let a = r.args in
     refused-left (length a.table.now) (length a.output.now) a.text.now a.group r.read_within-read.auto.table _ _
     (sym r.read_within-read.ensures.answer ∙ e.in-Refused.is) c.refuse.ensures
 
 pub returns-in-Read : goal.returns-in-Read
 returns-in-Read c =
-    let e = c.before in
-    let r = e.before in
+    let e = (goal.at.returns-in-Read c).In-Read-2 in
+    let r = c in
     let a = r.args in
     read_left (length a.table.now) (length a.output.now) a.text.now a.group r.read_within-read.auto.table _ (told e) c.split_table.ensures

@@ -10,7 +10,7 @@ use borrow.Author.Rules.{rules}
 use Rattle.long_sums.proofs.split_table.Goals as goal
 
 pub returns-then-group : goal.returns-then-group
-returns-then-group c = let s = c.before in c.refuse.ensures ∙ (rw (bad-size s.args.group c.if-group.true))
+returns-then-group c = let s = c in c.refuse.ensures ∙ (rw (bad-size s.args.group c.if-group.true))
 
 pub write_program-written-requires : goal.write_program-written-requires
 write_program-written-requires c = let s = c.before in
@@ -25,6 +25,6 @@ returns c =
     let w = c.write_program-written in
     let p = s.requires in
     let rs = split_program (sorted_groups (s.args.group - 1)) (rules_at s.args.rules s.args.table.now) in
-    let n = w.auto.1.1.1.1.0 in
+    let n = w.auto.output in
     let f = c.finish.ensures (rules_at s.args.rules s.args.table.now) rs s.args.output.now w.ensures (sym n) p.words p.atom in
     f ∙ ap (λ (o : ℕ). split_to (length s.args.table.now) o (rules_at s.args.rules s.args.table.now) rs) n ∙ (rw (size-asked s.args.group (good-size s.args.group c.if-group.false)))

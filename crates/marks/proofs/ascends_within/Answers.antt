@@ -23,19 +23,19 @@ module _ (c : After-wide-v) where
 
 pub returns-then-v-low : goal.returns-then-v-low
 returns-then-v-low c =
-    let d = c.before in
+    let d = (goal.at.returns-then-v-low c).After-wide-v in
     let e = tells d in
     sym (d.loop-i.invariant.1 ∙ ascends-low _ (high d) (l d) (i d) d.loop-i-test.true (omega arith))
 
 pub returns-then-high-v : goal.returns-then-high-v
 returns-then-high-v c =
-    let d = c.before in
+    let d = (goal.at.returns-then-high-v c).After-wide-v in
     let e = tells d in
     sym (d.loop-i.invariant.1 ∙ ascends-high _ (high d) (l d) (i d) d.loop-i-test.true (omega arith) (omega arith))
 
 pub loop-i-preserved : goal.loop-i-preserved
 loop-i-preserved c =
-    let d = c.before in
+    let d = (goal.at.loop-i-preserved c).After-wide-v in
     let e = tells d in
     (omega arith, d.loop-i.invariant.1 ∙ ascends-on _ (high d) (l d) (i d) d.loop-i-test.true (omega arith) (omega arith) ∙ rw (← e))
 

@@ -6,7 +6,7 @@ use Rattle.marks.proofs.is_same_set.Goals as goal
 
 pub loop-left-preserved : goal.loop-left-preserved
 loop-left-preserved c =
-    let t = c.before in
+    let t = c in
     let l = t.loop-left in
     same-on _ _ l.same l.left t.loop-left-test.true c.agrees_at-same.ensures l.invariant
 

@@ -10,8 +10,8 @@ loop-i-init c = (omega arith, refl, refl)
 
 pub loop-i-preserved : goal.loop-i-preserved
 loop-i-preserved c =
-    let d = c.before in
-    let n = d.before in
+    let d = c in
+    let n = c in
     let k = n.loop-i in
     let a = n.args in (
       omega arith,

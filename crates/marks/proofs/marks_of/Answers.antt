@@ -14,9 +14,9 @@ slice_bounds-mark-end c = sym c.loop-i.invariant.1.long
 
 pub loop-i-preserved : goal.loop-i-preserved
 loop-i-preserved c =
-    let m = c.before in
-    let v = m.before in
-    let t = v.before in
+    let m = c in
+    let v = c in
+    let t = c in
     let l = t.loop-i in
     let ls = t.args.literals.now in
     let x = get_or ls l.i (pos 0) in

@@ -8,8 +8,8 @@ slice_bounds-mark-end c = sym c.loop-left.invariant.long
 
 pub loop-left-preserved : goal.loop-left-preserved
 loop-left-preserved c =
-    let m = c.before in
-    let t = m.before in
+    let m = c in
+    let t = c in
     let l = t.loop-left in
     rw m.mark.ensures.marks (found-on (rw (up_to-on l.left t.loop-left-test.true) at l.invariant))
 

@@ -4,7 +4,7 @@ use Rattle.moves.proofs.Answers.{holds-one, holds-two}
 use Rattle.moves.proofs.can_hold.Goals as goal
 
 pub returns-in-One : goal.returns-in-One
-returns-in-One c = let b = c.before in holds-one b.args.top _ b.args.plain b.limit_of.ensures c.in-One.is
+returns-in-One c = let b = c in holds-one b.args.top _ b.args.plain b.limit_of.ensures c.in-One.is
 
 pub returns-in-Two : goal.returns-in-Two
-returns-in-Two c = let b = c.before in holds-two b.args.top _ b.args.plain b.limit_of.ensures c.in-Two.is
+returns-in-Two c = let b = c in holds-two b.args.top _ b.args.plain b.limit_of.ensures c.in-Two.is

@@ -51,7 +51,7 @@ pub count_at-count-requires : goal.count_at-count-requires
 count_at-count-requires c = omega (arith, (known c).0)
 
 pub count_at-steps-requires : goal.count_at-steps-requires
-count_at-steps-requires c = omega (arith, (known c.before).0)
+count_at-steps-requires c = omega (arith, (known (goal.at.count_at-steps-requires c).Else-not-lengths_fit).0)
 
 -- the words end within the packet, and the parts are those of the packet
 module _ (c : After-count_at-steps) where
@@ -85,16 +85,16 @@ module _ (c : After-count_at-steps) where
       parts-left v p m (fit c.before) _ _ _ _ c.count_at-count.ensures.0 words-there c.count_at-steps.ensures.0 steps-there
 
 pub slice_bounds-move_parts-count-2 : goal.slice_bounds-move_parts-count-2
-slice_bounds-move_parts-count-2 c = room c.before
+slice_bounds-move_parts-count-2 c = room (goal.at.slice_bounds-move_parts-count-2 c).After-count_at-steps
 
 pub move_parts-requires : goal.move_parts-requires
-move_parts-requires c = let d = c.before in
-    let e = d.before in
+move_parts-requires c = let d = (goal.at.move_parts-requires c).After-count_at-steps in
+    let e = (goal.at.move_parts-requires c).Else-not-lengths_fit in
     let m = known e in
     let l = length-take-le (4 * word_count (p d)) (drop 13 (p d)) (omega (arith, length-drop 13 (p d), m.1.0)) in record { count_in_bounds = (rw (words-there d) (omega (arith, l, d.count_at-count.ensures.0)), rw (steps-there d, d.count_at-steps.ensures.0) m.1.1); zeros = (cleared e).0 }
 
 pub returns : goal.returns
 returns c =
-    let d = c.before in
+    let d = (goal.at.returns c).After-count_at-steps in
     let a = d.args in
-    moved-kept a.to (pair_in (v d) (p d)) (cleared d.before).1 (rw (sym (comes-to d)) at c.move_parts.ensures)
+    moved-kept a.to (pair_in (v d) (p d)) (cleared (goal.at.returns c).Else-not-lengths_fit).1 (rw (sym (comes-to d)) at c.move_parts.ensures)

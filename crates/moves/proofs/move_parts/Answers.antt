@@ -35,7 +35,7 @@ module _ (c : In-Taken-2) where
   bytes-in = bytes-all s.args.bytes.now (λ i. (c.shared_slice_known-2-1.given i).fits)
 
 pub returns-then-not-fits : goal.returns-then-not-fits
-returns-then-not-fits c = let d = c.before in moved-61 _ _ (s d).args.output.now (taken d) (c.if-not-fits.true) (s d).requires.zeros
+returns-then-not-fits c = let d = (goal.at.returns-then-not-fits c).In-Taken-2 in moved-61 _ _ (s d).args.output.now (taken d) (c.if-not-fits.true) (s d).requires.zeros
 
 -- the other version can hold it
 module _ (c : Else-not-fits) where
@@ -62,20 +62,20 @@ overflow_add-size-in-Taken c = record { fits = omega (arith, few c, few_bytes _ 
 
 pub returns-then-output-size : goal.returns-then-output-size
 returns-then-output-size c =
-    let e = c.before in
+    let e = (goal.at.returns-then-output-size c).Else-not-fits in
     moved-52 _ _ _ _ _ _ (bytes-in (d e)) (a e).requires.count_in_bounds.1 (taken (d e)) (held e) (a e).args.output.now (a e).requires.zeros c.if-output-size.true
 
 pub write_pair-requires : goal.write_pair-requires
-write_pair-requires c = let e = c.before in
+write_pair-requires c = let e = (goal.at.write_pair-requires c).Else-not-fits in
     let b = bytes-in (d e) in
     let f = (a e).requires.count_in_bounds.1 in record { count_in_bounds = ((a e).requires.count_in_bounds.0, movable _ _ _ _ _ _ b f (taken (d e)) (held e)); bytes_bound = few_bytes _ _ _ _ _ _ b f (taken (d e)) (held e) }
 
 pub returns-in-Refused : goal.returns-in-Refused
 returns-in-Refused c =
-    let b = c.before in
+    let b = (goal.at.returns-in-Refused c).Start in
     moved-early b.args.to (read b) 53 (told-refused b.args.to (read b) c.in-Refused.is c.measure-measured.ensures) b.requires.zeros
 
 pub returns-else-output-size : goal.returns-else-output-size
 returns-else-output-size c =
-    let e = c.before in
+    let e = (goal.at.returns-else-output-size c).Else-not-fits in
     moved_all _ _ _ _ _ _ (bytes-in (d e)) (a e).requires.count_in_bounds.1 (taken (d e)) (held e) (a e).args.output.now (a e).requires.zeros c.if-output-size.false c.write_pair.ensures

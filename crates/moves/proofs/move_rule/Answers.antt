@@ -27,11 +27,11 @@ module _ (c : After-read_rule-read) where
 
 pub put_rule-end-requires : goal.put_rule-end-requires
 put_rule-end-requires c =
-    let d = c.before in
+    let d = (goal.at.put_rule-end-requires c).After-read_rule-read in
     ((stands d).0, (rw (stands d).1 (s d).requires.words, (s d).requires.room.1))
 
 pub returns : goal.returns
 returns c =
-    let d = c.before in
+    let d = (goal.at.returns c).After-read_rule-read in
     let p = c.put_rule-end.ensures in
     record { size = d.read_rule-read.ensures.size; within = d.read_rule-read.ensures.within; put = rw (stands d).1 at p.0; near = p.1 }

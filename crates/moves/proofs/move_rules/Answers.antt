@@ -48,7 +48,7 @@ pub slice_bounds-move_rule-count : goal.slice_bounds-move_rule-count
 slice_bounds-move_rule-count c = room c
 
 pub move_rule-moved-requires : goal.move_rule-moved-requires
-move_rule-moved-requires c = let d = c.before in
+move_rule-moved-requires c = let d = (goal.at.move_rule-moved-requires c).In-loop-i in
     let m = d.loop-i.invariant in let all = rw (tail_of (4 * i d) (bytes d), later d)
     ((omega (arith, length-drop (4 * i d) (bytes d), (a d).requires.0), omega (arith, moving-room m (some_left d))), ((moving-first m (some_left d)).passing, moving-worded m (some_left d))) in record { room = all.0; sound = all.1.0; words = all.1.1 }
 
@@ -62,18 +62,18 @@ module _ (c : After-move_rule-moved) where
 
 pub overflow_add-i : goal.overflow_add-i
 overflow_add-i c =
-    let e = c.before in
+    let e = (goal.at.overflow_add-i c).After-move_rule-moved in
     let f = d e in
     record { fits = omega (arith, (told e).within, length-drop (i f) (ws f), length-numbers 4 (a f).args.count (bytes f), (a f).fits.count, some_left f) }
 
 pub loop-i-smaller : goal.loop-i-smaller
 loop-i-smaller c =
-    let e = c.before in
+    let e = (goal.at.loop-i-smaller c).After-move_rule-moved in
     let f = d e in
     omega (arith, moving-less f.loop-i.inv (some_left f) (told e), f.loop-i-test.taken)
 
 pub loop-i-preserved : goal.loop-i-preserved
-loop-i-preserved c = let e = c.before in moving-on (d e).loop.invariant (some_left (d e)) (told e)
+loop-i-preserved c = let e = (goal.at.loop-i-preserved c).After-move_rule-moved in moving-on (d e).loop.invariant (some_left (d e)) (told e)
 
 pub returns : goal.returns
 returns c =

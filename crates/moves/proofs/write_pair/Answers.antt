@@ -5,5 +5,5 @@ use Rattle.moves.proofs.write_pair.Goals as goal
 
 pub returns : goal.returns
 returns c P e =
-    let m = c.before in
+    let m = c in
     (put_on m.put_header.ensures (put_on (m.move_rules-end.ensures.0 P e) c.put_bytes.ensures)).stands

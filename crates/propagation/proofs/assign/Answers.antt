@@ -37,7 +37,7 @@ module _ (c : In-loop-i) where
   inside = in-at (pos 0) c.args.literals.now c.loop-i.i c.loop-i-test.true
 
 pub make_true-v-requires : goal.make_true-v-requires
-make_true-v-requires c = let k = c.before in record { literal = rw (back (word k) c.make_true-arg-1.given) (k.requires.literals.high (word k) (inside k)); size = k.loop-i.invariant.1 }
+make_true-v-requires c = let k = (goal.at.make_true-v-requires c).In-loop-i in record { literal = rw (back (word k) c.make_true-arg-1.given) (k.requires.literals.high (word k) (inside k)); size = k.loop-i.invariant.1 }
 
 -- its variable
 made : (c : After-make_true-v) → c.make_true-v.result ≡ variable (word c.before)
@@ -45,15 +45,15 @@ made c = let k = c.before in rw (back (word k) c.make_true-arg-1.given) at c.mak
 
 pub past-end-requires : goal.past-end-requires
 past-end-requires c =
-    let k = c.before in
+    let k = (goal.at.past-end-requires c).In-loop-i in
     (k.loop-i.invariant.4.0, omega (arith, made c, k.requires.literals.high (word k) (inside k)))
 
 pub loop-i-preserved : goal.loop-i-preserved
 loop-i-preserved c =
-    let t = c.before in
-    let k = t.before in
+    let t = (goal.at.loop-i-preserved c).After-make_true-v in
+    let k = (goal.at.loop-i-preserved c).In-loop-i in
     let p = c.past-end.ensures in
-    let s = k.before in
+    let s = c in
     let l = k.loop-i in
     let v = l.invariant in
     let x = word k in

@@ -49,13 +49,13 @@ module _ (c : After-run) where
   index = k.cover.new.index.0
 
   abbrev at : ℕ
-  at = o.start_of_lem.result
+  at = o.start_of-at.result
 
   abbrev found : List ℕ
   found = put_mid at (length index - at) index c.run.new.cells.0
 
   searched : (stored : List Stored) → Keeps s.args.store.now s.args.index.now s.args.used stored → Keeps s.args.store.now found s.args.used stored
-  searched stored K = keeps-part at index c.run.new.cells.0 o.start_of_lem.ensures.1 c.run.auto.cells o.start_of_lem.ensures.0 (k.cover.ensures stored K)
+  searched stored K = keeps-part at index c.run.new.cells.0 o.start_of-at.ensures.upper_bound c.run.auto.cells o.start_of-at.ensures.value (k.cover.ensures stored K)
 
 pub slice_bounds-propagate-end : goal.slice_bounds-propagate-end
 slice_bounds-propagate-end c =
@@ -63,12 +63,12 @@ slice_bounds-propagate-end c =
     sym (length-take-le s.args.used s.args.store.now s.requires.held.1.holds.fits)
 
 pub propagate-requires : goal.propagate-requires
-propagate-requires c = let r = c.before in
+propagate-requires c = let r = (goal.at.propagate-requires c).After-start_of-at in
     let p = (s r).requires.held in
     let K = searched r p.0 p.1 in let all = ((p.0, used-words _ _ p.0 p.1.holds), (subst (λ (n : ℕ). Marked n (take (s r).args.used (s r).args.store.now) (found r)) K.size (marked K), c.assign-end.ensures.size)) in record { encoded = all.0; index = all.1.0; size = all.1.1.0; start = all.1.1.1 }
 
 pub returns : goal.returns
-returns c = let r = c.before in
+returns c = let r = (goal.at.returns c).After-start_of-at in
     let a = c.assign-end in
-    let e = a.ensures.1 in record { refuted = λ stored K. answer _ stored (used-words (s r).args.store.now (s r).args.used stored K.holds) (s r).args.literals.now (s r).requires.literals _
+    let e = a.ensures.literals in record { refuted = λ stored K. answer _ stored (used-words (s r).args.store.now (s r).args.used stored K.holds) (s r).args.literals.now (s r).requires.literals _
           (λ z. (e z).0) (λ z. (e z).1) c.propagate.result c.propagate.ensures.decided; held = searched r; free = c.propagate.ensures.free }

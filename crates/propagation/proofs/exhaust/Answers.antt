@@ -20,12 +20,12 @@ freed : (c : After-zero_bytes) → c.zero_bytes.new.bytes.0 ≡ replicate entrie
 freed c = c.zero_bytes.ensures ∙ ap (λ (n : ℕ). replicate n 0) c.zero_bytes-arg-1.given.0.1
 
 pub returns-in-Refuted : goal.returns-in-Refuted
-returns-in-Refuted c = let k = c.before in record { decided = told k.before _ c.in-Refuted.is; free = freed k }
+returns-in-Refuted c = let k = (goal.at.returns-in-Refuted c).After-zero_bytes in record { decided = told (goal.at.returns-in-Refuted c).After-settle-swept _ c.in-Refuted.is; free = freed k }
 
 pub returns-in-Same : goal.returns-in-Same
-returns-in-Same c = let k = c.before in
-    let t = told k.before _ c.in-Same.is in record { decided = (_, t.0, t.1); free = freed k }
+returns-in-Same c = let k = (goal.at.returns-in-Same c).After-zero_bytes in
+    let t = told (goal.at.returns-in-Same c).After-settle-swept _ c.in-Same.is in record { decided = (_, t.0, t.1); free = freed k }
 
 pub returns-in-Changed : goal.returns-in-Changed
-returns-in-Changed c = let o = c.before in
-    let s = o.before in let all = absurd (omega (arith, (told o _ c.in-Changed.is).1, free-most s.args.assignment.now, s.requires.size)) in record { decided = all.0; free = all.1 }
+returns-in-Changed c = let o = (goal.at.returns-in-Changed c).After-settle-swept in
+    let s = c in let all = absurd (omega (arith, (told o _ c.in-Changed.is).1, free-most s.args.assignment.now, s.requires.size)) in record { decided = all.0; free = all.1 }

@@ -25,12 +25,12 @@ told c x e = rw e at c.replay.ensures
 -- a conflict
 pub release-requires : goal.release-requires
 release-requires c =
-    let k = c.before in
-    let t = told k.before _ k.in-Clashing.is in
+    let k = c in
+    let t = told (goal.at.release-requires c).After-replay _ k.in-Clashing.is in
     (omega (arith, t.1.0, c.release-arg-1.given.0.1), t.1.1)
 
 pub returns-in-Clashing : goal.returns-in-Clashing
-returns-in-Clashing c = let k = c.before in record { decided = (told k.before _ k.in-Clashing.is).0; free = c.release.ensures ∙ ap (λ (n : ℕ). replicate n 0) c.release-arg-1.given.0.1 }
+returns-in-Clashing c = let k = c in record { decided = (told (goal.at.returns-in-Clashing c).After-replay _ k.in-Clashing.is).0; free = c.release.ensures ∙ ap (λ (n : ℕ). replicate n 0) c.release-arg-1.given.0.1 }
 
 -- none
 grew : (c : In-Open) → let o = c.before in let s = o.before in
@@ -38,7 +38,7 @@ grew : (c : In-Open) → let o = c.before in let s = o.before in
 grew c = told c.before _ c.in-Open.is
 
 pub exhaust-requires : goal.exhaust-requires
-exhaust-requires c = let s = c.before in record { encoded = s.requires.encoded; size = (grew c.before).size ∙ s.requires.size }
+exhaust-requires c = let s = c in record { encoded = s.requires.encoded; size = (grew (goal.at.exhaust-requires c).In-Open).size ∙ s.requires.size }
 
 pub returns-in-Open : goal.returns-in-Open
-returns-in-Open c = record { decided = ends-before _ _ _ (grew c.before) c.exhaust.result c.exhaust.ensures.decided; free = c.exhaust.ensures.free }
+returns-in-Open c = record { decided = ends-before _ _ _ (grew (goal.at.returns-in-Open c).In-Open) c.exhaust.result c.exhaust.ensures.decided; free = c.exhaust.ensures.free }

@@ -8,12 +8,12 @@ use Rattle.propagation.proofs.Assignments.{blanked}
 use Rattle.propagation.proofs.release.Goals as goal
 
 pub slice_bounds-zero_bytes-end-2 : goal.slice_bounds-zero_bytes-end-2
-slice_bounds-zero_bytes-end-2 c = let s = c.before in sym (length-take-le s.args.end s.args.assignment.now s.requires.0)
+slice_bounds-zero_bytes-end-2 c = let s = c in sym (length-take-le s.args.end s.args.assignment.now s.requires.0)
 
 pub returns : goal.returns
 returns c =
-    let k = c.before in
-    let s = k.before in
+    let k = c in
+    let s = c in
     let m = s.args.assignment.now in
     let n = s.args.end in
     ap (λ (l : List ℕ). l ++ drop n m) (k.zero_bytes.ensures ∙ ap (λ (i : ℕ). replicate i 0) (length-take-le n m s.requires.0))

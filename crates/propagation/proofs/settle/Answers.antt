@@ -11,7 +11,7 @@ pub loop-left-init : goal.loop-left-init
 loop-left-init c = (omega arith, grows-not, omega arith)
 
 pub sweep-swept-requires : goal.sweep-swept-requires
-sweep-swept-requires c = let l = c.before in record { encoded = l.requires.encoded; size = l.loop-left.invariant.1.size ∙ l.requires.size }
+sweep-swept-requires c = let l = c in record { encoded = l.requires.encoded; size = l.loop-left.invariant.1.size ∙ l.requires.size }
 
 -- what the sweep gave
 module _ (c : After-sweep-swept) where
@@ -22,11 +22,11 @@ module _ (c : After-sweep-swept) where
   told x e = rw e at c.sweep-swept.ensures
 
 pub returns-in-Refuted : goal.returns-in-Refuted
-returns-in-Refuted c = let o = c.before in clashes-before _ _ _ (l o).loop.invariant.1 (told o _ c.in-Refuted.is)
+returns-in-Refuted c = let o = (goal.at.returns-in-Refuted c).After-sweep-swept in clashes-before _ _ _ (l o).loop.invariant.1 (told o _ c.in-Refuted.is)
 
 pub returns-in-Same : goal.returns-in-Same
 returns-in-Same c =
-    let o = c.before in
+    let o = (goal.at.returns-in-Same c).After-sweep-swept in
     let t = told o _ c.in-Same.is in
     rw t.0 ((l o).loop.invariant.1, t.1)
 
@@ -35,7 +35,7 @@ loop-left-smaller c = omega (arith, c.loop-left-test.true)
 
 pub loop-left-preserved : goal.loop-left-preserved
 loop-left-preserved c =
-    let o = c.before in
+    let o = (goal.at.loop-left-preserved c).After-sweep-swept in
     let v = (l o).loop.invariant in
     let t = told o _ c.in-Changed.is in
     (omega (arith, v.0), grows-on v.1 t.0, omega (arith, t.1, v.2, o.loop-left-test.true))

@@ -31,10 +31,10 @@ module _ (c : In-loop-i) where
   read = readable _ _ c.requires.encoded stands
 
 pub derive_at-given-requires : goal.derive_at-given-requires
-derive_at-given-requires c = record { record = read c.before; size = c.loop-i.invariant.size }
+derive_at-given-requires c = record { record = read (goal.at.derive_at-given-requires c).In-loop-i; size = c.loop-i.invariant.size }
 
 pub end_at-i-requires : goal.end_at-i-requires
-end_at-i-requires c = (read c.before).room
+end_at-i-requires c = (read (goal.at.end_at-i-requires c).In-loop-i).room
 
 -- what the nogood gave
 told : (c : After-derive_at-given) (x : Derived) → c.derive_at-given.result ≡ x
@@ -43,8 +43,8 @@ told c x e = rw e at c.derive_at-given.ensures
 
 pub returns-in-Conflicting : goal.returns-in-Conflicting
 returns-in-Conflicting c =
-    let o = c.before in
-    let k = o.before in
+    let o = (goal.at.returns-in-Conflicting c).After-derive_at-given in
+    let k = (goal.at.returns-in-Conflicting c).In-loop-i in
     let t = told o _ c.in-Conflicting.is in
     clashes-before _ _ _ (going k).grows
     (conflicting _ _ (stands k) t.0 (read k).literals k.loop-i.assignment (going k).size t.1.1)
@@ -54,8 +54,8 @@ loop-i-smaller-in-Assigned c = omega (arith, c.loop-i-test.true)
 
 pub loop-i-preserved-in-Assigned : goal.loop-i-preserved-in-Assigned
 loop-i-preserved-in-Assigned c =
-    let o = c.before in
-    let k = o.before in
+    let o = (goal.at.loop-i-preserved-in-Assigned c).After-derive_at-given in
+    let k = (goal.at.loop-i-preserved-in-Assigned c).In-loop-i in
     let t = told o _ c.in-Assigned.is in
     rw c.end_at-i.ensures
     (sweep-assigned _ _ _ _ _ (going k) k.loop-i-test.true t.0 (read k).literals _ _ t.1)
@@ -65,8 +65,8 @@ loop-i-smaller c = omega (arith, c.loop-i-test.true)
 
 pub loop-i-preserved : goal.loop-i-preserved
 loop-i-preserved c =
-    let o = c.before in
-    let k = o.before in
+    let o = (goal.at.loop-i-preserved c).After-derive_at-given in
+    let k = (goal.at.loop-i-preserved c).In-loop-i in
     let t = told o _ c.in-Nothing.is in
     rw (c.end_at-i.ensures, t.0) (sweep-settled _ _ _ _ _ (going k) k.loop-i-test.true t.1)
 

@@ -2,7 +2,7 @@ use mathlib.Core.Path.{sym, ◌∙◌}
 use Rattle.runs.proofs.run_lent.Goals as goal
 
 pub run_plain-requires : goal.run_plain-requires
-run_plain-requires c = let d = c.before in
+run_plain-requires c = let d = c in
     let p = d.requires in let all = (p.0, (p.1.0, (sym d.all_plain.ensures ∙ d.if-all_plain.true, p.1.1.1))) in record { program = all.0; start = all.1.0; plain = all.1.1.0; short = all.1.1.1.0; empty = all.1.1.1.1.0; cells = all.1.1.1.1.1 }
 
 pub run_weighted-requires : goal.run_weighted-requires

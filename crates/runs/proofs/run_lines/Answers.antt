@@ -94,22 +94,18 @@ pub slice_bounds-turn_at-end-in-loop-number : goal.slice_bounds-turn_at-end-in-l
 slice_bounds-turn_at-end-in-loop-number c = let p = c.loop-number.invariant.7 in search rules
 
 pub turn_at-requires : goal.turn_at-requires
-
 unfolding byte_classes
-
-turn_at-requires c κs =
-    let i = c.loop-number.invariant in
-    let p = c.requires in
-    ((i.0, i.2.z, i.1, i.2.tracks), (p.1.0, (p.1.1.0, (((i.2.stored, i.2.keeps.keeps), omega (arith, i.2.count)), (p.1.1.1.1.1.0, (refl, ((i.6, i.7), i.8)))))))
+turn_at-requires c = let i = c.loop-number.invariant in
+    let p = c.requires in record { state = (i.0, i.2.z, i.1, i.2.tracks); index = p.1.0; relevant = p.1.1.0; store = ((i.2.stored, i.2.keeps.keeps), omega (arith, i.2.count)); short = p.1.1.1.1.1.0; classes = refl; rows = (i.6, i.7); free = i.8 }
 
 pub returns-in-Ends : goal.returns-in-Ends
 returns-in-Ends c =
-    let t = c.before in
+    let t = (goal.at.returns-in-Ends c).After-turn_at in
     λ limit h Q q. rw (same t q, c.through.ensures) (going-ends _ _ _ _ (G t) (store' t) (index' t) (known' t) (names' t) (bodies' t) (search rules) c.in-Ends.is (turned t) limit h)
 
 pub returns-in-Fails : goal.returns-in-Fails
 returns-in-Fails c =
-    let t = c.before in
+    let t = (goal.at.returns-in-Fails c).After-turn_at in
     λ limit h Q q. rw (same t q) (going-fails _ _ _ _ (G t) (store' t) (index' t) (known' t) (names' t) (bodies' t) (search rules) _ c.in-Fails.is (turned t) limit h)
 
 onward : (c : In-Goes)
@@ -124,18 +120,18 @@ loop-number-smaller c = let o = onward c in omega (arith, o.0.within, o.1)
 
 pub loop-number-preserved : goal.loop-number-preserved
 loop-number-preserved c =
-    let t = c.before in
+    let t = (goal.at.loop-number-preserved c).After-turn_at in
     let i = (l t).loop.invariant in
     (i.0, i.1, (onward c).0, same_known t, same_names t, same-bodies t, same_numbers t, same-sorted t, t.turn_at.ensures.free, same_index t)
 
 pub through-requires : goal.through-requires
-through-requires c = same_known c.before
+through-requires c = same_known (goal.at.through-requires c).After-assignment-1
 
 pub through-requires : goal.through-requires
-through-requires c = same_names c.before
+through-requires c = same_names (goal.at.through-requires c).After-assignment-1
 
 pub through-requires : goal.through-requires
-through-requires c = same-bodies c.before
+through-requires c = same-bodies (goal.at.through-requires c).After-assignment-1
 
 pub through-requires : goal.through-requires
-through-requires c = same_index c.before
+through-requires c = same_index (goal.at.through-requires c).After-assignment-1

@@ -53,19 +53,19 @@ module _ (c : In-Line-2) where
   good = let u = passed-line start.args.proof.now start.args.at there in (u.2, u.3)
 
 pub slice_bounds-step-end : goal.slice_bounds-step-end
-slice_bounds-step-end c = (room c.before).0
+slice_bounds-step-end c = (room (goal.at.slice_bounds-step-end c).In-Line-2).0
 
 pub slice_bounds-step-end-in-Line : goal.slice_bounds-step-end-in-Line
-slice_bounds-step-end-in-Line c = sym (length-take-le _ _ (room c.before).0)
+slice_bounds-step-end-in-Line c = sym (length-take-le _ _ (room (goal.at.slice_bounds-step-end-in-Line c).In-Line-2).0)
 
 pub slice_bounds-step-end-in-Line-2 : goal.slice_bounds-step-end-in-Line-2
-slice_bounds-step-end-in-Line-2 c = (room c.before).1
+slice_bounds-step-end-in-Line-2 c = (room (goal.at.slice_bounds-step-end-in-Line-2 c).In-Line-2).1
 
 pub slice_bounds-step-end-in-Line-3 : goal.slice_bounds-step-end-in-Line-3
-slice_bounds-step-end-in-Line-3 c = sym (length-take-le _ _ (room c.before).1)
+slice_bounds-step-end-in-Line-3 c = sym (length-take-le _ _ (room (goal.at.slice_bounds-step-end-in-Line-3 c).In-Line-1).1)
 
 pub step-stepped-requires : goal.step-stepped-requires
-step-stepped-requires c = let d = c.before in
+step-stepped-requires c = let d = (goal.at.step-stepped-requires c).In-Line-1 in
     let s = start d in record { state = s.pre.0; index = s.pre.1.0; relevant = s.pre.1.1.0; store = (s.pre.1.1.1.0.0, numbered d); line = good-line _ _ (good d).0 (good d).1; sorted = into-sorted (b d).step-at.ensures d.in-Line.is; free = s.pre.1.1.1.1.1.1.1 }
 
 -- where there is no step the assignment is as it was
@@ -73,14 +73,14 @@ free : (c : After-step_at-answer) → c.args.assignment.now ≡ replicate entrie
 free c = c.requires.free
 
 pub returns-in-End : goal.returns-in-End
-returns-in-End c = let o = c.before in record { left = λ ws p z stored T K. rw (into-told o.step_at-answer.ensures c.in-End.is) (refl, K.keeps.holds, T); free = free o }
+returns-in-End c = let o = (goal.at.returns-in-End c).After-step_at-answer in record { left = λ ws p z stored T K. rw (into-told o.step_at-answer.ensures c.in-End.is) (refl, K.keeps.holds, T); free = free o }
 
 pub returns-in-Refused : goal.returns-in-Refused
-returns-in-Refused c = let o = c.before in record { left = λ ws p z stored T K. rw (into-told o.step_at-answer.ensures c.in-Refused.is) refl; free = free o }
+returns-in-Refused c = let o = (goal.at.returns-in-Refused c).After-step_at-answer in record { left = λ ws p z stored T K. rw (into-told o.step_at-answer.ensures c.in-Refused.is) refl; free = free o }
 
 pub returns-in-Line : goal.returns-in-Line
 returns-in-Line c = let t = c.step-stepped in
-    let d = c.before in
+    let d = (goal.at.returns-in-Line c).In-Line-1 in
     let g = d.answer-in-Line-1.given.0 in
     let zs = take g.1.0 (numbers d) in record { left = λ ws p z stored T K.
-          rw (there d, step_is g.0 zs (good d).0 (good d).1 (start d).args.atoms (expand ws) z) (t.result, c.turn_of.ensures, t.ensures.0 ws p z stored T K); free = t.ensures.1 }
+          rw (there d, step_is g.0 zs (good d).0 (good d).1 (start d).args.atoms (expand ws) z) (t.result, c.turn_of.ensures, t.ensures.stepped ws p z stored T K); free = t.ensures.free }

@@ -12,7 +12,7 @@ loop-i-init c = (omega arith, refl)
 pub returns-then-left-lengths : goal.returns-then-left-lengths
 returns-then-left-lengths c =
     let l = c.loop-i in
-    let s = c.before in
+    let s = c in
     let a = s.args in
     sym (ne_eqb (sum a.lengths.now) a.size (λ (q : sum a.lengths.now ≡ a.size). omega (arith, q, l.invariant.1, sum-on s.args.lengths.now l.i c.loop-i-test.true, c.if-left-lengths.true)))
 

@@ -28,15 +28,15 @@ module _ (c : After-check_proof-verdict) where
 
 pub returns-then-is_inconsistent : goal.returns-then-is_inconsistent
 returns-then-is_inconsistent c = λ ws text p w l e.
-    let d = c.before in
+    let d = (goal.at.returns-then-is_inconsistent c).After-check_proof-verdict in
     let x = (a d).args in
     found-inconsistent (length x.table.now) (length x.store.now) (length x.output.now) ws text (came d ws text)
     (rw (text_in text (length x.output.now - x.n) l e) at (d.check_proof-verdict.ensures ws p w)) (sym c.is_inconsistent.ensures ∙ c.if-is_inconsistent.true) l e
 
 pub returns : goal.returns
 returns c = λ ws text p w l e.
-    let f = c.before in
-    let d = f.before in
+    let f = c in
+    let d = (goal.at.returns c).After-check_proof-verdict in
     let x = (a d).args in
     let t : length d.check_proof-verdict.new.table ≡ length x.table.now = search rules in
     let s : length d.check_proof-verdict.new.store.0 ≡ length x.store.now = search rules in

@@ -61,16 +61,16 @@ pub write-written-requires : goal.write-written-requires
 write-written-requires c = let p = c.requires in record { program = (p.0.0, omega (arith, p.0.1)); short = omega (arith, p.1.0); empty = p.1.1 }
 
 pub judge-requires : goal.judge-requires
-judge-requires c = let d = c.before in
+judge-requires c = let d = (goal.at.judge-requires c).After-write-written in
     let q = (start d).requires.program in record { program = q; empty = (zeros (pos 0) {n = s d} d.write-written.ensures.empty).0; text = (written d q.0.0 q.0.1 _ c.in-Text.is).within }
 
 pub returns-in-Refused : goal.returns-in-Refused
 returns-in-Refused c = λ ws p w.
-    let d = c.before in
+    let d = (goal.at.returns-in-Refused c).After-write-written in
     c.refuse.ensures ∙ same-nothing _ (refl {a = t d}) (same_store d) (same-output d) ∙ refused d ws p _ c.in-Refused.is
 
 pub returns-in-Text : goal.returns-in-Text
 returns-in-Text c = λ ws p w.
-    let d = c.before in
+    let d = (goal.at.returns-in-Text c).After-write-written in
     let T = written d ws p _ c.in-Text.is in
     c.judge.ensures ws (text d ws p) p w T.is T.holds ∙ judged-same ws (text d ws p) (refl {a = t d}) (same_store d) (same-output d) ∙ T.judged

@@ -16,19 +16,19 @@ other : (m : In_default) → (let s = m.before in s.args.letter ≡ Completion)
 other m = second m.requires.letter (0 ∷ 2 ∷ 3 ∷ 4 ∷ 5 ∷ 6 ∷ []) tt m.in_default.keys2
 
 pub body-requires : goal.body-requires
-body-requires c = let t = c.before in
-    let s = t.before in record { program = s.requires.program; index = s.requires.index; store = s.requires.store; line = line s t.in-Body.is }
+body-requires c = let t = c in
+    let s = (goal.at.body-requires c).Start in record { program = s.requires.program; index = s.requires.index; store = s.requires.store; line = line s t.in-Body.is }
 
 pub completion-requires : goal.completion-requires
-completion-requires c = let m = c.before in
+completion-requires c = let m = (goal.at.completion-requires c).After-slice_known-1 in
     let s = m.before in record { program = s.requires.program; index = s.requires.index; store = s.requires.store; line = line s (other m) }
 
 pub returns-in-Body : goal.returns-in-Body
 returns-in-Body c =
-    let t = c.before in
+    let t = c in
     λ N ws h z b tracks K. rw t.in-Body.is (c.body.ensures N ws h z b tracks K)
 
 pub returns-in_default : goal.returns-in_default
 returns-in_default c =
-    let m = c.before in
+    let m = (goal.at.returns-in_default c).After-slice_known-1 in
     λ N ws h z b tracks K. rw (other m) (c.completion.ensures N ws h z b tracks K)

@@ -17,19 +17,19 @@ other : (m : In_default) → (let s = m.before in s.args.letter ≡ Support)
 other m = second m.requires.letter (0 ∷ 1 ∷ 2 ∷ 3 ∷ 4 ∷ 6 ∷ []) tt m.in_default.keys2
 
 pub loops-requires : goal.loops-requires
-loops-requires c = let t = c.before in
+loops-requires c = let t = c in
     let s = t.before in record { state = s.requires.state; index = s.requires.index; relevant = s.requires.relevant; store = s.requires.store; line = line s t.in-Loop.is }
 
 pub support-requires : goal.support-requires
-support-requires c = let m = c.before in
-    let s = m.before in record { program = program-of s.requires.state; index = s.requires.index; store = s.requires.store; line = line s (other m) }
+support-requires c = let m = (goal.at.support-requires c).In_default in
+    let s = (goal.at.support-requires c).Start in record { program = program-of s.requires.state; index = s.requires.index; store = s.requires.store; line = line s (other m) }
 
 pub returns-in-Loop : goal.returns-in-Loop
 returns-in-Loop c =
-    let t = c.before in
+    let t = c in
     λ ws p z b tracks K. rw t.in-Loop.is (c.loops.ensures ws p z b tracks K)
 
 pub returns-in_default : goal.returns-in_default
 returns-in_default c =
-    let m = c.before in
+    let m = (goal.at.returns-in_default c).In_default in
     λ ws p z b tracks K. rw (other m) (c.support.ensures ws p z b tracks K)

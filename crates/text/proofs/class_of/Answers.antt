@@ -4,4 +4,4 @@ use mathlib.Core.Path.{◌∙◌}
 use Rattle.text.proofs.class_of.Goals as goal
 
 pub returns : goal.returns
-returns c = c.class_at.ensures ∙ c.number_of_lem.ensures
+returns c = c.class_at.ensures ∙ c.number_of.ensures

@@ -14,13 +14,13 @@ pub returns-then-text-i-2 : goal.returns-then-text-i-2
 returns-then-text-i-2 c =
     let l = c.loop-i in
     let a = c.args in
-    sym (l.invariant.1 ∙ front-no a.front.now a.text.now l.i c.loop-i-test.true c.if-text-i.false c.if2.true)
+    sym (l.invariant.1 ∙ front-no a.front.now a.text.now l.i c.loop-i-test.true c.if-text-i.false c.if-text-i-2.true)
 
 pub loop-i-preserved : goal.loop-i-preserved
 loop-i-preserved c =
     let l = c.loop-i in
     let a = c.args in
-    (omega arith, l.invariant.1 ∙ front-on a.front.now a.text.now l.i c.loop-i-test.true c.if-text-i.false c.if2.false)
+    (omega arith, l.invariant.1 ∙ front-on a.front.now a.text.now l.i c.loop-i-test.true c.if-text-i.false c.if-text-i-2.false)
 
 pub returns : goal.returns
 returns c =

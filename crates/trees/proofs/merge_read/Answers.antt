@@ -19,13 +19,13 @@ returns-then-not-is_tree c = λ ws p w.
     ∙ no-tree a.atoms a.tree.now a.texts.now a.lengths.now (length a.table.now) (length a.store.now) (length a.output.now) ws p.top (sym c.is_tree.ensures ∙ c.if-not-is_tree.true)
 
 pub merge_whole-requires : goal.merge_whole-requires
-merge_whole-requires c = let d = c.before in
+merge_whole-requires c = let d = (goal.at.merge_whole-requires c).Else-not-is_tree in
     let a = (start d).args in
     let q = (start d).requires in record { program = q.0; short = q.1.0; tree = ((fits d).shape, fitting-tree a.atoms a.tree.now a.texts.now a.lengths.now (fits d)); empty = q.1.1 }
 
 pub returns : goal.returns
 returns c = λ ws p w.
-    let d = c.before in
+    let d = (goal.at.returns c).Else-not-is_tree in
     let a = (start d).args in
     c.merge_whole.ensures ws p w (fits d).shape (fitting-tree a.atoms a.tree.now a.texts.now a.lengths.now (fits d))
     ∙ whole-tree a.atoms a.tree.now a.texts.now a.lengths.now (length a.table.now) (length a.store.now) (length a.output.now) ws p.top (fits d)

@@ -25,7 +25,7 @@ module _ (c : In-Read-2) where
   found = program-read _ _ _ _ read.answer read.table _ _ c.in-Read.is
 
 pub merge_read-requires : goal.merge_read-requires
-merge_read-requires c = let d = c.before in
+merge_read-requires c = let d = (goal.at.merge_read-requires c).In-Read-2 in
     let f = found d in
     let h = held _ _ _ _ (read d).answer (read d).table f (search rules) in record { program = ((f.P, h.0), h.1); short = rw h.0.holds.are (read-shorter _ _ f.P f.read); empty = ((zeros (pos 0) {n = length (start d).args.store.now} c.zero_all.ensures).0, (zeros 0 {n = length (start d).args.output.now} c.zero_bytes.ensures).0) }
 
@@ -36,7 +36,7 @@ returns-in-Refused c =
 
 pub returns-in-Read : goal.returns-in-Read
 returns-in-Read c =
-    let d = c.before in
+    let d = (goal.at.returns-in-Read c).In-Read-2 in
     let f = found d in
     let t : length (q d).read-program.new.1.0 ≡ length (start d).args.table.now = search rules in
     let s : length c.zero_all.new.t.0 ≡ length (start d).args.store.now = search rules in

@@ -45,7 +45,7 @@ module _ (c : After-copy) where
       standing-first P u.result (length start.args.output.now) u.ensures.0 u.ensures.1 (omega (arith, u.ensures.0, start.pre.1.0)) start.pre.0.1 c.copy.ensures
 
 pub merge_side-requires : goal.merge_side-requires
-merge_side-requires c = let d = c.before in
+merge_side-requires c = let d = (goal.at.merge_side-requires c).After-copy in
     let q = (start d).requires in record { place = (q.0.0.0, standing d q.0.0.1); tree = (q.1.1.0.0, [], q.1.1.0.1); empty = q.1.1.1.0; blank = refl }
 
 -- what the tree comes to
@@ -102,20 +102,20 @@ module _ (c : In-Text-2) where
   size_is = length-take-le n (whole side) inside
 
 pub write_out-requires : goal.write_out-requires
-write_out-requires c = let d = c.before in
+write_out-requires c = let d = (goal.at.write_out-requires c).In-Text-2 in
     let q = (begun (side d)).pre in record { program = q.0; empty = ((zeros (pos 0) {n = s (side d)} (side d).merge-side.ensures.0).0, q.1.1.1.1); text = omega (arith, size_is d, within d) }
 
 pub returns-in-Refused : goal.returns-in-Refused
 returns-in-Refused c = λ ws p w u T.
-    let d = c.before in
+    let d = (goal.at.returns-in-Refused c).After-merge_side in
     let a = (begun d).args in
     c.refuse.ensures ∙ same-nothing _ (refl {a = t d}) (same_store d) (refl {a = o d})
     ∙ sym (ap (written_tree (t d) (s d) (o d) ws) (subst (Merged (s d) (o d) ws u [] a.tree.now a.texts.now a.lengths.now (whole d)) c.in-Refused.is (merged d p T)).outcome)
 
 pub returns-in-Text : goal.returns-in-Text
 returns-in-Text c = λ ws p w u T.
-    let d = c.before in
-    let e = c.before in
+    let d = (goal.at.returns-in-Text c).After-merge_side in
+    let e = (goal.at.returns-in-Text c).In-Text-2 in
     let a = (begun d).args in
     c.write_out.ensures ws p w
     ∙ (ap (λ (z : ℕ). written_tree (t d) z (o d) ws (pending z ws (take (n e) (whole d)) e.in-Text.pending.refusal)) (same_store d)

@@ -30,23 +30,23 @@ module _ (c : After-check_proof-verdict) where
 
 pub returns-then-not-is_inconsistent : goal.returns-then-not-is_inconsistent
 returns-then-not-is_inconsistent c = λ ws p w.
-    let d = c.before in
+    let d = (goal.at.returns-then-not-is_inconsistent c).After-check_proof-verdict in
     let x = (start d).args in
     c.refuse.ensures ∙ same-nothing x.number (same-table d) (same_store d) (refl {a = o d})
     ∙ last-refused (t d) (s d) (o d) ws x.text.now x.number (d.check_proof-verdict.ensures ws p w) (sym c.is_inconsistent.ensures ∙ c.if-not-is_inconsistent.true)
 
 pub returns-then-output-text : goal.returns-then-output-text
 returns-then-output-text c = λ ws p w.
-    let d = c.before in
+    let d = (goal.at.returns-then-output-text c).After-check_proof-verdict in
     let x = (start d).args in
     c.refuse-then-output-text.ensures ∙ same-nothing 58 (same-table d) (same_store d) (refl {a = o d})
     ∙ over-output (t d) (s d) (o d) ws x.text.now x.number (d.check_proof-verdict.ensures ws p w) (sym c.is_inconsistent.ensures ∙ c.if-not-is_inconsistent.false) c.if-output-text.true
 
 pub returns : goal.returns
 returns c = λ ws p w.
-    let d = c.before in
+    let d = (goal.at.returns c).After-check_proof-verdict in
     let x = (start d).args in
     let b = c.put_bytes-n in
     let h = c.if-output-text.false in
     written_out (t d) (s d) (o d) ws x.text.now x.number (d.check_proof-verdict.ensures ws p w) (sym c.is_inconsistent.ensures ∙ c.if-not-is_inconsistent.false) (omega (arith, h))
-    (put-size b.ensures) (put-blank x.text.now x.output.now b.new.0 b.ensures (start d).requires.empty.1 (omega (arith, h)))
+    (put-size b.ensures) (put-blank x.text.now x.output.now b.new.buffer b.ensures (start d).requires.empty.1 (omega (arith, h)))

@@ -41,7 +41,7 @@ module _ (c : After-is_accepted) where
 
 pub returns-then-not-is_accepted : goal.returns-then-not-is_accepted
 returns-then-not-is_accepted c =
-    let d = c.before in
+    let d = (goal.at.returns-then-not-is_accepted c).After-is_accepted in
     λ ws p w. not-accepted (length (s d).args.table.now) (size d) (s d).args.text.now ws
     (sym (d.is_accepted.ensures.accepted ws p) ∙ c.if-not-is_accepted.true) c.zero_all.ensures d.is_accepted.ensures.empty
 
@@ -61,7 +61,7 @@ module _ (c : Else-not-is_accepted) where
       ((steps-exact longest (s first).args.text.now x.0).0 x.1).1
 
 pub passes-n-requires : goal.passes-n-requires
-passes-n-requires c = let e = c.before in
+passes-n-requires c = let e = (goal.at.passes-n-requires c).After-store-1 in
     let d = first e in record { short = short e; program = (s d).pre.0; empty = (zeros (pos 0) {n = size d} d.is_accepted.ensures.empty).0 }
 
 -- the passes
@@ -103,18 +103,18 @@ module _ (c : After-zero_bytes) where
 
 pub slice_bounds-check_proof-end-2 : goal.slice_bounds-check_proof-end-2
 slice_bounds-check_proof-end-2 c =
-    let z = c.before in
+    let z = (goal.at.slice_bounds-check_proof-end-2 c).After-zero_bytes-arg-1 in
     let d = done z in
     sym (ap length (front_kept (n d) (length (text' d) - n d) (text' d) (within d) (behind z)) ∙ length-take-le (n d) (text' d) (within d))
 
 pub check_proof-requires : goal.check_proof-requires
-check_proof-requires c = let d = done c.before in
+check_proof-requires c = let d = done (goal.at.check_proof-requires c).After-zero_bytes-arg-1 in
     let q = (a d).pre.0 in record { program = (q.0, omega (arith, q.1)); empty = (zeros (pos 0) {n = length (store₁ (first (e d)))} d.passes-n.ensures.empty).0 }
 
 pub returns : goal.returns
 returns c =
-    let k = c.before in
-    let z = k.before in
+    let k = c in
+    let z = (goal.at.returns c).After-zero_bytes-arg-1 in
     let d = done z in
     let x = (a d).args in
     let t = length x.table.now in

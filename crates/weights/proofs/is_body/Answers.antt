@@ -36,25 +36,25 @@ module _ (c : After-variable_of-w) where
 
 pub overflow_add-total : goal.overflow_add-total
 overflow_add-total c =
-    let d = c.before in
+    let d = (goal.at.overflow_add-total c).After-variable_of-w in
     let m = d.loop-i.invariant in
     omega (arith, weight d, room_next m (in-loop d))
 
 pub overflow_add-j : goal.overflow_add-j
 overflow_add-j c =
-    let d = c.before in
+    let d = (goal.at.overflow_add-j c).After-variable_of-w in
     let m = d.loop-i.invariant in
     omega (arith, merge_in m (in-loop d) (next d ∙ c.if-next.true))
 
 pub loop-i-preserved-then-next : goal.loop-i-preserved-then-next
 loop-i-preserved-then-next c =
-    let d = c.before in
+    let d = (goal.at.loop-i-preserved-then-next c).After-variable_of-w in
     let m = d.loop-i.invariant in
     rw (c.smaller-least.ensures, weight d) (merge-take m (in-loop d) (next d ∙ c.if-next.true))
 
 pub loop-i-preserved : goal.loop-i-preserved
 loop-i-preserved c =
-    let d = c.before in
+    let d = (goal.at.loop-i-preserved c).After-variable_of-w in
     let m = d.loop-i.invariant in
     merge-skip m (in-loop d) (next d ∙ c.if-next.false)
 

@@ -30,22 +30,22 @@ loop-i-init c =
     (omega arith, ap (λ k. lowest_from (differs_at (marked a.inside.now) a.marks.now) k 0) e)
 
 pub overflow_cast-result : goal.overflow_cast-result
-overflow_cast-result c = let d = c.before in record { fits = omega (arith, (s d).requires, d.loop-i-test.true) }
+overflow_cast-result c = let d = (goal.at.overflow_cast-result c).After-just_one in record { fits = omega (arith, (s d).requires, d.loop-i-test.true) }
 
 pub returns-then-just_one : goal.returns-then-just_one
 returns-then-just_one c =
-    let d = c.before in
+    let d = (goal.at.returns-then-just_one c).After-just_one in
     ap searched (sym (d.loop-i.invariant.1 ∙ lowest-here (f d) _ (i d) d.loop-i-test.true (tells d ∙ c.if-just_one.true)))
 
 pub overflow_add-i : goal.overflow_add-i
-overflow_add-i c = let d = c.before in record { fits = omega (arith, (s d).requires, d.loop-i-test.true) }
+overflow_add-i c = let d = (goal.at.overflow_add-i c).After-just_one in record { fits = omega (arith, (s d).requires, d.loop-i-test.true) }
 
 pub loop-i-smaller : goal.loop-i-smaller
 loop-i-smaller c = let h = c.loop-i-test.true in omega arith
 
 pub loop-i-preserved : goal.loop-i-preserved
 loop-i-preserved c =
-    let d = c.before in
+    let d = (goal.at.loop-i-preserved c).After-just_one in
     let h = d.loop-i-test.true in
     (omega (arith, h), d.loop-i.invariant.1 ∙ lowest-on (f d) _ (i d) h (tells d ∙ c.if-just_one.false))
 

@@ -47,22 +47,22 @@ pub is_broken-requires : goal.is_broken-requires
 is_broken-requires c = rw (tail_of (i c) (t c)) (at c).sound
 
 pub returns-then-is_broken : goal.returns-then-is_broken
-returns-then-is_broken c = let d = c.before in rw (whole d, tells c.before ∙ c.if-is_broken.true) refl
+returns-then-is_broken c = let d = (goal.at.returns-then-is_broken c).After-rest-1 in rw (whole d, tells (goal.at.returns-then-is_broken c).After-is_broken ∙ c.if-is_broken.true) refl
 
 pub next_rule-i-requires : goal.next_rule-i-requires
-next_rule-i-requires c = record { here = (at c.before).here }
+next_rule-i-requires c = record { here = (at (goal.at.next_rule-i-requires c).After-rest-1).here }
 
 pub overflow_add-number : goal.overflow_add-number
-overflow_add-number c = let l = c.loop-left in let f = few-rules _ _ (s c.before).pre in record { fits = omega (arith, l.invariant.1) }
+overflow_add-number c = let l = c.loop-left in let f = few-rules _ _ (s (goal.at.overflow_add-number c).After-rest-1).pre in record { fits = omega (arith, l.invariant.1) }
 
 pub loop-left-smaller : goal.loop-left-smaller
 loop-left-smaller c = omega arith
 
 pub loop-left-preserved : goal.loop-left-preserved
 loop-left-preserved c =
-    let d = c.before in
+    let d = (goal.at.loop-left-preserved c).After-rest-1 in
     let l = d.loop-left in
-    rw c.next_rule-i.ensures.0 ((at d).next, omega (arith, l.invariant.1, d.loop-left-test.true), whole d ∙ rw (tells c.before ∙ c.if-is_broken.false))
+    rw c.next_rule-i.ensures.0 ((at d).next, omega (arith, l.invariant.1, d.loop-left-test.true), whole d ∙ rw (tells (goal.at.loop-left-preserved c).After-is_broken ∙ c.if-is_broken.false))
 
 pub returns : goal.returns
 returns c = let l = c.loop-left in rw (l.invariant.2, no-rules l.left (drop l.i c.args.table.now) c.loop-left-test.false) refl

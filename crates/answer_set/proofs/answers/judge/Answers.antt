@@ -33,10 +33,10 @@ first_broken-requires c = c.requires.0
 
 pub returns-in-At : goal.returns-in-At
 returns-in-At c =
-    let d = c.before in
+    let d = (goal.at.returns-in-At c).After-differing-found in
     rw (found (lowest d) (sym d.differing-found.ensures ∙ c.in-At.is)) refl
 
 pub returns-in-Nothing : goal.returns-in-Nothing
 returns-in-Nothing c =
-    let d = c.before in
+    let d = (goal.at.returns-in-Nothing c).After-differing-found in
     rw (nothing (lowest d) (sym d.differing-found.ensures ∙ c.in-Nothing.is)) c.first_broken.ensures

@@ -22,12 +22,12 @@ tells c =
 pub loop-i-preserved : goal.loop-i-preserved
 loop-i-preserved c =
     let l = c.loop-i in
-    (omega arith, l.invariant.1 ∙ all-on _ _ l.i (pos 0) c.loop-i-test.true (tells c.before ∙ c.if-literal_holds.true))
+    (omega arith, l.invariant.1 ∙ all-on _ _ l.i (pos 0) c.loop-i-test.true (tells (goal.at.loop-i-preserved c).After-literal_holds ∙ c.if-literal_holds.true))
 
 pub returns-else-literal_holds : goal.returns-else-literal_holds
 returns-else-literal_holds c =
     let l = c.loop-i in
-    sym (l.invariant.1 ∙ all_here _ _ l.i (pos 0) c.loop-i-test.true (tells c.before ∙ c.if-literal_holds.false))
+    sym (l.invariant.1 ∙ all_here _ _ l.i (pos 0) c.loop-i-test.true (tells (goal.at.returns-else-literal_holds c).After-literal_holds ∙ c.if-literal_holds.false))
 
 pub returns : goal.returns
 returns c =

@@ -14,21 +14,17 @@ body_of-body-requires c = shape_of _ c.requires
 
 pub sum_held-requires : goal.sum_held-requires
 sum_held-requires c =
-    let d = c.before in
+    let d = (goal.at.sum_held-requires c).After-is_weighted in
     rw d.body_of-body.ensures (weighing _ d.requires (tells d ∙ c.if-is_weighted.true)).light
 
 pub returns-then-is_weighted : goal.returns-then-is_weighted
-
 unfolding body_at
-
 returns-then-is_weighted c =
-    let d = c.before in
+    let d = (goal.at.returns-then-is_weighted c).After-is_weighted in
     rw (tells d ∙ c.if-is_weighted.true, c.bound_of.ensures, ← d.body_of-body.ensures, c.sum_held.ensures)
 
 pub returns : goal.returns
-
 unfolding body_at
-
 returns c =
-    let d = c.before in
+    let d = (goal.at.returns c).After-is_weighted in
     rw (tells d ∙ c.if-is_weighted.false, ← d.body_of-body.ensures) c.all_hold.ensures

@@ -11,7 +11,7 @@ give_all-requires c = c.requires
 
 pub returns-then-not-give_all : goal.returns-then-not-give_all
 returns-then-not-give_all c =
-    let d = c.before in
+    let d = c in
     let l = d.loop-left in
     last-round _ l.left _ l.invariant.1 d.give_all.ensures (c.if-not-give_all.true)
 
@@ -20,7 +20,7 @@ loop-left-smaller c = omega arith
 
 pub loop-left-preserved : goal.loop-left-preserved
 loop-left-preserved c =
-    let d = c.before in
+    let d = c in
     let l = d.loop-left in
     (c.marks-1.given ∙ l.invariant.0, l.invariant.1 ∙ rounds-on _ l.left _ l.marks d.loop-left-test.true ∙ rw d.give_all.ensures.marks)
 

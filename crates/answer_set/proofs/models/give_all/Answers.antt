@@ -43,18 +43,18 @@ pub offset_bounds-table-i : goal.offset_bounds-table-i
 offset_bounds-table-i c = let w = c.loop-left.invariant.0.within in search rules
 
 pub give_rule-requires : goal.give_rule-requires
-give_rule-requires c = let d = c.before in rw (tail_of (i d) (t d)) (at d).sound
+give_rule-requires c = let d = (goal.at.give_rule-requires c).After-rest-1 in rw (tail_of (i d) (t d)) (at d).sound
 
 pub next_rule-i-requires : goal.next_rule-i-requires
-next_rule-i-requires c = record { here = (at c.before).here }
+next_rule-i-requires c = record { here = (at (goal.at.next_rule-i-requires c).After-rest-1).here }
 
 pub loop-left-smaller : goal.loop-left-smaller
 loop-left-smaller c = omega arith
 
 pub loop-left-preserved : goal.loop-left-preserved
 loop-left-preserved c =
-    let g = c.before in
-    let d = g.before in
+    let g = (goal.at.loop-left-preserved c).After-give_rule in
+    let d = (goal.at.loop-left-preserved c).After-rest-1 in
     let l = d.loop-left in
     rw c.next_rule-i.ensures.0 (
       (at d).next,

@@ -13,16 +13,12 @@ tells : (c : After-gives_head) → (let a = c.args in gives (marked a.inside.now
 tells c = sym (rw (size c.before) at c.Gives-head.ensures)
 
 pub returns-then-gives_head : goal.returns-then-gives_head
-
 unfolding give_head
-
 returns-then-gives_head c =
-    let d = c.before in
-    let g = d.before in
-    rw (tells g ∙ d.if-gives_head.true) (rw (size g.before) at d.mark.ensures)
+    let d = c in
+    let g = (goal.at.returns-then-gives_head c).After-gives_head in
+    rw (tells g ∙ d.if-gives_head.true) (rw (size (goal.at.returns-then-gives_head c).After-variable_of-v) at d.mark.ensures)
 
 pub returns : goal.returns
-
 unfolding give_head
-
-returns c = rw (tells c.before ∙ c.if-gives_head.false) (record { marks = refl; still = λ e. refl })
+returns c = rw (tells (goal.at.returns c).After-gives_head ∙ c.if-gives_head.false) (record { marks = refl; still = λ e. refl })

@@ -29,7 +29,7 @@ module _ (c : After-give_head) where
 
 pub loop-i-preserved : goal.loop-i-preserved
 loop-i-preserved c =
-    let d = c.before in
+    let d = (goal.at.loop-i-preserved c).After-give_head in
     let l = d.loop-i in
     let a = (s d).args in (
       omega arith,

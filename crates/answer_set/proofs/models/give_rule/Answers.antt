@@ -16,17 +16,13 @@ pub heads_of-requires : goal.heads_of-requires
 heads_of-requires c = shape_of _ c.requires
 
 pub returns-then-body_holds : goal.returns-then-body_holds
-
 unfolding give_rule
-
 returns-then-body_holds c =
-    let d = c.before in
-    let h = d.before in
-    let k = h.before in
-    rw (tells k.before ∙ k.if-body_holds.true) (rw (h.heads_of.ensures, k.kind_of-kind.ensures) at d.give_heads.ensures)
+    let d = c in
+    let h = c in
+    let k = c in
+    rw (tells (goal.at.returns-then-body_holds c).After-body_holds ∙ k.if-body_holds.true) (rw (h.heads_of.ensures, k.kind_of-kind.ensures) at d.give_heads.ensures)
 
 pub returns : goal.returns
-
 unfolding give_rule
-
-returns c = rw (tells c.before ∙ c.if-body_holds.false) (record { marks = refl; still = λ e. refl })
+returns c = rw (tells (goal.at.returns c).After-body_holds ∙ c.if-body_holds.false) (record { marks = refl; still = λ e. refl })

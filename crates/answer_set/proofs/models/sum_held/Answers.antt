@@ -28,7 +28,7 @@ more c =
 
 pub overflow_add-total : goal.overflow_add-total
 overflow_add-total c =
-    let s = c.before in
+    let s = c in
     let a = s.args in
     let h = held_small (marked a.inside.now) (marked a.marks.now) (paired a.pairs.now) in
     record { fits = omega (arith, more c, h, s.requires) }

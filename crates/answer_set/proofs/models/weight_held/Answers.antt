@@ -14,8 +14,8 @@ tells c = sym (rw (to_z-of_z c.ranges.literal) at c.literal_holds.ensures)
 
 pub returns-then-literal_holds : goal.returns-then-literal_holds
 returns-then-literal_holds c =
-    let d = c.before in
+    let d = (goal.at.returns-then-literal_holds c).After-literal_holds in
     rw (tells d ∙ c.if-literal_holds.true) (c.variable_of.ensures ∙ ap variable (to_z-of_z d.ranges.weight))
 
 pub returns : goal.returns
-returns c = rw (tells c.before ∙ c.if-literal_holds.false)
+returns c = rw (tells (goal.at.returns c).After-literal_holds ∙ c.if-literal_holds.false)

@@ -28,17 +28,17 @@ pub offset_bounds-table-start : goal.offset_bounds-table-start
 offset_bounds-table-start c = let w = (start c).within in search rules
 
 pub is_ready-requires : goal.is_ready-requires
-is_ready-requires c = record { words_value = rw (tail_of _ _) (start c.before).sound; rule_le_most_rules = omega arith }
+is_ready-requires c = record { words_value = rw (tail_of _ _) (start (goal.at.is_ready-requires c).After-way_told-1).sound; rule_le_most_rules = omega arith }
 
 pub give_rule-requires : goal.give_rule-requires
-give_rule-requires c = rw (tail_of _ _) (start c.before).sound
+give_rule-requires c = rw (tail_of _ _) (start (goal.at.give_rule-requires c).After-way_told-1).sound
 
 pub heads_of-requires : goal.heads_of-requires
-heads_of-requires c = rw (tail_of _ _) (shape_of _ (start c.before).sound)
+heads_of-requires c = rw (tail_of _ _) (shape_of _ (start (goal.at.heads_of-requires c).After-way_told-1).sound)
 
 pub returns-then-is_ready : goal.returns-then-is_ready
-returns-then-is_ready c = let g = c.before in
-    let d = g.before in record { upper_bound = c.wake_all.ensures; given = given-one (start d).among (told g).marks }
+returns-then-is_ready c = let g = (goal.at.returns-then-is_ready c).After-give_rule-arg-1 in
+    let d = (goal.at.returns-then-is_ready c).After-get-work in record { upper_bound = c.wake_all.ensures; given = given-one (start d).among (told g).marks }
 
 pub returns : goal.returns
 returns c = record { upper_bound = c.get-work.ensures; given = nothing }

@@ -9,8 +9,8 @@ close-requires c = sound-rules _ _ c.requires.rules_value
 
 pub returns : goal.returns
 returns c =
-    let k = c.before in
-    let s = k.before in
+    let k = c in
+    let s = c in
     let a = s.args in
     let p = s.requires in
     least-given (marked a.inside.now) a.table.now a.rules (sound-rules _ _ p.0) p.1.0 p.1.1.0 p.1.1.1 k.follow.ensures k.close.ensures

@@ -12,11 +12,11 @@ pub returns-then-entry-eq0 : goal.returns-then-entry-eq0
 returns-then-entry-eq0 c = c.loop-left.invariant.2
 
 pub look-entry-requires : goal.look-entry-requires
-look-entry-requires c = let s = c.before in record { rule_starts = s.requires.rule_starts; bound = s.loop-left.invariant.1 }
+look-entry-requires c = let s = c in record { rule_starts = s.requires.rule_starts; bound = s.loop-left.invariant.1 }
 
 pub loop-left-preserved : goal.loop-left-preserved
 loop-left-preserved c =
-    let g = c.before in
+    let g = c in
     let l = g.loop-left in
     (search rules, g.look-entry.ensures.upper_bound, given-on l.invariant.2 g.look-entry.ensures.given)
 

@@ -26,24 +26,24 @@ loop-k-init c =
 
 pub returns-in-Refuses : goal.returns-in-Refuses
 returns-in-Refuses c =
-    let d = c.before in lines-refused d.loop-k.invariant (taken d) c.in-Refuses.is
+    let d = (goal.at.returns-in-Refuses c).After-read_rule-turn in lines-refused d.loop-k.invariant (taken d) c.in-Refuses.is
 
 pub returns-in-Ends : goal.returns-in-Ends
 returns-in-Ends c =
-    let d = c.before in lines-ended d.loop-k.invariant (taken d) c.in-Ends.is
+    let d = (goal.at.returns-in-Ends c).After-read_rule-turn in lines-ended d.loop-k.invariant (taken d) c.in-Ends.is
 
 pub overflow_add-at : goal.overflow_add-at
 overflow_add-at c =
-    let o = onward c.before in omega (arith, o.text-left)
+    let o = onward (goal.at.overflow_add-at c).In-Adds-2 in omega (arith, o.text-left)
 
 pub overflow_add-used : goal.overflow_add-used
 overflow_add-used c =
-    let o = onward c.before in omega (arith, o.words_left)
+    let o = onward (goal.at.overflow_add-used c).In-Adds-2 in omega (arith, o.words_left)
 
 pub loop-k-smaller : goal.loop-k-smaller
 loop-k-smaller c =
-    let o = onward c.before in omega (arith, o.text-left, o.bytes)
+    let o = onward (goal.at.loop-k-smaller c).In-Adds-2 in omega (arith, o.text-left, o.bytes)
 
 pub loop-k-preserved : goal.loop-k-preserved
 loop-k-preserved c =
-    rw c.larger-atoms.ensures (onward c.before).stands
+    rw c.larger-atoms.ensures (onward (goal.at.loop-k-preserved c).In-Adds-2).stands

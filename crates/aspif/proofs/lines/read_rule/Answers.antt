@@ -33,21 +33,21 @@ last c =
 
 pub returns-then-outside : goal.returns-then-outside
 returns-then-outside c =
-    let f = found c.before in
+    let f = found (goal.at.returns-then-outside c).In-Numbers-2 in
     rw (f.is, sym f.large ∙ c.if-outside.true) (record { told = refl; words = refl })
 
 pub returns-then-next-rest : goal.returns-then-next-rest
 returns-then-next-rest c =
-    let d = c.before in
-    let r = d.before in
-    let f = found r.before in
+    let d = (goal.at.returns-then-next-rest c).After-is_last in
+    let r = (goal.at.returns-then-next-rest c).Else-outside in
+    let f = found (goal.at.returns-then-next-rest c).In-Numbers-2 in
     rw (f.is, inside r, last d ∙ c.if-is_last.true, eq-eqb _ _ c.if-next-rest.true) (record { told = refl; words = refl })
 
 pub returns-then-is_last : goal.returns-then-is_last
 returns-then-is_last c =
-    let d = c.before in
-    let r = d.before in
-    let f = found r.before in
+    let d = (goal.at.returns-then-is_last c).After-is_last in
+    let r = (goal.at.returns-then-is_last c).Else-outside in
+    let f = found (goal.at.returns-then-is_last c).In-Numbers-2 in
     rw (f.is, inside r, last d ∙ c.if-is_last.true, ne_eqb _ _ c.if-next-rest.false) (record { told = refl; words = refl })
 
 pub returns-in-Broken : goal.returns-in-Broken
@@ -56,8 +56,8 @@ returns-in-Broken c =
 
 pub returns-else-is_last : goal.returns-else-is_last
 returns-else-is_last c =
-    let e = c.before in
-    let d = e.before in
-    let r = d.before in
-    let f = found r.before in
+    let e = c in
+    let d = (goal.at.returns-else-is_last c).After-is_last in
+    let r = (goal.at.returns-else-is_last c).Else-outside in
+    let f = found (goal.at.returns-else-is_last c).In-Numbers-2 in
     rw (f.is, inside r, last d ∙ e.if-is_last.false) (rw (row-rule f.list _ _ f.long (row r) r.args.most) at c.take_rule.ensures)

@@ -37,23 +37,23 @@ module _ (c : After-largest_variable-b) where
 
 pub returns-then-is_full : goal.returns-then-is_full
 returns-then-is_full c =
-    let s = c.before in
+    let s = (goal.at.returns-then-is_full c).Start in
     let a = s.args in
     turn-full (rule s) _ (size s) a.free.now a.rules a.next (leb-true _ _ (sym c.is_full.ensures ∙ c.if-is_full.true))
 
 pub returns-then-free-size : goal.returns-then-free-size
 returns-then-free-size c =
-    let f = c.before in
-    let s = f.before in
+    let f = c in
+    let s = (goal.at.returns-then-free-size c).Start in
     let a = s.args in
     turn-short (rule s) _ (size s) a.free.now a.rules a.next (leb-false _ _ (sym f.is_full.ensures ∙ f.if-is_full.false)) c.if-free-size.true
 
 pub returns : goal.returns
 returns c =
-    let w = c.before in
-    let g = w.before in
-    let f = g.before in
-    let s = f.before in
+    let w = c in
+    let g = c in
+    let f = c in
+    let s = (goal.at.returns c).Start in
     let a = s.args in
     turn-adds (rule s) _ (size s) a.free.now a.rules a.next (leb-false _ _ (sym f.is_full.ensures ∙ f.if-is_full.false)) g.if-free-size.false _ _
-    w.write_weighed.ensures (c.larger.ensures ∙ ap₂ (λ x y. max x y) (in-heads c.before) (in_body c.before))
+    w.write_weighed.ensures (c.larger.ensures ∙ ap₂ (λ x y. max x y) (in-heads (goal.at.returns c).After-largest_variable-b) (in_body (goal.at.returns c).After-largest_variable-b))

@@ -6,10 +6,10 @@ returns-then-is_at c = c.plain_shape.ensures ∙ rw (sym c.is_at.ensures ∙ c.i
 
 pub returns-then-is_at-2 : goal.returns-then-is_at-2
 returns-then-is_at-2 c =
-    let d = c.before in
-    c.weighed_shape.ensures ∙ rw (sym d.is_at.ensures ∙ d.if-is_at.false, sym c.is_at-2.ensures ∙ c.if2.true)
+    let d = c in
+    c.weighed_shape.ensures ∙ rw (sym d.is_at.ensures ∙ d.if-is_at.false, sym c.is_at-2.ensures ∙ c.if-is_at-2.true)
 
 pub returns : goal.returns
 returns c =
-    let d = c.before in
-    rw (sym d.is_at.ensures ∙ d.if-is_at.false, sym c.is_at-2.ensures ∙ c.if2.false)
+    let d = c in
+    rw (sym d.is_at.ensures ∙ d.if-is_at.false, sym c.is_at-2.ensures ∙ c.if-is_at-2.false)

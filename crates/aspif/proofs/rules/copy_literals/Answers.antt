@@ -22,5 +22,5 @@ loop-i-preserved c =
 pub returns : goal.returns
 returns c =
     let l = c.loop-i in
-    let s = c.before in
+    let s = c in
     l.invariant.2 ∙ literals-all s.args.pairs.now s.args.row.now l.i s.requires (omega (arith, c.loop-i-test.false, l.invariant))

@@ -8,10 +8,10 @@ returns-then-not-ranged c = rw (sym c.is_ranged-ranged.ensures ∙ not-true c.is
 
 pub returns-then-not-few : goal.returns-then-not-few
 returns-then-not-few c =
-    let d = c.before in
+    let d = c in
     rw (sym d.is_ranged-ranged.ensures ∙ d.if-not-ranged.false, not-true (leb d.args.body d.args.most) c.if-not-few.true-raw)
 
 pub returns : goal.returns
 returns c =
-    let d = c.before in
+    let d = c in
     c.suited_shape.ensures ∙ rw (sym d.is_ranged-ranged.ensures ∙ d.if-not-ranged.false, not-false (leb d.args.body d.args.most) c.if-not-few.false-raw)

@@ -33,17 +33,17 @@ overflow_add-heads c =
 
 pub body_shape-requires : goal.body_shape-requires
 body_shape-requires c =
-    (small c.before, c.requires)
+    (small (goal.at.body_shape-requires c).After-variable_of-heads, c.requires)
 
 pub returns-then-heads-count : goal.returns-then-heads-count
 returns-then-heads-count c =
-    let d = c.before in
+    let d = (goal.at.returns-then-heads-count c).After-variable_of-heads in
     c.body_shape.ensures
     ∙ rw (heads d, counted d, le-leb _ _ (rw (heads d) at c.if-heads-count.true))
 
 pub returns-else-heads-count : goal.returns-else-heads-count
 returns-else-heads-count c =
-    let d = c.before in rw (counted d, lt-leb _ _ (rw (heads d) at c.if-heads-count.false))
+    let d = (goal.at.returns-else-heads-count c).After-variable_of-heads in rw (counted d, lt-leb _ _ (rw (heads d) at c.if-heads-count.false))
 
 pub returns-else-is_count_at : goal.returns-else-is_count_at
 returns-else-is_count_at c =

@@ -17,17 +17,13 @@ bound c =
     sym (c.is_weight.ensures ∙ ap is_weight (to_z-of_z (sfits_of {z = w.result} w.type_inv) ∙ w.ensures))
 
 pub returns-then-is_weight : goal.returns-then-is_weight
-
 unfolding ranged
-
 returns-then-is_weight c =
-    let d = c.before in
+    let d = (goal.at.returns-then-is_weight c).After-is_weight in
     let a = d.args in
     let e : 6 + a.heads + 2 * a.body - (6 + a.heads) ≡ 2 * a.body = omega arith in
     rw (bound d ∙ c.if-is_weight.true) (rw e at c.all_weights.ensures)
 
 pub returns : goal.returns
-
 unfolding ranged
-
-returns c = rw (bound c.before ∙ c.if-is_weight.false)
+returns c = rw (bound (goal.at.returns c).After-is_weight ∙ c.if-is_weight.false)

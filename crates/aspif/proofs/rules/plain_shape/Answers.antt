@@ -32,11 +32,11 @@ overflow_add-heads-then-is_count_at-3 c = record { fits = omega (arith, small c,
 
 pub returns-then-heads-body : goal.returns-then-heads-body
 returns-then-heads-body c =
-    let d = c.before in
+    let d = (goal.at.returns-then-heads-body c).After-variable_of-body in
     c.suited_shape.ensures ∙ rw (body d, counted d, eq-eqb _ _ (rw (body d) at c.if-heads-body.true))
 
 pub returns-else-heads-body : goal.returns-else-heads-body
-returns-else-heads-body c = let d = c.before in rw (counted d, ne_eqb _ _ (rw (body d) at c.if-heads-body.false))
+returns-else-heads-body c = let d = (goal.at.returns-else-heads-body c).After-variable_of-body in rw (counted d, ne_eqb _ _ (rw (body d) at c.if-heads-body.false))
 
 pub returns-else-is_count_at : goal.returns-else-is_count_at
 returns-else-is_count_at c = rw (sym c.is_count_at.ensures ∙ c.if-is_count_at.false)

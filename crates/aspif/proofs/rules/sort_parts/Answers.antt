@@ -65,12 +65,12 @@ module _ (c : After-row-2-1) where
 
 pub returns-then-sort_body : goal.returns-then-sort_body
 returns-then-sort_body c =
-    let d = c.before in
+    let d = (goal.at.returns-then-sort_body c).After-row-2-1 in
     let t : body_good (row_body (row d) (h d) (b d)) ≡ true = sym (of-body d).0 ∙ c.if-sort_body.true in
     sorted d _ ((of-heads d).0 ∙ sym (ap (λ (x : Bool). heads_good (row_heads (row d) (h d)) && x) t ∙ and-true (heads_good (row_heads (row d) (h d)))))
 
 pub returns-else-sort_body : goal.returns-else-sort_body
 returns-else-sort_body c =
-    let d = c.before in
+    let d = (goal.at.returns-else-sort_body c).After-row-2-1 in
     let t : body_good (row_body (row d) (h d) (b d)) ≡ false = sym (of-body d).0 ∙ c.if-sort_body.false in
     sorted d false (sym (ap (λ (x : Bool). heads_good (row_heads (row d) (h d)) && x) t ∙ and-false (heads_good (row_heads (row d) (h d)))))

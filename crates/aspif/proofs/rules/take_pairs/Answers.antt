@@ -49,7 +49,7 @@ module _ (c : After-sort_body) where
   of-body = rw copied at c.sort_body.ensures
 
 pub add_weighed-requires : goal.add_weighed-requires
-add_weighed-requires c = let d = c.before in
+add_weighed-requires c = let d = (goal.at.add_weighed-requires c).After-row-1 in
     let s = d.before in
     let k = s.args.kind in
     let l = literals-long (row d) k (h d) (b d) (fits d) (hs d) (ls d) (of-heads d).1 (of-body d).1 in
@@ -59,8 +59,8 @@ add_weighed-requires c = let d = c.before in
 
 pub returns-then-good : goal.returns-then-good
 returns-then-good c =
-    let e = c.before in
-    let d = e.before in
+    let e = c in
+    let d = (goal.at.returns-then-good c).After-row-1 in
     let k = d.args.kind in
     let p = sym (of-heads d).0 ∙ e.if-good.true in
     let q = sym (of-body d).0 ∙ e.if-sort_body.true in
@@ -69,14 +69,14 @@ returns-then-good c =
 
 pub returns-else-good : goal.returns-else-good
 returns-else-good c =
-    let d = c.before in
+    let d = (goal.at.returns-else-good c).After-sort_body in
     let k = d.args.kind in
     let p = sym (of-heads d).0 ∙ c.if-good.false in
     rw (weighed-fails (row d) k (h d) (b d) (rw p)) (record { told = refl; words = refl })
 
 pub returns-else-sort_body : goal.returns-else-sort_body
 returns-else-sort_body c =
-    let d = c.before in
+    let d = (goal.at.returns-else-sort_body c).After-sort_body in
     let k = d.args.kind in
     let q = sym (of-body d).0 ∙ c.if-sort_body.false in
     rw (weighed-fails (row d) k (h d) (b d) (rw q (and-false (heads_good (row_heads (row d) (h d)))))) (record { told = refl; words = refl })

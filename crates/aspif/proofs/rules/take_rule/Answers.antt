@@ -30,24 +30,24 @@ module _ (c : In-Weighed-2) where
       subst (Counted a.most a.row.now a.count) shape₂ (shape-counted a.most a.row.now a.count)
 
 pub sort_parts-requires : goal.sort_parts-requires
-sort_parts-requires c = let d = c.before in
+sort_parts-requires c = let d = (goal.at.sort_parts-requires c).In-Shaped-2 in
     let k = counted d in
     let p = d.requires in record { sizes = (k.0, k.1, omega (arith, k, p)) }
 
 pub add_rule-requires : goal.add_rule-requires
-add_rule-requires c = let d = c.before in
+add_rule-requires c = let d = (goal.at.add_rule-requires c).In-Shaped-1 in
     let k = counted d in
     let p = d.requires in
     let l = c.sort_parts.ensures.long in record { sizes = (k.0, k.1, omega (arith, k, p, l)) }
 
 pub returns-then-sort_parts : goal.returns-then-sort_parts
 returns-then-sort_parts c =
-    let d = c.before in
+    let d = (goal.at.returns-then-sort_parts c).In-Shaped-1 in
     let S = rw c.if-sort_parts.true at c.sort_parts.ensures in
     rw (shape d, sorted-reads _ _ d.in-Shaped.kind _ _ S) c.add_rule.ensures
 
 pub take_weighed-requires : goal.take_weighed-requires
-take_weighed-requires c = let d = c.before in
+take_weighed-requires c = let d = (goal.at.take_weighed-requires c).In-Weighed-2 in
     let k = counted₂ d in
     let p = d.requires in record { sizes = (k.0, k.4, omega (arith, k, p)); weights = k.3 }
 
@@ -58,9 +58,9 @@ returns-in-Wrong c =
 
 pub returns-else-sort_parts : goal.returns-else-sort_parts
 returns-else-sort_parts c =
-    let d = c.before in
+    let d = (goal.at.returns-else-sort_parts c).In-Shaped-2 in
     let S = rw c.if-sort_parts.false at c.sort_parts.ensures in
     rw (shape d, sorted-fails _ _ d.in-Shaped.kind _ _ S) (record { told = refl; words = refl })
 
 pub returns-in-Weighed : goal.returns-in-Weighed
-returns-in-Weighed c = rw (shape₂ c.before) c.take_weighed.ensures
+returns-in-Weighed c = rw (shape₂ (goal.at.returns-in-Weighed c).In-Weighed-2) c.take_weighed.ensures

@@ -44,7 +44,7 @@ module _ (c : After-is_same) where
 
 pub returns-then-is_same : goal.returns-then-is_same
 returns-then-is_same c =
-    let d = c.before in
+    let d = (goal.at.returns-then-is_same c).After-is_same in
     let w = get_or (ws d) (i d + 1) (pos 0) in
     let h = d.loop-i.invariant.2 ∙ weight-here (ws d) (i d) (more d) (x d) (tells d ∙ c.if-is_same.true) in
     let f = d.ranges.literal in
@@ -52,14 +52,14 @@ returns-then-is_same c =
 
 pub loop-i-preserved : goal.loop-i-preserved
 loop-i-preserved c =
-    let d = c.before in
+    let d = (goal.at.loop-i-preserved c).After-is_same in
     let h = d.loop-i.invariant.2 ∙ weight-on (ws d) (i d) (more d) (x d) (tells d ∙ c.if-is_same.false) in
     (omega (arith, more d), and_right (is_weight (get_or (ws d) (i d + 1) (pos 0))) _ (on d), h)
 
 pub returns : goal.returns
 returns c =
     let l = c.loop-i in
-    let s = c.before in
+    let s = c in
     ap (λ n. pos n) (sym (rw (to_z-of_z s.ranges.literal, pair-none s.args.pairs.now l.i c.loop-i-test.false) at l.invariant.2))
 
 pub loop-i-init : goal.loop-i-init

@@ -15,7 +15,7 @@ bounds-free-2 c = simp length-set (omega (arith, c.requires))
 
 pub returns : goal.returns
 returns c =
-    let s = c.before in
+    let s = c in
     let k = to_z-of_z (sfits_of {z = c.kind_word.result} c.kind_word.type_inv) ∙ c.kind_word.ensures in
     counts-written s.args.free.now _ _ _ _ s.requires.2 k (to_z_pos w32 (omega (arith, s.requires))) (to_z-of_z s.ranges.body-kind)
     (to_z_pos w32 (omega (arith, s.requires)))

@@ -35,13 +35,13 @@ module _ (c : After-free-1) where
 
 pub bounds-free-i-in-loop-i : goal.bounds-free-i-in-loop-i
 bounds-free-i-in-loop-i c =
-    let s = c.before in
+    let s = c in
     let l = c.loop-i in
     simp length-set (omega (arith, l.invariant.1, s.requires.sizes.1, c.loop-i-test.true))
 
 pub loop-i-preserved : goal.loop-i-preserved
 loop-i-preserved c =
-    let s = c.before in
+    let s = c in
     let l = c.loop-i in
     let t = c.loop-i-test.true in
     let m = pairs-more s.args.pairs.now (ls c) s.args.free.now (i c) t s.requires.sizes.1 (literal c) (weight c) in

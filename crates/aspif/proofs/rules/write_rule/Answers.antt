@@ -10,7 +10,7 @@ use Rattle.aspif.proofs.rules.write_rule.Goals as goal
 
 pub returns : goal.returns
 returns c =
-    let s = c.before in
+    let s = c in
     let a = s.args in
     let row = a.row.now in
     let h = a.heads in
@@ -22,7 +22,7 @@ returns c =
     let lb = body-long row h b s.requires.2 in
     let w = c.write_counts in
     let u = c.copy in
-    let v = c.copy2 in
-    rule-written counts (row_heads row h) (row_body row h b) a.free.now w.new.0 u.new.0 v.new.0 4 (4 + h) refl w.ensures (rw nh at u.ensures)
+    let v = c.copy-2 in
+    rule-written counts (row_heads row h) (row_body row h b) a.free.now w.new.free u.new.destination v.new.destination 4 (4 + h) refl w.ensures (rw nh at u.ensures)
     (rw lh) (rw nb at v.ensures)
     ∙ rw (lh, lb)

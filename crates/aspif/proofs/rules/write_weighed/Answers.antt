@@ -15,14 +15,14 @@ use borrow.Author.Rules.{rules}
 use Rattle.aspif.proofs.rules.write_weighed.Goals as goal
 
 pub write_pairs-requires : goal.write_pairs-requires
-write_pairs-requires c = let s = c.before in
+write_pairs-requires c = let s = c in
     let a = s.args in
     let n = length a.literals.now in
     let e : 6 + a.heads + 2 * n - (6 + a.heads) ≡ 2 * n = omega arith in record { weights = rw e (ranged-weights a.row.now a.heads n s.requires.weights); sizes = (s.requires.sizes.1, search rules) }
 
 pub returns : goal.returns
 returns c =
-    let s = c.before in
+    let s = c in
     let a = s.args in
     let row = a.row.now in
     let h = a.heads in
@@ -33,10 +33,10 @@ returns c =
     let nh : 3 + h - 3 ≡ h = omega arith in
     let np : 6 + h + 2 * n - (6 + h) ≡ 2 * n = omega arith in
     let lh = heads-long row h (omega (arith, s.requires.sizes)) in
-    let w = c.before in
+    let w = c in
     let u = c.copy in
     let v = c.write_pairs in
     let bound = back (get_or row (4 + h) (pos 0)) w.write_bound-arg-2-1.given ∙ ranged-bound row h n s.requires.weights in
-    rule-written counts (row_heads row h) (pair_words (weighted ps ls)) a.free.now w.write_bound.new.free u.new.0 v.new.0 5 (5 + h) refl
+    rule-written counts (row_heads row h) (pair_words (weighted ps ls)) a.free.now w.write_bound.new.free u.new.destination v.new.free 5 (5 + h) refl
     (rw bound at w.write_bound.ensures) (rw nh at u.ensures) (rw lh) (rw (weighted-words ps ls) (rw np at v.ensures))
     ∙ rw (lh, weighted-words ps ls, literals-with (paired ps) ls)

@@ -46,18 +46,18 @@ pub offset_bounds-table-i : goal.offset_bounds-table-i
 offset_bounds-table-i c = let w = c.loop-left.invariant.0.within in search rules
 
 pub returns-then-is_weighted : goal.returns-then-is_weighted
-returns-then-is_weighted c = sym (asked c.before ∙ ap (λ (x : Bool). not x && later c.before) c.if-is_weighted.true)
+returns-then-is_weighted c = sym (asked (goal.at.returns-then-is_weighted c).After-is_weighted ∙ ap (λ (x : Bool). not x && later (goal.at.returns-then-is_weighted c).After-is_weighted) c.if-is_weighted.true)
 
 pub next_rule-i-requires : goal.next_rule-i-requires
-next_rule-i-requires c = record { here = (at c.before).here }
+next_rule-i-requires c = record { here = (at (goal.at.next_rule-i-requires c).After-rest-1).here }
 
 pub loop-left-smaller : goal.loop-left-smaller
 loop-left-smaller c = omega (arith, c.loop-left-test.true)
 
 pub loop-left-preserved : goal.loop-left-preserved
 loop-left-preserved c =
-    let e = c.before in
-    rw c.next_rule-i.ensures.0 ((at e.before).next, asked e ∙ ap (λ (x : Bool). not x && later e) c.if-is_weighted.false)
+    let e = (goal.at.loop-left-preserved c).After-is_weighted in
+    rw c.next_rule-i.ensures.0 ((at (goal.at.loop-left-preserved c).After-rest-1).next, asked e ∙ ap (λ (x : Bool). not x && later e) c.if-is_weighted.false)
 
 pub returns : goal.returns
 returns c =

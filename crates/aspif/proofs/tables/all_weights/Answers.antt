@@ -23,13 +23,13 @@ loop-i-init c = (omega arith, refl)
 
 pub returns-then-not-is_weight : goal.returns-then-not-is_weight
 returns-then-not-is_weight c =
-    let d = c.before in
+    let d = (goal.at.returns-then-not-is_weight c).After-is_weight in
     let l = d.loop-i in
     sym (l.invariant.1 ∙ weights-on d.args.pairs.now l.i d.loop-i-test.true ∙ rw (tells d ∙ c.if-not-is_weight.true))
 
 pub loop-i-preserved : goal.loop-i-preserved
 loop-i-preserved c =
-    let d = c.before in
+    let d = (goal.at.loop-i-preserved c).After-is_weight in
     let l = d.loop-i in
     let t = d.loop-i-test.true in
     (omega arith, l.invariant.1 ∙ weights-on d.args.pairs.now l.i t ∙ rw (tells d ∙ c.if-not-is_weight.false))

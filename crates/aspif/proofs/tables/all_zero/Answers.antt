@@ -19,12 +19,12 @@ tells c = sym (rw (back (get_or c.args.words.now c.loop-i.i (pos 0)) c.is_same-a
 pub loop-i-preserved : goal.loop-i-preserved
 loop-i-preserved c =
     let l = c.loop-i in
-    (omega arith, l.invariant.1 ∙ all-on _ _ l.i (pos 0) c.loop-i-test.true (tells c.before ∙ c.if-is_same.true))
+    (omega arith, l.invariant.1 ∙ all-on _ _ l.i (pos 0) c.loop-i-test.true (tells (goal.at.loop-i-preserved c).After-is_same ∙ c.if-is_same.true))
 
 pub returns-else-is_same : goal.returns-else-is_same
 returns-else-is_same c =
     let l = c.loop-i in
-    sym (l.invariant.1 ∙ all_here _ _ l.i (pos 0) c.loop-i-test.true (tells c.before ∙ c.if-is_same.false))
+    sym (l.invariant.1 ∙ all_here _ _ l.i (pos 0) c.loop-i-test.true (tells (goal.at.returns-else-is_same c).After-is_same ∙ c.if-is_same.false))
 
 pub returns : goal.returns
 returns c =

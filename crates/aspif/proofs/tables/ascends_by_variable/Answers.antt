@@ -30,19 +30,19 @@ module _ (c : After-variable_of-v) where
 
 pub returns-then-v-low : goal.returns-then-v-low
 returns-then-v-low c =
-    let d = c.before in
+    let d = (goal.at.returns-then-v-low c).After-variable_of-v in
     let e = tells d in
     sym (d.loop-i.invariant.1 ∙ ascends-low _ largest (vs d) (i d) (inside d) (omega arith))
 
 pub returns-then-v-gt-LARGEST : goal.returns-then-v-gt-LARGEST
 returns-then-v-gt-LARGEST c =
-    let d = c.before in
+    let d = (goal.at.returns-then-v-gt-LARGEST c).After-variable_of-v in
     let e = tells d in
     sym (d.loop-i.invariant.1 ∙ ascends-high _ largest (vs d) (i d) (inside d) (omega arith) (omega arith))
 
 pub loop-i-preserved : goal.loop-i-preserved
 loop-i-preserved c =
-    let d = c.before in
+    let d = (goal.at.loop-i-preserved c).After-variable_of-v in
     let e = tells d in
     (omega arith, d.loop-i.invariant.1 ∙ ascends-on _ largest (vs d) (i d) (inside d) (omega arith) (omega arith) ∙ rw (← e))
 

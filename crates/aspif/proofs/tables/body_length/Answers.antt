@@ -16,11 +16,11 @@ tells c = sym (rw (back (get_or c.args.words.now 2 (pos 0)) c.is_same-arg-1.give
 
 pub overflow_mul-result : goal.overflow_mul-result
 overflow_mul-result c =
-    let v = c.before in
+    let v = (goal.at.overflow_mul-result c).After-variable_of-count in
     omega (arith, count v, count_small (get_or v.args.words.now 3 (pos 0)) v.requires.1)
 
 pub returns-then-is_same : goal.returns-then-is_same
-returns-then-is_same c = rw (tells c.before ∙ c.if-is_same.true, count c.before)
+returns-then-is_same c = rw (tells (goal.at.returns-then-is_same c).After-is_same ∙ c.if-is_same.true, count (goal.at.returns-then-is_same c).After-variable_of-count)
 
 pub returns : goal.returns
-returns c = rw (tells c.before ∙ c.if-is_same.false) (count c.before)
+returns c = rw (tells (goal.at.returns c).After-is_same ∙ c.if-is_same.false) (count (goal.at.returns c).After-variable_of-count)

@@ -22,23 +22,21 @@ bounds-words-1 c = let l = (shaped _ c.requires).long in search rules
 
 pub overflow_add-end : goal.overflow_add-end
 overflow_add-end c =
-    let e = c.before in
+    let e = c in
     omega (arith, heads c, c.head_start-start.ensures, (start_small e.args.words.now).1, (shaped _ e.requires).heads)
 
 pub offset_bounds-words-start : goal.offset_bounds-words-start
 offset_bounds-words-start c =
-    let e = c.before in
+    let e = c in
     omega (arith, c.head_start-start.ensures, (start_small e.args.words.now).1)
 
 pub slice_bounds-result-end : goal.slice_bounds-result-end
 slice_bounds-result-end c = omega (arith, (shaped _ c.requires).fits, heads c, c.head_start-start.ensures)
 
 pub returns : goal.returns
-
 unfolding heads_at
-
 returns c =
-    let v = c.before in
+    let v = (goal.at.returns c).After-variable_of in
     let ws = v.args.words.now in
     let e : head_start ws + v.variable_of.result - head_start ws ≡ head_count ws = omega (arith, heads v) in
     rw (v.head_start-start.ensures, e)

@@ -14,7 +14,7 @@ word : (c : After-word_at-word)
 word c = to_z-of_z (sfits_of {z = c.word_at-word.result} c.word_at-word.type_inv) ∙ c.word_at-word.ensures
 
 pub returns-then-word-ge0 : goal.returns-then-word-ge0
-returns-then-word-ge0 c = rw (c.variable_of.ensures, word c.before, rw (word c.before) at c.if-word-ge0.true)
+returns-then-word-ge0 c = rw (c.variable_of.ensures, word (goal.at.returns-then-word-ge0 c).After-word_at-word, rw (word (goal.at.returns-then-word-ge0 c).After-word_at-word) at c.if-word-ge0.true)
 
 pub returns-else-word-ge0 : goal.returns-else-word-ge0
-returns-else-word-ge0 c = rw (rw (word c.before) at c.if-word-ge0.false)
+returns-else-word-ge0 c = rw (rw (word (goal.at.returns-else-word-ge0 c).After-word_at-word) at c.if-word-ge0.false)

@@ -18,8 +18,8 @@ kind c =
 
 pub returns-then-is_kind : goal.returns-then-is_kind
 returns-then-is_kind c =
-    let d = c.before in
-    c.suits_kind.ensures ∙ rw (kind d.before ∙ d.if-is_kind.true, d.kind_of.ensures, c.size_at.ensures)
+    let d = c in
+    c.suits_kind.ensures ∙ rw (kind (goal.at.returns-then-is_kind c).After-is_kind ∙ d.if-is_kind.true, d.kind_of.ensures, c.size_at.ensures)
 
 pub returns : goal.returns
-returns c = rw (kind c.before ∙ c.if-is_kind.false)
+returns c = rw (kind (goal.at.returns c).After-is_kind ∙ c.if-is_kind.false)

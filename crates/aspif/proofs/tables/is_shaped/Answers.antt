@@ -2,7 +2,6 @@ use mathlib.Core.Path.{◌≡◌, ◌∙◌, sym}
 use mathlib.Core.Bool.{true}
 use mathlib.Core.List.{List}
 use native.Mathlib.Omega.{arith}
-use borrow.Author.Tests.{not-true, not-false}
 use borrow.Author.Rules.{sfits_of, rules}
 use lib.IntN.{ℤ, pos}
 use lib.ListN.{get_or}
@@ -40,7 +39,7 @@ module _ (c : Else-not-is_count-2) where
   body_kind = kind c.before ∙ c.if-not-is_kind.false
 
   count : is_count (get_or ws 3 (pos 0)) ≡ true
-  count = sym c.is_count-2.ensures ∙ not-false _ c.if4.false
+  count = sym c.is_count-2.ensures ∙ c.if-not-is_count-2.false
 
 -- how many heads there are
 many : (c : After-variable_of) → c.variable_of.result ≡ head_count (ws c.before)
@@ -48,58 +47,48 @@ many c = rw (back (get_or (ws c.before) 1 (pos 0)) c.variable_of-arg-1.given) at
 
 pub overflow_add-result : goal.overflow_add-result
 overflow_add-result c =
-    let e = c.before in
+    let e = (goal.at.overflow_add-result c).Else-not-is_count-2 in
     omega (arith, many c, c.head_start.ensures, (start_small (ws e)).1, count_small (get_or (ws e) 1 (pos 0)) (heads e))
 
 pub body_length-requires : goal.body_length-requires
 body_length-requires c =
-    let e = c.before in
+    let e = (goal.at.body_length-requires c).Else-not-is_count-2 in
     (search rules, count e)
 
 pub overflow_add-result-2 : goal.overflow_add-result-2
 overflow_add-result-2 c =
-    let v = c.before in
-    let e = v.before in
+    let v = (goal.at.overflow_add-result-2 c).After-variable_of in
+    let e = (goal.at.overflow_add-result-2 c).Else-not-is_count-2 in
     omega (arith, c.body_length.ensures, many v, v.head_start.ensures, (start_small (ws e)).1, body-small (ws e), count_small (get_or (ws e) 1 (pos 0)) (heads e), count_small (get_or (ws e) 3 (pos 0)) (count e))
 
 pub returns-then-words-lt4 : goal.returns-then-words-lt4
 returns-then-words-lt4 c = sym (too_short c.args.words.now c.if-words-lt4.true)
 
 pub returns-then-not-is_count : goal.returns-then-not-is_count
-
 unfolding shape_sound
-
-returns-then-not-is_count c = rw (first c.before ∙ not-true _ c.if-not-is_count.true)
+returns-then-not-is_count c = rw (first (goal.at.returns-then-not-is_count c).After-is_count ∙ c.if-not-is_count.true)
 
 pub returns-then-not-is_kind : goal.returns-then-not-is_kind
-
 unfolding shape_sound
-
 returns-then-not-is_kind c =
-    rw (first c.before ∙ c.if-not-is_count.false, kind c.before ∙ not-true _ c.if-not-is_kind.true)
+    rw (first (goal.at.returns-then-not-is_kind c).After-is_count ∙ c.if-not-is_count.false, kind (goal.at.returns-then-not-is_kind c).After-is_kind ∙ c.if-not-is_kind.true)
 
 pub returns-then-not-is_count-2 : goal.returns-then-not-is_count-2
-
 unfolding shape_sound
-
 returns-then-not-is_count-2 c =
-    let e = c.before in
-    rw (first e.before ∙ e.if-not-is_count.false, kind e ∙ c.if-not-is_kind.false, sym c.is_count-2.ensures ∙ not-true _ c.if4.true)
+    let e = (goal.at.returns-then-not-is_count-2 c).After-is_kind in
+    rw (first (goal.at.returns-then-not-is_count-2 c).After-is_count ∙ e.if-not-is_count.false, kind e ∙ c.if-not-is_kind.false, sym c.is_count-2.ensures ∙ c.if-not-is_count-2.true)
 
 pub returns-then-not-is_headed : goal.returns-then-not-is_headed
-
 unfolding shape_sound
-
 returns-then-not-is_headed c =
-    let e = c.before in
-    rw (heads e, body_kind e, count e, sym c.is_headed.ensures ∙ not-true _ c.if-not-is_headed.true)
+    let e = (goal.at.returns-then-not-is_headed c).Else-not-is_count-2 in
+    rw (heads e, body_kind e, count e, sym c.is_headed.ensures ∙ c.if-not-is_headed.true)
 
 pub returns : goal.returns
-
 unfolding shape_sound size_at
-
 returns c =
-    let v = c.before in
-    let f = v.before in
-    let e = f.before in
+    let v = (goal.at.returns c).After-variable_of in
+    let f = c in
+    let e = (goal.at.returns c).Else-not-is_count-2 in
     rw (heads e, body_kind e, count e, sym f.is_headed.ensures ∙ f.if-not-is_headed.false, c.body_length.ensures, many v, v.head_start.ensures)

@@ -27,34 +27,26 @@ pub heads_of-heads-requires : goal.heads_of-heads-requires
 heads_of-heads-requires c = shape c
 
 pub body_sound-requires : goal.body_sound-requires
-body_sound-requires c = shape c.before
+body_sound-requires c = shape (goal.at.body_sound-requires c).Then-is_shaped
 
 pub returns-then-ascends_by_variable : goal.returns-then-ascends_by_variable
-
 unfolding sound_at
-
 returns-then-ascends_by_variable c =
-    let d = c.before in
-    let o = d.before in
-    rw (shape o.before, positive o ∙ d.if-all_positive.true, ascending d ∙ c.if-ascends_by_variable.true) c.body_sound.ensures
+    let d = (goal.at.returns-then-ascends_by_variable c).After-ascends_by_variable in
+    let o = (goal.at.returns-then-ascends_by_variable c).After-all_positive in
+    rw (shape (goal.at.returns-then-ascends_by_variable c).Then-is_shaped, positive o ∙ d.if-all_positive.true, ascending d ∙ c.if-ascends_by_variable.true) c.body_sound.ensures
 
 pub returns-else-ascends_by_variable : goal.returns-else-ascends_by_variable
-
 unfolding sound_at
-
 returns-else-ascends_by_variable c =
-    let d = c.before in
-    let o = d.before in
-    rw (shape o.before, positive o ∙ d.if-all_positive.true, ascending d ∙ c.if-ascends_by_variable.false)
+    let d = (goal.at.returns-else-ascends_by_variable c).After-ascends_by_variable in
+    let o = (goal.at.returns-else-ascends_by_variable c).After-all_positive in
+    rw (shape (goal.at.returns-else-ascends_by_variable c).Then-is_shaped, positive o ∙ d.if-all_positive.true, ascending d ∙ c.if-ascends_by_variable.false)
 
 pub returns-else-all_positive : goal.returns-else-all_positive
-
 unfolding sound_at
-
-returns-else-all_positive c = rw (shape c.before, positive c.before ∙ c.if-all_positive.false)
+returns-else-all_positive c = rw (shape (goal.at.returns-else-all_positive c).Then-is_shaped, positive (goal.at.returns-else-all_positive c).After-all_positive ∙ c.if-all_positive.false)
 
 pub returns-else-is_shaped : goal.returns-else-is_shaped
-
 unfolding sound_at
-
 returns-else-is_shaped c = rw (sym c.is_shaped.ensures ∙ c.if-is_shaped.false)

@@ -16,7 +16,7 @@ tells c =
     sym (rw e at c.is_same.ensures)
 
 pub returns-then-is_same : goal.returns-then-is_same
-returns-then-is_same c = rw (tells c.before ∙ c.if-is_same.true)
+returns-then-is_same c = rw (tells (goal.at.returns-then-is_same c).After-is_same ∙ c.if-is_same.true)
 
 pub returns : goal.returns
-returns c = rw (tells c.before ∙ c.if-is_same.false)
+returns c = rw (tells (goal.at.returns c).After-is_same ∙ c.if-is_same.false)

@@ -32,14 +32,14 @@ pub rule_top-requires : goal.rule_top-requires
 rule_top-requires c = rw (tail_of (i c) (t c)) (at c).here.1
 
 pub next_rule-i-requires : goal.next_rule-i-requires
-next_rule-i-requires c = record { here = (at c.before).here }
+next_rule-i-requires c = record { here = (at (goal.at.next_rule-i-requires c).After-rest-1).here }
 
 pub loop-left-smaller : goal.loop-left-smaller
 loop-left-smaller c = omega arith
 
 pub loop-left-preserved : goal.loop-left-preserved
 loop-left-preserved c =
-    let d = c.before in
+    let d = (goal.at.loop-left-preserved c).After-rest-1 in
     let l = d.loop-left in
     let v = rw (tail_of (i d) (t d)) at c.rule_top.ensures in
     let m = c.larger-most.ensures in

@@ -30,19 +30,19 @@ loop-i-init c = (omega arith, refl)
 
 pub returns-then-v-low : goal.returns-then-v-low
 returns-then-v-low c =
-    let d = c.before in
+    let d = (goal.at.returns-then-v-low c).After-variable_of-v in
     let e = tells d in
     sym (d.loop-i.invariant.1 ∙ ascend-low (ws d) (i d) (inside d) _ largest (omega arith))
 
 pub returns-then-v-gt-LARGEST : goal.returns-then-v-gt-LARGEST
 returns-then-v-gt-LARGEST c =
-    let d = c.before in
+    let d = (goal.at.returns-then-v-gt-LARGEST c).After-variable_of-v in
     let e = tells d in
     sym (d.loop-i.invariant.1 ∙ ascend-high (ws d) (i d) (inside d) _ largest (omega arith) (omega arith))
 
 pub loop-i-preserved : goal.loop-i-preserved
 loop-i-preserved c =
-    let d = c.before in
+    let d = (goal.at.loop-i-preserved c).After-variable_of-v in
     let e = tells d in
     (omega arith, d.loop-i.invariant.1 ∙ ascend-on (ws d) (i d) (inside d) _ largest (omega arith) (omega arith) ∙ rw (← e))
 

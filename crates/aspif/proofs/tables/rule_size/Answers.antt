@@ -22,7 +22,7 @@ bounds-words-1 c = let l = (shaped _ c.requires).long in search rules
 
 pub overflow_add-result : goal.overflow_add-result
 overflow_add-result c =
-    let e = c.before in
+    let e = c in
     omega (arith, heads c, c.head_start.ensures, (start_small e.args.words.now).1, (shaped _ e.requires).heads)
 
 pub body_length-requires : goal.body_length-requires
@@ -30,18 +30,14 @@ body_length-requires c = let s = shaped _ c.requires in (s.long, s.counted)
 
 pub overflow_add-result-2 : goal.overflow_add-result-2
 overflow_add-result-2 c =
-    let v = c.before in
-    let e = v.before in
+    let v = (goal.at.overflow_add-result-2 c).After-variable_of in
+    let e = c in
     let s = shaped _ e.requires in
     omega (arith, c.body_length.ensures, heads v, v.head_start.ensures, (start_small e.args.words.now).1, body-small e.args.words.now, s.heads, s.body)
 
 pub returns : goal.returns
-
 unfolding size_at
-
-returns c =
-    let v = c.before in
+returns c = let v = (goal.at.returns c).After-variable_of in
     let s = shaped _ v.requires in
     let b = c.body_length.ensures in
-    let h = v.head_start.ensures in
-    (omega (arith, b, heads v, h), omega (arith, s.fits, b, heads v, h))
+    let h = v.head_start.ensures in record { size = (omega (arith, b, heads v, h), omega (arith, s.fits, b, heads v, h)) }

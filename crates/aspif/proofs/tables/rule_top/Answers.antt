@@ -5,6 +5,6 @@ use Rattle.aspif.proofs.tables.rule_top.Goals as goal
 
 pub returns : goal.returns
 returns c =
-    let d = c.before in
+    let d = c in
     let h : d.largest_variable-heads.result ≡ top (heads_at d.args.words.now) = rw d.heads_of.ensures at d.largest_variable-heads.ensures in
     c.larger.ensures ∙ rw (h, d.body_top.ensures)

@@ -1,7 +1,7 @@
 use mathlib.Core.Path.{◌≡◌, ◌∙◌, sym}
 use mathlib.Core.Bool.{true}
 use native.Mathlib.Omega.{arith}
-use borrow.Author.Tests.{le-leb, lt-leb, not-true}
+use borrow.Author.Tests.{le-leb, lt-leb}
 use borrow.Author.Rules.{sfits_of}
 use lib.Dec.{leb}
 use lib.IntN.{pos}
@@ -29,32 +29,24 @@ all : (c : After-all_weights) → all_weights (body_words_at c.args.words.now) �
 all c = sym (rw c.body_of-pairs.ensures at c.all_weights.ensures)
 
 pub returns-then-size_at-gt-MOST_WEIGHTED : goal.returns-then-size_at-gt-MOST_WEIGHTED
-
 unfolding weights_sound
-
 returns-then-size_at-gt-MOST_WEIGHTED c = rw (lt-leb (body_count c.args.words.now) most_weighted (omega (arith, c.size_at.ensures, c.if-size_at-gt-MOST_WEIGHTED.true)))
 
 pub returns-then-not-is_weight : goal.returns-then-not-is_weight
-
 unfolding weights_sound
-
-returns-then-not-is_weight c = rw (few c.before, bound c.before ∙ not-true _ c.if-not-is_weight.true)
+returns-then-not-is_weight c = rw (few (goal.at.returns-then-not-is_weight c).Else-size_at-gt-MOST_WEIGHTED, bound (goal.at.returns-then-not-is_weight c).After-is_weight ∙ c.if-not-is_weight.true)
 
 pub returns-then-all_weights : goal.returns-then-all_weights
-
 unfolding weights_sound
-
 returns-then-all_weights c =
-    let d = c.before in
-    let e = d.before in
-    rw (few e.before, bound e.before ∙ e.if-not-is_weight.false, all d ∙ c.if-all_weights.true)
+    let d = (goal.at.returns-then-all_weights c).After-all_weights in
+    let e = c in
+    rw (few (goal.at.returns-then-all_weights c).Else-size_at-gt-MOST_WEIGHTED, bound (goal.at.returns-then-all_weights c).After-is_weight ∙ e.if-not-is_weight.false, all d ∙ c.if-all_weights.true)
     (rw d.body_of-pairs.ensures at c.pairs_ascend.ensures)
 
 pub returns : goal.returns
-
 unfolding weights_sound
-
 returns c =
-    let d = c.before in
-    let e = d.before in
-    rw (few e.before, bound e.before ∙ e.if-not-is_weight.false, all d ∙ c.if-all_weights.false)
+    let d = (goal.at.returns c).After-all_weights in
+    let e = c in
+    rw (few (goal.at.returns c).Else-size_at-gt-MOST_WEIGHTED, bound (goal.at.returns c).After-is_weight ∙ e.if-not-is_weight.false, all d ∙ c.if-all_weights.false)

@@ -23,12 +23,12 @@ tells c =
 pub loop-i-preserved : goal.loop-i-preserved
 loop-i-preserved c =
     let l = c.loop-i in
-    (omega arith, l.invariant.1 ∙ all-on _ _ l.i (pos 0) c.loop-i-test.true (tells c.before ∙ c.if-is_atom.true))
+    (omega arith, l.invariant.1 ∙ all-on _ _ l.i (pos 0) c.loop-i-test.true (tells (goal.at.loop-i-preserved c).After-is_atom ∙ c.if-is_atom.true))
 
 pub returns-else-is_atom : goal.returns-else-is_atom
 returns-else-is_atom c =
     let l = c.loop-i in
-    sym (l.invariant.1 ∙ all_here _ _ l.i (pos 0) c.loop-i-test.true (tells c.before ∙ c.if-is_atom.false))
+    sym (l.invariant.1 ∙ all_here _ _ l.i (pos 0) c.loop-i-test.true (tells (goal.at.returns-else-is_atom c).After-is_atom ∙ c.if-is_atom.false))
 
 pub returns : goal.returns
 returns c = let l = c.loop-i in sym (l.invariant.1 ∙ all_none _ _ c.loop-i-test.false)

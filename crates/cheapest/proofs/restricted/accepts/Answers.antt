@@ -30,12 +30,12 @@ append_rule-requires c = let p = c.requires in
     let n = length-replicate 65564 (pos 0) in record { rules = p.0.0.1.holds.sound; short = omega (arith, p.1.0, restricts-size p.1.1.0.2, n); wide = ap (λ (k : ℕ). replicate k (pos 0)) (sym n) }
 
 pub check_proof-verdict-requires : goal.check_proof-verdict-requires
-check_proof-verdict-requires c = let d = c.before in
+check_proof-verdict-requires c = let d = (goal.at.check_proof-verdict-requires c).After-append_rule in
     let p = (s d).requires in
     let r = p.1.1.0 in record { program = ((restricted p.0.0.0 r.0 r.1, (whole d p.0.0.1 r.2).0), omega (arith, p.0.1)); empty = p.1.1.1 }
 
 pub returns : goal.returns
 returns c = λ ws p ks C R.
-    let d = c.before in
+    let d = (goal.at.returns c).After-append_rule in
     let w = whole d p R in
     checked-by 0 (length (s d).args.store.now) ws ks C (s d).args.proof.now _ (c.check_proof-verdict.ensures (restricted ws ks C) w.0 w.1) c.is_inconsistent.ensures

@@ -10,7 +10,7 @@ use Rattle.cheapest.proofs.restricted.write_restriction.Goals as goal
 
 pub returns : goal.returns
 returns c =
-    let s = c.before in
+    let s = c in
     let a = s.args in
     let n : to_z w32 (length a.sorted.now) ≡ pos (length a.sorted.now) = to_z_pos w32 (omega (arith, s.requires.sorted.1)) in
     let m : to_z w32 a.bound ≡ pos a.bound = to_z_pos w32 (omega (arith, s.requires.pairs.1)) in

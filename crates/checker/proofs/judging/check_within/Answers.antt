@@ -41,14 +41,14 @@ returns-then-limit-proof c = λ ws p w.
 
 pub conclude-requires : goal.conclude-requires
 conclude-requires c =
-    let q = c.before in
+    let q = (goal.at.conclude-requires c).After-run_long-arg-2-1 in
     let p = (start q).requires.program.0 in
     let r = ran-through (store' q) (came q p.0) _ _ (ran q p.0 p.1) c.in-Through.is in
     (r.1, r.3)
 
 pub returns-in-Stopped : goal.returns-in-Stopped
 returns-in-Stopped c = λ ws p w.
-    let q = c.before in
+    let q = (goal.at.returns-in-Stopped c).After-run_long-run in
     let r = c.refuse-in-Stopped.ensures in
     let same : length (store' q) ≡ length (start q).args.store.now = search rules in
     let o = ran-stopped (store' q) (came q ws) _ (ran q ws p) c.in-Stopped.is in
@@ -56,7 +56,7 @@ returns-in-Stopped c = λ ws p w.
 
 pub returns-in-Through : goal.returns-in-Through
 returns-in-Through c = λ ws p w.
-    let q = c.before in
+    let q = (goal.at.returns-in-Through c).After-run_long-arg-2-1 in
     let same : length (store' q) ≡ length (start q).args.store.now = search rules in
     let t = ran-through (store' q) (came q ws) _ _ (ran q ws p) c.in-Through.is in
     judged-through _ _ ws _ _ _ _ _ t.0 t.1 t.2 (course-live _ _ _ _ _ t.2) (c.conclude.ensures t.1 t.3) p.top (sym (rules-held p.holds)) w t.3 same

@@ -12,15 +12,13 @@ use Rattle.text.proofs.Puts.{put_on, put-none, spaced-more}
 use Rattle.drupe.proofs.writing.put_numbers.Goals as goal
 
 pub loop-i-init : goal.loop-i-init
-
 unfolding spaced
-
 loop-i-init c = (omega arith, (put-none _ _, omega arith))
 
 pub put_number-end-requires : goal.put_number-end-requires
 put_number-end-requires c =
     let l = c.loop-i in
-    let a = c.before in
+    let a = c in
     omega (arith, l.invariant.1.1, l.invariant.0, a.requires.room, a.requires.few, c.loop-i-test.true)
 
 pub loop-i-preserved : goal.loop-i-preserved
@@ -33,7 +31,7 @@ loop-i-preserved c =
     (omega arith, (rw (spaced-more a.numbers.now n h) (put_on l.invariant.1.0 p.0), omega (arith, p.1, l.invariant.1.1)))
 
 pub returns : goal.returns
-returns c = let a = c.before in
+returns c = let a = c in
     let l = c.loop-i in
     let e : l.i ≡ length a.args.numbers.now = omega (arith, l.invariant.0, c.loop-i-test.false) in
     let t : take l.i a.args.numbers.now ≡ a.args.numbers.now = rw e (take-length a.args.numbers.now) in record { written = rw t at l.invariant.1.0; within = omega (arith, l.invariant.1.1, a.requires.few) }

@@ -3,13 +3,13 @@ use Rattle.joins.proofs.Chained.{first-at, from_first}
 use Rattle.joins.proofs.chains.emit_chain.Goals as goal
 
 pub emit_part-first-requires : goal.emit_part-first-requires
-emit_part-first-requires c = let s = c.before in
+emit_part-first-requires c = let s = c in
     let p = s.requires.pairs in
     let g = s.requires.group in
     let r = s.requires.room in record { place = s.requires.place; pairs = (p.0, p.1); part = (omega arith, omega (arith, g), omega (arith, g, p.2)); room = (r.0, r.1, r.2, r.3); atoms = omega (arith, s.requires.atoms) }
 
 pub emit_rest-requires : goal.emit_rest-requires
-emit_rest-requires c = let s = c.before in
+emit_rest-requires c = let s = c in
     let y = c.emit_part-first in
     let e = y.ensures in
     let r = s.requires.room in

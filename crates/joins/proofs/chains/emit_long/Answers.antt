@@ -6,11 +6,11 @@ use borrow.Author.Rules.{rules}
 use Rattle.joins.proofs.chains.emit_long.Goals as goal
 
 pub returns-then-place-gt-MOST_RULES : goal.returns-then-place-gt-MOST_RULES
-returns-then-place-gt-MOST_RULES c = let s = c.before in
+returns-then-place-gt-MOST_RULES c = let s = c in
     let h = c.if-place-gt-MOST_RULES.true in record { rules = λ l r e. emits-full _ s.args.place s.requires.place _ h; atoms = λ l r e k. absurd (omega (arith, h, k)); low = omega arith }
 
 pub emit_chain-requires : goal.emit_chain-requires
-emit_chain-requires c = let s = c.before in
+emit_chain-requires c = let s = c in
     let h : suc s.args.bound ≤ 4096 = omega (arith, s.requires.pairs.1) in record { place = s.requires.place; pairs = s.requires.pairs; group = s.requires.group; atoms = s.requires.atoms; room = (h, h, h, h, h, h) }
 
 pub returns : goal.returns

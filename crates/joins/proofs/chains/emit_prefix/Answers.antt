@@ -8,11 +8,11 @@ use borrow.Author.Rules.{rules}
 use Rattle.joins.proofs.chains.emit_prefix.Goals as goal
 
 pub prefix_levels-n-requires : goal.prefix_levels-n-requires
-prefix_levels-n-requires c = let s = c.before in
+prefix_levels-n-requires c = let s = c in
     let r = s.requires.room in record { pairs = s.requires.pairs; room = (r.0, r.1, r.2, r.4) }
 
 pub overflow_add-atom : goal.overflow_add-atom
-overflow_add-atom c = let s = c.before in record { fits = omega (arith, s.requires.atoms) }
+overflow_add-atom c = let s = c in record { fits = omega (arith, s.requires.atoms) }
 
 pub slice_bounds-emit_node-end-2 : goal.slice_bounds-emit_node-end-2
 slice_bounds-emit_node-end-2 c = sym (length-take-le _ _ c.prefix_levels-n.ensures.within)
@@ -44,7 +44,7 @@ pub returns : goal.returns
 returns c = let s = c.before in
     let y = c.prefix_levels-n in
     let n = y.ensures in
-    let front = take y.result y.new.1.1.1.1.1.1.0 in
+    let front = take y.result y.new.levels.0 in
     let back = drop (length front) s.args.left.now in
     let e : c.copy_sums.new.destination ≡ front ++ back = c.copy_sums.ensures in
-    let k : length front ≡ y.result = length-take-le y.result y.new.1.1.1.1.1.1.0 n.1 in record { rules = rw n.0 at c.emit_node-place.ensures; levels = ap (take y.result) e ∙ take_at front back y.result k ∙ n.0; within = (refl, omega (arith, ap length e, k, length-append front back)) }
+    let k : length front ≡ y.result = length-take-le y.result y.new.levels.0 n.1 in record { rules = rw n.0 at c.emit_node-place.ensures; levels = ap (take y.result) e ∙ take_at front back y.result k ∙ n.0; within = (refl, omega (arith, ap length e, k, length-append front back)) }

@@ -97,51 +97,51 @@ pub overflow_mul-from : goal.overflow_mul-from
 overflow_mul-from c = record { fits = omega (arith, small c) }
 
 pub overflow_add-result : goal.overflow_add-result
-overflow_add-result c = record { fits = omega (arith, atoms c.before) }
+overflow_add-result c = record { fits = omega (arith, atoms (goal.at.overflow_add-result c).At-loop-from) }
 
 pub returns-then-here-gt-MOST_RULES : goal.returns-then-here-gt-MOST_RULES
 returns-then-here-gt-MOST_RULES c =
-    let d = c.before in
+    let d = (goal.at.returns-then-here-gt-MOST_RULES c).At-loop-from in
     let p = (start d).requires.pairs in
     λ before q e. chained-full p.0 (d.loop-from.invariant.linked before q (begun d before q e)) (start d).requires.group.0 p.1 p.3 c.if-here-gt-MOST_RULES.true
 
 pub overflow_add-from-in-loop-from : goal.overflow_add-from-in-loop-from
-overflow_add-from-in-loop-from c = record { fits = omega (arith, small c.before) }
+overflow_add-from-in-loop-from c = record { fits = omega (arith, small (goal.at.overflow_add-from-in-loop-from c).At-loop-from) }
 
 pub emit_next-node-requires : goal.emit_next-node-requires
-emit_next-node-requires c = let d = c.before in
+emit_next-node-requires c = let d = (goal.at.emit_next-node-requires c).At-loop-from in
     let C = stands d in
     let p = (start d).requires.pairs in
     let g = (start d).requires.group in record { node = (C.rules.bounded, C.within, C.levels, atoms d); pairs = (p.0, p.1); part = (omega arith, omega (arith, g), omega (arith, c.loop-from-test.true)); room = room d }
 
 pub overflow_add-from-in-loop-from-2 : goal.overflow_add-from-in-loop-from-2
-overflow_add-from-in-loop-from-2 c = record { fits = omega (arith, small c.before) }
+overflow_add-from-in-loop-from-2 c = record { fits = omega (arith, small (goal.at.overflow_add-from-in-loop-from-2 c).At-loop-from) }
 
 pub loop-from-smaller : goal.loop-from-smaller
 loop-from-smaller c =
-    let d = c.before in
+    let d = (goal.at.loop-from-smaller c).At-loop-from in
     omega (arith, c.loop-from-test.true, (start d).requires.group)
 
 pub loop-from-preserved : goal.loop-from-preserved
 loop-from-preserved c =
-    let d = c.before in
+    let d = (goal.at.loop-from-preserved c).At-loop-from in
     let p = (start d).requires.pairs in
     let g = (start d).requires.group in
     let I = d.loop-from.invariant in
     let y = c.emit_next-node in
     let e = y.ensures in
     record {
-      linked = λ before q C. chained-on p.0 (I.linked before q C) g.0 p.1 c.loop-from-test.true y.result y.new.1.1.1.1.1.1.1.1.1.0 e.0 e.1.0 e.1.1.0 e.1.1.1;
-      inside-long = y.auto.1.1.1.1.1.1.0 ∙ I.inside-long;
-      outside-long = y.auto.1.1.1.1.1.1.1.0 ∙ I.outside-long;
-      spare-long = y.auto.1.1.1.1.1.1.1.1.0 ∙ I.spare-long;
-      left-long = y.auto.1.1.1.1.1.1.1.1.1.0 ∙ I.left-long;
-      right-long = y.auto.1.1.1.1.1.1.1.1.1.1.0 ∙ I.right-long;
-      next-long = y.auto.1.1.1.1.1.1.1.1.1.1.1.0 ∙ I.next-long;
+      linked = λ before q C. chained-on p.0 (I.linked before q C) g.0 p.1 c.loop-from-test.true y.result y.new.left e.0 e.1.0 e.1.1.0 e.1.1.1;
+      inside-long = y.auto.inside ∙ I.inside-long;
+      outside-long = y.auto.outside ∙ I.outside-long;
+      spare-long = y.auto.spare ∙ I.spare-long;
+      left-long = y.auto.left ∙ I.left-long;
+      right-long = y.auto.right ∙ I.right-long;
+      next-long = y.auto.next ∙ I.next-long;
     }
 
 pub emit_last-requires : goal.emit_last-requires
-emit_last-requires c = let d = c.before in
+emit_last-requires c = let d = (goal.at.emit_last-requires c).After-slice_known-7-1 in
     let C = stands d in
     let p = (start d).requires.pairs in
     let g = (start d).requires.group in
@@ -150,7 +150,7 @@ emit_last-requires c = let d = c.before in
 
 pub returns : goal.returns
 returns c =
-    let d = c.before in
+    let d = (goal.at.returns c).After-slice_known-7-1 in
     let p = (start d).requires.pairs in
     let y = c.emit_last in
-    λ before q e. chained-last p.0 (d.loop-from.invariant.linked before q (begun d before q e)) (start d).requires.group.0 p.1 c.loop-from-test.false p.3 y.result y.ensures.0 y.ensures.1
+    λ before q e. chained-last p.0 (d.loop-from.invariant.linked before q (begun d before q e)) (start d).requires.group.0 p.1 c.loop-from-test.false p.3 y.result y.ensures.rules y.ensures.atom

@@ -5,16 +5,16 @@ use Rattle.joins.proofs.Joins.{share-more, level-rules}
 use Rattle.joins.proofs.joining.emit_level.Goals as goal
 
 pub returns-then-place-gt-MOST_RULES : goal.returns-then-place-gt-MOST_RULES
-returns-then-place-gt-MOST_RULES c = let s = c.before in emits-full _ s.args.place s.requires.place _ c.if-place-gt-MOST_RULES.true
+returns-then-place-gt-MOST_RULES c = let s = c in emits-full _ s.args.place s.requires.place _ c.if-place-gt-MOST_RULES.true
 
 pub loop-i-init : goal.loop-i-init
-loop-i-init c = let s = c.before in (omega arith, emits_none _ s.args.place s.requires.place)
+loop-i-init c = let s = c in (omega arith, emits_none _ s.args.place s.requires.place)
 
 pub emit_share-here-requires : goal.emit_share-here-requires
-emit_share-here-requires c = let s = c.before in record { place = c.loop-i.invariant.1.bounded; levels = s.requires.levels; atoms = s.requires.atoms; there = omega (arith, c.loop-i-test.true) }
+emit_share-here-requires c = let s = c in record { place = c.loop-i.invariant.1.bounded; levels = s.requires.levels; atoms = s.requires.atoms; there = omega (arith, c.loop-i-test.true) }
 
 pub overflow_add-i : goal.overflow_add-i
-overflow_add-i c = let s = c.before in record { fits = omega (arith, c.loop-i-test.true, s.requires.atoms) }
+overflow_add-i c = let s = c in record { fits = omega (arith, c.loop-i-test.true, s.requires.atoms) }
 
 pub loop-i-smaller : goal.loop-i-smaller
 loop-i-smaller c = omega (arith, c.loop-i-test.true)

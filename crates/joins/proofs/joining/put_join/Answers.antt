@@ -7,11 +7,11 @@ use Rattle.joins.proofs.joining.put_join.Goals as goal
 
 pub put_bytes-requires : goal.put_bytes-requires
 put_bytes-requires c =
-    let s = c.before in
+    let s = c in
     omega (arith, s.requires.room, c.put_said-end.ensures.within, c.put_said-right.ensures.within, c.put_size-body.ensures.within, c.put_bytes-count.ensures.ends, c.put_size-kind.ensures.within, c.put_bytes-head.ensures.ends)
 
 pub returns : goal.returns
-returns c = let s = c.before in
+returns c = let s = c in
     let last = c.put_bytes.ensures in
     let right = c.put_said-end.ensures in
     let left = c.put_said-right.ensures in

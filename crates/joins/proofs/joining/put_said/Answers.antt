@@ -6,13 +6,9 @@ use Rattle.joins.proofs.Joins.{said-none, said-some}
 use Rattle.joins.proofs.joining.put_said.Goals as goal
 
 pub returns-then-i-eq0 : goal.returns-then-i-eq0
-
 unfolding spaced
-
-returns-then-i-eq0 c =
-    let s = c.before in
-    (rw (said-none s.args.first c.if-i-eq0.true) (put-none _ _), omega arith)
+returns-then-i-eq0 c = let s = c in record { written = rw (said-none s.args.first c.if-i-eq0.true) (put-none _ _); within = omega arith }
 
 pub returns : goal.returns
-returns c = let s = c.before in
+returns c = let s = c in
     let e = c.put_size.ensures in record { written = rw (said-some s.args.first s.args.i c.if-i-eq0.false, spaced-one) e.0; within = e.1 }

@@ -24,7 +24,7 @@ as-sorted : (s : Start) → sorted_groups (s.args.group - 1) (paired (body_words
 as-sorted s = sym s.requires.pairs.2 ∙ (sides s).2
 
 pub emit_long-sum-requires : goal.emit_long-sum-requires
-emit_long-sum-requires c = let s = c.before in
+emit_long-sum-requires c = let s = c in
     let p = s.requires.pairs in
     let h = s.requires.rule in
     let n = pairs-long s.args.words.now h.0 h.1 in
@@ -32,11 +32,11 @@ emit_long-sum-requires c = let s = c.before in
 
 pub returns-then-end-gt-MOST_RULES : goal.returns-then-end-gt-MOST_RULES
 returns-then-end-gt-MOST_RULES c =
-    let s = c.before in
+    let s = (goal.at.returns-then-end-gt-MOST_RULES c).Start in
     let e = c.emit_long-sum in
     let t = sides s in
     split-full s.args.group s.args.words.now s.requires.rule.0 s.requires.rule.1 t.0 t.1 (as-sorted s) c.bound_of-bound.ensures
-    (e.ensures.0 t.0 t.1 t.2) c.if-end-gt-MOST_RULES.true e.ensures.1.1
+    (e.ensures.rules t.0 t.1 t.2) c.if-end-gt-MOST_RULES.true e.ensures.low
 
 -- the next atom, where there are not too many rules
 next : (c : Else-end-gt-MOST_RULES)
@@ -46,17 +46,17 @@ next : (c : Else-end-gt-MOST_RULES)
 next c = let t = sides c.before in c.emit_long-sum.ensures.atoms t.0 t.1 t.2 c.if-end-gt-MOST_RULES.false
 
 pub overflow_sub-next : goal.overflow_sub-next
-overflow_sub-next c = omega (arith, next c.before)
+overflow_sub-next c = omega (arith, next (goal.at.overflow_sub-next c).Else-end-gt-MOST_RULES)
 
 pub emit_headed-last-requires : goal.emit_headed-last-requires
-emit_headed-last-requires c = let s = c.before in
+emit_headed-last-requires c = let s = (goal.at.emit_headed-last-requires c).Start in
     let e = c.emit_long-sum in
-    let t = sides s in record { rule = s.requires.rule.0; place = ((e.ensures.0 t.0 t.1 t.2).bounded, c.if-end-gt-MOST_RULES.false) }
+    let t = sides s in record { rule = s.requires.rule.0; place = ((e.ensures.rules t.0 t.1 t.2).bounded, c.if-end-gt-MOST_RULES.false) }
 
 pub returns : goal.returns
 returns c =
-    let s = c.before in
+    let s = (goal.at.returns c).Start in
     let e = c.emit_long-sum in
     let t = sides s in
     split-whole s.args.group s.args.words.now s.requires.rule.0 s.requires.rule.1 t.0 t.1 (as-sorted s) c.bound_of-bound.ensures
-    (e.ensures.0 t.0 t.1 t.2) (next c.before) e.ensures.1.1 c.emit_headed-last.ensures
+    (e.ensures.rules t.0 t.1 t.2) (next (goal.at.returns c).Else-end-gt-MOST_RULES) e.ensures.low c.emit_headed-last.ensures

@@ -13,7 +13,7 @@ use Rattle.long_sums.proofs.program.emit_split.Goals as goal
 use Rattle.long_sums.proofs.program.emit_split.Goals.{After-body_of-body}
 
 pub body_of-body-requires : goal.body_of-body-requires
-body_of-body-requires c = let s = c.before in held-shape s.args.words.now s.requires.rule.0
+body_of-body-requires c = let s = c in held-shape s.args.words.now s.requires.rule.0
 
 -- the body's words fit the words lent
 few : (c : After-body_of-body) → (let s = c.before in length c.body_of-body.result.now ≤ length s.args.sorted.now)
@@ -26,27 +26,27 @@ pub slice_bounds-order-end : goal.slice_bounds-order-end
 slice_bounds-order-end c = few c
 
 pub slice_bounds-order-end-2 : goal.slice_bounds-order-end-2
-slice_bounds-order-end-2 c = let s = c.before in sym (length-take-le _ s.args.sorted.now (few c.before))
+slice_bounds-order-end-2 c = let s = c in sym (length-take-le _ s.args.sorted.now (few (goal.at.slice_bounds-order-end-2 c).After-body_of-body))
 
 pub order-requires : goal.order-requires
-order-requires c = let s = c.before in
+order-requires c = let s = c in
     let g = s.requires.group in
-    let e = c.body_of-body.ensures in record { pairs = (rw e (pairs-light s.args.words.now s.requires.rule.0 s.requires.rule.1), length-take-le _ s.args.sorted.now (few c.before)); group = (omega (arith, g.0), g.1) }
+    let e = c.body_of-body.ensures in record { pairs = (rw e (pairs-light s.args.words.now s.requires.rule.0 s.requires.rule.1), length-take-le _ s.args.sorted.now (few (goal.at.order-requires c).After-body_of-body)); group = (omega (arith, g.0), g.1) }
 
 pub slice_bounds-emit_ordered-end : goal.slice_bounds-emit_ordered-end
 slice_bounds-emit_ordered-end c =
-    let o = c.before in
-    let s = o.before in
-    front-there _ s.args.sorted.now o.order.new.to.0 (few o.before) o.order.auto.to
+    let o = c in
+    let s = c in
+    front-there _ s.args.sorted.now o.order.new.to.0 (few (goal.at.slice_bounds-emit_ordered-end c).After-body_of-body) o.order.auto.to
 
 pub slice_bounds-emit_ordered-end-2 : goal.slice_bounds-emit_ordered-end-2
 slice_bounds-emit_ordered-end-2 c =
-    let o = c.before in
+    let o = c in
     let s = o.before in
-    sym (length-take-le _ _ (front-there _ s.args.sorted.now o.order.new.to.0 (few o.before) o.order.auto.to))
+    sym (length-take-le _ _ (front-there _ s.args.sorted.now o.order.new.to.0 (few (goal.at.slice_bounds-emit_ordered-end-2 c).After-slice_known-1) o.order.auto.to))
 
 pub emit_ordered-requires : goal.emit_ordered-requires
-emit_ordered-requires c = let o = c.before in
-    let y = o.before in
+emit_ordered-requires c = let o = c in
+    let y = (goal.at.emit_ordered-requires c).After-slice_known-1 in
     let s = y.before in
     let n = o.order.auto.to in record { rule = s.requires.rule; place = s.requires.place; group = s.requires.group; pairs = rw (front-back _ s.args.sorted.now o.order.new.to.0 (few y) n) (o.order.ensures.weights, n ∙ length-take-le _ s.args.sorted.now (few y) ∙ ap length y.body_of-body.ensures, o.order.ensures.groups ∙ ap (λ (l : List ℤ). sorted_groups (s.args.group - 1) (paired l)) y.body_of-body.ensures) }

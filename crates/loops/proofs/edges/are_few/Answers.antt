@@ -8,8 +8,8 @@ use Rattle.loops.proofs.edges.are_few.Goals as goal
 
 pub left_after-left-requires : goal.left_after-left-requires
 left_after-left-requires c =
-    let t = c.before in
-    let s = t.before in
+    let t = c in
+    let s = c in
     let x = get_or s.args.numbers.now t.loop-j.j (pos 0) in
     rw (c.variable_of.ensures, back x c.variable_of-arg-1.given) (s.requires.high x (in-at (pos 0) s.args.numbers.now _ t.loop-j-test.true))
 

@@ -3,7 +3,7 @@ use Rattle.loops.proofs.Placing.{placed-low}
 use Rattle.loops.proofs.edges.edges_of.Goals as goal
 
 pub look_up-requires : goal.look_up-requires
-look_up-requires c = let d = c.before in
+look_up-requires c = let d = c in
     let p = d.requires in record { index = (p.1.0 (sym d.is_covered.ensures ∙ d.if-is_covered.true), p.0.0); places = p.1.1 }
 
 pub scan-requires : goal.scan-requires

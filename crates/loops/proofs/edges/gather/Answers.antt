@@ -10,18 +10,18 @@ use Rattle.loops.proofs.edges.gather.Goals as goal
 pub put_place-n-requires : goal.put_place-n-requires
 put_place-n-requires c =
     let l = c.loop-k in
-    let s = c.before in
+    let s = c in
     let x = get_or s.args.heads.now l.k (pos 0) in
     let t = c.loop-k-test.true in
     (omega (arith, t, l.invariant.1, l.invariant.2.most, s.requires.0), rw (c.place_of.ensures, back x c.place_of-arg-1.given) (s.requires.1 x))
 
 pub loop-k-preserved : goal.loop-k-preserved
 loop-k-preserved c =
-    let m = c.before in
-    let v = m.before in
-    let t = v.before in
+    let m = c in
+    let v = c in
+    let t = c in
     let l = t.loop-k in
-    let s = t.before in
+    let s = c in
     let x = get_or s.args.heads.now l.k (pos 0) in
     let put = rw (v.place_of.ensures, back x v.place_of-arg-1.given) at m.put_place-n.ensures in
     (omega (arith, t.loop-k-test.true), put.long ∙ l.invariant.1, gathering-on t.loop-k-test.true l.invariant.2 put)

@@ -21,7 +21,7 @@ use Rattle.loops.proofs.edges.look_up.Goals.{After-variable_of-v, In-loop-j, Sta
 
 pub loop-j-init : goal.loop-j-init
 loop-j-init c =
-    let s = c.before in
+    let s = c in
     (omega arith, numbers-left s.args.table.now s.args.rules s.args.places.now s.requires.places.1)
 
 -- the number at hand
@@ -66,13 +66,13 @@ module _ (c : After-variable_of-v) where
   part n e = place-part m c.variable_of-v.result placed n e
 
 pub mark_chain-requires : goal.mark_chain-requires
-mark_chain-requires c = let v = c.before in
+mark_chain-requires c = let v = (goal.at.mark_chain-requires c).After-variable_of-v in
     let p = (s v).requires in
     let a = v.variable_of-v.result in record { index = p.0; head = (part v (a + 1 - a) (omega arith), omega (arith, tells v, p.1.0.high (x v) (among v))); sizes = ((i v).loop.invariant.1.long, placed-low p.1.0.few p.1.1, (U v, p.1.1)) }
 
 pub loop-j-preserved : goal.loop-j-preserved
 loop-j-preserved c =
-    let v = c.before in
+    let v = (goal.at.loop-j-preserved c).After-variable_of-v in
     let a = (s v).args in (
       omega (arith, taken v),
       filling-on (i v).loop.invariant.1 c.mark_chain.ensures

@@ -12,17 +12,17 @@ use Rattle.loops.proofs.edges.mark_body.Goals as goal
 
 pub mark_literal-requires : goal.mark_literal-requires
 mark_literal-requires c =
-    let l = c.before in
-    let s = l.before in
+    let l = c in
+    let s = c in
     (l.loop-k.invariant.1.long, s.requires.1, s.requires.2)
 
 pub loop-k-preserved : goal.loop-k-preserved
 loop-k-preserved c =
-    let m = c.before in
-    let a = m.before in
-    let t = a.before in
+    let m = c in
+    let a = c in
+    let t = c in
     let l = t.loop-k in
-    let s = t.before in
+    let s = c in
     let body = s.args.body.now in
     let x = get_or body l.k (pos 0) in
     let more = rw (back x a.mark_literal-arg-1.given) at m.mark_literal.ensures in (
@@ -35,7 +35,7 @@ loop-k-preserved c =
 pub returns : goal.returns
 returns c =
     let l = c.loop-k in
-    let s = c.before in
+    let s = c in
     filling-end l.invariant.1 (λ i j. rw (any_none (is_at s.args.places.now i) s.args.body.now c.loop-k-test.false) refl)
 
 pub loop-k-init : goal.loop-k-init

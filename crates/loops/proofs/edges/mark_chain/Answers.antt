@@ -19,7 +19,7 @@ use Rattle.loops.proofs.edges.mark_chain.Goals.{In-loop-p, Start, After-mark_bod
 
 pub loop-p-init : goal.loop-p-init
 loop-p-init c =
-    let s = c.before in
+    let s = c in
     let a = s.args in (
       drawing-start a.table.now a.rules a.places.now (pos a.v ∷ []) a.edges.now s.requires.sizes.0,
       walk_from s.requires.index.0.entered.heads.chains (omega (arith, s.requires.head)) c.first_head-p.ensures,
@@ -61,11 +61,11 @@ pub words_of-words-requires : goal.words_of-words-requires
 words_of-words-requires c = record { index = (s c).requires.index; place = (place c).0 }
 
 pub body_of-requires : goal.body_of-requires
-body_of-requires c = subst (λ ws. shape_sound ws ≡ true) (sym c.words_of-words.ensures) (shape c.before)
+body_of-requires c = subst (λ ws. shape_sound ws ≡ true) (sym c.words_of-words.ensures) (shape (goal.at.body_of-requires c).In-loop-p)
 
 pub mark_body-requires : goal.mark_body-requires
 mark_body-requires c =
-    let i = c.before in
+    let i = (goal.at.mark_body-requires c).In-loop-p in
     let low : LowPlaces (s i).args.head.now = λ p m.
     rw (Memᴰ.eq_of_singleton (subst (λ l. p ∈ l) (s i).requires.head.0 m)) ((s i).requires.sizes.1 (pos (s i).args.v)) in
     (i.loop-p.invariant.0.long, (s i).requires.sizes.1, low)
@@ -82,17 +82,17 @@ module _ (c : After-mark_body) where
   body = b.body_of.ensures ∙ ap body_words_at b.words_of-words.ensures
 
 pub next_head-p-requires : goal.next_head-p-requires
-next_head-p-requires c = let r = room (d c.before) in omega (arith, r)
+next_head-p-requires c = let r = room (d (goal.at.next_head-p-requires c).After-mark_body) in omega (arith, r)
 
 pub loop-p-smaller : goal.loop-p-smaller
 loop-p-smaller c =
-    let i = d c.before in
+    let i = d (goal.at.loop-p-smaller c).After-mark_body in
     let f = c.next_head-p.ensures in
     omega (arith, f, next-less (s i).pre.0.0.entered.heads.chains i.loop-p.inv.1 (is i))
 
 pub loop-p-preserved : goal.loop-p-preserved
 loop-p-preserved c =
-    let m = c.before in
+    let m = (goal.at.loop-p-preserved c).After-mark_body in
     let i = d m in
     let a = (s i).args in
     let p = (s i).pre.0.0.plain in
@@ -105,7 +105,7 @@ loop-p-preserved c =
 
 pub returns : goal.returns
 returns c =
-    let s = c.before in
+    let s = c in
     let a = s.args in
     let l = c.loop-p in
     drawing-end a.table.now a.rules a.places.now s.requires.index.0.plain refl s.requires.sizes.2.1 l.invariant.0

@@ -5,10 +5,10 @@ use Rattle.loops.proofs.edges.mark_if.Goals as goal
 
 pub returns-then-chosen : goal.returns-then-chosen
 returns-then-chosen c =
-    let m = c.before in
-    let d = m.before in
-    let s = d.before in
+    let m = c in
+    let d = c in
+    let s = c in
     rw d.if-chosen.true (rw (to_z-of_z s.ranges.word) at m.mark_literal.ensures)
 
 pub returns-else-chosen : goal.returns-else-chosen
-returns-else-chosen c = let s = c.before in more-none _ _ s.requires.0 (λ i j. rw c.if-chosen.false refl)
+returns-else-chosen c = let s = c in more-none _ _ s.requires.0 (λ i j. rw c.if-chosen.false refl)

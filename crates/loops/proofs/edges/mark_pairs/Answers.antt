@@ -15,17 +15,17 @@ loop-i-init c = (omega arith, omega arith, filling-start _ _ c.requires.0)
 
 pub mark_if-requires : goal.mark_if-requires
 mark_if-requires c =
-    let l = c.before in
-    let s = l.before in
+    let l = c in
+    let s = c in
     (l.loop-i.invariant.2.long, s.requires.1, s.requires.2)
 
 pub loop-i-preserved : goal.loop-i-preserved
 loop-i-preserved c =
-    let m = c.before in
-    let a = m.before in
-    let t = a.before in
+    let m = c in
+    let a = (goal.at.loop-i-preserved c).After-mark_if-arg-1 in
+    let t = c in
     let l = t.loop-i in
-    let s = t.before in
+    let s = c in
     let pairs = s.args.pairs.now in
     let x = get_or pairs l.i (pos 0) in
     let more = rw (a.is_marked.ensures, back x a.mark_if-arg-1.given) at m.mark_if.ensures in (
@@ -39,7 +39,7 @@ loop-i-preserved c =
 pub returns : goal.returns
 returns c =
     let l = c.loop-i in
-    let s = c.before in
+    let s = c in
     filling-end l.invariant.2 (λ a b. rw (pair-none s.args.pairs.now l.i c.loop-i-test.false) refl)
 
 pub loop-i-smaller : goal.loop-i-smaller

@@ -20,7 +20,7 @@ use Rattle.loops.proofs.edges.mark_rule.Goals.{After-gather-n, Start, After-is_w
 
 pub gather-n-requires : goal.gather-n-requires
 gather-n-requires c =
-    let s = c.before in
+    let s = c in
     (rw c.heads_of.ensures (heads-few s.args.words.now s.requires.rule.0), s.requires.sizes.1)
 
 -- the places in the row
@@ -45,7 +45,7 @@ module _ (c : After-gather-n) where
 
 pub returns-then-n-eq0 : goal.returns-then-n-eq0
 returns-then-n-eq0 c =
-    let g = c.before in
+    let g = (goal.at.returns-then-n-eq0 c).After-gather-n in
     more-none _ _ (s g).requires.sizes.0
     (λ i j. rw (gathered_none (here g) c.if-n-eq0.true j) (and-false (any (any (is_at (s g).args.places.now i)) (bodies_of (body_at (ws g))))))
 
@@ -62,37 +62,37 @@ module _ (c : After-is_weighted) where
 
 pub mark_pairs-requires : goal.mark_pairs-requires
 mark_pairs-requires c =
-    let a = g c.before in
+    let a = g (goal.at.mark_pairs-requires c).After-is_weighted in
     ((s a).pre.1.0, (s a).pre.1.1, (here a).low)
 
 pub returns-then-is_weighted : goal.returns-then-is_weighted
 returns-then-is_weighted c =
-    let m = c.before in
-    let b = m.before in
-    let w = b.before in
+    let m = c in
+    let b = c in
+    let w = (goal.at.returns-then-is_weighted c).After-is_weighted in
     weight-more (s (g w)).args.places.now (ws (g w)) (take (n (g w)) (row (g w))) b.body_of.ensures (here (g w)).has (s (g w)).args.relevant.now m.mark_pairs.ensures
     (weighted w ∙ b.if-is_weighted.true) (relevant w)
 
 pub mark_body-requires : goal.mark_body-requires
 mark_body-requires c =
-    let a = g c.before in
+    let a = g (goal.at.mark_body-requires c).After-is_weighted in
     ((s a).pre.1.0, (s a).pre.1.1, (here a).low)
 
 pub returns : goal.returns
 returns c =
-    let m = c.before in
-    let b = m.before in
-    let w = b.before in
+    let m = c in
+    let b = c in
+    let w = (goal.at.returns c).After-is_weighted in
     plain_more (s (g w)).args.places.now (ws (g w)) (take (n (g w)) (row (g w))) b.body_of-2.ensures (here (g w)).has m.mark_body.ensures (weighted w ∙ b.if-is_weighted.false)
 
 pub slice_bounds-row-end : goal.slice_bounds-row-end
-slice_bounds-row-end c = within (g c.before)
+slice_bounds-row-end c = within (g (goal.at.slice_bounds-row-end c).After-is_weighted)
 
 pub slice_bounds-row-end-2 : goal.slice_bounds-row-end-2
-slice_bounds-row-end-2 c = within (g c.before)
+slice_bounds-row-end-2 c = within (g (goal.at.slice_bounds-row-end-2 c).After-is_weighted)
 
 pub slice_bounds-mark_pairs-end : goal.slice_bounds-mark_pairs-end
-slice_bounds-mark_pairs-end c = sym (length-take-le _ _ (within (g c.before)))
+slice_bounds-mark_pairs-end c = sym (length-take-le _ _ (within (g (goal.at.slice_bounds-mark_pairs-end c).After-is_weighted)))
 
 pub slice_bounds-mark_body-end : goal.slice_bounds-mark_body-end
-slice_bounds-mark_body-end c = sym (length-take-le _ _ (within (g c.before)))
+slice_bounds-mark_body-end c = sym (length-take-le _ _ (within (g (goal.at.slice_bounds-mark_body-end c).After-is_weighted)))

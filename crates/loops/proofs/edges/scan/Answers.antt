@@ -39,7 +39,7 @@ module _ (c : In-loop-left) where
 
 pub loop-left-init : goal.loop-left-init
 loop-left-init c =
-    let s = c.before in
+    let s = c in
     (record { within = omega arith; sound = s.requires.program.0 }, omega arith, s.requires.program.1, filling-none _)
 
 pub offset_bounds-table-i : goal.offset_bounds-table-i
@@ -52,21 +52,21 @@ pub slice_bounds-mark_rule-end-in-loop-left-2 : goal.slice_bounds-mark_rule-end-
 slice_bounds-mark_rule-end-in-loop-left-2 c = sym c.loop-left.invariant.3.long
 
 pub mark_rule-requires : goal.mark_rule-requires
-mark_rule-requires c = let d = c.before in
+mark_rule-requires c = let d = (goal.at.mark_rule-requires c).In-loop-left in
     let a = (s d).args in let all = rw (tail_of (i d) (t d), tail_of d.loop-left.at a.relevant.now)
     (((here d).here.1, (relevant d).0), (d.loop-left.invariant.3.long, (s d).requires.places)) in record { rule = all.0; sizes = all.1 }
 
 pub next_rule-i-requires : goal.next_rule-i-requires
-next_rule-i-requires c = record { here = (here c.before).here }
+next_rule-i-requires c = record { here = (here (goal.at.next_rule-i-requires c).In-loop-left).here }
 
 pub next_entries-at-requires : goal.next_entries-at-requires
 next_entries-at-requires c = c.loop-left.invariant.1
 
 pub loop-left-preserved : goal.loop-left-preserved
 loop-left-preserved c =
-    let n = c.before in
-    let r = n.before in
-    let d = r.before in
+    let n = c in
+    let r = c in
+    let d = (goal.at.loop-left-preserved c).In-loop-left in
     let l = d.loop-left in
     let q = c.next_entries-at.ensures in
     let told = rw (tail_of (i d) (t d)) at r.mark_rule.ensures in

@@ -46,30 +46,30 @@ pub slice_bounds-rest-count : goal.slice_bounds-rest-count
 slice_bounds-rest-count c = (rule c).here.0
 
 pub slice_bounds-fill_rule-count : goal.slice_bounds-fill_rule-count
-slice_bounds-fill_rule-count c = omega (arith, room c.before)
+slice_bounds-fill_rule-count c = omega (arith, room (goal.at.slice_bounds-fill_rule-count c).In-loop-left)
 
 pub fill_rule-requires : goal.fill_rule-requires
 fill_rule-requires c =
-    let d = c.before in
+    let d = (goal.at.fill_rule-requires c).In-loop-left in
     let twelve : 12 ≤ length (drop (at d) (relevant d)) = omega (arith, room d, length-drop (at d) (relevant d)) in
     (rw (tail_of (i d) (t d)) (rule d).sound, rw (tail_of (at d) (relevant d)) twelve)
 
 pub overflow_add-at : goal.overflow_add-at
-overflow_add-at c = let h = room c.before in search rules
+overflow_add-at c = let h = room (goal.at.overflow_add-at c).In-loop-left in search rules
 
 pub next_rule-i-requires : goal.next_rule-i-requires
-next_rule-i-requires c = record { here = (rule c.before).here }
+next_rule-i-requires c = record { here = (rule (goal.at.next_rule-i-requires c).In-loop-left).here }
 
 pub loop-left-preserved : goal.loop-left-preserved
 loop-left-preserved c =
-    let d = c.before in
+    let d = (goal.at.loop-left-preserved c).In-loop-left in
     let f = c.fill_rule in
     let taken = d.loop-left-test.true in
-    let n : length f.new.1.0 ≡ length (relevant d) - at d =
-    f.auto.1.0 ∙ ap length (tail_of (at d) (relevant d)) ∙ length-drop (at d) (relevant d) in
+    let n : length f.new.entries.0 ≡ length (relevant d) - at d =
+    f.auto.entries ∙ ap length (tail_of (at d) (relevant d)) ∙ length-drop (at d) (relevant d) in
     rw c.next_rule-i.ensures.0 (
-      entering-more (entering d) taken f.new.1.0 n (rw (tail_of (i d) (t d)) at f.ensures),
-      after-length (entering d) taken f.new.1.0 n ∙ d.loop-left.invariant.1,
+      entering-more (entering d) taken f.new.entries.0 n (rw (tail_of (i d) (t d)) at f.ensures),
+      after-length (entering d) taken f.new.entries.0 n ∙ d.loop-left.invariant.1,
     )
 
 pub returns : goal.returns

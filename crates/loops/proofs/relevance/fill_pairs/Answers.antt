@@ -51,14 +51,14 @@ is_relevant-requires c =
     let p = (s c).requires in (p.0, p.1, rw (literal c, weight c) (filled_in _ _ (filled c) (in-loop c)))
 
 pub bounds-entries-n : goal.bounds-entries-n
-bounds-entries-n c = let d = c.before in filled-room _ _ (filled d) (in-loop d)
+bounds-entries-n c = let d = (goal.at.bounds-entries-n c).After-is_relevant-arg-in-loop-i-1 in filled-room _ _ (filled d) (in-loop d)
 
 pub overflow_add-n : goal.overflow_add-n
-overflow_add-n c = let d = c.before in let h = filled-room _ _ (filled d) (in-loop d) in search rules
+overflow_add-n c = let d = (goal.at.overflow_add-n c).After-is_relevant-arg-in-loop-i-1 in let h = filled-room _ _ (filled d) (in-loop d) in search rules
 
 pub loop-i-preserved : goal.loop-i-preserved
 loop-i-preserved c =
-    let d = c.before in
+    let d = (goal.at.loop-i-preserved c).After-is_relevant-arg-in-loop-i-1 in
     let l = d.loop-i in
     let e = rw (literal d) at c.is_relevant.ensures in
     let more = filled_more _ _ (filled d) (in-loop d) (c.one_if.ensures ∙ ap (λ (t : Bool). cond t 1 0) e) in

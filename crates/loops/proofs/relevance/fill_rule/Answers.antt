@@ -10,15 +10,15 @@ use Rattle.loops.proofs.relevance.fill_rule.Goals as goal
 
 pub fill_pairs-requires : goal.fill_pairs-requires
 fill_pairs-requires c =
-    let d = c.before in
-    let s = d.before in
+    let d = c in
+    let s = c in
     let w = weighing _ s.requires.0 (sym d.is_weighted.ensures ∙ d.if-is_weighted.true) in
     rw c.body_of.ensures (w.rises, w.light, omega (arith, w.few, s.requires.1))
 
 pub returns-then-heads-gt0 : goal.returns-then-heads-gt0
 returns-then-heads-gt0 c =
-    let f = c.before in
-    let d = f.before in
+    let f = c in
+    let d = c in
     let e = rw (f.bound_of.ensures, f.body_of.ensures) at f.fill_pairs.ensures in
     λ h. rw (weights-of _ (sym d.is_weighted.ensures ∙ d.if-is_weighted.true)) e
 

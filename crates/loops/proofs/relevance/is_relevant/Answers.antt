@@ -35,11 +35,11 @@ pub overflow_sub-left : goal.overflow_sub-left
 overflow_sub-left c = omega (arith, sums c)
 
 pub has_sum-requires : goal.has_sum-requires
-has_sum-requires c = let d = c.before in rw (own d) (omega (arith, sums d))
+has_sum-requires c = let d = (goal.at.has_sum-requires c).After-sum_of in rw (own d) (omega (arith, sums d))
 
 pub returns : goal.returns
 returns c =
-    let d = c.before in
+    let d = (goal.at.returns c).After-sum_of in
     let b = (s d).args.bound in
     let low = c.less.ensures ∙ ap (λ (w : ℕ). b - w) (weight d) in
     rw (own d) at c.has_sum.ensures

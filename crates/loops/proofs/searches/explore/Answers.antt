@@ -16,17 +16,17 @@ size : {m : List ℕ} → m ≡ replicate most_numbers 0 → length m ≡ most_n
 size e = ap length e ∙ length-replicate {A = ℕ} most_numbers 0
 
 pub begin-requires : goal.begin-requires
-begin-requires c = let s = c.before in (s.requires.0, size s.requires.1)
+begin-requires c = let s = c in (s.requires.0, size s.requires.1)
 
 pub loop-a-init : goal.loop-a-init
 loop-a-init c =
-    let p = c.before in
+    let p = c in
     let s = p.before in
     (rw s.requires.2 (reaching-start _ _ (rw s.requires.1 at p.begin.ensures)), c.next_open-a.ensures)
 
 pub advance-a-requires : goal.advance-a-requires
 advance-a-requires c =
-    let t = c.before in
+    let t = c in
     let l = t.loop-a in
     let s = t.before in
     (s.requires.0, omega (arith, t.loop-a-test.true, s.requires.0), l.invariant.0.long)
@@ -45,7 +45,7 @@ module _ (c : After-advance-a) where
 
 pub loop-a-smaller : goal.loop-a-smaller
 loop-a-smaller c =
-    let a = c.before in
+    let a = (goal.at.loop-a-smaller c).After-advance-a in
     let l = (t a).loop in
     rw a.advance-a.ensures.1
     (undone-less _ l.a l.done (t a).loop-test.true (s a).requires.0 l.inv.0.wide
@@ -53,7 +53,7 @@ loop-a-smaller c =
 
 pub loop-a-preserved : goal.loop-a-preserved
 loop-a-preserved c =
-    let a = c.before in
+    let a = (goal.at.loop-a-preserved c).After-advance-a in
     let l = (t a).loop in (
       rw a.advance-a.ensures.1
           (reaching-on _ _ l.a (t a).loop-test.true (s a).requires.0 l.inv.0

@@ -8,8 +8,8 @@ use Rattle.loops.proofs.searches.is_full.Goals as goal
 
 pub returns-then-not-is_marked : goal.returns-then-not-is_marked
 returns-then-not-is_marked c =
-    let d = c.before in
-    let t = d.before in
+    let d = c in
+    let t = c in
     record {
       to = λ e. absurd (true≢false (sym e));
       from = λ g. sym (c.if-not-is_marked.true) ∙ d.is_marked.ensures ∙ g t.loop-v.v t.loop-v-test.true;
@@ -17,8 +17,8 @@ returns-then-not-is_marked c =
 
 pub loop-v-preserved : goal.loop-v-preserved
 loop-v-preserved c =
-    let d = c.before in
-    let t = d.before in
+    let d = c in
+    let t = c in
     let l = t.loop-v in (
       omega (arith, t.loop-v-test.true),
       λ b h. elim (equal? b l.v) [

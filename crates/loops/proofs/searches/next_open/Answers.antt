@@ -9,7 +9,7 @@ use Rattle.loops.proofs.searches.next_open.Goals as goal
 
 pub returns-then-is_open : goal.returns-then-is_open
 returns-then-is_open c =
-    let d = c.before in
+    let d = c in
     record {
       is = λ h. sym d.is_open.ensures ∙ c.if-is_open.true;
       none = λ h. absurd (omega (arith, d.loop-v-test.true));
@@ -17,8 +17,8 @@ returns-then-is_open c =
 
 pub loop-v-preserved : goal.loop-v-preserved
 loop-v-preserved c =
-    let d = c.before in
-    let t = d.before in
+    let d = c in
+    let t = c in
     let l = t.loop-v in (
       omega (arith, t.loop-v-test.true),
       λ b h. elim (equal? b l.v) [

@@ -4,8 +4,8 @@ use Rattle.loops.proofs.searches.note.Goals as goal
 
 pub returns-then-is_step : goal.returns-then-is_step
 returns-then-is_step c =
-    let m = c.before in
-    let d = m.before in
+    let m = c in
+    let d = c in
     noted _ _ _ _ d.requires.2
     (rw (sym d.is_step.ensures ∙ d.if-is_step.true) m.mark.ensures.marks)
 

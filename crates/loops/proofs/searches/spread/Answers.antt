@@ -11,17 +11,17 @@ loop-b-init c =
 
 pub note-requires : goal.note-requires
 note-requires c =
-    let t = c.before in
+    let t = c in
     let l = t.loop-b in
-    let s = t.before in
+    let s = c in
     (s.requires.1, omega (arith, t.loop-b-test.true, s.requires.0), l.invariant.1.long)
 
 pub loop-b-preserved : goal.loop-b-preserved
 loop-b-preserved c =
-    let m = c.before in
-    let t = m.before in
+    let m = c in
+    let t = c in
     let l = t.loop-b in
-    let s = t.before in (
+    let s = c in (
       omega (arith, t.loop-b-test.true),
       spreading-on s.requires.0 t.loop-b-test.true (add-one l.b) l.invariant.1
           m.note.ensures,

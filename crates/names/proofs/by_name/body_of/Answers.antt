@@ -40,13 +40,13 @@ returns-then-bodies-ne-BODY_WORDS c = λ called C above L short. absurd (c.if-bo
 
 pub returns-then-count-eq0 : goal.returns-then-count-eq0
 returns-then-count-eq0 c =
-    let s = c.before in
+    let s = c in
     λ called C above L short. nothing s.args.bodies.now s.args.name s.requires.0 C above L short c.count_of-count.ensures c.if-count-eq0.true
 
 pub returns : goal.returns
 returns c =
-    let d = c.before in
-    let s = d.before in
+    let d = c in
+    let s = c in
     let a = s.args in
     let K = d.count_of-count.ensures in
     let count = d.count_of-count.result in

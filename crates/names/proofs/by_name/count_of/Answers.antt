@@ -54,11 +54,11 @@ size c =
 
 pub returns-then-count-le-WIDTH : goal.returns-then-count-le-WIDTH
 returns-then-count-le-WIDTH c =
-    let d = c.before in
-    rw (size d) (some (first d.before) (tells d.before ∙ d.if-is_positive.true) (omega (arith, c.if-count-le-WIDTH.true, size d)))
+    let d = (goal.at.returns-then-count-le-WIDTH c).After-variable_of-count in
+    rw (size d) (some (first (goal.at.returns-then-count-le-WIDTH c).After-is_positive) (tells (goal.at.returns-then-count-le-WIDTH c).After-is_positive ∙ d.if-is_positive.true) (omega (arith, c.if-count-le-WIDTH.true, size d)))
 
 pub returns-else-count-le-WIDTH : goal.returns-else-count-le-WIDTH
-returns-else-count-le-WIDTH c = many (first c.before) (omega (arith, c.if-count-le-WIDTH.false, size c.before))
+returns-else-count-le-WIDTH c = many (first (goal.at.returns-else-count-le-WIDTH c).After-is_positive) (omega (arith, c.if-count-le-WIDTH.false, size (goal.at.returns-else-count-le-WIDTH c).After-variable_of-count))
 
 pub returns-else-is_positive : goal.returns-else-is_positive
-returns-else-is_positive c = none (first c.before) (tells c.before ∙ c.if-is_positive.false)
+returns-else-is_positive c = none (first (goal.at.returns-else-is_positive c).After-is_positive) (tells (goal.at.returns-else-is_positive c).After-is_positive ∙ c.if-is_positive.false)

@@ -15,7 +15,7 @@ use Rattle.names.proofs.by_name.enter_body.Goals.{After-put_body}
 
 pub put_body-requires : goal.put_body-requires
 put_body-requires c =
-    let e = c.before in
+    let e = c in
     let p = e.requires in
     (simp length-set (omega (arith, e.if-bodies-ne-BODY_WORDS.false, p.1, p.2)), p.3)
 
@@ -42,8 +42,8 @@ index c k =
 
 pub put_name-requires : goal.put_name-requires
 put_name-requires c =
-    let d = c.before in
-    let e = d.before in
+    let d = (goal.at.put_name-requires c).After-put_body in
+    let e = c in
     ((wrote d).long ∙ e.if-bodies-ne-BODY_WORDS.false, d.place_of-place.ensures.1, e.requires.0, e.requires.1)
 
 pub returns-then-bodies-ne-BODY_WORDS : goal.returns-then-bodies-ne-BODY_WORDS
@@ -52,8 +52,8 @@ returns-then-bodies-ne-BODY_WORDS c = λ called C. absurd (c.if-bodies-ne-BODY_W
 pub returns : goal.returns
 returns c =
     let n = c.put_name in
-    let d = c.before in
+    let d = (goal.at.returns c).After-put_body in
     let p = d.requires in
-    let W = written_on (wrote d) n.auto.0 n.ensures.records p.1 p.2 in
+    let W = written_on (wrote d) n.auto.bodies n.ensures.records p.1 p.2 in
     let here = rw d.place_of-place.ensures.0 at n.ensures.here in
     λ called C unnamed fresh. entered W p.0 p.1 C unnamed fresh here (λ k t. n.ensures.still k (λ e. t (sym (index d k) ∙ e)))

@@ -15,15 +15,15 @@ loop-v-init c = (omega arith, omega arith, λ u p h. absurd (omega arith))
 
 pub returns-then-stands_at : goal.returns-then-stands_at
 returns-then-stands_at c =
-    let s = c.before in
+    let s = c in
     let l = s.loop-v in
-    let a = s.before in
+    let a = c in
     let t = s.loop-v-test.true in
     (t, λ called C. called-by C a.args.body.now a.requires.1 l.v l.invariant.0 t (sym c.stands_at.ensures ∙ c.if-stands_at.true))
 
 pub loop-v-preserved : goal.loop-v-preserved
 loop-v-preserved c =
-    let s = c.before in
+    let s = c in
     let l = s.loop-v in
     let t = s.loop-v-test.true in
     let e = sym c.stands_at.ensures ∙ c.if-stands_at.false in
@@ -32,5 +32,5 @@ loop-v-preserved c =
 pub returns : goal.returns
 returns c =
     let l = c.loop-v in
-    let a = c.before in
+    let a = c in
     (omega arith, λ called C. called-none C a.args.body.now a.requires.1 (λ v p h. l.invariant.2 v p (omega (arith, c.loop-v-test.false))))

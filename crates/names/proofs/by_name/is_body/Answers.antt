@@ -27,19 +27,19 @@ tells c =
 
 pub loop-i-preserved : goal.loop-i-preserved
 loop-i-preserved c =
-    let l = c.before in
+    let l = c in
     let t = c.loop-i-test.true in
-    (omega arith, l.loop-i.invariant.1 ∙ same-list-on _ _ l.loop-i.i t (omega (arith, t, l.requires)) (tells c.before ∙ c.if-is_same.true))
+    (omega arith, l.loop-i.invariant.1 ∙ same-list-on _ _ l.loop-i.i t (omega (arith, t, l.requires)) (tells (goal.at.loop-i-preserved c).After-is_same ∙ c.if-is_same.true))
 
 pub returns-else-is_same : goal.returns-else-is_same
 returns-else-is_same c =
-    let l = c.before in
+    let l = c in
     let t = c.loop-i-test.true in
-    sym (l.loop-i.invariant.1 ∙ same-list-here _ _ l.loop-i.i t (omega (arith, t, l.requires)) (tells c.before ∙ c.if-is_same.false))
+    sym (l.loop-i.invariant.1 ∙ same-list-here _ _ l.loop-i.i t (omega (arith, t, l.requires)) (tells (goal.at.returns-else-is_same c).After-is_same ∙ c.if-is_same.false))
 
 pub returns : goal.returns
 returns c =
-    let l = c.before in
+    let l = c in
     let a = l.args in
     let none = drop_of_length-le a.body.now {i = l.loop-i.i} (omega (arith, c.loop-i-test.false, l.requires)) in
     sym (l.loop-i.invariant.1 ∙ rw (drop_of_length-le a.words.now c.loop-i-test.false, none))

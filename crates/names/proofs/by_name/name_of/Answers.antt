@@ -17,8 +17,8 @@ returns-then-bodies-ne-BODY_WORDS c = λ called C. absurd (c.if-bodies-ne-BODY_W
 
 pub returns-then-is_free : goal.returns-then-is_free
 returns-then-is_free c =
-    let p = c.before in
-    let s = p.before in
+    let p = c in
+    let s = c in
     let free : get_or s.args.bodies.now (width * entries + p.place_of-place.result) (pos 0) ≡ pos 0 =
     if-true (same-decides _ _) (sym c.is_free.ensures ∙ c.if-is_free.true) in
     λ called C. called-free C s.args.body.now s.requires (rw p.place_of-place.ensures.0 at free)
@@ -26,5 +26,5 @@ returns-then-is_free c =
 pub returns-then-v-gt0 : goal.returns-then-v-gt0
 returns-then-v-gt0 c =
     let h = c.hinted-v in
-    let s = c.before in
+    let s = c in
     λ called C. called-by C s.args.body.now s.requires h.result c.if-v-gt0.true h.ensures.0 (h.ensures.1 c.if-v-gt0.true)

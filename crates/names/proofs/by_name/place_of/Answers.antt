@@ -13,21 +13,15 @@ use Rattle.names.specs.ByName.{mixed, key_from, place_of}
 use Rattle.names.proofs.by_name.place_of.Goals as goal
 
 key-on : (k : ℕ) (l : List ℤ) (i : ℕ) → i < length l → key_from k (drop i l) ≡ key_from (mixed k (get_or l i (pos 0))) (drop (i + 1) l)
-
 unfolding key_from
-
 key-on k l i h = rw (add-one, drop-cons l i (pos 0) h)
 
 key-end : (k : ℕ) (l : List ℤ) (i : ℕ) → length l ≤ i → key_from k (drop i l) ≡ k
-
 unfolding key_from
-
 key-end k l i h = rw (drop_of_length-le l {i = i} h)
 
 place_is : (k : ℕ) (l : List ℤ) → k ≡ key_from 0 l → k / 524288 ≡ place_of l
-
 unfolding place_of
-
 place_is k l e = ap (λ (n : ℕ). n / 524288) e
 
 pub loop-i-preserved : goal.loop-i-preserved

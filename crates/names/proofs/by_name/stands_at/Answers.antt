@@ -26,17 +26,17 @@ tells c =
 
 pub returns-then-is_same : goal.returns-then-is_same
 returns-then-is_same c =
-    let s = c.before in
+    let s = c in
     let a = s.args in
     let n : width * a.v + 1 + length a.body.now - (width * a.v + 1) ≡ length a.body.now = omega arith in
     let q = stands_parts a.bodies.now a.body.now a.v (omega (arith, s.requires.0, s.requires.1)) in
-    let t = sym (tells c.before) ∙ c.if-is_same.true in
+    let t = sym (tells (goal.at.returns-then-is_same c).After-is_same) ∙ c.if-is_same.true in
     sym (rw (t, ← n) at q ∙ sym c.is_body.ensures)
 
 pub returns : goal.returns
 returns c =
-    let s = c.before in
+    let s = c in
     let a = s.args in
     let q = stands_parts a.bodies.now a.body.now a.v (omega (arith, s.requires.0, s.requires.1)) in
-    let t = sym (tells c.before) ∙ c.if-is_same.false in
+    let t = sym (tells (goal.at.returns c).After-is_same) ∙ c.if-is_same.false in
     sym (rw t at q)

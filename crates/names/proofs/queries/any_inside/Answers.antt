@@ -20,12 +20,12 @@ tells c =
 pub returns-then-is_inside : goal.returns-then-is_inside
 returns-then-is_inside c =
     let l = c.loop-i in
-    sym (l.invariant.1 ∙ any_here _ _ l.i (pos 0) c.loop-i-test.true (tells c.before ∙ c.if-is_inside.true))
+    sym (l.invariant.1 ∙ any_here _ _ l.i (pos 0) c.loop-i-test.true (tells (goal.at.returns-then-is_inside c).After-is_inside ∙ c.if-is_inside.true))
 
 pub loop-i-preserved : goal.loop-i-preserved
 loop-i-preserved c =
     let l = c.loop-i in
-    (omega arith, l.invariant.1 ∙ any-on _ _ l.i (pos 0) c.loop-i-test.true (tells c.before ∙ c.if-is_inside.false))
+    (omega arith, l.invariant.1 ∙ any-on _ _ l.i (pos 0) c.loop-i-test.true (tells (goal.at.loop-i-preserved c).After-is_inside ∙ c.if-is_inside.false))
 
 pub returns : goal.returns
 returns c = let l = c.loop-i in sym (l.invariant.1 ∙ any_none _ _ c.loop-i-test.false)

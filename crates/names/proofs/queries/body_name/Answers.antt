@@ -54,27 +54,27 @@ pub has_body-requires : goal.has_body-requires
 has_body-requires c = rw (tail_of (i c) (t c)) (at c).sound
 
 pub name_at-requires : goal.name_at-requires
-name_at-requires c = let d = c.before in
-    let has = sym (any-bodies (rule_at (drop (i d) (t d))) _) ∙ tells c.before ∙ c.if-has_body.true in record { rule = rw (tail_of (i d) (t d)) ((at d).sound, has) }
+name_at-requires c = let d = (goal.at.name_at-requires c).After-rest-1 in
+    let has = sym (any-bodies (rule_at (drop (i d) (t d))) _) ∙ tells (goal.at.name_at-requires c).After-has_body ∙ c.if-has_body.true in record { rule = rw (tail_of (i d) (t d)) ((at d).sound, has) }
 
 pub returns-then-has_body : goal.returns-then-has_body
 returns-then-has_body c =
-    let b = c.before in
-    let d = b.before in
+    let b = c in
+    let d = (goal.at.returns-then-has_body c).After-rest-1 in
     let l = d.loop-k in
-    let here = one_passes (at d) (with (s d).args.body.now) (tells b.before ∙ b.if-has_body.true) in
+    let here = one_passes (at d) (with (s d).args.body.now) (tells (goal.at.returns-then-has_body c).After-has_body ∙ b.if-has_body.true) in
     λ ws H. rw (← H.are) (λ called K.
     rw (l.invariant.1 ∙ here) (c.name_at.ensures called (rw (tail_of (i d) (t d)) (λ w. K.by_name ((at d).weighted w))) (rw (tail_of (i d) (t d)) ((at d).kept called K.by_rule))))
 
 pub next_rule-i-requires : goal.next_rule-i-requires
-next_rule-i-requires c = record { here = (at c.before).here }
+next_rule-i-requires c = record { here = (at (goal.at.next_rule-i-requires c).After-rest-1).here }
 
 pub loop-k-preserved : goal.loop-k-preserved
 loop-k-preserved c =
-    let b = c.before in
-    let d = b.before in
+    let b = c in
+    let d = (goal.at.loop-k-preserved c).After-rest-1 in
     let l = d.loop-k in
-    rw c.next_rule-i.ensures.0 ((at d).next, l.invariant.1 ∙ none_passes (at d) (with (s d).args.body.now) (tells b.before ∙ b.if-has_body.false))
+    rw c.next_rule-i.ensures.0 ((at d).next, l.invariant.1 ∙ none_passes (at d) (with (s d).args.body.now) (tells (goal.at.loop-k-preserved c).After-has_body ∙ b.if-has_body.false))
 
 pub returns : goal.returns
 returns c =
@@ -82,7 +82,7 @@ returns c =
     λ ws H. rw (← H.are) (λ called K. rw (l.invariant.1, no-plain-rules l.invariant.0 c.loop-k-test.false))
 
 pub bounds-names-k : goal.bounds-names-k
-bounds-names-k c = omega (arith, c.loop-k-test.true, (s c.before).pre.1)
+bounds-names-k c = omega (arith, c.loop-k-test.true, (s (goal.at.bounds-names-k c).After-rest-1).pre.1)
 
 pub loop-k-smaller : goal.loop-k-smaller
 loop-k-smaller c = omega arith

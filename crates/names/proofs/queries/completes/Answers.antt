@@ -16,12 +16,12 @@ tells c = sym c.is_normal_with.ensures
 
 pub returns-then-is_normal_with : goal.returns-then-is_normal_with
 returns-then-is_normal_with c =
-    let d = c.before in
+    let d = c in
     λ bodies called C t above e.
-    rw (completing-bodies (rule_at _) called _ _, tells d.before ∙ d.if-is_normal_with.true) (c.is_named.ensures bodies called C t above e)
+    rw (completing-bodies (rule_at _) called _ _, tells (goal.at.returns-then-is_normal_with c).After-is_normal_with ∙ d.if-is_normal_with.true) (c.is_named.ensures bodies called C t above e)
 
 pub returns : goal.returns
-returns c = λ bodies called C t above e. rw (completing-bodies (rule_at _) called _ _, tells c.before ∙ c.if-is_normal_with.false)
+returns c = λ bodies called C t above e. rw (completing-bodies (rule_at _) called _ _, tells (goal.at.returns c).After-is_normal_with ∙ c.if-is_normal_with.false)
 
 pub is_normal_with-requires : goal.is_normal_with-requires
 is_normal_with-requires c = shape_of _ c.requires.rule

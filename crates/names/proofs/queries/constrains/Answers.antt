@@ -23,12 +23,12 @@ module _ (c : After-is_normal_with) where
 
 pub returns-then-is_normal_with : goal.returns-then-is_normal_with
 returns-then-is_normal_with c =
-    let d = c.before in
+    let d = (goal.at.returns-then-is_normal_with c).After-is_normal_with in
     rw (normal-bodies (rule d) [] (same_list (body d)), tells d ∙ c.if-is_normal_with.true) c.has_body.ensures
 
 pub returns : goal.returns
 returns c =
-    let d = c.before in
+    let d = (goal.at.returns c).After-is_normal_with in
     rw (normal-bodies (rule d) [] (same_list (body d)), tells d ∙ c.if-is_normal_with.false)
 
 pub is_normal_with-requires : goal.is_normal_with-requires

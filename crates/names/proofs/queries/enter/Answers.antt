@@ -5,7 +5,7 @@ use Rattle.names.proofs.queries.enter.Goals as goal
 
 pub returns-then-body-le-MOST_WEIGHTED : goal.returns-then-body-le-MOST_WEIGHTED
 returns-then-body-le-MOST_WEIGHTED c =
-    let r = c.before in
+    let r = c in
     λ ws H called K u f. record {
       rules = omega (arith, K.rules, r.enter_rules.auto.names);
       by_rule = r.enter_rules.ensures ws H called K.by_rule;
@@ -14,8 +14,8 @@ returns-then-body-le-MOST_WEIGHTED c =
 
 pub returns-else-body-le-MOST_WEIGHTED : goal.returns-else-body-le-MOST_WEIGHTED
 returns-else-body-le-MOST_WEIGHTED c =
-    let r = c.before in
-    let a = r.before in
+    let r = c in
+    let a = c in
     λ ws H called K u f. record {
       rules = omega (arith, K.rules, r.enter_rules.auto.names);
       by_rule = r.enter_rules.ensures ws H called K.by_rule;

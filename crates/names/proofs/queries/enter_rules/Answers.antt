@@ -52,25 +52,25 @@ told c called e =
 
 pub loop-k-init : goal.loop-k-init
 loop-k-init c =
-    let s = c.before in (course-start s.args.table.now s.args.rules s.args.names.now s.requires.0.1.sound, refl, λ called e. refl)
+    let s = c in (course-start s.args.table.now s.args.rules s.args.names.now s.requires.0.1.sound, refl, λ called e. refl)
 
 pub offset_bounds-table-i : goal.offset_bounds-table-i
 offset_bounds-table-i c = let w = c.loop-k.invariant.0.cursor.within in search rules
 
 pub name_for-requires : goal.name_for-requires
-name_for-requires c = let d = c.before in rw (tail_of (i d) (t d)) (at d).here.1
+name_for-requires c = let d = (goal.at.name_for-requires c).After-rest-1 in rw (tail_of (i d) (t d)) (at d).here.1
 
 pub next_rule-i-requires : goal.next_rule-i-requires
-next_rule-i-requires c = record { here = (at c.before).here }
+next_rule-i-requires c = record { here = (at (goal.at.next_rule-i-requires c).After-rest-1).here }
 
 pub loop-k-preserved : goal.loop-k-preserved
 loop-k-preserved c =
-    let d = c.before in
+    let d = (goal.at.loop-k-preserved c).After-rest-1 in
     let l = d.loop-k in
     rw c.next_rule-i.ensures.0 (
       course-set (k d) _ (at d).next,
       length-set (ns d) (k d) _ ∙ l.invariant.1,
-      λ called e. sym (entered_on _ (at d) (room d) (told c.before called e)) ∙ l.invariant.2 called e,
+      λ called e. sym (entered_on _ (at d) (room d) (told (goal.at.loop-k-preserved c).After-name_for called e)) ∙ l.invariant.2 called e,
     )
 
 pub returns : goal.returns
@@ -79,10 +79,10 @@ returns c =
     λ ws H. rw (← H.are) (λ called e. entered_all l.invariant.0 _ c.loop-k-test.false (l.invariant.2 called e))
 
 pub bounds-names-k : goal.bounds-names-k
-bounds-names-k c = room c.before
+bounds-names-k c = room (goal.at.bounds-names-k c).After-rest-1
 
 pub bounds-names-k-in-loop-k : goal.bounds-names-k-in-loop-k
-bounds-names-k-in-loop-k c = room c.before
+bounds-names-k-in-loop-k c = room (goal.at.bounds-names-k-in-loop-k c).After-rest-1
 
 pub loop-k-smaller : goal.loop-k-smaller
 loop-k-smaller c = omega arith

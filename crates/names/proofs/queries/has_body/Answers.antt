@@ -12,20 +12,20 @@ tells c = sym c.is_weighted.ensures
 
 pub is_body-requires : goal.is_body-requires
 is_body-requires c =
-    let d = c.before in
-    let w = weighing _ d.requires (tells d.before ∙ d.if-is_weighted.true) in
+    let d = c in
+    let w = weighing _ d.requires (tells (goal.at.is_body-requires c).After-is_weighted ∙ d.if-is_weighted.true) in
     rw (c.bound_of.ensures, c.body_of.ensures) (w.bound, w.light, w.distinct)
 
 pub returns-then-is_weighted : goal.returns-then-is_weighted
 returns-then-is_weighted c =
-    let b = c.before in
-    let d = b.before in
-    rw (weight-bodies _ (tells d.before ∙ d.if-is_weighted.true)) (rw (b.bound_of.ensures, b.body_of.ensures) at c.is_body.ensures)
+    let b = c in
+    let d = c in
+    rw (weight-bodies _ (tells (goal.at.returns-then-is_weighted c).After-is_weighted ∙ d.if-is_weighted.true)) (rw (b.bound_of.ensures, b.body_of.ensures) at c.is_body.ensures)
 
 pub returns : goal.returns
 returns c =
-    let d = c.before in
-    rw (plain-bodies _ (tells d.before ∙ d.if-is_weighted.false)) ((rw c.body_of-2.ensures at c.is_same_list.ensures) ∙ sym (or-false _))
+    let d = c in
+    rw (plain-bodies _ (tells (goal.at.returns c).After-is_weighted ∙ d.if-is_weighted.false)) ((rw c.body_of-2.ensures at c.is_same_list.ensures) ∙ sym (or-false _))
 
 pub body_of-requires : goal.body_of-requires
 body_of-requires c = shape_of _ c.requires

@@ -42,32 +42,32 @@ tells c called K =
 
 pub loop-k-init : goal.loop-k-init
 loop-k-init c =
-    let s = c.before in
+    let s = c in
     (course-start s.args.table.now s.args.rules s.args.names.now s.requires.program.0.1.sound, λ called K. refl)
 
 pub offset_bounds-table-i : goal.offset_bounds-table-i
 offset_bounds-table-i c = let w = c.loop-k.invariant.0.cursor.within in search rules
 
 pub completes-requires : goal.completes-requires
-completes-requires c = let d = c.before in
-    let b = d.before in let all = rw (tail_of (i d) (t d)) ((at d).sound, (b.body_of-recorded.auto.row, ((s d).args.bodies.now, b.body_of-recorded.ensures))) in record { rule = all.0; row = all.1 }
+completes-requires c = let d = (goal.at.completes-requires c).After-rest-1 in
+    let b = c in let all = rw (tail_of (i d) (t d)) ((at d).sound, (b.body_of-recorded.auto.row, ((s d).args.bodies.now, b.body_of-recorded.ensures))) in record { rule = all.0; row = all.1 }
 
 pub returns-then-completes : goal.returns-then-completes
 returns-then-completes c =
-    let b = c.before in
-    let d = b.before in
+    let b = (goal.at.returns-then-completes c).After-completes in
+    let d = (goal.at.returns-then-completes c).After-rest-1 in
     let l = d.loop-k in
     λ ws H. rw (← H.are) (λ called K. sym (l.invariant.1 called K ∙ one_passes (at d) _ (tells b called K ∙ c.if-completes.true)))
 
 pub next_rule-i-requires : goal.next_rule-i-requires
-next_rule-i-requires c = record { here = (at c.before).here }
+next_rule-i-requires c = record { here = (at (goal.at.next_rule-i-requires c).After-rest-1).here }
 
 pub loop-k-preserved : goal.loop-k-preserved
 loop-k-preserved c =
-    let e = c.before in
-    let d = e.before in
+    let e = c in
+    let d = (goal.at.loop-k-preserved c).After-rest-1 in
     let l = d.loop-k in
-    rw c.next_rule-i.ensures.0 ((at d).next, λ called K. l.invariant.1 called K ∙ none_passes (at d) _ (tells e.before called K ∙ e.if-completes.false))
+    rw c.next_rule-i.ensures.0 ((at d).next, λ called K. l.invariant.1 called K ∙ none_passes (at d) _ (tells (goal.at.loop-k-preserved c).After-completes called K ∙ e.if-completes.false))
 
 pub returns : goal.returns
 returns c =
@@ -78,7 +78,7 @@ pub body_of-recorded-requires : goal.body_of-recorded-requires
 body_of-recorded-requires c = (c.requires.name.1, omega arith)
 
 pub bounds-names-k : goal.bounds-names-k
-bounds-names-k c = omega (arith, (s c.before).pre.0.1, c.loop-k-test.true)
+bounds-names-k c = omega (arith, (s (goal.at.bounds-names-k c).After-rest-1).pre.0.1, c.loop-k-test.true)
 
 pub loop-k-smaller : goal.loop-k-smaller
 loop-k-smaller c = omega arith

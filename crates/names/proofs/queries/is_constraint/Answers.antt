@@ -44,20 +44,20 @@ constrains-requires c = rw (tail_of (i c) (t c)) (at c).sound
 
 pub returns-then-constrains : goal.returns-then-constrains
 returns-then-constrains c =
-    let b = c.before in
-    let d = b.before in
+    let b = (goal.at.returns-then-constrains c).After-constrains in
+    let d = (goal.at.returns-then-constrains c).After-rest-1 in
     let l = d.loop-k in
     λ ws H. rw (← H.are) (sym (l.invariant.1 ∙ one_passes (at d) _ (tells b ∙ c.if-constrains.true)))
 
 pub next_rule-i-requires : goal.next_rule-i-requires
-next_rule-i-requires c = record { here = (at c.before).here }
+next_rule-i-requires c = record { here = (at (goal.at.next_rule-i-requires c).After-rest-1).here }
 
 pub loop-k-preserved : goal.loop-k-preserved
 loop-k-preserved c =
-    let e = c.before in
-    let d = e.before in
+    let e = c in
+    let d = (goal.at.loop-k-preserved c).After-rest-1 in
     let l = d.loop-k in
-    rw c.next_rule-i.ensures.0 ((at d).next, l.invariant.1 ∙ none_passes (at d) _ (tells e.before ∙ e.if-constrains.false))
+    rw c.next_rule-i.ensures.0 ((at d).next, l.invariant.1 ∙ none_passes (at d) _ (tells (goal.at.loop-k-preserved c).After-constrains ∙ e.if-constrains.false))
 
 pub returns : goal.returns
 returns c =

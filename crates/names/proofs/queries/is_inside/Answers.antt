@@ -10,9 +10,9 @@ tells c = sym (rw (to_z-of_z c.ranges.word) at c.is_positive.ensures)
 
 pub returns-then-is_positive : goal.returns-then-is_positive
 returns-then-is_positive c =
-    let d = c.before in
-    let s = d.before in
+    let d = (goal.at.returns-then-is_positive c).After-is_positive in
+    let s = c in
     rw (tells d ∙ c.if-is_positive.true) (rw (c.variable_of.ensures, to_z-of_z s.ranges.word) at c.is_marked.ensures)
 
 pub returns : goal.returns
-returns c = rw (tells c.before ∙ c.if-is_positive.false)
+returns c = rw (tells (goal.at.returns c).After-is_positive ∙ c.if-is_positive.false)

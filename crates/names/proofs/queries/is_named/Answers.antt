@@ -14,7 +14,7 @@ tells c = sym c.is_weighted.ensures
 
 pub returns-then-not-is_weighted : goal.returns-then-not-is_weighted
 returns-then-not-is_weighted c =
-    let p = tells c.before ∙ c.if-not-is_weighted.true in
+    let p = tells (goal.at.returns-then-not-is_weighted c).After-is_weighted ∙ c.if-not-is_weighted.true in
     let a = c.args in
     λ bodies called C t above e.
     rw (plain-bodies _ p)
@@ -30,19 +30,19 @@ module _ (c : Else-not-is_weighted) where
 
 pub slice_bounds-is_body-end : goal.slice_bounds-is_body-end
 slice_bounds-is_body-end c =
-    let d = c.before in
+    let d = c in
     let s = d.before in
     sym (length-take-le _ _ (omega (arith, told-few _ s.args.row.now s.args.name d.in-Body.is s.requires.row.1.1, s.requires.row.0)))
 
 pub is_body-requires : goal.is_body-requires
 is_body-requires c =
-    let w = weighs c.before in
+    let w = weighs (goal.at.is_body-requires c).After-is_weighted in
     rw (c.bound_of.ensures, c.body_of.ensures) (w.bound, w.light, w.distinct)
 
 pub returns-in-Body : goal.returns-in-Body
 returns-in-Body c =
-    let b = c.before in
-    let d = b.before in
+    let b = c in
+    let d = (goal.at.returns-in-Body c).After-is_weighted in
     λ bodies called C t above e.
     rw (weight-bodies _ (weighted d))
     ((rw (b.bound_of.ensures, b.body_of.ensures) at c.is_body.ensures)
@@ -50,5 +50,5 @@ returns-in-Body c =
 
 pub returns-in-Nothing : goal.returns-in-Nothing
 returns-in-Nothing c =
-    let d = c.before in
+    let d = (goal.at.returns-in-Nothing c).Else-not-is_weighted in
     λ bodies called C t above e. rw (weight-bodies _ (weighted d)) (sym (named_none (weighs d) (C (weighted d)) above _ c.in-Nothing.is t))

@@ -15,7 +15,7 @@ heads : (c : After-asks_heads)
 heads c = sym c.asks_heads.ensures
 
 pub returns-then-not-asks_heads : goal.returns-then-not-asks_heads
-returns-then-not-asks_heads c = λ called C e. rw (asked-bodies (rule_at _) _ _ called, heads c.before ∙ c.if-not-asks_heads.true) (also-none _)
+returns-then-not-asks_heads c = λ called C e. rw (asked-bodies (rule_at _) _ _ called, heads (goal.at.returns-then-not-asks_heads c).After-asks_heads ∙ c.if-not-asks_heads.true) (also-none _)
 
 -- the query asks for the heads
 module _ (c : After-is_weighted) where
@@ -27,18 +27,18 @@ module _ (c : After-is_weighted) where
 
 pub mark_bodies-requires : goal.mark_bodies-requires
 mark_bodies-requires c =
-    let d = c.before in
-    let s = d.before in
-    let w = weighing _ s.requires.rule (weighted d.before ∙ d.if-is_weighted.true) in
+    let d = c in
+    let s = c in
+    let w = weighing _ s.requires.rule (weighted (goal.at.mark_bodies-requires c).After-is_weighted ∙ d.if-is_weighted.true) in
     rw (c.bound_of.ensures, c.body_of.ensures) (w.bound, w.few, w.light, w.rises, s.requires.found)
 
 pub returns-then-is_weighted : goal.returns-then-is_weighted
 returns-then-is_weighted c =
-    let b = c.before in
-    let d = b.before in
+    let b = c in
+    let d = c in
     λ called C e.
-    rw (asked-bodies (rule_at _) _ _ called, asked d.before, weight-bodies _ (weighted d.before ∙ d.if-is_weighted.true))
-    (rw (b.bound_of.ensures, b.body_of.ensures) at (b.mark_bodies.ensures called (C (weighted d.before ∙ d.if-is_weighted.true))))
+    rw (asked-bodies (rule_at _) _ _ called, asked (goal.at.returns-then-is_weighted c).After-is_weighted, weight-bodies _ (weighted (goal.at.returns-then-is_weighted c).After-is_weighted ∙ d.if-is_weighted.true))
+    (rw (b.bound_of.ensures, b.body_of.ensures) at (b.mark_bodies.ensures called (C (weighted (goal.at.returns-then-is_weighted c).After-is_weighted ∙ d.if-is_weighted.true))))
 
 -- a plain rule
 module _ (c : After-any_inside) where
@@ -51,20 +51,20 @@ module _ (c : After-any_inside) where
 
 pub returns-then-not-any_inside : goal.returns-then-not-any_inside
 returns-then-not-any_inside c =
-    let m = c.before in
-    let d = m.before in
-    let s = d.before in
-    let p = plain d.before in
-    let out = inside d.before ∙ d.if-not-any_inside.true in
+    let m = c in
+    let d = c in
+    let s = c in
+    let p = plain (goal.at.returns-then-not-any_inside c).After-any_inside in
+    let out = inside (goal.at.returns-then-not-any_inside c).After-any_inside ∙ d.if-not-any_inside.true in
     λ called C e.
-    rw (asked-bodies (rule_at _) _ _ called, asked d.before, plain-bodies _ p, out)
+    rw (asked-bodies (rule_at _) _ _ called, asked (goal.at.returns-then-not-any_inside c).After-is_weighted, plain-bodies _ p, out)
     (also_one s.requires.found m.mark.ensures.marks (e ∙ plain_entry _ p called))
 
 pub returns-else-not-any_inside : goal.returns-else-not-any_inside
 returns-else-not-any_inside c =
-    let d = c.before in
+    let d = (goal.at.returns-else-not-any_inside c).After-any_inside in
     λ called C e.
-    rw (asked-bodies (rule_at _) _ _ called, asked d.before, plain-bodies _ (plain d), inside d ∙ c.if-not-any_inside.false)
+    rw (asked-bodies (rule_at _) _ _ called, asked (goal.at.returns-else-not-any_inside c).After-is_weighted, plain-bodies _ (plain d), inside d ∙ c.if-not-any_inside.false)
     (also-none _)
 
 pub asks_heads-requires : goal.asks_heads-requires

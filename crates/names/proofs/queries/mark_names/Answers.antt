@@ -57,25 +57,25 @@ zeros-long l e = rw e (length-replicate {A = ℕ} entries 0)
 
 pub loop-k-init : goal.loop-k-init
 loop-k-init c =
-    let s = c.before in
+    let s = c in
     (course-start s.args.table.now s.args.rules s.args.names.now s.requires.program.0.1.sound, zeros-long _ s.requires.found, λ called K. rw s.requires.found (found_none _))
 
 pub offset_bounds-table-i : goal.offset_bounds-table-i
 offset_bounds-table-i c = let w = c.loop-k.invariant.0.cursor.within in search rules
 
 pub bounds-names-k : goal.bounds-names-k
-bounds-names-k c = omega (arith, (s c.before).pre.0.1, c.loop-k-test.true)
+bounds-names-k c = omega (arith, (s (goal.at.bounds-names-k c).After-rest-1).pre.0.1, c.loop-k-test.true)
 
 pub mark_asked-requires : goal.mark_asked-requires
-mark_asked-requires c = let d = c.before in let all = rw (tail_of (i d) (t d)) ((at d).sound, d.loop-k.invariant.1) in record { rule = all.0; found = all.1 }
+mark_asked-requires c = let d = (goal.at.mark_asked-requires c).After-rest-1 in let all = rw (tail_of (i d) (t d)) ((at d).sound, d.loop-k.invariant.1) in record { rule = all.0; found = all.1 }
 
 pub next_rule-i-requires : goal.next_rule-i-requires
-next_rule-i-requires c = record { here = (at c.before).here }
+next_rule-i-requires c = record { here = (at (goal.at.next_rule-i-requires c).In-loop-k).here }
 
 pub loop-k-preserved : goal.loop-k-preserved
 loop-k-preserved c =
-    let m = c.before in
-    let d = m.before in
+    let m = (goal.at.loop-k-preserved c).After-mark_asked-arg-1 in
+    let d = (goal.at.loop-k-preserved c).In-loop-k in
     let l = d.loop-k in
     rw c.next_rule-i.ensures.0 (
       (at d).next,
@@ -85,8 +85,8 @@ loop-k-preserved c =
 
 pub returns-then-is_marked : goal.returns-then-is_marked
 returns-then-is_marked c =
-    let m = c.before in
-    let d = m.before in
+    let m = (goal.at.returns-then-is_marked c).After-mark_asked-arg-1 in
+    let d = (goal.at.returns-then-is_marked c).In-loop-k in
     λ ws H. rw (← H.are) (λ called K.
     zero-found (found-more (left d called (d.loop-k.invariant.2 called K)) (told m called K)) (sym c.is_marked.ensures ∙ c.if-is_marked.true))
 

@@ -10,7 +10,7 @@ weighted : (c : After-is_weighted) → is_weighted c.args.words.now ≡ c.is_wei
 weighted c = sym c.is_weighted.ensures
 
 pub returns-then-is_weighted : goal.returns-then-is_weighted
-returns-then-is_weighted c = let p = weighted c.before ∙ c.if-is_weighted.true in λ called e. e ∙ weight-entry _ p called ∙ sym (weight-entry _ p _)
+returns-then-is_weighted c = let p = weighted (goal.at.returns-then-is_weighted c).After-is_weighted ∙ c.if-is_weighted.true in λ called e. e ∙ weight-entry _ p called ∙ sym (weight-entry _ p _)
 
 -- what the calls tell of a plain rule
 module _ (c : After-is_same_list) where
@@ -21,7 +21,7 @@ module _ (c : After-is_same_list) where
   tells = sym (rw c.body_of.ensures at c.is_same_list.ensures)
 
 pub returns-then-is_same_list : goal.returns-then-is_same_list
-returns-then-is_same_list c = let d = c.before in λ called e. rw (plain_entry _ (plain d) _, tells d ∙ c.if-is_same_list.true)
+returns-then-is_same_list c = let d = (goal.at.returns-then-is_same_list c).After-is_same_list in λ called e. rw (plain_entry _ (plain d) _, tells d ∙ c.if-is_same_list.true)
 
 pub returns : goal.returns
-returns c = let d = c.before in λ called e. rw (plain_entry _ (plain d) _, tells d ∙ c.if-is_same_list.false) (e ∙ plain_entry _ (plain d) called)
+returns c = let d = (goal.at.returns c).After-is_same_list in λ called e. rw (plain_entry _ (plain d) _, tells d ∙ c.if-is_same_list.false) (e ∙ plain_entry _ (plain d) called)

@@ -21,10 +21,10 @@ more l i b f j h = elim (equal? j i) [
 
 -- the cell at i
 inside : (c : In-loop-i) → c.loop-i.i < length c.loop-i.index
-inside c = omega (arith, c.loop-i-test.true, c.loop-i.invariant.0, c.start_of_lem.ensures.1)
+inside c = omega (arith, c.loop-i-test.true, c.loop-i.invariant.0, c.start_of-end.ensures.upper_bound)
 
 pub returns : goal.returns
 returns c =
     let v = c.loop-i.invariant in
     all-cells c.loop-i.index _ (ap scale_of (sym v.0))
-    (λ j h. v.1 j (omega (arith, c.loop-i-test.false, c.start_of_lem.ensures.0, ap start_of v.0)))
+    (λ j h. v.1 j (omega (arith, c.loop-i-test.false, c.start_of-end.ensures.value, ap start_of v.0)))

@@ -42,8 +42,8 @@ module _ (c : In-loop-r) where
   room = keeps-room keeps l.loop-r.r (reached keeps) c.loop-r-test.true
 
 pub enter-requires : goal.enter-requires
-enter-requires c = let e = c.before in
-    let i = e.before in
+enter-requires c = let e = c in
+    let i = (goal.at.enter-requires c).In-loop-r in
     let K = keeps i in record { record = (room i, e.end_at-end.ensures, omega (arith, c.if-m-end.false)); index = (
         roomy (l i).loop.index (m i) (now-size i) (omega (arith, e.end_at-end.ensures, c.if-m-end.false)),
         λ k b. let t = scaled i K in omega (arith, keeps-small K k (omega (arith, b, t)), t),
@@ -51,7 +51,7 @@ enter-requires c = let e = c.before in
 
 pub loop-r-smaller : goal.loop-r-smaller
 loop-r-smaller c =
-    let e = c.before in
+    let e = c in
     omega (arith, e.end_at-end.ensures, e.loop-r-test.true)
 
 -- and the next
@@ -67,8 +67,8 @@ module _ (c : After-slice_known-in-loop-r-1) where
       let e = c.before in
       let t = scaled i K in
       let b : end_at (s i).args.store.now (l i).loop.r ≤ reach K.scale = omega (arith, e.end_at-end.ensures, c.if-m-end.false, t) in
-      let w = keeps-next K (l i).loop.r (reached i K) i.loop-r-test.taken n.new.1.1.1.0 n.auto.1.1.1.0 b (rw (e.end_at-end.ensures, sym t) at n.ensures) in
-      (w.0, w.1 ∙ ap (λ (k : ℕ). get_or n.new.1.1.1.0 (covered_at k) 0) t)
+      let w = keeps-next K (l i).loop.r (reached i K) i.loop-r-test.taken n.new.index n.auto.index b (rw (e.end_at-end.ensures, sym t) at n.ensures) in
+      (w.0, w.1 ∙ ap (λ (k : ℕ). get_or n.new.index (covered_at k) 0) t)
 
 pub loop-r-preserved : goal.loop-r-preserved
 loop-r-preserved c =

@@ -39,5 +39,5 @@ slice_bounds-enter-count c = long c
 
 pub returns : goal.returns
 returns c j h =
-    let k = c.before in
+    let k = (goal.at.returns c).After-slice_known-2-1 in
     same-part (proved_cells (s k).args.m) (w k) c.enter.new.cells.0 (long k) c.enter.auto.cells j h ∙ ap (λ (l : List ℕ). get_or l j 0) (written k)

@@ -6,5 +6,5 @@ returns-then-is_dead c = rw (sym c.is_dead.ensures ∙ c.if-is_dead.true)
 
 pub returns : goal.returns
 returns c =
-    let e = c.before in
+    let e = c in
     rw (sym e.is_dead.ensures ∙ e.if-is_dead.false) (rw c.nogood_at.ensures at c.is_same_list.ensures)

@@ -7,9 +7,7 @@ use Rattle.nogoods.proofs.Indexing.{key_below}
 use Rattle.nogoods.proofs.chains.key_of.Goals as goal
 
 key : (m h : ℕ) (l : List ℤ) → h ≡ hash_from 0 l → 0 < m → (h % m ≡ key_of m l) × (h % m < m)
-
 unfolding key_of
-
 key m h l e p = rw e (refl, key_below m l p)
 
 pub returns : goal.returns

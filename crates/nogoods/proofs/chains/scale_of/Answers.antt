@@ -5,21 +5,15 @@ use Rattle.nogoods.specs.Index.{fixed_cells, cells_per_chain, most_scale, scale_
 use Rattle.nogoods.proofs.chains.scale_of.Goals as goal
 
 none : (n : ℕ) → n < fixed_cells → 0 ≡ scale_of n
-
 unfolding scale_of
-
 none n h = omega arith
 
 some : (n : ℕ) → (n - fixed_cells) / cells_per_chain < most_scale → (n - fixed_cells) / cells_per_chain ≡ scale_of n
-
 unfolding scale_of
-
 some n h = omega arith
 
 most : (n : ℕ) → most_scale ≤ (n - fixed_cells) / cells_per_chain → most_scale ≡ scale_of n
-
 unfolding scale_of
-
 most n h = omega arith
 
 pub returns-then-n-lt-FIXED_CELLS : goal.returns-then-n-lt-FIXED_CELLS

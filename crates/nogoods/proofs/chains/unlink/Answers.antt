@@ -12,7 +12,7 @@ returns-then-over-eq0 c = record {
 
 pub returns-else-over-eq0 : goal.returns-else-over-eq0
 returns-else-over-eq0 c =
-    let s = c.before in
+    let s = c in
     record {
       at_start = λ e. absurd (c.if-over-eq0.false e);
       at_place = λ y e. let i : s.args.m + s.args.over - 1 ≡ s.args.m + y = omega arith in rw i;

@@ -24,7 +24,7 @@ key_of-requires c = omega (arith, c.if-m-eq0.false)
 
 pub bounds-index-key_of : goal.bounds-index-key_of
 bounds-index-key_of c =
-    let e = c.before in
+    let e = c in
     omega (arith, c.key_of.ensures.upper_bound, (roomy e.args.index.now e.scale_of-m.result e.scale_of-m.ensures.value (omega (arith, c.if-m-eq0.false))).0)
 
 pub overflow_cast-p-in-loop-p : goal.overflow_cast-p-in-loop-p
@@ -77,24 +77,24 @@ entry_after-p-requires c =
     (roomy (s c).args.index.now (m c) (sym t ∙ (keeps c).size) (omega (arith, x, t)), omega (arith, x, t))
 
 pub is_target-requires : goal.is_target-requires
-is_target-requires c = (room c.before).0
+is_target-requires c = (room (goal.at.is_target-requires c).In-loop-p).0
 
 pub loop-p-smaller-then-is_target : goal.loop-p-smaller-then-is_target
-loop-p-smaller-then-is_target c = rw c.entry_after-p.ensures (less c.before)
+loop-p-smaller-then-is_target c = rw c.entry_after-p.ensures (less (goal.at.loop-p-smaller-then-is_target c).In-loop-p)
 
 pub loop-p-preserved-then-is_target : goal.loop-p-preserved-then-is_target
 loop-p-preserved-then-is_target c stored K =
-    let i = c.before in
+    let i = (goal.at.loop-p-preserved-then-is_target c).In-loop-p in
     let w = i.loop-p.invariant stored K in
     rw (c.entry_after-p.ensures ∙ ap (λ (k : ℕ). before_of k (s i).args.index.now (x i)) (sym (scaled i K)))
     (step-found K.covers.chains (x i) (is i) w (is-wanted K _ (x i) (key_of K.scale (s i).args.literals.now) (w.ahead (x i) (is i)) (sym c.is_target.ensures ∙ c.if-is_target.true)))
 
 pub loop-p-smaller : goal.loop-p-smaller
-loop-p-smaller c = rw c.entry_after-p.ensures (less c.before)
+loop-p-smaller c = rw c.entry_after-p.ensures (less (goal.at.loop-p-smaller c).In-loop-p)
 
 pub loop-p-preserved : goal.loop-p-preserved
 loop-p-preserved c stored K =
-    let i = c.before in
+    let i = (goal.at.loop-p-preserved c).In-loop-p in
     let w = i.loop-p.invariant stored K in
     rw (c.entry_after-p.ensures ∙ ap (λ (k : ℕ). before_of k (s i).args.index.now (x i)) (sym (scaled i K)))
     (step_past K.covers.chains (x i) (is i) w (not-wanted K _ (x i) (sym c.is_target.ensures ∙ c.if-is_target.false)))

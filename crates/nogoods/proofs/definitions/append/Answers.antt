@@ -37,30 +37,30 @@ module _ (c : After-make_room-end) where
   end-in = (held s.pre.0.0 s.pre.0.1).holds.fits
 
 pub overflow_sub-store : goal.overflow_sub-store
-overflow_sub-store c = end-in c.before
+overflow_sub-store c = end-in (goal.at.overflow_sub-store c).After-make_room-end
 
 pub returns-then-store-end : goal.returns-then-store-end
 returns-then-store-end c =
     λ stored K.
-    let m = c.before in
+    let m = (goal.at.returns-then-store-end c).After-make_room-end in
     full K.holds (new m) (size m) (closed-added (s m).args.origin (defined (l m))) m.make_room-end.auto.store (held m stored K).holds c.if-store-end.true
 
 pub write_definition-requires : goal.write_definition-requires
-write_definition-requires c = let e = c.before in
-    let m = e.before in
+write_definition-requires c = let e = c in
+    let m = (goal.at.write_definition-requires c).After-make_room-end in
     let p = (s m).requires.1 in record { origin = p.0.1; numbers = p.1; room = rw (tail_of m.make_room-end.result m.make_room-end.new.store, length-drop) (omega (arith, e.if-store-end.false, p.1)) }
 
 pub returns : goal.returns
 returns c =
     λ stored K.
     let w = c.write_definition in
-    let m = c.before in
+    let m = (goal.at.returns c).After-make_room-end in
     let o = (s m).args.origin in
     let p = (s m).requires.1 in
     let G = held m stored K in
     record {
       holds = added G.holds (new m) (size m) (defined-literals o (l m) p.1.1 p.1.0) (added-origins o p.0.0 (defined (l m)))
-          w.new.0 w.ensures;
+          w.new.free w.ensures;
       scale = G.scale;
       size = G.size;
       covers = covers_more (new m) G.covers;

@@ -15,8 +15,8 @@ use Rattle.nogoods.proofs.definitions.write_first.Goals as goal
 
 pub returns : goal.returns
 returns c =
-    let k = c.before in
-    let s = k.before in
+    let k = c in
+    let s = c in
     let a = s.args in
     let y : to_z w32 (of_z w32 k.complement_of.result) ≡ complement (get_or a.numbers.now 0 (pos 0)) =
     to_z-of_z (sfits_of {z = k.complement_of.result} k.complement_of.type_inv) ∙ k.complement_of.ensures

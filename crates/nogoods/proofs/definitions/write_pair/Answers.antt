@@ -8,11 +8,11 @@ use Rattle.nogoods.proofs.definitions.write_pair.Goals as goal
 
 pub returns : goal.returns
 returns c =
-    let r = c.before in
+    let r = c in
     let k = r.complement_of in
-    let s = r.before in
+    let s = c in
     let a = s.args in
-    let sorted : r.sort.new.words.0 ≡ pair a.name a.literal =
+    let sorted : r.sort.new.words.words.0 ≡ pair a.name a.literal =
     r.sort.ensures
     ∙ rw (to_z-of_z s.ranges.name, to_z-of_z (sfits_of {z = k.result} k.type_inv), k.ensures, to_z-of_z s.ranges.literal) in
     subst (λ l. WrittenFront (stored_words (record_of a.origin l)) a.free.now c.write.new.free) sorted c.write.ensures

@@ -15,9 +15,9 @@ use Rattle.nogoods.proofs.Defined.{pair-next}
 use Rattle.nogoods.proofs.definitions.write_pairs.Goals as goal
 
 pub write_pair-requires : goal.write_pair-requires
-write_pair-requires c = let t = c.before in
+write_pair-requires c = let t = c in
     let l = t.loop-i in
-    let s = t.before in
+    let s = c in
     let L = s.args.literals.now in
     let i = t.loop-i-test.true in record { origin = s.requires.origin; room = (
         rw (back (get_or L l.i (pos 0)) c.write_pair-arg-in-loop-i-1.given) (s.requires.room.0.high (get_or L l.i (pos 0)) (in-at (pos 0) L l.i i)),
@@ -26,10 +26,10 @@ write_pair-requires c = let t = c.before in
 
 pub loop-i-preserved : goal.loop-i-preserved
 loop-i-preserved c =
-    let w = c.before in
-    let t = w.before in
+    let w = c in
+    let t = c in
     let l = t.loop-i in
-    let s = t.before in
+    let s = c in
     let L = s.args.literals.now in
     let i = t.loop-i-test.true in (
       omega (arith, i),
@@ -42,7 +42,7 @@ loop-i-preserved c =
 pub returns : goal.returns
 returns c =
     let l = c.loop-i in
-    let s = c.before in
+    let s = c in
     let L = s.args.literals.now in
     let e : l.i ≡ length L = omega (arith, c.loop-i-test.false, l.invariant.0) in
     rw (e, take-length L, to_z-of_z s.ranges.name) at l.invariant.3

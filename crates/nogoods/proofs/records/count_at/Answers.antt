@@ -8,6 +8,6 @@ use Rattle.nogoods.proofs.records.count_at.Goals as goal
 
 pub returns : goal.returns
 returns c =
-    let o = c.before in
+    let o = c in
     let a = o.args in
     c.variable_of.ensures ∙ ap nat_abs (back (get_or a.store.now (a.r + 1) (pos 0)) o.variable_of-arg-1.given)

@@ -8,7 +8,7 @@ use Rattle.nogoods.proofs.records.nogood_at.Goals as goal
 
 pub returns : goal.returns
 returns c =
-    let o = c.before in
+    let o = c in
     let a = o.args in
     let n : o.end_at-end.result - (a.r + header_size) ≡ count_at a.store.now a.r = omega (arith, o.end_at-end.ensures) in
     rw n

@@ -36,19 +36,19 @@ module _ (c : After-make_room-end) where
   end-in = (held s.pre.0.0 s.pre.0.1).holds.fits
 
 pub overflow_sub-store : goal.overflow_sub-store
-overflow_sub-store c = end-in c.before
+overflow_sub-store c = end-in (goal.at.overflow_sub-store c).After-make_room-end
 
 pub returns-then-store-end : goal.returns-then-store-end
 returns-then-store-end c =
     λ stored K.
-    let m = c.before in
+    let m = (goal.at.returns-then-store-end c).After-make_room-end in
     full K.holds (new m) (size (s m).args.origin (L m)) (closed-added (s m).args.origin (L m ∷ [])) m.make_room-end.auto.store (held m stored K).holds
     (omega (arith, c.if-store-end.true))
 
 pub returns : goal.returns
 returns c =
     λ stored K.
-    let m = c.before in
+    let m = (goal.at.returns c).After-make_room-end in
     let o = (s m).args.origin in
     let p = (s m).requires.1 in
     let G = held m stored K in

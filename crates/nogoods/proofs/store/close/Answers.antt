@@ -15,20 +15,20 @@ room : (c : In-loop-from) → end_at c.loop-from.store c.loop-from.from ≤ leng
 room c = closing-room c.loop-from.invariant c.requires c.loop-from-test.true
 
 pub end_at-end-requires : goal.end_at-end-requires
-end_at-end-requires c = room c.before
+end_at-end-requires c = room (goal.at.end_at-end-requires c).At-loop-from
 
 pub keep-to-requires : goal.keep-to-requires
-keep-to-requires c = let i = c.before in (i.loop-from.invariant.low, room i)
+keep-to-requires c = let i = (goal.at.keep-to-requires c).At-loop-from in (i.loop-from.invariant.low, room i)
 
 pub loop-from-smaller : goal.loop-from-smaller
 loop-from-smaller c =
-    let e = c.before in
+    let e = c in
     omega (arith, e.end_at-end.ensures, e.loop-from-test.true)
 
 pub loop-from-preserved : goal.loop-from-preserved
 loop-from-preserved c =
-    let e = c.before in
-    let i = e.before in
+    let e = c in
+    let i = c in
     rw e.end_at-end.ensures
     (closing-next i.loop-from.invariant i.requires i.loop-from-test.true _ _ c.keep-to.ensures)
 
@@ -49,5 +49,5 @@ slice_bounds-zero_all-count c = (ends c).0
 pub returns : goal.returns
 returns c =
     λ stored H.
-    let k = c.before in
+    let k = c in
     closing-over k.loop-from.invariant k.loop-from-test.false c.zero_all.new.t.0 c.zero_all.ensures stored H

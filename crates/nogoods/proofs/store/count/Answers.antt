@@ -41,22 +41,22 @@ module _ (c : After-live_at-n) where
   one = (c.Live-at.ensures, omega (arith, c.Live-at.ensures, few dead))
 
 pub overflow_add-n : goal.overflow_add-n
-overflow_add-n c = let k = room c.before in let o = one c in let v = c.loop-i.invariant.0 in search rules
+overflow_add-n c = let k = room (goal.at.overflow_add-n c).In-loop-i in let o = one c in let v = c.loop-i.invariant.0 in search rules
 
 pub end_at-i-requires : goal.end_at-i-requires
-end_at-i-requires c = room c.before
+end_at-i-requires c = room (goal.at.end_at-i-requires c).In-loop-i
 
 pub loop-i-smaller : goal.loop-i-smaller
 loop-i-smaller c = omega (arith, c.loop-i-test.true, c.end_at-i.ensures)
 
 pub loop-i-preserved : goal.loop-i-preserved
 loop-i-preserved c =
-    let i = c.before in
+    let i = c in
     let v = i.loop-i.invariant in
     let it = stored_at i.args.store.now i.loop-i.i in
     rw c.end_at-i.ensures (
-      omega (arith, v.0, one c.before),
-      λ stored H. rest-next (v.1 stored H) i.loop-i-test.true (λ es q. omega (arith, q, more it es, (one c.before).0)),
+      omega (arith, v.0, one (goal.at.loop-i-preserved c).After-live_at-n),
+      λ stored H. rest-next (v.1 stored H) i.loop-i-test.true (λ es q. omega (arith, q, more it es, (one (goal.at.loop-i-preserved c).After-live_at-n).0)),
     )
 
 pub returns : goal.returns

@@ -13,12 +13,12 @@ found : (c : In-At-2) (stored : List Stored) → let a = c.args in
 found c stored H S = hit 0 _ _ stored (sym (c.find.ensures stored H S) ∙ c.in-At.is)
 
 pub kill-requires : goal.kill-requires
-kill-requires c = let d = c.before in let p = d.requires in hit-room p.1 (found d p.0 p.1 p.2)
+kill-requires c = let d = (goal.at.kill-requires c).In-At-2 in let p = d.requires in hit-room p.1 (found d p.0 p.1 p.2)
 
 pub returns-in-At : goal.returns-in-At
 returns-in-At c =
     λ stored H S.
-    let d = c.before in
+    let d = (goal.at.returns-in-At c).In-At-2 in
     rw c.kill.ensures (hit-killed H (found d stored H S))
 
 pub returns-in-Nothing : goal.returns-in-Nothing

@@ -33,29 +33,29 @@ module _ (c : After-scale_of-m) where
       (omega (arith, a, t), omega (arith, b, t))
 
 pub key_of-requires : goal.key_of-requires
-key_of-requires c = omega (arith, (within c.before).0)
+key_of-requires c = omega (arith, (within (goal.at.key_of-requires c).After-scale_of-m).0)
 
 pub unlink-requires : goal.unlink-requires
 unlink-requires c =
-    let o = c.before in
+    let o = (goal.at.unlink-requires c).After-scale_of-m in
     let w = within o in
     (roomy (s o).args.index.now (m o) o.scale_of-m.ensures.value (omega (arith, w.0)), c.key_of.ensures.upper_bound, w.0, w.1)
 
 pub kill-requires : goal.kill-requires
 kill-requires c =
-    let s = c.before in
+    let s = c in
     let p = s.requires in
     hit-room p.1.holds (hit 0 _ s.args.literals.now p.0 (near-found _ p.1 _ _ p.2))
 
 pub returns : goal.returns
 returns c stored K t =
     let f = c.forget in
-    let a = c.start_of_lem in
+    let a = c.start_of-at in
     let k = c.kill in
-    let u = c.before in
-    let o = u.before in
+    let u = c in
+    let o = (goal.at.returns c).After-scale_of-m in
     let e = scaled o K in
     let H = hit 0 _ (s o).args.literals.now stored (near-found _ K _ _ t) in
-    keeps-part a.result u.unlink.new.index f.new.1.0 a.ensures.1 f.auto.1.0 a.ensures.0
-    (keeps-near _ K _ _ t k.new.0 u.unlink.new.index _ (u.key_of.ensures.value ∙ ap (λ (j : ℕ). key_of j (s o).args.literals.now) (sym e))
+    keeps-part a.result u.unlink.new.index f.new.cells.0 a.ensures.upper_bound f.auto.cells a.ensures.value
+    (keeps-near _ K _ _ t k.new.store u.unlink.new.index _ (u.key_of.ensures.value ∙ ap (λ (j : ℕ). key_of j (s o).args.literals.now) (sym e))
     (unlinked-at e u.unlink.ensures) (rw k.ensures (hit-killed K.holds H)))

@@ -19,7 +19,7 @@ module _ (c : After-cover) where
   covered = c.cover.ensures
 
 pub walk-spot-requires : goal.walk-spot-requires
-walk-spot-requires c = let d = c.before in let p = (s d).requires in (p.0, covered d p.0 p.1)
+walk-spot-requires c = let d = (goal.at.walk-spot-requires c).After-slice_known-1 in let p = (s d).requires in (p.0, covered d p.0 p.1)
 
 -- what the walk said
 module _ (c : After-walk-spot) where
@@ -32,7 +32,7 @@ module _ (c : After-walk-spot) where
 
 pub delete_near-requires : goal.delete_near-requires
 delete_near-requires c =
-    let w = c.before in
+    let w = (goal.at.delete_near-requires c).After-walk-spot in
     let p = (s (d w)).pre in
     let K = covered (d w) p.0 p.1 in
     (p.0, K, said w _ c.in-Here.is p.0 K)
@@ -48,7 +48,7 @@ module _ (c : In-Nowhere) where
 
 pub delete_far-requires : goal.delete_far-requires
 delete_far-requires c =
-    let e = c.before in
+    let e = (goal.at.delete_far-requires c).In-Nowhere-1 in
     let p = (s (d (w e))).pre in
     let K = covered (d (w e)) p.0 p.1 in
     (p.0, K.holds, skips _ K _ c.covered-from.ensures (none e p.0 p.1))
@@ -56,16 +56,16 @@ delete_far-requires c =
 pub returns-in-Here : goal.returns-in-Here
 returns-in-Here c =
     λ stored K.
-    let a = c.before in
-    let w = a.before in
+    let a = c in
+    let w = (goal.at.returns-in-Here c).After-walk-spot in
     let G = covered (d w) stored K in
     c.delete_near.ensures stored G (said w _ a.in-Here.is stored G)
 
 pub returns-in-Nowhere : goal.returns-in-Nowhere
 returns-in-Nowhere c =
     λ stored K.
-    let a = c.before in
-    let e = a.before in
+    let a = c in
+    let e = (goal.at.returns-in-Nowhere c).In-Nowhere-1 in
     let G = covered (d (w e)) stored K in
     record {
       holds = c.delete_far.ensures stored G.holds (skips _ G _ a.covered-from.ensures (none e stored K));

@@ -67,21 +67,21 @@ tells c stored H =
 pub returns-then-is_empty_at : goal.returns-then-is_empty_at
 returns-then-is_empty_at c =
     λ stored H.
-    let k = c.before in
+    let k = (goal.at.returns-then-is_empty_at c).In-loop-i in
     let w = k.loop-i.invariant stored H in
     let h = k.loop-i-test.true in
-    sym (first-empty (it k) (rest_at w h).others (tells c.before stored H ∙ c.if-is_empty_at.true)) ∙ rest-first w h
+    sym (first-empty (it k) (rest_at w h).others (tells (goal.at.returns-then-is_empty_at c).After-is_empty_at stored H ∙ c.if-is_empty_at.true)) ∙ rest-first w h
 
 pub end_at-i-requires : goal.end_at-i-requires
-end_at-i-requires c = room c.before
+end_at-i-requires c = room (goal.at.end_at-i-requires c).In-loop-i
 
 pub loop-i-smaller : goal.loop-i-smaller
 loop-i-smaller c = omega (arith, c.loop-i-test.true, c.end_at-i.ensures)
 
 pub loop-i-preserved : goal.loop-i-preserved
 loop-i-preserved c =
-    let o = c.before in
-    let k = o.before in
+    let o = (goal.at.loop-i-preserved c).After-is_empty_at in
+    let k = (goal.at.loop-i-preserved c).In-loop-i in
     rw c.end_at-i.ensures (λ stored H.
     let w = k.loop-i.invariant stored H in
     let h = k.loop-i-test.true in

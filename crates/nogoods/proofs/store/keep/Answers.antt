@@ -11,8 +11,8 @@ returns-then-is_dead c = record {
 
 pub returns : goal.returns
 returns c =
-    let k = c.before in
-    let e = k.before in
+    let k = c in
+    let e = c in
     record {
       dead = λ d. absurd (true≢false (sym d ∙ sym e.is_dead.ensures ∙ e.if-is_dead.false));
       alive = λ a. (rw k.count_at-n.ensures, rw k.count_at-n.ensures at c.move_down.ensures);

@@ -11,10 +11,10 @@ returns-then-size-store c = λ stored K. rw (kept-all K.holds c.args.size (omega
 pub returns : goal.returns
 returns c stored K =
     let r = c.reset in
-    let o = c.before in
-    let k = o.before in
-    let e = k.before in
-    let blank : BlankIndex k.clear.new.index.0 = rw k.clear.auto.index k.clear.ensures in
+    let o = c in
+    let k = c in
+    let e = c in
+    let blank : BlankIndex k.clear.new.index.index.0 = rw k.clear.auto.index k.clear.ensures in
     rw (kept-live K.holds e.args.size (omega (arith, e.if-size-store.false)))
-    (keeps-part o.start_of_lem.result k.clear.new.index.0 r.new.0 o.start_of_lem.ensures.1 r.auto.0 o.start_of_lem.ensures.0
+    (keeps-part o.start_of-at.result k.clear.new.index.index.0 r.new.cells.0 o.start_of-at.ensures.upper_bound r.auto.cells o.start_of-at.ensures.value
     (keeps-blank (c.close.ensures stored K.holds) blank))

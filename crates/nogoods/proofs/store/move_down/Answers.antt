@@ -31,9 +31,9 @@ module _ (c : In-loop-k) where
 
 pub loop-k-preserved : goal.loop-k-preserved
 loop-k-preserved c =
-    let i = c.before in
+    let i = c in
     let l = i.loop-k in
-    let s = i.before in
+    let s = c in
     let b = s.args in
     rw (back (get_or l.words (b.from + l.k) (pos 0)) c.words-1.given) (
       omega (arith, i.loop-k-test.true),
@@ -57,10 +57,10 @@ pub slice_copy_out-words : goal.slice_copy_out-words
 slice_copy_out-words c = let k = room c in search rules
 
 pub overflow_add-to : goal.overflow_add-to
-overflow_add-to c = let k = room c.before in search rules
+overflow_add-to c = let k = room (goal.at.overflow_add-to c).In-loop-k in search rules
 
 pub offset_bounds-words-to : goal.offset_bounds-words-to
-offset_bounds-words-to c = let k = room c.before in search rules
+offset_bounds-words-to c = let k = room (goal.at.offset_bounds-words-to c).In-loop-k in search rules
 
 pub bounds-words-to : goal.bounds-words-to
-bounds-words-to c = let k = room c.before in search rules
+bounds-words-to c = let k = room (goal.at.bounds-words-to c).In-loop-k in search rules

@@ -47,7 +47,7 @@ copy-requires c =
 
 pub returns : goal.returns
 returns c =
-    let s = c.before in
+    let s = c in
     let a = s.args in
     let L = a.literals.now in
     let it = record_of a.origin L in

@@ -46,7 +46,7 @@ slice_bounds-signed_of-count c = omega arith
 
 pub signed_of-requires : goal.signed_of-requires
 signed_of-requires c =
-    let a = c.before in
+    let a = c in
     let r = part_length c in
     (omega (arith, r, a.requires.0), omega (arith, r, a.requires.0))
 
@@ -65,7 +65,7 @@ loop-i-smaller c = let l = c.loop-i in omega (arith, c.loop-i-test.true, l.invar
 pub loop-i-preserved : goal.loop-i-preserved
 loop-i-preserved c =
     let l = c.loop-i in
-    let a = c.before in
+    let a = c in
     let row = a.args.row.now in
     let bytes = a.args.bytes.now in
     let k = a.args.k in

@@ -12,9 +12,7 @@ use borrow.Author.Rules.{rules}
 use Rattle.packets.proofs.numbers.value_of.Goals as goal
 
 pub loop-i-init : goal.loop-i-init
-
 unfolding value
-
 loop-i-init c = let bytes = c.args.bytes.now in (omega arith, (rw (drop-length bytes), omega arith))
 
 pub overflow_add-n : goal.overflow_add-n
@@ -23,7 +21,7 @@ overflow_add-n c = search rules
 pub loop-i-preserved : goal.loop-i-preserved
 loop-i-preserved c =
     let l = c.loop-i in
-    let a = c.before in
+    let a = c in
     let bytes = a.args.bytes.now in
     let f = flip_if a.args.negative in
     let j = l.i - 1 in

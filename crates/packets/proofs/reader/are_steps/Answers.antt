@@ -28,19 +28,19 @@ module _ (c : After-step_size-size) where
 
 pub returns-then-size-eq0 : goal.returns-then-size-eq0
 returns-then-size-eq0 c =
-    let d = c.before in
+    let d = (goal.at.returns-then-size-eq0 c).After-step_size-size in
     let l = d.loop-left in
     sym (l.invariant.1 ∙ fills-none l.left (drop (at d) (bs d)) d.loop-left-test.true (sym (size d).0 ∙ c.if-size-eq0.true))
 
 pub overflow_add-at : goal.overflow_add-at
-overflow_add-at c = let d = c.before in record { fits = omega (arith, (size d).1, length-drop (at d) (bs d), d.loop-left.invariant.0) }
+overflow_add-at c = let d = (goal.at.overflow_add-at c).After-step_size-size in record { fits = omega (arith, (size d).1, length-drop (at d) (bs d), d.loop-left.invariant.0) }
 
 pub loop-left-smaller : goal.loop-left-smaller
 loop-left-smaller c = omega (arith, c.loop-left-test.true)
 
 pub loop-left-preserved : goal.loop-left-preserved
 loop-left-preserved c =
-    let d = c.before in
+    let d = (goal.at.loop-left-preserved c).After-step_size-size in
     let l = d.loop-left in
     (omega (arith, (size d).1, length-drop (at d) (bs d), l.invariant.0), l.invariant.1 ∙ fills-on l.left (drop (at d) (bs d)) d.loop-left-test.true (λ e. c.if-size-eq0.false ((size d).0 ∙ e)) ∙ rw (← (size d).0, drop-drop d.step_size-size.result (at d) (bs d)))
 

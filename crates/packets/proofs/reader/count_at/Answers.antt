@@ -8,5 +8,5 @@ use Rattle.packets.proofs.reader.count_at.Goals as goal
 pub returns : goal.returns
 returns c =
     let a = c.args in
-    let e = c.value_of_lem.ensures in
+    let e = c.value_of.ensures in
     (e.0 ∙ ap value (plain-bytes _ ∙ part-is 4 a.at a.packet.now), e.1)

@@ -17,14 +17,14 @@ use Rattle.packets.proofs.reader.read_as.Goals.{Else-not-lengths_fit, After-coun
 
 pub returns-then-not-is_marked : goal.returns-then-not-is_marked
 returns-then-not-is_marked c =
-    let b = c.before in
+    let b = c in
     let a = b.args in
     let m = sym c.is_marked.ensures ∙ c.if-not-is_marked.true in
     early a.version a.packet.now 51 (no-mark a.version a.packet.now m) b.requires.0 b.requires.1
 
 pub returns-then-not-lengths_fit : goal.returns-then-not-lengths_fit
 returns-then-not-lengths_fit c =
-    let b = c.before in
+    let b = c in
     let a = b.args in
     let m = sym c.is_marked.ensures ∙ c.if-not-is_marked.false in
     let l = sym c.lengths_fit.ensures ∙ c.if-not-lengths_fit.true in
@@ -45,7 +45,7 @@ pub count_at-count-requires : goal.count_at-count-requires
 count_at-count-requires c = omega (arith, (known c).0)
 
 pub count_at-steps-requires : goal.count_at-steps-requires
-count_at-steps-requires c = omega (arith, (known c.before).0)
+count_at-steps-requires c = omega (arith, (known (goal.at.count_at-steps-requires c).Else-not-lengths_fit).0)
 
 -- the words end within the packet, and the parts are those of the packet
 module _ (c : After-count_at-steps) where
@@ -75,14 +75,14 @@ module _ (c : After-count_at-steps) where
       parts-left v p m (fit c.before) _ _ _ _ c.count_at-count.ensures.0 words-there c.count_at-steps.ensures.0 steps-there
 
 pub slice_bounds-read_parts-count-2 : goal.slice_bounds-read_parts-count-2
-slice_bounds-read_parts-count-2 c = room c.before
+slice_bounds-read_parts-count-2 c = room (goal.at.slice_bounds-read_parts-count-2 c).After-count_at-steps
 
 pub read_parts-requires : goal.read_parts-requires
-read_parts-requires c = let d = c.before in
-    let m = known c.before in
+read_parts-requires c = let d = (goal.at.read_parts-requires c).After-count_at-steps in
+    let m = known (goal.at.read_parts-requires c).Else-not-lengths_fit in
     let l = length-take-le (4 * word_count (p d)) (drop 13 (p d)) (omega (arith, length-drop 13 (p d), m.1.0)) in record { count_in_bounds = (rw (words-there d) (omega (arith, l, d.count_at-count.ensures.0)), rw (steps-there d, d.count_at-steps.ensures.0) m.1.1); zeros = c.requires }
 
 pub returns : goal.returns
 returns c =
     let a = c.args in
-    parts-given a.version a.packet.now {table = a.table.now} {proof = a.proof.now} _ _ _ _ (comes-to c.before) c.read_parts.ensures
+    parts-given a.version a.packet.now {table = a.table.now} {proof = a.proof.now} _ _ _ _ (comes-to (goal.at.returns c).After-count_at-steps) c.read_parts.ensures

@@ -27,7 +27,7 @@ slice_bounds-decode_rule-end c = sym (part _ (omega (arith, c.if-count-lt-ROW.tr
 
 pub decode_rule-requires : goal.decode_rule-requires
 decode_rule-requires c =
-    let p = c.before in
+    let p = c in
     rw (part p.args.count (omega (arith, c.if-count-lt-ROW.true))) (omega (arith, c.if-count-lt-FRONT.false), omega (arith, p.requires))
 
 pub returns-then-count-lt-ROW : goal.returns-then-count-lt-ROW

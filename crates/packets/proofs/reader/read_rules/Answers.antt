@@ -55,35 +55,35 @@ module _ (c : After-read_rule-read) where
       rw (tail_of (4 * i d) bytes, numbers-later 4 (i d) (a d).args.count bytes (omega (arith, d.loop-i-test.taken))) at c.read_rule-read.ensures
 
 pub returns-then-rules-ge-MOST_RULES : goal.returns-then-rules-ge-MOST_RULES
-returns-then-rules-ge-MOST_RULES c = let d = c.before in rw (filling-full d.loop-i.invariant (some_left d) c.if-rules-ge-MOST_RULES.true) refl
+returns-then-rules-ge-MOST_RULES c = let d = (goal.at.returns-then-rules-ge-MOST_RULES c).In-loop-i in rw (filling-full d.loop-i.invariant (some_left d) c.if-rules-ge-MOST_RULES.true) refl
 
 pub overflow_mul-from : goal.overflow_mul-from
-overflow_mul-from c = record { fits = omega (arith, room c.before) }
+overflow_mul-from c = record { fits = omega (arith, room (goal.at.overflow_mul-from c).In-loop-i) }
 
 pub slice_bounds-read_rule-count : goal.slice_bounds-read_rule-count
-slice_bounds-read_rule-count c = room c.before
+slice_bounds-read_rule-count c = room (goal.at.slice_bounds-read_rule-count c).In-loop-i
 
 pub read_rule-read-requires : goal.read_rule-read-requires
 read_rule-read-requires c =
-    let d = c.before in
+    let d = (goal.at.read_rule-read-requires c).In-loop-i in
     let bytes = (a d).args.bytes.now in
     rw (tail_of (4 * i d) bytes) (omega (arith, length-drop (4 * i d) bytes, (a d).requires))
 
 pub returns-then-read-eq0 : goal.returns-then-read-eq0
 returns-then-read-eq0 c =
-    let e = c.before in
+    let e = (goal.at.returns-then-read-eq0 c).After-read_rule-read in
     let f = d e in
     rw (filling-stop f.loop-i.inv (some_left f) (told e) c.if-read-eq0.true) refl
 
 pub overflow_add-i : goal.overflow_add-i
 overflow_add-i c =
-    let e = c.before in
+    let e = (goal.at.overflow_add-i c).After-read_rule-read in
     let f = d e in
     record { fits = omega (arith, (told e).within, length-drop (i f) (ws f), long f, (a f).fits.count, f.loop-i-test.taken) }
 
 pub overflow_add-words : goal.overflow_add-words
 overflow_add-words c =
-    let e = c.before in
+    let e = (goal.at.overflow_add-words c).After-read_rule-read in
     let f = d e in
     let g = f.loop-i.inv in
     let n = filling-near g (some_left f) (told e) c.if-read-eq0.false in
@@ -93,11 +93,11 @@ pub overflow_add-rules : goal.overflow_add-rules
 overflow_add-rules c = record { fits = omega (arith, c.loop-i.invariant.few) }
 
 pub loop-i-smaller : goal.loop-i-smaller
-loop-i-smaller c = let f = d c.before in omega (arith, c.if-read-eq0.false, f.loop-i-test.taken)
+loop-i-smaller c = let f = d (goal.at.loop-i-smaller c).After-read_rule-read in omega (arith, c.if-read-eq0.false, f.loop-i-test.taken)
 
 pub loop-i-preserved : goal.loop-i-preserved
 loop-i-preserved c =
-    let e = c.before in
+    let e = (goal.at.loop-i-preserved c).After-read_rule-read in
     let f = d e in
     filling-on f.loop-i.inv (some_left f) (told e) c.if-read-eq0.false c.larger-top.ensures (omega (arith, c.if-rules-ge-MOST_RULES.false))
 

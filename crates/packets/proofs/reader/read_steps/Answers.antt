@@ -12,7 +12,7 @@ use Rattle.packets.proofs.reader.read_steps.Goals as goal
 use Rattle.packets.proofs.reader.read_steps.Goals.{After-step_size-i, After-read_step-read}
 
 pub loop-left-init : goal.loop-left-init
-loop-left-init c = let a = c.before in going_start a.args.bytes.now a.args.count a.args.proof.now a.requires.bytes_value
+loop-left-init c = let a = c in going_start a.args.bytes.now a.args.count a.args.proof.now a.requires.bytes_value
 
 pub slice_bounds-rest-count : goal.slice_bounds-rest-count
 slice_bounds-rest-count c = c.loop-left.invariant.within
@@ -30,7 +30,7 @@ overflow_add-i c =
 
 pub read_step-read-requires : goal.read_step-read-requires
 read_step-read-requires c = let l = c.loop-left in
-    let a = c.before in let all = rw (tail_of l.i a.args.bytes.now) ((going-size l.invariant c.loop-left-test.true, l.invariant.short), a.requires.classes_value) in record { bytes_nonzero = all.0; classes_value = all.1 }
+    let a = c in let all = rw (tail_of l.i a.args.bytes.now) ((going-size l.invariant c.loop-left-test.true, l.invariant.short), a.requires.classes_value) in record { bytes_nonzero = all.0; classes_value = all.1 }
 
 -- what is told of the step
 module _ (c : After-read_step-read) where
@@ -45,12 +45,12 @@ module _ (c : After-read_step-read) where
 
 pub returns-in-Refused : goal.returns-in-Refused
 returns-in-Refused c =
-    let d = c.before in
+    let d = (goal.at.returns-in-Refused c).After-read_step-read in
     rw (going-refused d.loop-left.invariant d.loop-left-test.true (after d) c.in-Refused.is (told d)) refl
 
 pub returns-then-next-gt-LONGEST : goal.returns-then-next-gt-LONGEST
 returns-then-next-gt-LONGEST c =
-    let d = c.before in
+    let d = (goal.at.returns-then-next-gt-LONGEST c).After-read_step-read in
     rw (going-long d.loop-left.invariant d.loop-left-test.true (after d) c.in-Taken.is (told d) c.if-next-gt-LONGEST.true) refl
 
 pub loop-left-smaller : goal.loop-left-smaller
@@ -58,10 +58,10 @@ loop-left-smaller c = omega (arith, c.loop-left-test.true)
 
 pub loop-left-preserved : goal.loop-left-preserved
 loop-left-preserved c =
-    let b = c.before in
-    let d = b.before in
+    let b = c in
+    let d = (goal.at.loop-left-preserved c).After-read_step-read in
     let g = going_on d.loop-left.invariant d.loop-left-test.true (after d) b.in-Taken.is (told d) c.larger-top.ensures b.if-next-gt-LONGEST.false in
-    rw (size b.before).0 g
+    rw (size (goal.at.loop-left-preserved c).After-step_size-i).0 g
 
 pub returns : goal.returns
 returns c = going_end c.loop-left.invariant c.loop-left-test.false

@@ -19,13 +19,13 @@ loop-i-init c = (omega arith, (going_start _ _ _, omega arith))
 pub put_signed-end-requires : goal.put_signed-end-requires
 put_signed-end-requires c =
     let l = c.loop-i in
-    let a = c.before in
+    let a = c in
     omega (arith, l.invariant.1.1, a.requires.0, a.requires.1, c.loop-i-test.true)
 
 pub loop-i-preserved : goal.loop-i-preserved
 loop-i-preserved c =
     let l = c.loop-i in
-    let a = c.before in
+    let a = c in
     let row = a.args.row.now in
     let z = get_or row l.i (pos 0) in
     let h = c.loop-i-test.true in

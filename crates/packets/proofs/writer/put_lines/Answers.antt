@@ -58,50 +58,48 @@ pub slice_bounds-step_at-end-in-loop-letter : goal.slice_bounds-step_at-end-in-l
 slice_bounds-step_at-end-in-loop-letter c = let p = c.loop-letter.invariant.2 in search rules
 
 pub step_at-answer-requires : goal.step_at-answer-requires
-
 unfolding byte_classes
-
-step_at-answer-requires c κs = let i = c.loop-letter.invariant in (refl, (i.1, i.2))
+step_at-answer-requires c = let i = c.loop-letter.invariant in record { classes_value = refl; rows = (i.1, i.2) }
 
 pub returns-in-End : goal.returns-in-End
-returns-in-End c = let b = c.before in stepping-end (here b).loop.invariant.0 (into-told b.step_at-answer.ensures c.in-End.is)
+returns-in-End c = let b = (goal.at.returns-in-End c).After-step_at-answer in stepping-end (here b).loop.invariant.0 (into-told b.step_at-answer.ensures c.in-End.is)
 
 pub returns-in-Refused : goal.returns-in-Refused
-returns-in-Refused c = let b = c.before in stepping-refused (here b).loop.invariant.0 _ (into-told b.step_at-answer.ensures c.in-Refused.is)
+returns-in-Refused c = let b = (goal.at.returns-in-Refused c).After-step_at-answer in stepping-refused (here b).loop.invariant.0 _ (into-told b.step_at-answer.ensures c.in-Refused.is)
 
 pub slice_bounds-numbers-end : goal.slice_bounds-numbers-end
-slice_bounds-numbers-end c = (room c.before).1
+slice_bounds-numbers-end c = (room (goal.at.slice_bounds-numbers-end c).In-Line-2).1
 
 pub slice_bounds-put_step-end : goal.slice_bounds-put_step-end
-slice_bounds-put_step-end c = sym (length-take-le _ _ (room c.before).1)
+slice_bounds-put_step-end c = sym (length-take-le _ _ (room (goal.at.slice_bounds-put_step-end c).In-Line-2).1)
 
 pub put_step-end-requires : goal.put_step-end-requires
 put_step-end-requires c =
-    let d = c.before in
+    let d = (goal.at.put_step-end-requires c).In-Line-2 in
     let S = (l d).loop.invariant.0 in
     (rw (length-take-le _ _ (room d).1) (room d).0, omega (arith, S.near, S.within, (a d).requires.0, (a d).requires.1))
 
 pub slice_bounds-numbers-end-in-Line : goal.slice_bounds-numbers-end-in-Line
-slice_bounds-numbers-end-in-Line c = (room c.before).1
+slice_bounds-numbers-end-in-Line c = (room (goal.at.slice_bounds-numbers-end-in-Line c).In-Line-2).1
 
 pub slice_bounds-largest_variable-end : goal.slice_bounds-largest_variable-end
-slice_bounds-largest_variable-end c = sym (length-take-le _ _ (room c.before).1)
+slice_bounds-largest_variable-end c = sym (length-take-le _ _ (room (goal.at.slice_bounds-largest_variable-end c).In-Line-2).1)
 
 pub overflow_add-steps : goal.overflow_add-steps
 overflow_add-steps c =
-    let d = c.before in
+    let d = (goal.at.overflow_add-steps c).In-Line-2 in
     let S = (l d).loop.invariant.0 in
     record { fits = omega (arith, S.few, S.within, (a d).requires.0) }
 
 pub loop-letter-smaller : goal.loop-letter-smaller
 loop-letter-smaller c =
-    let d = c.before in
+    let d = (goal.at.loop-letter-smaller c).In-Line-2 in
     let u = passed-line (a d).args.text.now (l d).loop.position (there d) in
     omega (arith, u.0, u.1)
 
 pub loop-letter-preserved : goal.loop-letter-preserved
 loop-letter-preserved c =
-    let d = c.before in
+    let d = (goal.at.loop-letter-preserved c).In-Line-2 in
     let p = c.put_step-end.ensures in
     let i = (l d).loop.invariant in
     let k = (b d).step-at.auto in

@@ -17,25 +17,25 @@ body_of-body-requires c = shape_of _ c.requires.0
 
 pub put_all-middle-requires : goal.put_all-middle-requires
 put_all-middle-requires c =
-    let a = c.before in
+    let a = c in
     let f = rule-formed a.args.rule.now a.requires.0 in
     let h = c.heads_of-heads.ensures in
     (omega arith, rw h (omega (arith, c.put_counts-from.ensures.value, a.requires.1.1, f.heads-few)))
 
 pub put_all-requires : goal.put_all-requires
 put_all-requires c =
-    let a = c.before in
+    let a = c in
     let f = rule-formed a.args.rule.now a.requires.0 in
     let h = ap length c.heads_of-heads.ensures in
     let b = c.body_of-body.ensures ∙ plain-literals a.args.rule.now a.requires.1.0 in
-    (omega arith, rw b (omega (arith, h, c.put_all_lem.ensures.1, c.put_counts-from.ensures.value, a.requires.1.1, f.heads-few, f.body-few)))
+    (omega arith, rw b (omega (arith, h, c.put_all-middle.ensures.value, c.put_counts-from.ensures.value, a.requires.1.1, f.heads-few, f.body-few)))
 
 pub returns : goal.returns
-returns c = let a = c.before in
+returns c = let a = c in
     let f = rule-formed a.args.rule.now a.requires.0 in
     let h = c.heads_of-heads.ensures in
     let b = c.body_of-body.ensures ∙ plain-literals a.args.rule.now a.requires.1.0 in
     let k = c.kind_of-kind.ensures in
     let p = rw (h, b, k) at c.put_counts-from.ensures in
-    let q = rw h at c.put_all_lem.ensures in
+    let q = rw h at c.put_all-middle.ensures in
     let t = rw b at c.put_all.ensures in record { put = rule-put (rule_at a.args.rule.now) p.0 q.0 t.0; upper_bound = omega (arith, p.1, q.1, t.1, f.heads-few, f.body-few) }

@@ -47,19 +47,19 @@ offset_bounds-table-i c = let w = c.loop-left.invariant.0.0.within in search rul
 
 pub put_rule-end-requires : goal.put_rule-end-requires
 put_rule-end-requires c =
-    let d = c.before in
+    let d = (goal.at.put_rule-end-requires c).After-rest-1 in
     let p = d.requires in
     (rw (tail_of (i d) (t d)) (at d).sound, (rw (tail_of (i d) (t d)) (and_left (has_words (v d) (rule_at (drop (i d) (t d)))) _ (worded d)), omega (arith, d.loop-left.invariant.1.1, d.loop-left-test.true, p.1.0, p.1.1)))
 
 pub next_rule-i-requires : goal.next_rule-i-requires
-next_rule-i-requires c = record { here = (at c.before).here }
+next_rule-i-requires c = record { here = (at (goal.at.next_rule-i-requires c).After-rest-1).here }
 
 pub loop-left-smaller : goal.loop-left-smaller
 loop-left-smaller c = omega (arith, c.loop-left-test.true)
 
 pub loop-left-preserved : goal.loop-left-preserved
 loop-left-preserved c =
-    let d = c.before in
+    let d = (goal.at.loop-left-preserved c).After-rest-1 in
     let l = d.loop-left in
     let p = rw (tail_of (i d) (t d)) at c.put_rule-end.ensures in
     rw c.next_rule-i.ensures.0
@@ -68,9 +68,7 @@ loop-left-preserved c =
 -- all of them are put
 all-put : (c : After-loop-left) → (let a = c.args in let l = c.loop-left in
     Put (bytes_of 4 (packet_words a.version (rules_at a.rules a.table.now))) a.buffer.now l.buffer a.at l.end)
-
 unfolding bytes_of
-
 all-put c =
     let a = c.args in
     let l = c.loop-left in

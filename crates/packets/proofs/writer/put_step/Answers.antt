@@ -8,6 +8,6 @@ use Rattle.packets.proofs.Writes.{put_two}
 use Rattle.packets.proofs.writer.put_step.Goals as goal
 
 pub returns : goal.returns
-returns c = let a = c.before in
-    let n = c.put_all_lem.ensures in
+returns c = let a = c in
+    let n = c.put_all.ensures in
     let letter = rw c.byte_of.ensures at c.put.ensures in record { put = put_on (put_two (byte_of a.args.letter) (length a.args.numbers.now) letter c.put-2.ensures) n.0; upper_bound = omega (arith, n.1, a.requires.0) }

@@ -12,7 +12,7 @@ use Rattle.packets.proofs.writer.write_as.Goals.{Else-not-is_readable}
 
 pub returns-then-not-is_readable : goal.returns-then-not-is_readable
 returns-then-not-is_readable c =
-    let b = c.before in
+    let b = c in
     let a = b.args in
     let t = sym c.is_readable.ensures ∙ c.if-not-is_readable.true in
     refusal-written a.packet.now _ (no_table a.version a.table.now a.rules a.proof.now (length a.packet.now) t) refl b.requires
@@ -26,13 +26,13 @@ all_have_words-requires c = let a = c.args in sound-rules a.table.now a.rules (s
 
 pub returns-then-not-all_have_words : goal.returns-then-not-all_have_words
 returns-then-not-all_have_words c =
-    let b = c.before in
+    let b = c in
     let a = b.args in
     let p = sym c.all_have_words.ensures ∙ c.if-not-all_have_words.true in
-    refusal-written a.packet.now _ (no-packet a.version a.table.now a.rules a.proof.now (length a.packet.now) (sound c.before) p) refl b.requires
+    refusal-written a.packet.now _ (no-packet a.version a.table.now a.rules a.proof.now (length a.packet.now) (sound (goal.at.returns-then-not-all_have_words c).Else-not-is_readable) p) refl b.requires
 
 pub write_pair-requires : goal.write_pair-requires
-write_pair-requires c = let p = sym c.all_have_words.ensures ∙ c.if-not-all_have_words.false in record { rules_value = (sound c.before, p); packet_value = c.requires }
+write_pair-requires c = let p = sym c.all_have_words.ensures ∙ c.if-not-all_have_words.false in record { rules_value = (sound (goal.at.write_pair-requires c).Else-not-is_readable, p); packet_value = c.requires }
 
 pub returns : goal.returns
 returns c = c.write_pair.ensures

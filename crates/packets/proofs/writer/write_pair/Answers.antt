@@ -22,10 +22,10 @@ use Rattle.packets.proofs.writer.write_pair.Goals as goal
 use Rattle.packets.proofs.writer.write_pair.Goals.{After-answer_of-answer, Start, After-put_steps-put, After-put_rules-middle}
 
 pub put_rules-middle-requires : goal.put_rules-middle-requires
-put_rules-middle-requires c = let a = c.before in record { table_value = (sound-rules a.args.table.now a.args.rules a.requires.rules_value.0, a.requires.rules_value.1); rules_le_most_rules = (few-rules a.args.table.now a.args.rules a.requires.rules_value.0, omega arith) }
+put_rules-middle-requires c = let a = c in record { table_value = (sound-rules a.args.table.now a.args.rules a.requires.rules_value.0, a.requires.rules_value.1); rules_le_most_rules = (few-rules a.args.table.now a.args.rules a.requires.rules_value.0, omega arith) }
 
 pub largest_atom-requires : goal.largest_atom-requires
-largest_atom-requires c = let a = c.before in sound-rules a.args.table.now a.args.rules a.requires.rules_value.0
+largest_atom-requires c = let a = c in sound-rules a.args.table.now a.args.rules a.requires.rules_value.0
 
 -- the rules and the steps are put, and the questions asked
 module _ (c : After-answer_of-answer) where
@@ -84,11 +84,11 @@ module _ (c : After-answer_of-answer) where
 
 pub returns-in-Written : goal.returns-in-Written
 returns-in-Written c =
-    let d = c.before in
+    let d = (goal.at.returns-in-Written c).After-answer_of-answer in
     packet-left (good d) (fits d) (whole d) (packet d) _ (comes-to d) (told d) _ c.in-Written.is refl (s d).requires.packet_value (packet-put (v d) (P d) (ts d) _ (R d) (S d).put (S d).count c.put_header.ensures)
 
 pub returns-in-Refused : goal.returns-in-Refused
 returns-in-Refused c =
-    let d = c.before in
+    let d = (goal.at.returns-in-Refused c).After-answer_of-answer in
     let z : ℕ → List ℕ = λ n. replicate n 0 in
     zeros-left (good d) (fits d) (whole d) (packet d) _ (comes-to d) (told d) _ c.in-Refused.is (c.zero_bytes.ensures ∙ ap z (same d))

@@ -41,14 +41,14 @@ module _ (c : Else-m-eq0) where
   enough = cells started.args.index.now scale c.scale_of-m.ensures.value c.if-m-eq0.false
 
 pub bounds-index-at : goal.bounds-index-at
-bounds-index-at c = omega (arith, enough c.before)
+bounds-index-at c = omega (arith, enough (goal.at.bounds-index-at c).Else-m-eq0)
 
 pub bounds-index-at-in-loop-k : goal.bounds-index-at-in-loop-k
-bounds-index-at-in-loop-k c = omega (arith, c.loop-k-test.true, enough c.before)
+bounds-index-at-in-loop-k c = omega (arith, c.loop-k-test.true, enough (goal.at.bounds-index-at-in-loop-k c).Else-m-eq0)
 
 pub is_start-requires : goal.is_start-requires
 is_start-requires c =
-    let e = c.before in
+    let e = (goal.at.is_start-requires c).Else-m-eq0 in
     roomy (started e).args.index.now (scale e) e.scale_of-m.ensures.value (omega (arith, e.if-m-eq0.false))
 
 -- the nogood at the place
@@ -80,7 +80,7 @@ module _ (d : Then-is_start) where
   size = l.loop-k.inv.0.size ∙ s.pre.1.1.0
 
 pub derive_at-given-requires : goal.derive_at-given-requires
-derive_at-given-requires c = let d = c.before in record { record = read d; size = size d }
+derive_at-given-requires c = let d = (goal.at.derive_at-given-requires c).Then-is_start in record { record = read d; size = size d }
 
 -- what it gave
 module _ (c : After-derive_at-given) where
@@ -92,7 +92,7 @@ module _ (c : After-derive_at-given) where
 
 pub returns-in-Conflicting : goal.returns-in-Conflicting
 returns-in-Conflicting c =
-    let o = c.before in
+    let o = (goal.at.returns-in-Conflicting c).After-derive_at-given in
     let d = at o in
     let t = told o _ c.in-Conflicting.is in
     let v = (l d).loop.inv in (
@@ -121,20 +121,20 @@ pub past-end-requires : goal.past-end-requires
 past-end-requires c = ((l (at (o c))).loop.inv.1.0, (grown c).1)
 
 pub loop-k-smaller-in-Assigned : goal.loop-k-smaller-in-Assigned
-loop-k-smaller-in-Assigned c = omega (arith, (at (o c.before)).loop-test.taken)
+loop-k-smaller-in-Assigned c = omega (arith, (at (o (goal.at.loop-k-smaller-in-Assigned c).In-Assigned)).loop-test.taken)
 
 pub loop-k-preserved-in-Assigned : goal.loop-k-preserved-in-Assigned
 loop-k-preserved-in-Assigned c =
-    let k = c.before in
+    let k = (goal.at.loop-k-preserved-in-Assigned c).In-Assigned in
     let i = (l (at (o k))).loop in
     let p = c.past-end.ensures in
     (grows-on i.inv.0 (grown k).0, (p.1.1, rw (gives k).1.3 (blank-set i.assignment (v k) _ i.end _ i.inv.1.1 p.0 p.1.0)))
 
 pub loop-k-smaller-in-Nothing : goal.loop-k-smaller-in-Nothing
-loop-k-smaller-in-Nothing c = omega (arith, (at c.before).loop-test.true)
+loop-k-smaller-in-Nothing c = omega (arith, (at (goal.at.loop-k-smaller-in-Nothing c).After-derive_at-given).loop-test.true)
 
 pub loop-k-preserved-in-Nothing : goal.loop-k-preserved-in-Nothing
-loop-k-preserved-in-Nothing c = let o = c.before in rw (told o _ c.in-Nothing.is).0 (l (at o)).loop.inv
+loop-k-preserved-in-Nothing c = let o = (goal.at.loop-k-preserved-in-Nothing c).After-derive_at-given in rw (told o _ c.in-Nothing.is).0 (l (at o)).loop.inv
 
 pub loop-k-smaller : goal.loop-k-smaller
 loop-k-smaller c = omega (arith, c.loop-k-test.true)

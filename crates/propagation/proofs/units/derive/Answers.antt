@@ -39,7 +39,7 @@ pub bounds-literals-j : goal.bounds-literals-j
 bounds-literals-j c = (unit c).0
 
 pub complement_of-requires : goal.complement_of-requires
-complement_of-requires c = rw (back (one c.before) c.complement_of-arg-1.given) (small c.before)
+complement_of-requires c = rw (back (one (goal.at.complement_of-requires c).In-Unit) c.complement_of-arg-1.given) (small (goal.at.complement_of-requires c).In-Unit)
 
 -- what becomes true
 other : (c : After-complement_of) → to_z w32 (of_z w32 c.complement_of.result) ≡ complement (one c.before)
@@ -48,17 +48,17 @@ other c =
     ∙ (rw (back (one c.before) c.complement_of-arg-1.given) at c.complement_of.ensures)
 
 pub make_true-v-requires : goal.make_true-v-requires
-make_true-v-requires c = let k = c.before in record { literal = rw (other c.before, variable-complement (one k)) (small k); size = k.requires.size }
+make_true-v-requires c = let k = (goal.at.make_true-v-requires c).In-Unit in record { literal = rw (other (goal.at.make_true-v-requires c).After-complement_of, variable-complement (one k)) (small k); size = k.requires.size }
 
 pub returns-in-All : goal.returns-in-All
-returns-in-All c = (refl, told c.before _ c.in-All.is)
+returns-in-All c = (refl, told (goal.at.returns-in-All c).After-look_at-look _ c.in-All.is)
 
 pub returns-in-Idle : goal.returns-in-Idle
-returns-in-Idle c = (refl, told c.before _ c.in-Idle.is)
+returns-in-Idle c = (refl, told (goal.at.returns-in-Idle c).After-look_at-look _ c.in-Idle.is)
 
 pub returns-in-Unit : goal.returns-in-Unit
 returns-in-Unit c =
-    let k = c.before in
-    let o = other c.before in
+    let k = (goal.at.returns-in-Unit c).In-Unit in
+    let o = other (goal.at.returns-in-Unit c).After-complement_of in
     let v : c.make_true-v.result ≡ variable (one k) = c.make_true-v.ensures.variable ∙ rw (o, variable-complement (one k)) in
     (one k, (unit k).1, sym v, c.make_true-v.ensures.assigned ∙ rw (o, v, variable-complement (one k)))

@@ -20,11 +20,11 @@ pub returns-then-is_dead : goal.returns-then-is_dead
 returns-then-is_dead c = (refl, λ a. absurd (true≢false (sym c.if-is_dead.true ∙ c.is_dead.ensures ∙ a)))
 
 pub derive-requires : goal.derive-requires
-derive-requires c = let o = c.before in
+derive-requires c = let o = c in
     let p = o.requires in record { literals = rw o.nogood_at.ensures p.0.literals; size = p.1 }
 
 pub returns : goal.returns
 returns c =
-    let o = c.before in
-    let e = o.before in
+    let o = c in
+    let e = c in
     derives-live _ _ _ _ c.derive.result (sym e.is_dead.ensures ∙ e.if-is_dead.false) (rw o.nogood_at.ensures at c.derive.ensures)

@@ -20,13 +20,13 @@ abbrev read : In-loop-i → ℤ
 read c = get_or c.args.literals.now c.loop-i.i (pos 0)
 
 pub value_of-value-requires : goal.value_of-value-requires
-value_of-value-requires c = let s = c.before in
-    let u = in-at (pos 0) s.args.literals.now c.loop-i.i c.loop-i-test.true in record { within = rw (back (read c.before) c.value_of-arg-1.given) (s.requires.low _ u, s.requires.high _ u) }
+value_of-value-requires c = let s = c in
+    let u = in-at (pos 0) s.args.literals.now c.loop-i.i c.loop-i-test.true in record { within = rw (back (read (goal.at.value_of-value-requires c).In-loop-i) c.value_of-arg-1.given) (s.requires.low _ u, s.requires.high _ u) }
 
 -- what the call tells of it
-told : (c : After-value_of-value) (x : Value) → c.value_of_lem.result ≡ x
+told : (c : After-value_of-value) (x : Value) → c.value_of-value.result ≡ x
     → Valued c.args.assignment.now (read c.before) x
-told c x e = rw (back (read c.before) c.value_of-arg-1.given, e) at c.value_of_lem.ensures
+told c x e = rw (back (read c.before) c.value_of-arg-1.given, e) at c.value_of-value.ensures
 
 -- what is known before the turn
 module _ (c : After-value_of-value) where
@@ -39,22 +39,22 @@ module _ (c : After-value_of-value) where
 
 pub loop-i-preserved-in-True : goal.loop-i-preserved-in-True
 loop-i-preserved-in-True c =
-    let o = c.before in
+    let o = (goal.at.loop-i-preserved-in-True c).After-value_of-value in
     (omega arith, seen_true _ _ _ _ (within o) (before o) (told o _ c.in-True.is))
 
 pub returns-in-False : goal.returns-in-False
 returns-in-False c =
-    let o = c.before in
+    let o = (goal.at.returns-in-False c).After-value_of-value in
     seen_false _ _ _ _ (within o) (before o) (told o _ c.in-False.is)
 
 pub returns-then-one-j : goal.returns-then-one-j
 returns-then-one-j c =
-    let o = c.before in
+    let o = (goal.at.returns-then-one-j c).After-value_of-value in
     seen-second _ _ _ _ (within o) (before o) o.requires c.if-one-j.true (told o _ c.in-Free.is)
 
 pub loop-i-preserved : goal.loop-i-preserved
 loop-i-preserved c =
-    let o = c.before in
+    let o = (goal.at.loop-i-preserved c).After-value_of-value in
     (omega arith, seen-free _ _ _ _ (within o) (before o) c.if-one-j.false (told o _ c.in-Free.is))
 
 pub returns-then-one-literals : goal.returns-then-one-literals

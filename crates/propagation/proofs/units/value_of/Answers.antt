@@ -21,10 +21,10 @@ pub bounds-assignment-v : goal.bounds-assignment-v
 bounds-assignment-v c = let p = c.requires in omega (arith, v-is c)
 
 pub returns-then-found-wanted : goal.returns-then-found-wanted
-returns-then-found-wanted c = let o = c.before in rw (v-is o.before, wanted-is o) at c.if-found-wanted.true
+returns-then-found-wanted c = let o = (goal.at.returns-then-found-wanted c).After-entry_of-wanted in rw (v-is (goal.at.returns-then-found-wanted c).After-way_told-1, wanted-is o) at c.if-found-wanted.true
 
 pub overflow_sub-wanted : goal.overflow_sub-wanted
-overflow_sub-wanted c = omega (arith, wanted-is c.before, entry-most c.args.word)
+overflow_sub-wanted c = omega (arith, wanted-is (goal.at.overflow_sub-wanted c).After-entry_of-wanted, entry-most c.args.word)
 
 -- what the complement of the literal asks
 opposite : (c : Else-found-wanted)
@@ -35,9 +35,9 @@ opposite c =
     rw (variable-complement s.args.word, entry-complement s.args.word s.requires.0, v-is c.before, wanted-is c.before)
 
 pub returns-then-found-wanted-2 : goal.returns-then-found-wanted-2
-returns-then-found-wanted-2 c = rw (opposite c.before) c.if2.true
+returns-then-found-wanted-2 c = rw (opposite (goal.at.returns-then-found-wanted-2 c).Else-found-wanted) c.if-found-wanted-2.true
 
 pub returns : goal.returns
 returns c =
-    let o = c.before in
-    (λ a. c.if-found-wanted.false (rw (v-is o.before, wanted-is o) a), λ a. c.if2.false (rw (opposite c.before) at a))
+    let o = (goal.at.returns c).After-entry_of-wanted in
+    (λ a. c.if-found-wanted.false (rw (v-is (goal.at.returns c).After-way_told-1, wanted-is o) a), λ a. c.if-found-wanted-2.false (rw (opposite (goal.at.returns c).Else-found-wanted) at a))

@@ -11,7 +11,7 @@ first-is : (c : After-variable_of-first) → c.variable_of-first.result ≡ firs
 first-is c = let w = c.word_at in c.variable_of-first.ensures ∙ ap variable (to_z-of_z (sfits_of {z = w.result} w.type_inv) ∙ w.ensures)
 
 pub returns-in-Body : goal.returns-in-Body
-returns-in-Body c = rw (c.in-Body.is, ← first-is c.before) c.is_marked.ensures
+returns-in-Body c = rw (c.in-Body.is, ← first-is (goal.at.returns-in-Body c).After-variable_of-first) c.is_marked.ensures
 
 pub returns-in-Completion : goal.returns-in-Completion
-returns-in-Completion c = rw (c.in-Completion.is, ← first-is c.before) c.is_alone.ensures
+returns-in-Completion c = rw (c.in-Completion.is, ← first-is (goal.at.returns-in-Completion c).After-variable_of-first) c.is_alone.ensures

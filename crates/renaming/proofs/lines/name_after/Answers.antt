@@ -14,7 +14,7 @@ tested c = let s = c.before in c.names_added.ensures ∙ ap (λ (x : ℤ). names
 
 pub returns-then-names_added : goal.returns-then-names_added
 returns-then-names_added c =
-    let k = c.before in
+    let k = (goal.at.returns-then-names_added c).After-names_added in
     let a = k.args in
     let w = c.word_at in
     c.variable_of.ensures ∙ (ap variable (to_z-of_z (sfits_of {z = w.result} w.type_inv) ∙ w.ensures)
@@ -22,6 +22,6 @@ returns-then-names_added c =
 
 pub returns : goal.returns
 returns c =
-    let k = c.before in
+    let k = (goal.at.returns c).After-names_added in
     let a = k.args in
     sym (name-kept a.x a.name a.letter a.numbers.now (sym (tested k) ∙ c.if-names_added.false))

@@ -12,7 +12,7 @@ use Rattle.renaming.proofs.lines.names_added.Goals as goal
 
 pub returns : goal.returns
 returns c =
-    let s = c.before in
+    let s = c in
     let w = c.word_at in
     let k = c.complement_of in
     let first : to_z w32 (of_z w32 w.result) ≡ get_or s.args.numbers.now 0 (pos 0) = to_z-of_z (sfits_of {z = w.result} w.type_inv) ∙ w.ensures in

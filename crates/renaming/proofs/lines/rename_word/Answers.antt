@@ -47,16 +47,16 @@ module _ (c : After-name_of-name) where
   negated = neg-fits w32 (new (variable word)) (omega (arith, small, found))
 
 pub overflow_sub-result : goal.overflow_sub-result
-overflow_sub-result c = let k = c.before in simp (is_pos k, +ℤ_idl) (negated k)
+overflow_sub-result c = let k = (goal.at.overflow_sub-result c).After-name_of-name in simp (is_pos k, +ℤ_idl) (negated k)
 
 pub returns-then-word-lt0 : goal.returns-then-word-lt0
 returns-then-word-lt0 c =
-    let k = c.before in
+    let k = (goal.at.returns-then-word-lt0 c).After-name_of-name in
     let t = rw (to_z-of_z k.ranges.word) at c.if-word-lt0.true in
     simp (is_pos k, +ℤ_idl, to_z-of_z (negated k)) (sym (renamed-neg (new k) (word k) t))
 
 pub returns : goal.returns
 returns c =
-    let k = c.before in
+    let k = (goal.at.returns c).After-name_of-name in
     let t = rw (to_z-of_z k.ranges.word) at c.if-word-lt0.false in
     is_pos k ∙ sym (renamed-pos (new k) (word k) t)

@@ -25,20 +25,20 @@ with-literal c =
 
 pub returns-then-contains : goal.returns-then-contains
 returns-then-contains c =
-    let s = c.before in
+    let s = c in
     let a = s.args in
-    rw (skipped a.x a.numbers.now (sym (both_ways c.before) ∙ c.if-contains.true)) (none_written a.output.now a.at s.requires.at)
+    rw (skipped a.x a.numbers.now (sym (both_ways (goal.at.returns-then-contains c).After-contains) ∙ c.if-contains.true)) (none_written a.output.now a.at s.requires.at)
 
 pub returns-then-contains-2 : goal.returns-then-contains-2
 returns-then-contains-2 c =
-    let k = c.before in
+    let k = (goal.at.returns-then-contains-2 c).After-contains-2 in
     let a = k.args in
-    rw (unwidened a.x a.numbers.now (sym (both_ways k.before) ∙ k.if-contains.false) (sym (with-literal k) ∙ c.if2.true))
+    rw (unwidened a.x a.numbers.now (sym (both_ways (goal.at.returns-then-contains-2 c).After-contains) ∙ k.if-contains.false) (sym (with-literal k) ∙ c.if-contains-2.true))
     c.write_line.ensures
 
 pub returns : goal.returns
 returns c =
-    let k = c.before in
+    let k = (goal.at.returns c).After-contains-2 in
     let a = k.args in
-    rw (put-behind a.x a.numbers.now (sym (both_ways k.before) ∙ k.if-contains.false) (sym (with-literal k) ∙ c.if2.false))
+    rw (put-behind a.x a.numbers.now (sym (both_ways (goal.at.returns c).After-contains) ∙ k.if-contains.false) (sym (with-literal k) ∙ c.if-contains-2.false))
     (rw (to_z-of_z k.ranges.x) at c.write_widened.ensures)

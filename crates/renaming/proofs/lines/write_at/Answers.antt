@@ -37,7 +37,7 @@ module _ (c : In-Line-2) where
   literal = to_z-of_z start.fits.x
 
 pub write_standing-wrote-requires : goal.write_standing-wrote-requires
-write_standing-wrote-requires c = let s = start c.before in record { at = s.pre.0; literal = rw (to_z-of_z s.fits.x) s.pre.1.0; new = s.pre.1.1.0 }
+write_standing-wrote-requires c = let s = start (goal.at.write_standing-wrote-requires c).In-Line-1 in record { at = s.pre.0; literal = rw (to_z-of_z s.fits.x) s.pre.1.0; new = s.pre.1.1.0 }
 
 pub returns-in-End : goal.returns-in-End
 returns-in-End c = rw (into-told c.step_at-answer.ensures c.in-End.is) refl
@@ -49,7 +49,7 @@ pub returns-in-Line : goal.returns-in-Line
 returns-in-Line c =
     let w = c.write_standing-wrote in
     let k = c.name_after-named in
-    let d = c.before in
+    let d = (goal.at.returns-in-Line c).In-Line-1 in
     let g = d.answer-1.given.0 in
     let a = (start d).args in
     turned-line a.x (λ v. get_or a.new.now v 0) a.shared.now a.has_body a.has-constraint a.name a.output.now _ a.at g.0 (take g.1.0 (numbers d)) g.1.1.0 w.result (there d)

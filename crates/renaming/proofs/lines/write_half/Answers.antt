@@ -40,7 +40,7 @@ module _ (c : After-write_at) where
 
 pub loop-next-init : goal.loop-next-init
 loop-next-init c =
-    let s = c.before in
+    let s = c in
     (walk_start _ _ _ _ _ _ _ _, s.requires.at, refl, length-replicate {A = ℤ} most_numbers (pos 0), length-replicate {A = ℤ} most_numbers (pos 0))
 
 pub slice_bounds-write_at-end : goal.slice_bounds-write_at-end
@@ -50,18 +50,14 @@ pub slice_bounds-write_at-end-in-loop-next : goal.slice_bounds-write_at-end-in-l
 slice_bounds-write_at-end-in-loop-next c = let p = c.loop-next.invariant.4 in search rules
 
 pub write_at-requires : goal.write_at-requires
-
 unfolding byte_classes
-
-write_at-requires c κs =
-    let k = c.before in
+write_at-requires c = let k = c in
     let i = k.loop-next.invariant in
-    let s = k.before in
-    (i.1, (rw (to_z-of_z s.ranges.x) s.requires.literal.1, (s.requires.new, (refl, (i.3, i.4)))))
+    let s = c in record { at = i.1; literal = rw (to_z-of_z s.ranges.x) s.requires.literal.1; new = s.requires.new; classes = refl; rows = (i.3, i.4) }
 
 pub returns-in-Ends : goal.returns-in-Ends
 returns-in-Ends c =
-    let t = c.before in
+    let t = (goal.at.returns-in-Ends c).After-write_at in
     let a = (start t).args in
     λ N P bodies ts H.
     rw (half-stands (new t) H)
@@ -70,7 +66,7 @@ returns-in-Ends c =
 
 pub returns-in-Over : goal.returns-in-Over
 returns-in-Over c =
-    let t = c.before in
+    let t = (goal.at.returns-in-Over c).After-write_at in
     let a = (start t).args in
     λ N P bodies ts H.
     rw (half-stands (new t) H)
@@ -91,7 +87,7 @@ loop-next-smaller c = let o = onward c in omega (arith, o.1.1.0, o.1.1.1)
 
 pub loop-next-preserved : goal.loop-next-preserved
 loop-next-preserved c =
-    let t = c.before in
+    let t = (goal.at.loop-next-preserved c).After-write_at in
     let o = onward c in
     let i = (l t).loop.invariant in
     (o.0, o.1.0, same-output t, t.write_at.auto.numbers ∙ i.3, t.write_at.auto.sorted ∙ i.4)

@@ -22,7 +22,7 @@ pub returns-then-is_gone : goal.returns-then-is_gone
 returns-then-is_gone c =
     let s = c.before in
     let a = s.args in
-    rw (stands-not a.x (λ v. get_or a.new.now v 0) a.shared.now a.has_body a.has-constraint a.name a.letter a.numbers.now (sym (gone c.before) ∙ c.if-is_gone.true))
+    rw (stands-not a.x (λ v. get_or a.new.now v 0) a.shared.now a.has_body a.has-constraint a.name a.letter a.numbers.now (sym (gone (goal.at.returns-then-is_gone c).After-is_gone) ∙ c.if-is_gone.true))
     (none_written a.output.now a.at s.requires.at)
 
 -- a line that stands
@@ -49,22 +49,22 @@ module _ (c : After-is_addition) where
   lacking = c.names_added.ensures ∙ ap (λ (x : ℤ). names_added x start.args.letter start.args.numbers.now) (to_z-of_z start.fits.x)
 
 pub write_addition-requires : goal.write_addition-requires
-write_addition-requires c = let k = c.before in
+write_addition-requires c = let k = (goal.at.write_addition-requires c).After-numbers-1 in
     let s = start k in record { at = s.pre.0; numbers = inside k; literal = rw (to_z-of_z s.fits.x) s.pre.1.0 }
 
 pub returns-then-is_addition : goal.returns-then-is_addition
 returns-then-is_addition c =
-    let k = c.before in
+    let k = (goal.at.returns-then-is_addition c).After-numbers-1 in
     let a = (start k).args in
     rw (stands-widened a.x (new k) a.shared.now a.has_body a.has-constraint a.name a.letter a.numbers.now (stays k) (sym k.is_addition.ensures ∙ c.if-is_addition.true))
     (rw (to_z-of_z (start k).ranges.x, line-is k) at c.write_addition.ensures)
 
 pub write_line-requires : goal.write_line-requires
-write_line-requires c = let k = c.before in record { at = (start k).requires.at; numbers = inside k }
+write_line-requires c = let k = (goal.at.write_line-requires c).After-numbers-1 in record { at = (start k).requires.at; numbers = inside k }
 
 pub returns : goal.returns
 returns c =
-    let k = c.before in
+    let k = (goal.at.returns c).After-numbers-1 in
     let a = (start k).args in
     rw (stands-line a.x (new k) a.shared.now a.has_body a.has-constraint a.name a.letter a.numbers.now (stays k) (sym k.is_addition.ensures ∙ c.if-is_addition.false)
     (c.letter_of.ensures ∙ ap (λ (t : Bool). cond (t && not a.has_body) Extension a.letter) (lacking k)))

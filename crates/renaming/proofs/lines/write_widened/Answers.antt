@@ -16,7 +16,7 @@ use Rattle.renaming.proofs.lines.write_widened.Goals.{After-row-2-1}
 
 pub returns-then-count-ge-MOST_NUMBERS : goal.returns-then-count-ge-MOST_NUMBERS
 returns-then-count-ge-MOST_NUMBERS c =
-    let s = c.before in
+    let s = c in
     let a = s.args in
     let l = a.numbers.now in
     one-long Addition (l ++ (a.x ∷ [])) (inside-end l a.x s.requires.numbers s.requires.literal) a.output.now a.output.now a.at
@@ -45,11 +45,11 @@ pub slice_bounds-row-end : goal.slice_bounds-row-end
 slice_bounds-row-end c = omega (arith, row-length c, length-take (length (line c) + 1) (row c))
 
 pub slice_bounds-write_line-end : goal.slice_bounds-write_line-end
-slice_bounds-write_line-end c = sym (row-length c.before)
+slice_bounds-write_line-end c = sym (row-length (goal.at.slice_bounds-write_line-end c).After-row-2-1)
 
 pub write_line-requires : goal.write_line-requires
-write_line-requires c = let k = c.before in
-    let s = k.before in record { at = s.requires.at; numbers = ap any_outside (row_is k) ∙ inside-end (line k) (literal k) s.requires.numbers s.requires.literal }
+write_line-requires c = let k = (goal.at.write_line-requires c).After-row-2-1 in
+    let s = c in record { at = s.requires.at; numbers = ap any_outside (row_is k) ∙ inside-end (line k) (literal k) s.requires.numbers s.requires.literal }
 
 pub returns : goal.returns
-returns c = rw (row_is c.before) at c.write_line.ensures
+returns c = rw (row_is (goal.at.returns c).After-row-2-1) at c.write_line.ensures

@@ -22,20 +22,20 @@ module _ (c : After-is_marked-in-loop-n) where
 
 pub loop-n-preserved : goal.loop-n-preserved
 loop-n-preserved c =
-    let i = (l c.before).loop in
+    let i = (l (goal.at.loop-n-preserved c).After-is_marked-in-loop-n).loop in
     let t = c.loop-n-test.true in (
       omega (arith, i.inv.0),
       omega (arith, t),
       λ k a b. elim (equal? k i.n) [
-        | inl e ↦ rw e (known c.before ∙ c.if-is_marked.true)
+        | inl e ↦ rw e (known (goal.at.loop-n-preserved c).After-is_marked-in-loop-n ∙ c.if-is_marked.true)
         | inr d ↦ i.inv.2 k a (omega (arith, b, d))
       ],
     )
 
 pub returns-else-is_marked : goal.returns-else-is_marked
 returns-else-is_marked c =
-    let i = (l c.before).loop in
-    record { above = i.inv.0; within = i.inv.1; free = λ h. known c.before ∙ c.if-is_marked.false; taken = i.inv.2 }
+    let i = (l (goal.at.returns-else-is_marked c).After-is_marked-in-loop-n).loop in
+    record { above = i.inv.0; within = i.inv.1; free = λ h. known (goal.at.returns-else-is_marked c).After-is_marked-in-loop-n ∙ c.if-is_marked.false; taken = i.inv.2 }
 
 pub returns : goal.returns
 returns c =

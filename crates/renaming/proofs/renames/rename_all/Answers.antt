@@ -63,17 +63,13 @@ loop-next-init c =
     )
 
 pub rename_at-requires : goal.rename_at-requires
-
 unfolding byte_classes
-
-rename_at-requires c κs =
-    let i = c.loop-next.invariant in
-    let p = c.requires in
-    (refl {a = byte_classes}, ((i.3, i.4), ((p.0.0, p.0.1), (p.1.0, (i.6, i.1)))))
+rename_at-requires c = let i = c.loop-next.invariant in
+    let p = c.requires in record { classes = refl {a = byte_classes}; rows = (i.3, i.4); program = (p.0.0, p.0.1); index = p.1.0; cursor = (i.6, i.1) }
 
 pub returns-in-Ends : goal.returns-in-Ends
 returns-in-Ends c =
-    let t = c.before in
+    let t = (goal.at.returns-in-Ends c).After-rename_at in
     let i = (l t).loop.invariant in
     λ ws v one two z₁ z₂ H.
     turn-ends H (i.0 ws v one two z₁ z₂ H) i.1 i.2 i.6 (new' t) (shared' t) c.in-Ends.is
@@ -81,7 +77,7 @@ returns-in-Ends c =
 
 pub returns-in-Over : goal.returns-in-Over
 returns-in-Over c =
-    let t = c.before in
+    let t = (goal.at.returns-in-Over c).After-rename_at in
     let i = (l t).loop.invariant in
     λ ws v one two z₁ z₂ H.
     turn-over H (i.0 ws v one two z₁ z₂ H) i.1 i.2 i.6 (new' t) (shared' t) c.in-Over.is
@@ -98,7 +94,7 @@ loop-next-smaller c = let o = within c in omega (arith, o.0, o.1)
 
 pub loop-next-preserved : goal.loop-next-preserved
 loop-next-preserved c =
-    let t = c.before in
+    let t = (goal.at.loop-next-preserved c).After-rename_at in
     let i = (l t).loop.invariant in
     let o = within c in (
       λ ws v one two z₁ z₂ H.

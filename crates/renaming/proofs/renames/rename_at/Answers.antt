@@ -41,7 +41,7 @@ module _ (c : In-Line-2) where
   good = let u = passed-line start.args.second.now start.args.at there in (u.2, u.3)
 
 pub rename_line-from-requires : goal.rename_line-from-requires
-rename_line-from-requires c = let d = c.before in let all = (good-line d.in-Line.letter (take d.in-Line.count (numbers d)) (good d).0 (good d).1, (start d).requires.1.1) in record { line = all.0; program = all.1.0; index = all.1.1.0; cursor = all.1.1.1 }
+rename_line-from-requires c = let d = (goal.at.rename_line-from-requires c).In-Line-2 in let all = (good-line d.in-Line.letter (take d.in-Line.count (numbers d)) (good d).0 (good d).1, (start d).requires.1.1) in record { line = all.0; program = all.1.0; index = all.1.1.0; cursor = all.1.1.1 }
 
 pub returns-in-End : goal.returns-in-End
 returns-in-End c = record { within = tt; renamed = λ ws H called K. rw (into-told c.step_at-answer.ensures c.in-End.is) (refl, refl, refl) }
@@ -50,7 +50,7 @@ pub returns-in-Refused : goal.returns-in-Refused
 returns-in-Refused c = record { within = tt; renamed = λ ws H called K. rw (into-told c.step_at-answer.ensures c.in-Refused.is) refl }
 
 pub returns-in-Line : goal.returns-in-Line
-returns-in-Line c = let t = c.before in
-    let d = t.before in
+returns-in-Line c = let t = c in
+    let d = (goal.at.returns-in-Line c).In-Line-2 in
     let g = d.answer-1.given.0 in
     let u = passed-line (start d).args.second.now (start d).args.at (there d) in record { within = turn-bounds _ _ g.1.1.0 t.rename_line-from.result u.0 u.1 c.turn_to.ensures; renamed = λ ws H called K. rw (there d) (t.rename_line-from.result, c.turn_to.ensures, t.rename_line-from.ensures ws H called K) }

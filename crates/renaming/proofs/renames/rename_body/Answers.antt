@@ -28,8 +28,8 @@ module _ (c : After-body_name-k) where
 
 pub returns-then-k : goal.returns-then-k
 returns-then-k c = λ ws H called K.
-    let t = c.before in
-    rw (← answer t.before ws H called K)
+    let t = c in
+    rw (← answer (goal.at.returns-then-k c).After-body_name-k ws H called K)
     (inr (no-variable t.body_name-k.result t.if-k.true, (c.rename_other.ensures, refl)))
 
 pub overflow_cast-new : goal.overflow_cast-new
@@ -37,7 +37,7 @@ overflow_cast-new c = let h = (a-variable c.body_name-k.result c.if-k.false).1 i
 
 pub returns : goal.returns
 returns c = λ ws H called K.
-    let t = c.before in
+    let t = c in
     let v = a-variable t.body_name-k.result t.if-k.false in
-    rw (← answer t.before ws H called K)
+    rw (← answer (goal.at.returns c).After-body_name-k ws H called K)
     (inl (v.0, v.1, (refl, c.mark.ensures.marks, refl)))

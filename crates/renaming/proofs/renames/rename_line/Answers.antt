@@ -30,8 +30,8 @@ name : (c : After-variable_of-n) → c.variable_of-n.result ≡ variable (first 
 name c = rw (back _ c.variable_of-arg-1.given) at c.variable_of-n.ensures
 
 pub rename_body-requires : goal.rename_body-requires
-rename_body-requires c = let v = c.before in
-    let e = v.before in
+rename_body-requires c = let v = (goal.at.rename_body-requires c).After-variable_of-n in
+    let e = (goal.at.rename_body-requires c).In-Body in
     let p = (s e).requires.1 in record { program = p.0; index = p.1.0; line = (rw (name v) (first-high Body refl (body-line e)), p.1.1.0, p.1.1.1) }
 
 -- `e`
@@ -47,8 +47,8 @@ name-e c = rw (back _ c.variable_of-arg-in-Extension-1.given) at c.variable_of.e
 
 pub rename_other-requires : goal.rename_other-requires
 rename_other-requires c =
-    let v = c.before in
-    let e = v.before in
+    let v = (goal.at.rename_other-requires c).After-variable_of in
+    let e = (goal.at.rename_other-requires c).In-Extension in
     let p = (s-e e).requires.1 in
     (rw (name-e v) (first-high Extension refl (extension-line e)), p.1.1.0, p.1.1.1)
 
@@ -57,9 +57,9 @@ returns-in-Addition c = λ ws H called K. rw c.in-Addition.is (refl, refl, refl)
 
 pub returns-in-Body : goal.returns-in-Body
 returns-in-Body c = λ ws H called K.
-    let b = c.before in
-    let v = b.before in
-    let e = v.before in
+    let b = c in
+    let v = (goal.at.returns-in-Body c).After-variable_of-n in
+    let e = (goal.at.returns-in-Body c).In-Body in
     rw e.in-Body.is (rw (part_to_end (s e).args.numbers.now 1, name v) at (b.rename_body.ensures ws H called K))
 
 pub returns-in-Completion : goal.returns-in-Completion
@@ -70,7 +70,7 @@ returns-in-Deletion c = λ ws H called K. rw c.in-Deletion.is (refl, refl, refl)
 
 pub returns-in-Extension : goal.returns-in-Extension
 returns-in-Extension c = λ ws H called K.
-    let v = c.before in
+    let v = (goal.at.returns-in-Extension c).After-variable_of in
     rw v.in-Extension.is (rw (name-e v) at c.rename_other.ensures, refl)
 
 pub returns-in-Loop : goal.returns-in-Loop

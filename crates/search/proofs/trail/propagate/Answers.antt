@@ -10,7 +10,7 @@ told : (c : After-visit-given) (t : Visited) → c.visit-given.result ≡ t → 
 told c t e = rw e at c.visit-given.ensures
 
 pub returns-in-Clash : goal.returns-in-Clash
-returns-in-Clash c = let f = c.before in (told f.before _ f.in-Clash.is).0
+returns-in-Clash c = let f = c in (told (goal.at.returns-in-Clash c).After-visit-given _ f.in-Clash.is).0
 
 pub loop-done-preserved : goal.loop-done-preserved
-loop-done-preserved c = let f = c.before in let t = told f.before _ f.in-Queued.is in search rules
+loop-done-preserved c = let f = c in let t = told (goal.at.loop-done-preserved c).After-visit-given _ f.in-Queued.is in search rules

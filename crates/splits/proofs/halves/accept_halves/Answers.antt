@@ -62,38 +62,38 @@ module _ (c : After-complement_of) where
   other = to_z-of_z (sfits_of {z = c.complement_of.result} c.complement_of.type_inv) ∙ c.complement_of.ensures ∙ ap complement (literal d)
 
 pub returns-then-not-is_atom : goal.returns-then-not-is_atom
-returns-then-not-is_atom c = let t = c.before in
+returns-then-not-is_atom c = let t = c in
     let q = sym c.is_atom.ensures ∙ c.if-not-is_atom.true in record { empty = t.requires.empty; checked = λ ws p. no-atom _ ws _ _ _ p.top q }
 
 pub overflow_cast-atom : goal.overflow_cast-atom
 overflow_cast-atom c = record { sfits = omega (arith, small c) }
 
 pub accepts_with-requires : goal.accepts_with-requires
-accepts_with-requires c = let x = c.before in
+accepts_with-requires c = let x = (goal.at.accepts_with-requires c).Else-not-is_atom in
     let p = (s x).requires in record { program = p.0; short = p.1.0; atom = rw (literal x) (is-atom x); start = (p.1.1.0.1, p.1.1.1.0); bodies = p.1.1.1.1.0; empty = p.1.1.1.1.1 }
 
 pub returns-then-not-accepts_with : goal.returns-then-not-accepts_with
-returns-then-not-accepts_with c = let a = c.before in
+returns-then-not-accepts_with c = let a = (goal.at.returns-then-not-accepts_with c).After-accepts_with in
     let x = e a in
     let r = a.accepts_with.ensures in record { empty = r.0; checked = λ ws p. no-half _ ws _ _ _ p.top (is-atom x) (literal x) (r.1 ws p) (c.if-not-accepts_with.true) }
 
 pub complement_of-requires : goal.complement_of-requires
-complement_of-requires c = let x = c.before in rw (literal x) (small x)
+complement_of-requires c = let x = (goal.at.complement_of-requires c).Else-not-is_atom in rw (literal x) (small x)
 
 pub accepts_with-requires-2 : goal.accepts_with-requires-2
-accepts_with-requires-2 c = let k = c.before in
+accepts_with-requires-2 c = let k = (goal.at.accepts_with-requires-2 c).After-complement_of in
     let x = d k in
-    let a = c.before in
+    let a = (goal.at.accepts_with-requires-2 c).After-accepts_with in
     let p = (s x).pre in record { program = p.0; short = p.1.0; atom = rw (other k, variable-complement (pos (s x).args.v)) (is-atom x); start = (p.1.1.0.0, c.zero_names.ensures ∙ ap (λ (n : ℕ). replicate n 0) (same_names a)); bodies = λ w. c.zero_bodies.ensures ∙ ap (λ (n : ℕ). replicate n (pos 0)) (same-bodies a {n = body_words} (p.1.1.1.1.0 w)); empty = (zeros (pos 0) {n = length (s x).args.store.now} a.accepts_with.ensures.empty).0 }
 
 pub returns : goal.returns
-returns c = let b = c.accepts-with2 in
-    let k = c.before in
-    let a = c.before in
+returns c = let b = c.accepts_with-2 in
+    let k = (goal.at.returns c).After-complement_of in
+    let a = (goal.at.returns c).After-accepts_with in
     let x = e a in
-    let v = (s x).args.v in record { empty = b.ensures.0 ∙ ap (λ (n : ℕ). replicate n (pos 0)) (same_store a); checked = λ ws p.
+    let v = (s x).args.v in record { empty = b.ensures.empty ∙ ap (λ (n : ℕ). replicate n (pos 0)) (same_store a); checked = λ ws p.
           let Half : ℕ → Type 0 = λ n.
           HalfChecked (s x).args.atoms (demanding_as_written ws (complement (to_z w32 (of_z w32 k.complement_of.result)))) n (s x).args.first.now
-          b.new.1.1.1.1.1.0 b.new.1.1.1.1.1.1.0 b.new.1.1.1.1.1.1.1.0 b.result in
+          b.new.known b.new.names b.new.bodies b.result in
           halves-checked (length (s x).args.store.now) ws v _ _ p.top (is-atom x) (literal x) (a.accepts_with.ensures.checked ws p)
-          (c.if-not-accepts_with.false) (other k) (subst Half (same_store a) (b.ensures.1 ws p)) }
+          (c.if-not-accepts_with.false) (other k) (subst Half (same_store a) (b.ensures.checked ws p)) }

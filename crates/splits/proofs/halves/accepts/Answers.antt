@@ -10,7 +10,7 @@ use borrow.Author.Rules.{rules}
 use Rattle.splits.proofs.halves.accepts.Goals as goal
 
 pub returns-then-text-gt-LONGEST : goal.returns-then-text-gt-LONGEST
-returns-then-text-gt-LONGEST c = let s = c.before in
+returns-then-text-gt-LONGEST c = let s = c in
     let l : longest < length s.args.text.now = search rules in record { empty = s.requires.empty; checked = λ ws p.
           let q = too_long longest s.args.atoms (expand ws) (length s.args.store.now) s.args.text.now l in
           record { answer = sym (ap ends_empty q); ended = rw q tt } }
@@ -27,7 +27,7 @@ ends_empty-accepted-requires c =
     (course s.args.atoms (expand p.0) (length s.args.store.now) s.args.text.now, (c.run_half-run.ensures longest h p.0 p.1).0)
 
 pub returns : goal.returns
-returns c = let q = c.before in
+returns c = let q = c in
     let s = c.before in
     let h : length s.args.text.now ≤ longest = search rules in
     let same : length q.run_half-run.new.store.0 ≡ length s.args.store.now = search rules in record { empty = c.zero_all.ensures ∙ ap (λ (n : ℕ). replicate n (pos 0)) same; checked = λ ws p. let R = q.run_half-run.ensures longest h ws p in record { answer = c.ends_empty-accepted.ensures longest _ (expand ws) _ _ R.0; ended = R.1 } }

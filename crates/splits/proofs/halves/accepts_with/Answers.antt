@@ -31,11 +31,11 @@ module _ (c : After-append_demand) where
   whole p = let k = rw (to_z-of_z s.fits.literal) at c.append_demand.ensures in demanded p s.args.literal s.pre.1.1.0 k.0 k.1
 
 pub accepts-requires : goal.accepts-requires
-accepts-requires c = let d = c.before in
+accepts-requires c = let d = (goal.at.accepts-requires c).After-append_demand in
     let p = (s d).requires in
     let q = p.0.0.1 in
     let w = whole d q in record { program = ((demanding_as_written p.0.0.0 (complement (s d).args.literal), w), omega (arith, p.0.1)); start = p.1.1.1.0; bodies = demanded-bodies q (s d).args.literal p.1.1.0 w p.1.1.1.1.0; empty = p.1.1.1.1.1 }
 
 pub returns : goal.returns
 returns c = let a = c.accepts.ensures in
-    let d = c.before in record { empty = a.0; checked = λ ws p. a.1 (demanding_as_written ws (complement (s d).args.literal)) (whole d p) }
+    let d = (goal.at.returns c).After-append_demand in record { empty = a.0; checked = λ ws p. a.1 (demanding_as_written ws (complement (s d).args.literal)) (whole d p) }

@@ -16,7 +16,7 @@ loop-left-init c = no-marks _ _ c.requires.0 c.zero_bytes.ensures _
 
 pub loop-left-preserved : goal.loop-left-preserved
 loop-left-preserved c =
-    let t = c.before in
+    let t = c in
     let l = t.loop-left in
     rw c.mark.ensures.marks (found-on (rw (up_to-on l.left t.loop-left-test.true) at l.invariant))
 

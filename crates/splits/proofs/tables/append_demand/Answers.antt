@@ -15,6 +15,6 @@ append_rule-requires c = let p = c.requires in record { rules = p.0; short = ome
 -- the words of the constraint, as they were put
 pub returns : goal.returns
 returns c =
-    let s = c.before in
+    let s = c in
     let e : ◌≡◌ {A = List ℤ} (pos 0 ∷ pos 0 ∷ pos 0 ∷ pos 1 ∷ to_z w32 (of_z w32 s.args.literal) ∷ []) (demand_words s.args.literal) = ap demand_words (to_z-of_z s.ranges.literal) in
     rw e at c.append_rule.ensures

@@ -13,7 +13,7 @@ use Rattle.splits.proofs.texts.added_of.Goals as goal
 
 pub returns : goal.returns
 returns c = λ ws H called K high.
-    let s = c.before in
+    let s = c in
     let x = to_z w32 (of_z w32 s.args.literal) in
     let n = c.body_name-name in
     let k = c.is_constraint in

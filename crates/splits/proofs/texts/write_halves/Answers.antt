@@ -37,25 +37,19 @@ module _ (c : After-accept_halves) where
   held e ws p = halves-kept p (checked ws p) e
 
 pub returns-then-not-accept_halves : goal.returns-then-not-accept_halves
-returns-then-not-accept_halves c = let d = c.before in record { empty = d.accept_halves.ensures.empty; written = λ ws p. inl (refl, sym (checked d ws p).answer ∙ c.if-not-accept_halves.true) }
+returns-then-not-accept_halves c = let d = (goal.at.returns-then-not-accept_halves c).After-accept_halves in record { empty = d.accept_halves.ensures.empty; written = λ ws p. inl (refl, sym (checked d ws p).answer ∙ c.if-not-accept_halves.true) }
 
 pub write_merged-wrote-requires : goal.write_merged-wrote-requires
-write_merged-wrote-requires c = let d = c.before in
+write_merged-wrote-requires c = let d = (goal.at.write_merged-wrote-requires c).After-accept_halves-arg-2-1 in
     let p = (s d).requires in record { halves = held d (c.if-not-accept_halves.false) p.0.0.0 p.0.0.1; index = p.1.1.0 }
 
 pub returns : goal.returns
-
 unfolding held halves-kept
-
-returns c =
-    let d = c.before in
+returns c = let d = (goal.at.returns c).After-accept_halves-arg-2-1 in
     let a = (s d).args in
     let yes = c.if-not-accept_halves.false in
     let w = c.write_merged-wrote in
-    let o = w.new.1.1.1.1.1.1.1.1.1.1.1.0 in (
-      d.accept_halves.ensures.empty,
-      λ ws p.
+    let o = w.new.output.0 in record { empty = d.accept_halves.ensures.empty; written = λ ws p.
           subst (WrittenBy (length a.store.now) ws a.v a.first.now a.second.now o) (sym c.within.ensures)
           (text-written (length a.store.now) ws a.v a.first.now a.second.now (sym (checked d ws p).answer ∙ yes) a.output.now o w.result
-          (s d).requires.empty.1 w.auto.1.1.1.1.1.1.1.1.1.1.1.0 (w.ensures (held d yes ws p))),
-    )
+          (s d).requires.empty.1 w.auto.output (w.ensures (held d yes ws p))) }

@@ -37,7 +37,7 @@ module _ (s : Start) where
   atom-is = to_z_pos w32 {n = s.args.v} (omega (arith, within.1))
 
 pub rename_all-requires : goal.rename_all-requires
-rename_all-requires c = let s = c.before in
+rename_all-requires c = let s = c in
     let h = s.requires.halves in record { program = ((h.ws, h.program.holds), rules-named h, h.program.high); index = s.requires.index; new = length-replicate {A = ℕ} entries 0; shared = (length-replicate {A = ℕ} entries 0, none-marked entries) }
 
 -- the new names
@@ -58,19 +58,19 @@ module _ (c : After-rename_all) where
       (c.rename_all.ensures h.ws s.args.v (steps_in s.args.first.now) (steps_in s.args.second.now) h.left.one.state h.left.two.state (halves-held h))
 
 pub returns-then-not-rename_all : goal.returns-then-not-rename_all
-returns-then-not-rename_all c = λ h. let d = c.before in merged-over h (s d).args.output.now (s d).args.output.now (renamed d false (c.if-not-rename_all.true) h)
+returns-then-not-rename_all c = λ h. let d = (goal.at.returns-then-not-rename_all c).After-rename_all in merged-over h (s d).args.output.now (s d).args.output.now (renamed d false (c.if-not-rename_all.true) h)
 
 pub overflow_cast-x : goal.overflow_cast-x
-overflow_cast-x c = let h = (within c.before).1 in search rules
+overflow_cast-x c = let h = (within (goal.at.overflow_cast-x c).Start).1 in search rules
 
 pub complement_of-requires : goal.complement_of-requires
-complement_of-requires c = rw (atom-is c.before) (within c.before).1
+complement_of-requires c = rw (atom-is (goal.at.complement_of-requires c).Start) (within (goal.at.complement_of-requires c).Start).1
 
 pub added_of-demanded-requires : goal.added_of-demanded-requires
-added_of-demanded-requires c = let s = c.before in let h = s.requires.halves in record { program = ((h.ws, h.program.holds), rules-named h); index = s.requires.index }
+added_of-demanded-requires c = let s = c in let h = s.requires.halves in record { program = ((h.ws, h.program.holds), rules-named h); index = s.requires.index }
 
 pub added_of-forbidden-requires : goal.added_of-forbidden-requires
-added_of-forbidden-requires c = let s = c.before in let h = s.requires.halves in record { program = ((h.ws, h.program.holds), rules-named h); index = s.requires.index }
+added_of-forbidden-requires c = let s = c in let h = s.requires.halves in record { program = ((h.ws, h.program.holds), rules-named h); index = s.requires.index }
 
 -- what the program has of both constraints
 module _ (c : After-added_of-forbidden) where
@@ -94,16 +94,16 @@ module _ (c : After-added_of-forbidden) where
       (c.added_of-forbidden.ensures h.ws h.program.holds (name_of (named_in [] (steps_in (s d).args.first.now))) (kept-first h) (called-high h))
 
 pub write_text-requires : goal.write_text-requires
-write_text-requires c = let k = c.before in
+write_text-requires c = let k = (goal.at.write_text-requires c).After-added_of-forbidden in
     let a = (s (d k)).args in
     let h = (s (d k)).pre.0 in record { literal = rw (atom-is (s (d k))) (within (s (d k))); new = (new-names k h).within; first = subst (λ (y : ℤ). HalfText a.first.now y (0 ∷ []) k.Added-of.result) (sym (atom-is (s (d k)))) (demanded-half h (demanded k h)); second = subst (λ (y : ℤ). HalfText a.second.now (complement y) (shared (d k)) k.added_of-forbidden.result) (sym (atom-is (s (d k)))) (forbidden-half h (new-names k h) (forbidden k h)) }
 
 pub returns : goal.returns
 returns c = λ h.
-    let k = c.before in
+    let k = (goal.at.returns c).After-added_of-forbidden in
     let a = (s (d k)).args in
     let w = c.write_text in
-    merged-lines h (new-names k h) (demanded k h) (forbidden k h) a.output.now w.new.1.1.1.1.1.1.1.0 w.result
+    merged-lines h (new-names k h) (demanded k h) (forbidden k h) a.output.now w.new.output.0 w.result
     (subst (λ (y : ℤ). (one : HalfText a.first.now y (0 ∷ []) k.Added-of.result) (two : HalfText a.second.now (complement y) (shared (d k)) k.added_of-forbidden.result)
-    → Writes (lines_of one (λ u. u) ++ (lines_of two (λ u. get_or (new (d k)) u 0) ++ closing)) a.output.now w.new.1.1.1.1.1.1.1.0 0 w.result) (atom-is (s (d k)))
+    → Writes (lines_of one (λ u. u) ++ (lines_of two (λ u. get_or (new (d k)) u 0) ++ closing)) a.output.now w.new.output.0 0 w.result) (atom-is (s (d k)))
     w.ensures (demanded-half h (demanded k h)) (forbidden-half h (new-names k h) (forbidden k h)))

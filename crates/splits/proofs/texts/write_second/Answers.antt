@@ -35,15 +35,15 @@ module _ (c : After-write_half-wrote) where
       (c.write_half-wrote.ensures h.N h.P h.bodies h.ts) h.is)
 
 pub write_line-requires : goal.write_line-requires
-write_line-requires c = let w = c.before in record { at = (wrote w _ c.in-At.is (s w).requires.half).2; numbers = refl }
+write_line-requires c = let w = (goal.at.write_line-requires c).After-write_half-wrote in record { at = (wrote w _ c.in-At.is (s w).requires.half).2; numbers = refl }
 
 pub returns-in-At : goal.returns-in-At
 returns-in-At c = λ h.
-    let w = c.before in
+    let w = (goal.at.returns-in-At c).After-write_half-wrote in
     let u = c.write_line in
-    then-written (lines_of h (new w)) closing (s w).args.output.now (output' w) u.new.1.1.0 (s w).args.at _ u.result (wrote w _ c.in-At.is h) u.ensures
+    then-written (lines_of h (new w)) closing (s w).args.output.now (output' w) u.new.output (s w).args.at _ u.result (wrote w _ c.in-At.is h) u.ensures
 
 pub returns-in-Over : goal.returns-in-Over
 returns-in-Over c = λ h.
-    let w = c.before in
+    let w = (goal.at.returns-in-Over c).After-write_half-wrote in
     over-more (lines_of h (new w)) closing (s w).args.output.now (output' w) (output' w) (s w).args.at (wrote w _ c.in-Over.is h)

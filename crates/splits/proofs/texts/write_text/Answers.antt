@@ -24,8 +24,8 @@ use Rattle.splits.proofs.texts.write_text.Goals as goal
 use Rattle.splits.proofs.texts.write_text.Goals.{After-write_half-wrote, Start, After-complement_of}
 
 pub write_half-wrote-requires : goal.write_half-wrote-requires
-write_half-wrote-requires c = let s = c.before in
-    let k = c.keep_all in record { at = omega arith; literal = rw (to_z-of_z s.ranges.x) s.requires.literal; new = kept-within k.new.0 (k.auto.0 ∙ length-replicate {A = ℕ} entries 0) k.ensures }
+write_half-wrote-requires c = let s = c in
+    let k = c.keep_all in record { at = omega arith; literal = rw (to_z-of_z s.ranges.x) s.requires.literal; new = kept-within k.new.new.0 (k.auto.new ∙ length-replicate {A = ℕ} entries 0) k.ensures }
 
 -- the first half's lines
 module _ (c : After-write_half-wrote) where
@@ -55,22 +55,22 @@ other : (c : After-complement_of) → to_z w32 (of_z w32 c.complement_of.result)
 other c = let k = c.complement_of in to_z-of_z (sfits_of {z = k.result} k.type_inv) ∙ (k.ensures ∙ ap complement (to_z-of_z c.ranges.x))
 
 pub write_second-requires : goal.write_second-requires
-write_second-requires c = let d = c.before in
-    let a = (s d.before).args in
-    let p = (s d.before).pre in record { at = (wrote d.before _ d.in-At.is p.1.1.0).2; literal = rw (other d, variable-complement a.x) p.0; new = p.1.0; half = subst (λ (y : ℤ). HalfText a.second.now y a.shared.now a.forbidden) (sym (other d)) p.1.1.1 }
+write_second-requires c = let d = (goal.at.write_second-requires c).After-complement_of in
+    let a = (s (goal.at.write_second-requires c).After-write_half-wrote).args in
+    let p = (s (goal.at.write_second-requires c).After-write_half-wrote).pre in record { at = (wrote (goal.at.write_second-requires c).After-write_half-wrote _ d.in-At.is p.1.1.0).2; literal = rw (other d, variable-complement a.x) p.0; new = p.1.0; half = subst (λ (y : ℤ). HalfText a.second.now y a.shared.now a.forbidden) (sym (other d)) p.1.1.1 }
 
 pub returns-in-At : goal.returns-in-At
 returns-in-At c = λ h k.
-    let d = c.before in
-    let w = d.before in
+    let d = (goal.at.returns-in-At c).After-complement_of in
+    let w = (goal.at.returns-in-At c).After-write_half-wrote in
     let a = (s w).args in
     let u = c.write_second in
-    then-written (lines_of h (λ u. u)) (lines_of k (λ u. get_or a.new.now u 0) ++ closing) a.output.now (output' w) u.new.1.1.1.1.1.0 0 _ u.result (wrote w _ d.in-At.is h)
+    then-written (lines_of h (λ u. u)) (lines_of k (λ u. get_or a.new.now u 0) ++ closing) a.output.now (output' w) u.new.output 0 _ u.result (wrote w _ d.in-At.is h)
     (subst (λ (y : ℤ). (k : HalfText a.second.now y a.shared.now a.forbidden)
-    → Writes (lines_of k (λ u. get_or a.new.now u 0) ++ closing) (output' w) u.new.1.1.1.1.1.0 d.in-At.end u.result) (other d) u.ensures k)
+    → Writes (lines_of k (λ u. get_or a.new.now u 0) ++ closing) (output' w) u.new.output d.in-At.end u.result) (other d) u.ensures k)
 
 pub returns-in-Over : goal.returns-in-Over
 returns-in-Over c = λ h k.
-    let w = c.before in
+    let w = (goal.at.returns-in-Over c).After-write_half-wrote in
     let a = (s w).args in
     over-more (lines_of h (λ u. u)) (lines_of k (λ u. get_or a.new.now u 0) ++ closing) a.output.now (output' w) (output' w) 0 (wrote w _ c.in-Over.is h)

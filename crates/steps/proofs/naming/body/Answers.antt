@@ -42,15 +42,15 @@ named c = rw (name c.before) at c.is_marked.ensures
 pub returns-then-is_marked : goal.returns-then-is_marked
 returns-then-is_marked c =
     λ N ws p z stored T K.
-    let k = c.before in
+    let k = c in
     let s = k.before in
-    rw (introduced z T Body _ s.requires.line refl refl (sym k.all_marked.ensures ∙ k.if-not-all_marked.false) (sym (named c.before) ∙ c.if-is_marked.true)) refl
+    rw (introduced z T Body _ s.requires.line refl refl (sym k.all_marked.ensures ∙ k.if-not-all_marked.false) (sym (named (goal.at.returns-then-is_marked c).After-is_marked) ∙ c.if-is_marked.true)) refl
 
 pub slice_bounds-name_body-count : goal.slice_bounds-name_body-count
 slice_bounds-name_body-count c = some_number Body refl c.requires.line
 
 pub name_body-requires : goal.name_body-requires
-name_body-requires c = let v = c.before in
+name_body-requires c = let v = (goal.at.name_body-requires c).Else-not-all_marked in
     let s = v.before in
     let l = s.requires.line in record { program = s.requires.program; index = s.requires.index; name = (
           rw (name v) (first-low Body refl l),
@@ -85,11 +85,11 @@ module _ (c : After-name_body) where
 pub returns-then-not-name_body : goal.returns-then-not-name_body
 returns-then-not-name_body c =
     λ N ws p z stored T K.
-    let b = c.before in
-    let m = b.before in
-    let k = m.before in
+    let b = (goal.at.returns-then-not-name_body c).After-name_body in
+    let m = c in
+    let k = c in
     let s = k.before in
-    rw (introduced z T Body _ s.requires.line refl refl (sym k.all_marked.ensures ∙ k.if-not-all_marked.false) (sym (named m.before) ∙ m.if-is_marked.false), sym (answer b N ws p z T) ∙ c.if-not-name_body.true) refl
+    rw (introduced z T Body _ s.requires.line refl refl (sym k.all_marked.ensures ∙ k.if-not-all_marked.false) (sym (named (goal.at.returns-then-not-name_body c).After-variable_of-name) ∙ m.if-is_marked.false), sym (answer b N ws p z T) ∙ c.if-not-name_body.true) refl
 
 pub define-requires : goal.define-requires
 define-requires c = let s = c.before in
@@ -98,13 +98,13 @@ define-requires c = let s = c.before in
 pub returns : goal.returns
 returns c =
     λ N ws p z stored T K.
-    let d = c.before in
-    let e = d.before in
-    let b = e.before in
-    let m = b.before in
-    let k = m.before in
+    let d = c in
+    let e = c in
+    let b = (goal.at.returns c).After-name_body in
+    let m = c in
+    let k = c in
     let s = k.before in
-    let f = sym (named m.before) ∙ m.if-is_marked.false in
+    let f = sym (named (goal.at.returns c).After-variable_of-name) ∙ m.if-is_marked.false in
     let u = e.if-not-name_body.false in
     let q = sym (answer b N ws p z T) ∙ u in
     rw (introduced z T Body _ s.requires.line refl refl (sym k.all_marked.ensures ∙ k.if-not-all_marked.false) f, q)

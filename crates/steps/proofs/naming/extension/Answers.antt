@@ -29,9 +29,9 @@ named c = rw (c.variable_of.ensures, back _ c.variable_of-arg-1.given) at c.is_m
 pub returns-then-is_marked : goal.returns-then-is_marked
 returns-then-is_marked c =
     λ N ws names bodies z b T K.
-    let k = c.before in
+    let k = c in
     let s = k.before in
-    rw (introduced z T Extension _ s.requires.line refl refl (sym k.all_marked.ensures ∙ k.if-not-all_marked.false) (sym (named c.before) ∙ c.if-is_marked.true)) refl
+    rw (introduced z T Extension _ s.requires.line refl refl (sym k.all_marked.ensures ∙ k.if-not-all_marked.false) (sym (named (goal.at.returns-then-is_marked c).After-is_marked) ∙ c.if-is_marked.true)) refl
 
 pub define-requires : goal.define-requires
 define-requires c = let s = c.before in
@@ -40,10 +40,10 @@ define-requires c = let s = c.before in
 pub returns : goal.returns
 returns c =
     λ N ws names bodies z b T K.
-    let d = c.before in
-    let m = d.before in
-    let k = m.before in
+    let d = c in
+    let m = c in
+    let k = c in
     let s = k.before in
-    let f = sym (named m.before) ∙ m.if-is_marked.false in
+    let f = sym (named (goal.at.returns c).After-is_marked) ∙ m.if-is_marked.false in
     rw (introduced z T Extension _ s.requires.line refl refl (sym k.all_marked.ensures ∙ k.if-not-all_marked.false) f)
     (kept_more K s.args.origin _ _ _ _ d.define.result (d.define.ensures.defined b K.keeps), rw d.define.ensures.known (extension-tracks z T Extension _ s.requires.line refl f))

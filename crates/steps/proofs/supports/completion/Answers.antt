@@ -32,7 +32,7 @@ name : (c : After-variable_of-name) → c.variable_of-name.result ≡ variable (
 name c = rw (back _ c.variable_of-arg-1.given) at c.variable_of-name.ensures
 
 pub is_completed-requires : goal.is_completed-requires
-is_completed-requires c = let v = c.before in
+is_completed-requires c = let v = (goal.at.is_completed-requires c).After-variable_of-arg-1 in
     let s = v.before in
     let l = s.requires.line in record { program = s.requires.program; index = s.requires.index; name = rw (name v) (first-low Completion refl l, first-high Completion refl l) }
 
@@ -48,9 +48,9 @@ answer c N ws z p T =
 pub returns-then-not-is_completed : goal.returns-then-not-is_completed
 returns-then-not-is_completed c =
     λ N ws p z b T K.
-    let k = c.before in
+    let k = c in
     let s = k.before in
-    rw (cited z T Completion _ s.requires.line refl (sym k.all_marked.ensures ∙ k.if-not-all_marked.false), sym (answer c.before N ws z p T) ∙ c.if-not-is_completed.true) refl
+    rw (cited z T Completion _ s.requires.line refl (sym k.all_marked.ensures ∙ k.if-not-all_marked.false), sym (answer (goal.at.returns-then-not-is_completed c).After-is_completed N ws z p T) ∙ c.if-not-is_completed.true) refl
 
 pub join-requires : goal.join-requires
 join-requires c = let s = c.before in
@@ -59,8 +59,8 @@ join-requires c = let s = c.before in
 pub returns : goal.returns
 returns c =
     λ N ws p z b T K.
-    let m = c.before in
-    let k = m.before in
+    let m = c in
+    let k = c in
     let s = k.before in
-    rw (cited z T Completion _ s.requires.line refl (sym k.all_marked.ensures ∙ k.if-not-all_marked.false), sym (answer m.before N ws z p T) ∙ m.if-not-is_completed.false)
+    rw (cited z T Completion _ s.requires.line refl (sym k.all_marked.ensures ∙ k.if-not-all_marked.false), sym (answer (goal.at.returns c).After-is_completed N ws z p T) ∙ m.if-not-is_completed.false)
     (kept_more K s.args.origin _ _ _ _ c.join.result (c.join.ensures b K.keeps), T)

@@ -19,8 +19,8 @@ head c = rw (back _ c.h-1.given) at c.variable_of.ensures
 pub returns-then-atoms-variable_of : goal.returns-then-atoms-variable_of
 returns-then-atoms-variable_of c =
     λ ws p known z T.
-    let s = c.before in
-    sym (no-atom z T s.args.numbers.now (omega (arith, c.if-atoms-variable_of.true, head c.before)))
+    let s = c in
+    sym (no-atom z T s.args.numbers.now (omega (arith, c.if-atoms-variable_of.true, head (goal.at.returns-then-atoms-variable_of c).After-variable_of)))
 
 -- the index covers the program
 module _ (c : After-variable_of-then-is_covered) where
@@ -37,8 +37,8 @@ pub slice_bounds-are_just_names-start : goal.slice_bounds-are_just_names-start
 slice_bounds-are_just_names-start c = search (rules, some_number Support refl (s c).requires.line)
 
 pub are_just_names-requires : goal.are_just_names-requires
-are_just_names-requires c = let v = c.before in
-    let t = v.before in
+are_just_names-requires c = let v = (goal.at.are_just_names-requires c).After-variable_of-then-is_covered in
+    let t = c in
     let p = (s v).requires in
     let l = (s v).args.numbers.now in
     let o = others-literals Support refl p.1.1 in record { program = (p.0.0.1.holds.sound, p.0.1); index = (p.1.0, sym t.is_covered.ensures ∙ t.if-is_covered.true); line = rw (again v, tail_of 1 l) (first-high Support refl p.1.1, omega (arith, length-drop 1 l, p.1.1.few), o.once) }
@@ -46,9 +46,9 @@ are_just_names-requires c = let v = c.before in
 pub returns-then-is_covered : goal.returns-then-is_covered
 returns-then-is_covered c =
     λ ws p known z T.
-    let v = c.before in
-    let k = v.before in
-    supported-by z T (s v).args.numbers.now (s v).requires.line (omega (arith, k.if-atoms-variable_of.false, head k.before)) (again v)
+    let v = (goal.at.returns-then-is_covered c).After-variable_of-then-is_covered in
+    let k = c in
+    supported-by z T (s v).args.numbers.now (s v).requires.line (omega (arith, k.if-atoms-variable_of.false, head (goal.at.returns-then-is_covered c).After-variable_of)) (again v)
     (c.are_just_names.ensures ws p.holds _ _ T.kept)
 
 pub slice_bounds-marks_of-count : goal.slice_bounds-marks_of-count
@@ -60,8 +60,8 @@ slice_bounds-marks_of-start c = search (rules, some_number Support refl c.requir
 pub returns : goal.returns
 returns c =
     λ ws p known z T.
-    let k = c.before in
-    let s = k.before in
+    let k = c in
+    let s = c in
     c.is_same_set.ensures
-    ∙ supported z T s.args.numbers.now s.requires.line (omega (arith, k.if-atoms-variable_of.false, head k.before)) _ (back _ k.h-1.given)
+    ∙ supported z T s.args.numbers.now s.requires.line (omega (arith, k.if-atoms-variable_of.false, head (goal.at.returns c).After-variable_of)) _ (back _ k.h-1.given)
     c.marks_of-listed.ensures (c.mark_names.ensures ws p.holds _ T.kept)

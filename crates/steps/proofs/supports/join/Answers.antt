@@ -10,7 +10,7 @@ use Rattle.steps.proofs.supports.join.Goals.{After-sort, Start}
 
 pub complement_all-requires : goal.complement_all-requires
 complement_all-requires c =
-    let s = c.before in
+    let s = c in
     let l = s.args.numbers.now in
     rw (tail_of 1 l) (literals-tail (get_or l 0 (pos 0)) (drop 1 l) (name-and-literals l s.requires.line.1 s.requires.line.0)).high
 
@@ -19,17 +19,17 @@ module _ (c : After-sort) where
   abbrev s : Start
   s = c.before
 
-  added : Joined s.args.numbers.now c.sort.new.words.0
+  added : Joined s.args.numbers.now c.sort.new.words.words.0
   added =
       let k = c.complement_all in
       let p = s.pre.1 in
-      joined s.args.numbers.now k.new.0 c.sort.new.words.0 p.0 p.1 k.ensures c.sort.ensures
+      joined s.args.numbers.now k.new.words.0 c.sort.new.words.words.0 p.0 p.1 k.ensures c.sort.ensures
 
 pub append-requires : goal.append-requires
-append-requires c = let o = c.before in record { held = (s o).requires.store.0; origin = (s o).requires.store.1; literals = ((added o).literals, omega (arith, (added o).size, (s o).requires.line.2)) }
+append-requires c = let o = (goal.at.append-requires c).After-sort-arg-1 in record { held = (s o).requires.store.0; origin = (s o).requires.store.1; literals = ((added o).literals, omega (arith, (added o).size, (s o).requires.line.2)) }
 
 pub returns : goal.returns
 returns c =
-    let a = c.before in
-    let o = a.before in
+    let a = c in
+    let o = (goal.at.returns c).After-sort-arg-1 in
     λ b H. kept-one b (s o).args.origin _ _ _ a.append.result c.fitted.ensures (added o).is (a.append.ensures b H)

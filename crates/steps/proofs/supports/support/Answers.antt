@@ -13,7 +13,7 @@ returns-then-not-all_marked c =
 pub returns-then-not-is_supported : goal.returns-then-not-is_supported
 returns-then-not-is_supported c =
     λ ws p z b T K.
-    let k = c.before in
+    let k = c in
     let s = k.before in
     rw (cited z T Support _ s.requires.line refl (sym k.all_marked.ensures ∙ k.if-not-all_marked.false), sym (c.is_supported.ensures ws p s.args.known.now z T) ∙ c.if-not-is_supported.true) refl
 
@@ -24,8 +24,8 @@ join-requires c = let s = c.before in
 pub returns : goal.returns
 returns c =
     λ ws p z b T K.
-    let m = c.before in
-    let k = m.before in
+    let m = c in
+    let k = c in
     let s = k.before in
     rw (cited z T Support _ s.requires.line refl (sym k.all_marked.ensures ∙ k.if-not-all_marked.false), sym (m.is_supported.ensures ws p s.args.known.now z T) ∙ m.if-not-is_supported.false)
     (kept_more K s.args.origin _ _ _ _ c.join.result (c.join.ensures b K.keeps), T)

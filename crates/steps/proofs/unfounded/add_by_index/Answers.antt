@@ -30,9 +30,9 @@ module _ (c : After-look_up-found) where
   gives = c.look_up-found.ensures
 
 pub add_found-requires : goal.add_found-requires
-add_found-requires c = let k = c.before in
+add_found-requires c = let k = (goal.at.add_found-requires c).After-look_up-found in
     let p = (s k).requires in
     let t = p.0 in record { found = (asked k t.0 t.1, h k, gives k t.0 t.1 t.2); store = p.1.1.1 }
 
 pub returns : goal.returns
-returns c = let k = c.before in λ ws called A b K. c.add_found.ensures (asked k ws called) (h k) (gives k ws called A) b K
+returns c = let k = (goal.at.returns c).After-look_up-found in λ ws called A b K. c.add_found.ensures (asked k ws called) (h k) (gives k ws called A) b K

@@ -23,9 +23,9 @@ module _ (c : After-scan-found) where
   gives = rw (to_z-of_z s.fits.h) at c.scan-found.ensures
 
 pub add_found-requires : goal.add_found-requires
-add_found-requires c = let k = c.before in
+add_found-requires c = let k = (goal.at.add_found-requires c).After-scan-found in
     let p = (s k).requires in
     let t = p.0.0 in record { found = (asked k t.0 t.1, (s k).args.h, gives k t.0 t.1 t.2); store = p.1 }
 
 pub returns : goal.returns
-returns c = let k = c.before in λ ws called A b K. c.add_found.ensures (asked k ws called) (s k).args.h (gives k ws called A) b K
+returns c = let k = (goal.at.returns c).After-scan-found in λ ws called A b K. c.add_found.ensures (asked k ws called) (s k).args.h (gives k ws called A) b K

@@ -38,7 +38,7 @@ module _ (c : In-Names-2) where
   size = length-take-le n row held.3
 
 pub append-requires : goal.append-requires
-append-requires c = let f = c.before in
+append-requires c = let f = (goal.at.append-requires c).In-Names-1 in
     let p = (s f).requires in
     let g = held f in record { held = p.1.0; origin = p.1.1; literals = (
           subst Literals (sym g.1) (gathered-literals (listed p.0.0) p.0.1 largest 1 (omega arith) (omega arith)),
@@ -47,16 +47,16 @@ append-requires c = let f = c.before in
 
 pub returns-in-Unnamed : goal.returns-in-Unnamed
 returns-in-Unnamed c =
-    let s = c.before in
+    let s = c in
     λ l h L b K. inl (subst (LoopNogood l h s.args.row.now) c.in-Unnamed.is L, refl)
 
 pub returns-in-Names : goal.returns-in-Names
 returns-in-Names c =
-    let a = c.before in
-    let f = c.before in
+    let a = c in
+    let f = (goal.at.returns-in-Names c).In-Names-1 in
     λ l h L b K.
     let g = gives f l h L in
     inr (g.2, kept-one b (s f).args.origin _ _ _ a.append.result c.fitted.ensures g.1 (a.append.ensures b K))
 
 pub slice_bounds-append-end : goal.slice_bounds-append-end
-slice_bounds-append-end c = sym (size c.before)
+slice_bounds-append-end c = sym (size (goal.at.slice_bounds-append-end c).In-Names-1)

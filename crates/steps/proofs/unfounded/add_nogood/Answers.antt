@@ -18,14 +18,14 @@ use borrow.Author.Rules.{rules}
 use Rattle.steps.proofs.unfounded.add_nogood.Goals as goal
 
 pub add_by_index-requires : goal.add_by_index-requires
-add_by_index-requires c = let t = c.before in
+add_by_index-requires c = let t = c in
     let p = t.requires in let all = (p.0, ((p.1.0, sym t.is_covered.ensures ∙ t.if-is_covered.true), p.1.1)) in record { state = all.0; index = all.1.0; set = all.1.1.0; store = all.1.1.1 }
 
 pub bounds-numbers-0 : goal.bounds-numbers-0
 bounds-numbers-0 c = some_number Loop refl c.requires.set.1
 
 pub add_by_rules-requires : goal.add_by_rules-requires
-add_by_rules-requires c = let s = c.before in
+add_by_rules-requires c = let s = c in
     let p = s.requires in
     let A = p.0.2 in let all = rw (back (get_or s.args.numbers.now 0 (pos 0)) c.add_by_rules-arg-1.given)
     ((p.0, omega (arith, A.kept.rules, rules-held A.holds), first-high Loop refl p.1.1.0.1), p.1.1.1) in record { state = all.0; store = all.1 }
@@ -37,5 +37,5 @@ returns c =
     subst (λ (h : ℤ). (ws : List InputRule) (called : List ℤ → ℕ) → Above a.table.now a.rules a.names.now a.bodies.now h ws called
     → (stored : List Stored) → Keeps a.store.now a.index.now a.used stored
     → LoopAdded (asked_names External a.inside.now called (expand ws)) h (length a.store.now) a.origin stored
-    g.new.1.1.1.1.1.1.0 g.new.1.1.1.1.1.1.1.1.0 g.result)
+    g.new.store g.new.index g.result)
     (back (get_or a.numbers.now 0 (pos 0)) c.add_by_rules-arg-1.given) g.ensures

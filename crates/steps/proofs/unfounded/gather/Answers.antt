@@ -33,7 +33,7 @@ module _ (c : After-larger-end) where
 
 pub overflow_add-variable_of : goal.overflow_add-variable_of
 overflow_add-variable_of c =
-    let s = c.before in
+    let s = c in
     let e = rw (to_z-of_z s.ranges.h) at c.variable_of.ensures in
     record { fits = omega (arith, e, s.requires.first) }
 
@@ -41,25 +41,25 @@ pub loop-v-init : goal.loop-v-init
 loop-v-init c = (omega arith, omega (arith, end_is c), omega arith, refl, refl)
 
 pub gather_one-count-requires : goal.gather_one-count-requires
-gather_one-count-requires c = let t = c.before in
+gather_one-count-requires c = let t = c in
     let l = t.loop-v in
-    let e = t.before in record { place = (l.invariant.0, omega (arith, t.loop-v-test.true, within e), l.invariant.2, omega (arith, l.invariant.3, (s e).requires.rows.0)) }
+    let e = (goal.at.gather_one-count-requires c).After-larger-end in record { place = (l.invariant.0, omega (arith, t.loop-v-test.true, within e), l.invariant.2, omega (arith, l.invariant.3, (s e).requires.rows.0)) }
 
 pub loop-v-preserved : goal.loop-v-preserved
 loop-v-preserved c =
-    let t = c.before in
+    let t = c in
     let l = t.loop-v in
-    let e = t.before in
+    let e = (goal.at.loop-v-preserved c).After-larger-end in
     let g = c.gather_one-count in (
       omega (arith, l.invariant.0),
       omega (arith, t.loop-v-test.true),
-      omega (arith, g.ensures.0),
-      g.auto.1.1.1.0 ∙ l.invariant.3,
-      gathered-on (marked (s e).args.found.now) (to_z w32 (of_z w32 (s e).args.h)) l.v l.invariant.0 l.invariant.4 g.ensures.1,
+      omega (arith, g.ensures.within),
+      g.auto.row ∙ l.invariant.3,
+      gathered-on (marked (s e).args.found.now) (to_z w32 (of_z w32 (s e).args.h)) l.v l.invariant.0 l.invariant.4 g.ensures.words,
     )
 
 pub returns : goal.returns
 returns c = let l = c.loop-v in
-    let e = c.before in
+    let e = (goal.at.returns c).After-larger-end in
     let h = (s e).args.h in record { within = omega (arith, l.invariant.1, l.invariant.2, within e); words = gathered-all (marked (s e).args.found.now) h l.v largest (to_z-of_z (s e).ranges.h) l.invariant.0 (omega (arith, l.invariant.1, within e))
           (λ u k. past e u (omega (arith, c.loop-v-test.false))) l.invariant.4 }

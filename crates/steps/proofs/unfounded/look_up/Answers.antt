@@ -65,20 +65,20 @@ module _ (c : In-Names-2) where
   held = let p = s.pre.0 in externals p.0 p.1 p.2
 
 pub bounds-numbers-0 : goal.bounds-numbers-0
-bounds-numbers-0 c = some_number Loop refl (s c.before).pre.1.1.0.1
+bounds-numbers-0 c = some_number Loop refl (s (goal.at.bounds-numbers-0 c).In-Names-2).pre.1.1.0.1
 
 pub complete-requires : goal.complete-requires
-complete-requires c = let f = c.before in
+complete-requires c = let f = (goal.at.complete-requires c).In-Names-2 in
     let E = held f in record { row = (long f, E.0); names = rw (others f) (λ x i. (E.2 x i).2) }
 
 pub overflow_add-result : goal.overflow_add-result
-overflow_add-result c = let E = held c.before in record { fits = omega (arith, E.0) }
+overflow_add-result c = let E = held (goal.at.overflow_add-result c).In-Names-2 in record { fits = omega (arith, E.0) }
 
 pub returns-in-Names : goal.returns-in-Names
 returns-in-Names c =
     λ ws called A.
-    let k = c.before in
-    let f = k.before in
+    let k = c in
+    let f = (goal.at.returns-in-Names c).In-Names-2 in
     let line = (s f).requires.set.1 in
     let h = get_or (s f).args.numbers.now 0 (pos 0) in
     let E = externals f ws called A in
@@ -89,8 +89,8 @@ returns-in-Names c =
 
 pub returns-in-Unnamed : goal.returns-in-Unnamed
 returns-in-Unnamed c =
-    let e = c.before in
-    let s = e.before in
+    let e = c in
+    let s = c in
     λ ws called A.
     subst (Externals (asked_names External s.args.inside.now called (expand ws)) e.external_names-found.new.row.0) c.in-Unnamed.is
     (e.external_names-found.ensures ws A.holds s.args.bodies.now called A.kept)

@@ -37,13 +37,13 @@ module _ (c : Else-atoms-largest_variable) where
 
 pub returns-then-not-all_marked : goal.returns-then-not-all_marked
 returns-then-not-all_marked c =
-    let s = c.before in
+    let s = c in
     λ ws p z b tracks K. rw (cited z tracks Loop s.args.numbers.now s.requires.line refl (sym c.all_marked.ensures ∙ c.if-not-all_marked.true)) refl
 
 pub returns-then-atoms-largest_variable : goal.returns-then-atoms-largest_variable
 returns-then-atoms-largest_variable c =
-    let d = c.before in
-    let s = d.before in
+    let d = c in
+    let s = c in
     λ ws p z b tracks K.
     loop-atoms z tracks s.args.origin _ b _ _ s.args.numbers.now s.requires.line (sym d.all_marked.ensures ∙ d.if-not-all_marked.false)
     (omega (arith, c.if-atoms-largest_variable.true, c.largest_variable.ensures))
@@ -58,23 +58,23 @@ looped c = sym c.is_Loop.ensures
 
 pub returns-then-not-is_loop : goal.returns-then-not-is_loop
 returns-then-not-is_loop c =
-    let e = c.before in
+    let e = (goal.at.returns-then-not-is_loop c).Else-atoms-largest_variable in
     λ ws p z b tracks K.
-    loop-not z tracks (s e).args.origin _ b _ _ (U e) (line e) (known e) (low e) (rw (← p.holds.are) (looped c.before ∙ c.if-not-is_loop.true))
+    loop-not z tracks (s e).args.origin _ b _ _ (U e) (line e) (known e) (low e) (rw (← p.holds.are) (looped (goal.at.returns-then-not-is_loop c).After-is_loop ∙ c.if-not-is_loop.true))
 
 pub add_nogood-requires : goal.add_nogood-requires
-add_nogood-requires c = let m = c.before in
-    let e = m.before in
+add_nogood-requires c = let m = c in
+    let e = (goal.at.add_nogood-requires c).Else-atoms-largest_variable in
     let p = (s e).requires in
     let t = p.0 in record { state = (t.0, name_of t.1.named, names-above t.1 t.3 t.2 (U e) (line e) (low e)); index = p.1.0; set = (m.marks_of-inside.ensures, line e); store = p.1.1.1.0 }
 
 pub returns : goal.returns
 returns c =
     let g = c.add_nogood in
-    let m = c.before in
-    let a = m.before in
-    let d = a.before in
+    let m = c in
+    let a = c in
+    let d = (goal.at.returns c).Else-atoms-largest_variable in
     λ ws p z b tracks K.
     loop-ends z tracks (s d).args.origin _ b _ _ m.marks_of-inside.result (U d) (line d) (known d) (low d)
-    (rw (← p.holds.are) (looped a.before ∙ a.if-not-is_loop.false)) m.marks_of-inside.ensures p.high K g.result
+    (rw (← p.holds.are) (looped (goal.at.returns c).After-is_loop ∙ a.if-not-is_loop.false)) m.marks_of-inside.ensures p.high K g.result
     (g.ensures ws (name_of z.named) (names-above z tracks p (U d) (line d) (low d)) b K.keeps)

@@ -32,20 +32,20 @@ module _ (c : After-mark_names) where
     found = c.mark_names.ensures ws A.holds called A.kept
 
 pub returns-then-is_marked : goal.returns-then-is_marked
-returns-then-is_marked c = λ ws called A. name-missing (found c.before ws called A) (sym c.is_marked.ensures ∙ c.if-is_marked.true)
+returns-then-is_marked c = λ ws called A. name-missing (found (goal.at.returns-then-is_marked c).After-mark_names ws called A) (sym c.is_marked.ensures ∙ c.if-is_marked.true)
 
 pub returns : goal.returns
 returns c =
     λ ws called A.
     let g = c.gather in
-    let k = c.before in
-    let n = k.before in
+    let k = c in
+    let n = (goal.at.returns c).After-mark_names in
     let m = marks n in
     let h = (s n).args.h in
     let none = sym k.is_marked.ensures ∙ k.if-is_marked.false in
     let F = names-all (found n ws called A) none in (
-      g.ensures.0,
-      g.ensures.1 ∙ ap (λ x. gathered (marked m) x largest 1) (to_z-of_z (s n).ranges.h) ∙ gathered-same (marked m) h (listed (asked n ws called A)) largest 1 (λ u i. F.has u (omega arith)),
+      g.ensures.within,
+      g.ensures.words ∙ ap (λ x. gathered (marked m) x largest 1) (to_z-of_z (s n).ranges.h) ∙ gathered-same (marked m) h (listed (asked n ws called A)) largest 1 (λ u i. F.has u (omega arith)),
       sym (F.has 0 (omega arith)) ∙ none,
-      omega (arith, g.ensures.0, g.auto.1.1.0, (s n).requires.row.0),
+      omega (arith, g.ensures.within, g.auto.row, (s n).requires.row.0),
     )

@@ -10,7 +10,7 @@ use Rattle.text.proofs.writing.put_bytes.Goals as goal
 
 pub loop-i-preserved : goal.loop-i-preserved
 loop-i-preserved c =
-    let b = c.before in
+    let b = c in
     let a = b.args in
     let l = b.loop-i in
     (omega arith, c.put.ensures ∙ rw l.invariant.1 (sets_more a.bytes.now a.buffer.now a.at l.i (omega arith)))

@@ -12,7 +12,7 @@ use Rattle.totalizer.proofs.levels.add_pairs.Goals as goal
 use Rattle.totalizer.proofs.levels.add_pairs.Goals.{In-loop-left, After-variable_of-weight, At-loop-left}
 
 pub loop-left-init : goal.loop-left-init
-loop-left-init c = let s = c.before in adding-start _ _ s.args.n _ _ s.requires.sums.1
+loop-left-init c = let s = c in adding-start _ _ s.args.n _ _ s.requires.sums.1
 
 -- there is a pair left
 there : (c : In-loop-left) → 2 * (c.loop-left.left - 1) + 1 < length c.args.pairs.now
@@ -42,10 +42,10 @@ sums c =
     subst (SumsUpTo s.args.bound) (sym c.loop-left.invariant.is) (over-up-to s.requires.sums.0 _)
 
 pub add_literal-count-requires : goal.add_literal-count-requires
-add_literal-count-requires c = let d = c.before in
+add_literal-count-requires c = let d = (goal.at.add_literal-count-requires c).In-loop-left in
     let l = d.loop-left.invariant in
-    let s = d.before in
-    let low : c.variable_of-weight.result ≤ most_weight = rw (weight c.before) (weight-at s.args.pairs.now s.requires.pairs.0 (d.loop-left.left - 1) (there d)) in record { sums = (sums d.before, s.requires.pairs.1, low); room = (l.within, omega (arith, l.long, s.requires.room), omega (arith, l.spare-long, s.requires.room)) }
+    let s = c in
+    let low : c.variable_of-weight.result ≤ most_weight = rw (weight (goal.at.add_literal-count-requires c).After-variable_of-weight) (weight-at s.args.pairs.now s.requires.pairs.0 (d.loop-left.left - 1) (there d)) in record { sums = (sums (goal.at.add_literal-count-requires c).At-loop-left, s.requires.pairs.1, low); room = (l.within, omega (arith, l.long, s.requires.room), omega (arith, l.spare-long, s.requires.room)) }
 
 pub loop-left-smaller : goal.loop-left-smaller
 loop-left-smaller c = omega (arith, c.loop-left-test.true)
@@ -53,9 +53,9 @@ loop-left-smaller c = omega (arith, c.loop-left-test.true)
 pub loop-left-preserved : goal.loop-left-preserved
 loop-left-preserved c =
     let a = c.add_literal-count in
-    let v = c.before in
-    let d = v.before in
-    adding-on d.loop-left.invariant d.loop-left-test.true (weight v) a.ensures.0 a.ensures.1 a.auto.0 a.auto.1.1.1.1.0
+    let v = (goal.at.loop-left-preserved c).After-variable_of-weight in
+    let d = c in
+    adding-on d.loop-left.invariant d.loop-left-test.true (weight v) a.ensures.within a.ensures.sums a.auto.sums a.auto.spare
 
 pub returns : goal.returns
 returns c = let A = c.loop-left.invariant in record { within = A.within; sums = adding-done A c.loop-left-test.false }

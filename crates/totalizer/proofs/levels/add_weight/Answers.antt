@@ -16,38 +16,38 @@ loop-i-init c = stands-start _ _ _ _
 
 pub overflow_add-i : goal.overflow_add-i
 overflow_add-i c =
-    let s = c.before in
+    let s = c in
     let l = c.loop-i.invariant in
     record { fits = omega (arith, few-sums s.requires.sums.0, s.requires.sums.1, l.in_left, l.in_right) }
 
 pub overflow_mul-sums : goal.overflow_mul-sums
-overflow_mul-sums c = let s = c.before in record { fits = omega (arith, few-sums s.requires.sums.0, s.requires.sums.1) }
+overflow_mul-sums c = let s = c in record { fits = omega (arith, few-sums s.requires.sums.0, s.requires.sums.1) }
 
 pub overflow_add-bound : goal.overflow_add-bound
-overflow_add-bound c = let s = c.before in record { fits = omega (arith, s.requires.sums.1) }
+overflow_add-bound c = let s = c in record { fits = omega (arith, s.requires.sums.1) }
 
 pub offset_bounds-to-k : goal.offset_bounds-to-k
 offset_bounds-to-k c =
-    let s = c.before in
-    record { fits = omega (arith, (room c.before).0, s.requires.sums.1) }
+    let s = c in
+    record { fits = omega (arith, (room (goal.at.offset_bounds-to-k c).In-loop-i).0, s.requires.sums.1) }
 
 pub bounds-to-k : goal.bounds-to-k
-bounds-to-k c = (room c.before).1
+bounds-to-k c = (room (goal.at.bounds-to-k c).In-loop-i).1
 
 pub overflow_add-k : goal.overflow_add-k
 overflow_add-k c =
-    let s = c.before in
-    record { fits = omega (arith, (room c.before).0, s.requires.sums.1) }
+    let s = c in
+    record { fits = omega (arith, (room (goal.at.overflow_add-k c).In-loop-i).0, s.requires.sums.1) }
 
 pub overflow_add-i-in-loop-i : goal.overflow_add-i-in-loop-i
 overflow_add-i-in-loop-i c =
-    let s = c.before in
+    let s = c in
     let l = c.loop-i.invariant in
     record { fits = omega (arith, few-sums s.requires.sums.0, s.requires.sums.1, l.in_left) }
 
 pub overflow_add-j : goal.overflow_add-j
 overflow_add-j c =
-    let s = c.before in
+    let s = c in
     let l = c.loop-i.invariant in
     record { fits = omega (arith, few-sums s.requires.sums.0, s.requires.sums.1, l.in_right) }
 

@@ -8,9 +8,9 @@ use Rattle.totalizer.proofs.Adding.{sums-up-to}
 use Rattle.totalizer.proofs.levels.levels_of.Goals as goal
 
 pub sums_of_both-m-requires : goal.sums_of_both-m-requires
-sums_of_both-m-requires c = let s = c.before in
+sums_of_both-m-requires c = let s = c in
     let p = s.requires in
-    let f = c.sums_of-n in record { pairs = (p.0.0, p.0.2, p.0.3); room = (p.1.1, omega (arith, f.auto.1.1.1.0, p.1.2)) }
+    let f = c.sums_of-n in record { pairs = (p.0.0, p.0.2, p.0.3); room = (p.1.1, omega (arith, f.auto.spare, p.1.2)) }
 
 pub slice_bounds-useful_levels-end-2 : goal.slice_bounds-useful_levels-end-2
 slice_bounds-useful_levels-end-2 c = sym (length-take-le _ _ c.sums_of-n.ensures.within)
@@ -24,15 +24,11 @@ useful_levels-requires c = let s = c.before in
     let p = s.requires in
     let f = c.sums_of-n in
     let g = c.sums_of_both-m in
-    let n = subst (SumsUpTo b) (sym f.ensures.1) (sums-up-to b _) in record { sums = (n, subst (SumsUpTo b) (sym g.ensures.1) (sums-up-to b _), p.0.3); room = omega (arith, few-sums n, p.1.3) }
+    let n = subst (SumsUpTo b) (sym f.ensures.sums) (sums-up-to b _) in record { sums = (n, subst (SumsUpTo b) (sym g.ensures.sums) (sums-up-to b _), p.0.3); room = omega (arith, few-sums n, p.1.3) }
 
 pub returns : goal.returns
-
 unfolding levels_for
-
-returns c =
-    let s = c.before in
+returns c = let s = c.before in
     let r = c.useful_levels.ensures in
     let f = c.sums_of-n in
-    let g = c.sums_of_both-m in
-    (r.0, r.1 ∙ ap₂ (λ others us. useful s.args.bound others us) g.ensures.1 f.ensures.1)
+    let g = c.sums_of_both-m in record { within = r.0; levels = r.1 ∙ ap₂ (λ others us. useful s.args.bound others us) g.ensures.sums f.ensures.sums }

@@ -8,14 +8,14 @@ use Rattle.totalizer.proofs.levels.raised_at.Goals as goal
 
 pub overflow_add-sums : goal.overflow_add-sums
 overflow_add-sums c =
-    let s = c.before in
+    let s = c in
     let p = s.pre in
     let l = p.0.low _ (in-at 0 s.args.sums.now s.args.j c.if-j-sums.taken) in
     record { fits = omega (arith, l, p.1, p.2) }
 
 pub returns-then-j-sums : goal.returns-then-j-sums
 returns-then-j-sums c =
-    let s = c.before in
+    let s = c in
     let a = s.args in
     c.smaller.ensures ∙ sym (raised-first a.bound a.weight a.sums.now a.j c.if-j-sums.taken)
 

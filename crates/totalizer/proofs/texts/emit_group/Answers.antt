@@ -9,22 +9,22 @@ use Rattle.totalizer.proofs.Groups.{group-more}
 use Rattle.totalizer.proofs.texts.emit_group.Goals as goal
 
 pub loop-i-init : goal.loop-i-init
-loop-i-init c = let s = c.before in (omega arith, emits_none _ s.args.place s.requires.place)
+loop-i-init c = let s = c in (omega arith, emits_none _ s.args.place s.requires.place)
 
 pub overflow_add-atom : goal.overflow_add-atom
-overflow_add-atom c = let s = c.before in record { fits = omega (arith, c.loop-i-test.true, s.requires.atoms) }
+overflow_add-atom c = let s = c in record { fits = omega (arith, c.loop-i-test.true, s.requires.atoms) }
 
 pub offset_bounds-levels-i : goal.offset_bounds-levels-i
-offset_bounds-levels-i c = let s = c.before in record { fits = omega (arith, c.loop-i-test.true, s.requires.atoms) }
+offset_bounds-levels-i c = let s = c in record { fits = omega (arith, c.loop-i-test.true, s.requires.atoms) }
 
 pub bounds-levels-i : goal.bounds-levels-i
 bounds-levels-i c = c.loop-i-test.true
 
 pub emit_sum-here-requires : goal.emit_sum-here-requires
-emit_sum-here-requires c = let s = c.before in record { place = c.loop-i.invariant.1.bounded; pairs = s.requires.pairs }
+emit_sum-here-requires c = let s = c in record { place = c.loop-i.invariant.1.bounded; pairs = s.requires.pairs }
 
 pub overflow_add-i : goal.overflow_add-i
-overflow_add-i c = let s = c.before in record { fits = omega (arith, c.loop-i-test.true, s.requires.atoms) }
+overflow_add-i c = let s = c in record { fits = omega (arith, c.loop-i-test.true, s.requires.atoms) }
 
 pub loop-i-smaller : goal.loop-i-smaller
 loop-i-smaller c = omega (arith, c.loop-i-test.true)

@@ -8,20 +8,20 @@ use Rattle.totalizer.proofs.RuleTexts.{sized, spaced-body}
 use Rattle.totalizer.proofs.texts.put_body.Goals as goal
 
 pub bounds-words-2 : goal.bounds-words-2
-bounds-words-2 c = let s = c.before in omega (arith, (sized s.args.words.now s.requires.rule).long)
+bounds-words-2 c = let s = c in omega (arith, (sized s.args.words.now s.requires.rule).long)
 
 pub bounds-words-3 : goal.bounds-words-3
-bounds-words-3 c = let s = c.before in omega (arith, (sized s.args.words.now s.requires.rule).long)
+bounds-words-3 c = let s = c in omega (arith, (sized s.args.words.now s.requires.rule).long)
 
 pub put_numbers-end-requires : goal.put_numbers-end-requires
-put_numbers-end-requires c = let s = c.before in
+put_numbers-end-requires c = let s = c in
     let p = c.put_number-kind.ensures.within in
     let q = c.put_bound-bound.ensures.within in
     let r = c.put_number-count.ensures.within in record { room = omega (arith, s.requires.room, p, q, r, ap length c.body_of.ensures, (sized s.args.words.now s.requires.rule).body) }
 
 pub put_bytes-requires : goal.put_bytes-requires
 put_bytes-requires c =
-    let s = c.before in
+    let s = c in
     let p = c.put_number-kind.ensures.within in
     let q = c.put_bound-bound.ensures.within in
     let r = c.put_number-count.ensures.within in
@@ -30,7 +30,7 @@ put_bytes-requires c =
     omega (arith, s.requires.room, p, q, r, t, (sized s.args.words.now s.requires.rule).body)
 
 pub returns : goal.returns
-returns c = let s = c.before in
+returns c = let s = c in
     let ws = s.args.words.now in
     let kind = rw (back (get_or ws 2 (pos 0)) c.put_number-arg-2-1.given) at c.put_number-kind.ensures in
     let bound = c.put_bound-bound.ensures in

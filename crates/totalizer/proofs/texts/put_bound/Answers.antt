@@ -10,18 +10,14 @@ use Rattle.totalizer.proofs.texts.put_bound.Goals as goal
 
 pub bounds-words-4 : goal.bounds-words-4
 bounds-words-4 c =
-    let s = c.before in
+    let s = c in
     (sized s.args.words.now s.requires.rule).bound (sym c.is_weighted.ensures ∙ c.if-is_weighted.true)
 
 pub returns-then-is_weighted : goal.returns-then-is_weighted
-returns-then-is_weighted c = let s = c.before in
+returns-then-is_weighted c = let s = c in
     let w = get_or s.args.words.now 4 (pos 0) in
     let p = rw (back w c.put_number-arg-then-is_weighted-1.given) at c.put_number.ensures in record { written = rw (sym c.is_weighted.ensures ∙ c.if-is_weighted.true, spaced-one w) p.0; within = p.1 }
 
 pub returns : goal.returns
-
 unfolding spaced
-
-returns c =
-    let s = c.before in
-    (rw (sym c.is_weighted.ensures ∙ c.if-is_weighted.false) (put-none _ _), omega arith)
+returns c = let s = c in record { written = rw (sym c.is_weighted.ensures ∙ c.if-is_weighted.false) (put-none _ _); within = omega arith }

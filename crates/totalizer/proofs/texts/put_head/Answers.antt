@@ -10,7 +10,7 @@ use Rattle.totalizer.proofs.texts.put_head.Goals.{Start}
 
 pub slice_bounds-put_numbers-end : goal.slice_bounds-put_numbers-end
 slice_bounds-put_numbers-end c =
-    let s = c.before in
+    let s = c in
     sym (length-take-le 2 s.args.words.now (omega (arith, (sized s.args.words.now s.requires.rule).long)))
 
 -- two numbers
@@ -18,14 +18,14 @@ two : (s : Start) → length (take 2 s.args.words.now) ≡ 2
 two s = length-take-le 2 s.args.words.now (omega (arith, (sized s.args.words.now s.requires.rule).long))
 
 pub put_numbers-end-requires : goal.put_numbers-end-requires
-put_numbers-end-requires c = let s = c.before in record { room = omega (arith, s.requires.room, two s, c.put_bytes-from.ensures.ends) }
+put_numbers-end-requires c = let s = (goal.at.put_numbers-end-requires c).Start in record { room = omega (arith, s.requires.room, two s, c.put_bytes-from.ensures.ends) }
 
 pub put_numbers-requires : goal.put_numbers-requires
-put_numbers-requires c = let s = c.before in
+put_numbers-requires c = let s = (goal.at.put_numbers-requires c).Start in
     let n = c.put_numbers-end.ensures.within in record { room = omega (arith, s.requires.room, two s, c.put_bytes-from.ensures.ends, n, ap length c.heads_of.ensures, (sized s.args.words.now s.requires.rule).heads) }
 
 pub returns : goal.returns
-returns c = let s = c.before in
+returns c = let s = (goal.at.returns c).Start in
     let ws = s.args.words.now in
     let first = c.put_bytes-from.ensures in
     let numbers = c.put_numbers-end.ensures in

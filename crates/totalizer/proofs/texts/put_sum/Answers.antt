@@ -4,7 +4,7 @@ use Rattle.totalizer.proofs.RuleTexts.{sum-put}
 use Rattle.totalizer.proofs.texts.put_sum.Goals as goal
 
 pub returns : goal.returns
-returns c = let s = c.before in
+returns c = let s = c in
     let last = c.put_bytes.ensures in
     let pairs = c.put_numbers-end.ensures in
     let count = c.put_size-count.ensures in

@@ -16,7 +16,7 @@ use Rattle.trees.proofs.sides.first_refusal.Goals.{After-demand_atom, Start}
 
 pub demand_atom-requires : goal.demand_atom-requires
 demand_atom-requires c =
-    let s = c.before in
+    let s = c in
     let S = s.requires.place.1 in
     (omega (arith, S.room, S.size), small-atom S s.requires.atom)
 
@@ -33,15 +33,15 @@ module _ (c : After-demand_atom) where
   same = same-program s.pre.0.1 (pos s.args.v) s.pre.1.0 (omega arith) refl c.demand_atom.ensures
 
 pub is_accepted-requires : goal.is_accepted-requires
-is_accepted-requires c = let d = c.before in
+is_accepted-requires c = let d = (goal.at.is_accepted-requires c).After-demand_atom-arg-1 in
     let q = (s d).requires in record { program = ((demanding_as_written q.0.0 (pos (s d).args.v), whole d q.0.1), omega (arith, q.0.1.rules)); empty = q.1.1 }
 
 pub returns-then-not-is_accepted : goal.returns-then-not-is_accepted
-returns-then-not-is_accepted c = let d = c.before in
+returns-then-not-is_accepted c = let d = (goal.at.returns-then-not-is_accepted c).After-demand_atom-arg-1 in
     let a = c.is_accepted in
-    let x = (s d).args in record { empty = a.ensures.0; program = same d; number = λ ws S. sym (ap (λ (b : Bool). cond b x.two x.one) (sym (a.ensures.1 (demanding_as_written ws (pos x.v)) (whole d S)) ∙ c.if-not-is_accepted.true)) }
+    let x = (s d).args in record { empty = a.ensures.empty; program = same d; number = λ ws S. sym (ap (λ (b : Bool). cond b x.two x.one) (sym (a.ensures.accepted (demanding_as_written ws (pos x.v)) (whole d S)) ∙ c.if-not-is_accepted.true)) }
 
 pub returns : goal.returns
-returns c = let d = c.before in
+returns c = let d = (goal.at.returns c).After-demand_atom-arg-1 in
     let a = c.is_accepted in
-    let x = (s d).args in record { empty = a.ensures.0; program = same d; number = λ ws S. sym (ap (λ (b : Bool). cond b x.two x.one) (sym (a.ensures.1 (demanding_as_written ws (pos x.v)) (whole d S)) ∙ c.if-not-is_accepted.false)) }
+    let x = (s d).args in record { empty = a.ensures.empty; program = same d; number = λ ws S. sym (ap (λ (b : Bool). cond b x.two x.one) (sym (a.ensures.accepted (demanding_as_written ws (pos x.v)) (whole d S)) ∙ c.if-not-is_accepted.false)) }

@@ -48,11 +48,11 @@ merge_texts-requires c = let s = c.before in
 pub returns-in-Refused : goal.returns-in-Refused
 returns-in-Refused c = let s = c.before in
     let r = c.first_refusal in
-    let g = c.other-1.given in record { empty = r.ensures.0; program = r.ensures.1.0; side = λ ws S.
+    let g = c.other-1.given in record { empty = r.ensures.empty; program = r.ensures.program; side = λ ws S.
               ap (joined s ws) g.1
-              ∙ (other-refused (store-size s) s.args.place.limit ws s.args.v (text s) s.args.one.refusal g.0.0 ∙ ap fails (sym (r.ensures.1.1 ws S))); taken = subst (λ (w : Sided). AddsTo s.args.one w (Refused r.result)) (sym g.1) tt }
+              ∙ (other-refused (store-size s) s.args.place.limit ws s.args.v (text s) s.args.one.refusal g.0.0 ∙ ap fails (sym (r.ensures.number ws S))); taken = subst (λ (w : Sided). AddsTo s.args.one w (Refused r.result)) (sym g.1) tt }
 
 pub returns-in-Text : goal.returns-in-Text
 returns-in-Text c = let s = c.before in
     let m = c.merge_texts in
-    let g = c.other-in-Text-1.given in record { empty = m.ensures.0; program = m.ensures.1.0; side = λ ws S. ap (joined s ws) g.1 ∙ m.ensures.1.1.0 ws S; taken = subst (λ (w : Sided). AddsTo s.args.one w m.result) (sym g.1) m.ensures.1.1.1 }
+    let g = c.other-in-Text-1.given in record { empty = m.ensures.empty; program = m.ensures.program; side = λ ws S. ap (joined s ws) g.1 ∙ m.ensures.side ws S; taken = subst (λ (w : Sided). AddsTo s.args.one w m.result) (sym g.1) m.ensures.taken }

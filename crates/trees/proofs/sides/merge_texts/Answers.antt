@@ -58,7 +58,7 @@ module _ (c : After-zero_all) where
     atom = subst (λ (N : ℕ). is_atom N s.args.v ≡ true) S.program.top s.pre.1.0
 
 pub write-requires : goal.write-requires
-write-requires c = let d = c.before in
+write-requires c = let d = (goal.at.write-requires c).After-zero_all-arg-1 in
     let S = (s d).requires.place.1 in
     let P = program d S in record { program = (((s d).requires.place.0, P), omega (arith, S.rules)); short = omega (arith, ap (λ (rs : List InputRule). length (program_words rs)) P.holds.are, S.used, S.room); empty = ((s d).requires.empty, (zeros 0 {n = longest} (s d).requires.blank).0) }
 
@@ -80,33 +80,33 @@ module _ (c : After-write) where
   same-output = c.write.auto.output ∙ long z
 
 pub returns-then-number-eq58 : goal.returns-then-number-eq58
-returns-then-number-eq58 c = let w = c.before in
+returns-then-number-eq58 c = let w = (goal.at.returns-then-number-eq58 c).After-write in
     let x = (s (z w)).args in record { empty = w.write.ensures.empty; program = front (z w); side = λ ws S.
               over-buffer (length x.store.now) x.place.limit ws x.v x.first.now x.second.now (output' w) x.one.refusal x.two.refusal (atom (z w) S) (same-output w)
               c.in-Refused.number c.in-Refused.is c.if-number-eq58.true (w.write.ensures.written ws (program (z w) S)); taken = tt }
 
 pub first_refusal-requires : goal.first_refusal-requires
-first_refusal-requires c = let w = c.before in
+first_refusal-requires c = let w = (goal.at.first_refusal-requires c).After-write in
     let q = (s (z w)).pre in record { place = (q.0.0, standing (z w) q.0.1); atom = q.1.0; empty = (zeros (pos 0) {n = length (s (z w)).args.store.now} w.write.ensures.empty).0 }
 
 pub returns-then-place-size : goal.returns-then-place-size
-returns-then-place-size c = let w = c.before in
+returns-then-place-size c = let w = (goal.at.returns-then-place-size c).After-write in
     let x = (s (z w)).args in record { empty = w.write.ensures.empty; program = front (z w); side = λ ws S.
               over-limit (length x.store.now) x.place.limit ws x.v x.first.now x.second.now (output' w) x.one.refusal x.two.refusal (atom (z w) S) (same-output w)
               c.in-Text.size c.in-Text.is (w.write.ensures.written ws (program (z w) S)) c.if-place-size.true; taken = tt }
 
 pub returns-else-number-eq58 : goal.returns-else-number-eq58
-returns-else-number-eq58 c = let w = c.before in
+returns-else-number-eq58 c = let w = (goal.at.returns-else-number-eq58 c).After-write in
     let f = c.first_refusal in
-    let x = (s (z w)).args in record { empty = f.ensures.0 ∙ ap (λ (n : ℕ). replicate n (pos 0)) (same_store w); program = f.ensures.1.0 ∙ front (z w); side = λ ws S.
+    let x = (s (z w)).args in record { empty = f.ensures.empty ∙ ap (λ (n : ℕ). replicate n (pos 0)) (same_store w); program = f.ensures.program ∙ front (z w); side = λ ws S.
               not-halves (length x.store.now) x.place.limit ws x.v x.first.now x.second.now (output' w) x.one.refusal x.two.refusal (atom (z w) S) (same-output w)
               c.in-Refused.number c.in-Refused.is c.if-number-eq58.false (w.write.ensures.written ws (program (z w) S))
               ∙ ap fails
               (ap (λ (n : ℕ). cond (is_accepted n (demanding_as_written ws (pos x.v)) x.first.now) x.two.refusal x.one.refusal) (sym (same_store w))
-              ∙ sym (f.ensures.1.1 ws (standing (z w) S))); taken = tt }
+              ∙ sym (f.ensures.number ws (standing (z w) S))); taken = tt }
 
 pub returns-else-place-size : goal.returns-else-place-size
-returns-else-place-size c = let w = c.before in
+returns-else-place-size c = let w = (goal.at.returns-else-place-size c).After-write in
     let x = (s (z w)).args in
     let q = (s (z w)).pre.0 in
     let g = c.size-1.given in record { empty = w.write.ensures.empty; program = front (z w); side = λ ws S.

@@ -26,5 +26,5 @@ pub returns : goal.returns
 returns c =
     let a = (s c).args in
     let z = c.zero_all in
-    let k = put-behind a.used a.table.now (omega (arith, (s c).requires)) (row c) c.copy.new.destination (tail-filled a.used a.table.now (pos 0) z.new.0 (omega (arith, (s c).requires)) z.ensures) c.copy.ensures in
+    let k = put-behind a.used a.table.now (omega (arith, (s c).requires)) (row c) c.copy.new.destination (tail-filled a.used a.table.now (pos 0) z.new.t.0 (omega (arith, (s c).requires)) z.ensures) c.copy.ensures in
     rw (row_is c) at k

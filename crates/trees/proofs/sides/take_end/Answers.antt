@@ -35,5 +35,5 @@ returns c =
     let p = c.put_bytes in (
       refl,
       h,
-      ap (take (n s)) (front-put (text s) s.args.output.now p.new.0 p.ensures (omega (arith, size s, h, s.requires.room))) ∙ take_at (text s) _ (n s) (size s),
+      ap (take (n s)) (front-put (text s) s.args.output.now p.new.buffer p.ensures (omega (arith, size s, h, s.requires.room))) ∙ take_at (text s) _ (n s) (size s),
     )

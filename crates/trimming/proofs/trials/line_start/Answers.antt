@@ -14,15 +14,15 @@ is_newline-requires c = c.requires.classes
 
 pub returns-then-is_newline : goal.returns-then-is_newline
 returns-then-is_newline c = let l = c.loop-start in
-    let s = c.before in record { before = l.invariant.0; line = line-found _ _ s.requires.inside.1 l.start c.loop-start-test.true l.invariant.0 (sym c.is_newline.ensures ∙ c.if-is_newline.true) l.invariant.1 }
+    let s = c in record { before = l.invariant.0; line = line-found _ _ s.requires.inside.1 l.start c.loop-start-test.true l.invariant.0 (sym c.is_newline.ensures ∙ c.if-is_newline.true) l.invariant.1 }
 
 pub loop-start-preserved : goal.loop-start-preserved
 loop-start-preserved c =
     let l = c.loop-start in
-    let s = c.before in
+    let s = c in
     (omega (arith, l.invariant.0), later-on _ _ s.requires.inside.1 l.start c.loop-start-test.true l.invariant.0 (sym c.is_newline.ensures ∙ c.if-is_newline.false) l.invariant.1)
 
 pub returns : goal.returns
 returns c = let l = c.loop-start in
-    let s = c.before in
+    let s = c in
     let z : l.start ≡ 0 = omega (arith, c.loop-start-test.false) in record { before = l.invariant.0; line = rw z (line_first _ _ s.requires.inside.1 (rw z at l.invariant.1)) }

@@ -13,7 +13,7 @@ use Rattle.trimming.proofs.trials.pass.Goals.{In-loop-at, At-loop-at, Start}
 
 pub loop-at-init : goal.loop-at-init
 loop-at-init c =
-    let s = c.before in
+    let s = c in
     let a = s.args in
     record {
       same_text = search rules;
@@ -40,11 +40,11 @@ module _ (c : In-loop-at) where
   inside = let I = l.loop-at.inv in (I.ahead, omega (arith, I.within, I.same_text, s.pre.1.0))
 
 pub line_start-start-requires : goal.line_start-start-requires
-line_start-start-requires c = let d = c.before in record { inside = (some d, omega (arith, (inside d).0, (inside d).1)); classes = (s d).requires.classes }
+line_start-start-requires c = let d = (goal.at.line_start-start-requires c).At-loop-at in record { inside = (some d, omega (arith, (inside d).0, (inside d).1)); classes = (s d).requires.classes }
 
 pub try_without-left-requires : goal.try_without-left-requires
-try_without-left-requires c = let b = c.before in
-    let d = b.before in
+try_without-left-requires c = let b = c in
+    let d = (goal.at.try_without-left-requires c).At-loop-at in
     let I = (l d).loop.invariant in
     let q = (s d).requires in
     let h = b.line_start-start.ensures.before in record { bounds = ((omega (arith, h), (inside d).0), (inside d).1); room = (omega (arith, I.same_text, q.0.0), I.same-trial ∙ q.0.1); program = q.1.1.0; empty = (zeros (pos 0) {n = length (s d).args.store.now} I.zeros).0 }
@@ -54,9 +54,9 @@ loop-at-smaller c = c.line_start-start.ensures.before
 
 pub loop-at-preserved : goal.loop-at-preserved
 loop-at-preserved c =
-    let t = c.before in
-    let b = t.before in
-    let d = b.before in
+    let t = c in
+    let b = c in
+    let d = (goal.at.loop-at-preserved c).At-loop-at in
     let I = (l d).loop.invariant in
     let a = (s d).args in
     let k = t.try_without-left.auto in

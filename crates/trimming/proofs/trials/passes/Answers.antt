@@ -20,7 +20,7 @@ use Rattle.trimming.proofs.trials.passes.Goals.{After-pass-left, At-loop-len, St
 
 pub loop-len-init : goal.loop-len-init
 loop-len-init c =
-    let s = c.before in
+    let s = c in
     let a = s.args in
     record {
       same_text = search rules;
@@ -61,27 +61,23 @@ module _ (c : After-pass-left) where
         (c.pass-left.ensures.left ws R.steps p (reads_now (length s.args.store.now) ws ts s.args.text.now r l.loop-len.text l.loop-len.len R))
 
 pub pass-left-requires : goal.pass-left-requires
-
 unfolding byte_classes
-
-pass-left-requires c κs =
-    let k = c.before in
+pass-left-requires c = let k = c in
     let q = k.requires in
-    let I = k.loop-len.invariant in
-    ((omega (arith, I.same_text, q.0), I.room), (I.within, (q.1.0, ((zeros (pos 0) {n = length k.args.store.now} I.zeros).0, refl {a = byte_classes}))))
+    let I = k.loop-len.invariant in record { room = (omega (arith, I.same_text, q.0), I.room); within = I.within; program = q.1.0; empty = (zeros (pos 0) {n = length k.args.store.now} I.zeros).0; classes = refl {a = byte_classes} }
 
 pub returns-then-left-len : goal.returns-then-left-len
-returns-then-left-len c = let d = c.before in
+returns-then-left-len c = let d = (goal.at.returns-then-left-len c).After-pass-left in
     let a = (s d).args in
     let I = (l d).loop.invariant in record { within = omega (arith, inside d, same_text d); empty = d.pass-left.ensures.empty ∙ ap (λ (n : ℕ). replicate n (pos 0)) I.same_store; trimmed = λ ws ts p r.
             reads_end (length a.store.now) ws ts a.text.now r (l d).loop.text (l d).loop.len (R d ws ts p r) I.within (text' d) d.pass-left.result (inside d) (after d ws ts p r) c.if-left-len.true }
 
 pub loop-len-smaller : goal.loop-len-smaller
-loop-len-smaller c = let d = c.before in omega (arith, most d, c.if-left-len.false)
+loop-len-smaller c = let d = (goal.at.loop-len-smaller c).After-pass-left in omega (arith, most d, c.if-left-len.false)
 
 pub loop-len-preserved : goal.loop-len-preserved
 loop-len-preserved c =
-    let d = c.before in
+    let d = (goal.at.loop-len-preserved c).After-pass-left in
     let a = (s d).args in
     let I = (l d).loop.invariant in
     let k = d.pass-left.auto in

@@ -23,7 +23,7 @@ put_bytes-front-requires c =
 
 pub put_bytes-requires : goal.put_bytes-requires
 put_bytes-requires c =
-    let p = c.before in
+    let p = c in
     let s = p.before in
     let a = s.args in
     let b = s.requires.bounds in
@@ -32,8 +32,8 @@ put_bytes-requires c =
     omega (arith, p.put_bytes-front.ensures.ends, front-size s, m, b.0.0, b.0.1, b.1, s.requires.room.0)
 
 pub returns : goal.returns
-returns c = let q = c.before in
-    let p = q.before in
+returns c = let q = c in
+    let p = c in
     let s = p.before in
     let a = s.args in
     let b = s.requires.bounds in

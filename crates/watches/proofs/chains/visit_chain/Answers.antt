@@ -9,7 +9,7 @@ small : (c : After-look_in_chain-turn) (t : Turn) → c.look_in_chain-turn.resul
 small c t e = rw e at c.look_in_chain-turn.ensures
 
 pub link-requires : goal.link-requires
-link-requires c = let f = c.before in let d = small f.before _ f.in-Moves.is in search rules
+link-requires c = let f = c in let d = small (goal.at.link-requires c).After-look_in_chain-turn _ f.in-Moves.is in search rules
 
 pub push-n-requires : goal.push-n-requires
-push-n-requires c = let f = c.before in let d = small f.before _ f.in-Gives.is in search rules
+push-n-requires c = let f = c in let d = small (goal.at.push-n-requires c).After-look_in_chain-turn _ f.in-Gives.is in search rules

@@ -9,7 +9,7 @@ told : (c : After-pass-given) (t : Visited) → c.pass-given.result ≡ t → Sm
 told c t e = rw e at c.pass-given.ensures
 
 pub returns-in-Clash : goal.returns-in-Clash
-returns-in-Clash c = let f = c.before in told f.before _ f.in-Clash.is
+returns-in-Clash c = let f = c in told (goal.at.returns-in-Clash c).After-pass-given _ f.in-Clash.is
 
 pub loop-i-preserved : goal.loop-i-preserved
-loop-i-preserved c = let f = c.before in let t = told f.before _ f.in-Queued.is in search rules
+loop-i-preserved c = let f = c in let t = told (goal.at.loop-i-preserved c).After-pass-given _ f.in-Queued.is in search rules

@@ -9,7 +9,7 @@ told : (c : After-visit_piece-given) (t : Visited) → c.visit_piece-given.resul
 told c t e = rw e at c.visit_piece-given.ensures
 
 pub returns-in-Clash : goal.returns-in-Clash
-returns-in-Clash c = let f = c.before in told f.before _ f.in-Clash.is
+returns-in-Clash c = let f = c in told (goal.at.returns-in-Clash c).After-visit_piece-given _ f.in-Clash.is
 
 pub loop-fuel-preserved : goal.loop-fuel-preserved
-loop-fuel-preserved c = let f = c.before in let t = told f.before _ f.in-Queued.is in search rules
+loop-fuel-preserved c = let f = c in let t = told (goal.at.loop-fuel-preserved c).After-visit_piece-given _ f.in-Queued.is in search rules
