@@ -65,7 +65,7 @@ module _ {A : Type 0} where
   -- a sublist is one of the reordered list, reordered
   pub reorder-sublist : {s l m : List A} → s ⊑ l → Reorder l m → (t : List A) × (t ⊑ m) × Reorder s t
   reorder-sublist {s} h nothing = (s, h, as_it_was s)
-  reorder-sublist (with_it {x = x} h) (first-stays r) = let q = reorder-sublist h r in (x ∷ q.0, with_it q.1, first-stays q.2)
+  reorder-sublist (with_it {x = x} {s = s} h) (first-stays {l = l} {m = m} r) = let q = reorder-sublist {s = s} h r in (x ∷ q.0, with_it q.1, first-stays q.2)
   reorder-sublist (without h) (first-stays r) = let q = reorder-sublist h r in (q.0, without q.1, q.2)
   reorder-sublist (with_it {x = x} (with_it {x = y} {s = s} h)) exchange = (y ∷ x ∷ s, with_it (with_it h), exchange)
   reorder-sublist {s} (with_it (without h)) exchange = (s, without (with_it h), as_it_was s)

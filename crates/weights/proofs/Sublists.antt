@@ -111,7 +111,7 @@ module _ {A : Type 0} where
       go : s ∈ [] ∷ [] → s ⊑ []
       go (Memᴰ.head p) = rw p none
       go (Memᴰ.tail n) = elim n [ ]
-  is-sublist {s} (x ∷ l) m = go (λ t n. is-sublist l n) (Memᴰ.append_cases (map (λ t. x ∷ t) (sublists l)) m)
+  is-sublist {s} (x ∷ l) m = go (λ t n. is-sublist {s = t} l n) (Memᴰ.append_cases (map (λ t. x ∷ t) (sublists l)) m)
     where
       go : ((t : List A) → t ∈ sublists l → t ⊑ l) → (s ∈ map (λ t. x ∷ t) (sublists l)) ⊎ (s ∈ sublists l) → s ⊑ x ∷ l
       go below (inl n) = let r = Memᴰ.of_map (λ t. x ∷ t) (sublists l) n in rw (← r.2) (with_it (below r.0 r.1))
@@ -126,10 +126,10 @@ module _ {A : Type 0} where
   none_of (x ∷ l) = without (none_of l)
 
   pub through : {r s l : List A} → r ⊑ s → s ⊑ l → r ⊑ l
-  through h none = h
-  through (with_it h) (with_it k) = with_it (through h k)
-  through (without h) (with_it k) = without (through h k)
-  through h (without k) = without (through h k)
+  through {r} h none = h
+  through (with_it {x = x} {s = s} h) (with_it {s = s'} {l = l} k) = with_it (through {r = s} h k)
+  through {r} (without h) (with_it k) = without (through {r = r} h k)
+  through {r} h (without k) = without (through {r = r} h k)
 
   -- what passes a test is a sublist
   pub kept : (f : A → Bool) (l : List A) → filter f l ⊑ l
