@@ -37,5 +37,5 @@ returns-in-2 c =
 pub returns-in_default : goal.returns-in_default
 returns-in_default c =
     let a = c.args in
-    told-nothing (version_of a.version) a.packet.now {table = a.table.now} {proof = a.proof.now} (told-other c.in_default-own.rest.0.1 c.in_default-own.rest.1) c.zero_all.ensures
+    told-nothing (version_of a.version) a.packet.now {table = a.table.now} {proof = a.proof.now} (told-other c.in_default.in_default-own.rest.0.1 c.in_default.in_default-own.rest.1) c.zero_all.ensures
     c.zero_bytes.ensures

@@ -30,4 +30,4 @@ returns-in-2 c =
 pub returns-in_default : goal.returns-in_default
 returns-in_default c =
     let a = c.args in
-    told-unwritten (version_of a.version) a.table.now a.rules a.proof.now a.packet.now (told-other c.in_default-own.rest.0.1 c.in_default-own.rest.1) c.zero_bytes.ensures
+    told-unwritten (version_of a.version) a.table.now a.rules a.proof.now a.packet.now (told-other c.in_default.in_default-own.rest.0.1 c.in_default.in_default-own.rest.1) c.zero_bytes.ensures

@@ -6,7 +6,7 @@ use Rattle.text.proofs.class_at.Goals as goal
 -- none of these
 pub returns-in_default : goal.returns-in_default
 returns-in_default c =
-    let r = c.in_default-own.rest in
+    let r = c.in_default.in_default-own.rest in
     simp (
       lt-leb _ _ c.if-number-le9.false,
       ne_eqb _ _ r.0.0.0.0.0.0.0.0.0.1,
