@@ -14,29 +14,29 @@ def norm(s):
     return s.replace("_", "-")
 
 def blocks(text):
-    """The top-level blocks of a file: comments before a declaration belong to it; signature and clauses of one name are one block."""
-    lines = text.split("\n")
-    out, cur, pend = [], None, []
-    for l in lines:
+    """The top-level blocks of a file: comments before a declaration belong to it; signature and clauses of one name are one block, as is a
+    module with what stands in it."""
+    out, cur, pend, gap = [], None, [], False
+    for l in text.split("\n"):
         if l == "":
-            if cur is not None:
-                out.append(cur); cur = None
-            elif pend:
-                out.append(pend); pend = []
+            gap = True
+            if cur is None and pend: out.append(pend); pend = []
             continue
-        if l[0] not in " \t" and not l.startswith("--"):
-            name = decl_name(l)
-            if cur is not None and name is not None and (name == "unfolding" or decl_name_of(cur) == name):
-                cur.append(l)
-            else:
-                if cur is not None: out.append(cur)
-                cur = pend + [l]; pend = []
+        if l[0] in " \t":
+            if cur is None: cur = pend; pend = []
+            if gap: cur.append("")
+            cur.append(l)
         elif l.startswith("--"):
             if cur is not None: out.append(cur); cur = None
             pend.append(l)
         else:
-            if cur is None: cur = pend; pend = []
-            cur.append(l)
+            name = decl_name(l)
+            if cur is not None and not gap and name is not None and (name == "unfolding" or decl_name_of(cur) == name):
+                cur.append(l)
+            else:
+                if cur is not None: out.append(cur)
+                cur = pend + [l]; pend = []
+        gap = False
     if cur is not None: out.append(cur)
     if pend: out.append(pend)
     return ["\n".join(b) for b in out]
@@ -94,7 +94,7 @@ def labels(text, table):
     return re.sub(r"(?<=[^\s(,])\.([A-Za-z][A-Za-z0-9_'-]*)(?![^\s(){}\[\],;.])", one, text)
 
 def flatten(text):
-    return re.sub(r"(\.before)+(?=\.[A-Za-z0-9])", "", text)
+    return re.sub(r"(\.before)+(?=\.(?!before(?![A-Za-z0-9_'-]))[A-Za-z0-9])", "", text)
 
 def places(text, table, inv_names):
     def one(m):
@@ -106,15 +106,39 @@ def places(text, table, inv_names):
         text = re.sub(r"(goal\.[A-Za-z0-9_-]+)((?: (?:" + "|".join(map(re.escape, inv_names)) + r"))+)(?=[\s)]|$)", r"\1", text) if inv_names else text
     return text
 
-def index_of(steps, n):
+def index_of(steps, n, single=False):
     """Which of n things that stand in pairs, the last in a pair's second, the projections lead to, and what is left of them."""
     i = 0
+    if n == 1 and steps and steps[0] == "0" and single: return 0, steps[1:]
     while steps and i < n - 1:
         if steps[0] == "0": return i, steps[1:]
         if steps[0] != "1": return None, steps
         i += 1; steps = steps[1:]
-    if i == n - 1: return i, steps
+    if i == n - 1 and (n == 1 or i > 0): return i, steps
     return None, steps
+
+def named(entry, k):
+    """The place that a `use` line can name: of places that are Rattle's own the one before."""
+    while True:
+        n = entry["places_by_name"][k]
+        p = entry["places"][k]
+        m = re.fullmatch(r"(In-.*?)-\d+", n)
+        if m and (entry["arms"][k] or p[2][1] == "match"):
+            for j, n2 in enumerate(entry["places_by_name"]):
+                if n2 == m.group(1):
+                    i = j
+                    while i is not None and i != k:
+                        up = entry["places"][i][1]
+                        i = next((q for q, x in enumerate(entry["places"]) if x[0] == up), None) if up else None
+                    if i == k: return j, m.group(1)
+            return k, m.group(1)
+        old, new = p[2]
+        stem = re.sub(r"\d+$", "", norm(old or ""))
+        own = old and p[3] is None and re.search(r"-\d+$", new) and not re.match(r"(if|loop|match)", stem) and norm(new).startswith(stem)
+        if not own or not p[1]: return k, n
+        up = next((j for j, q in enumerate(entry["places"]) if q[0] == p[1]), None)
+        if up is None: return k, n
+        k = up
 
 class Places:
     def __init__(self, entry):
@@ -139,7 +163,7 @@ def stops(text, P, place, goal):
             parent = e["places"][k][1] if k is not None else None
             k = P.by.get(norm(parent)) if parent else None
         return k
-    name = lambda k: e["places_by_name"][k]
+    name = lambda k: named(e, k)[1]
     lets = []
     for m in re.finditer(r"let ([A-Za-z0-9_]+) = ([A-Za-z0-9_]+)((?:\.before)+) in", text):
         if m.group(2) in env and m.group(1) != "c":
@@ -153,9 +177,17 @@ def stops(text, P, place, goal):
         rest = text[m.end():]
         used = re.sub(r"let [A-Za-z0-9_]+ = [A-Za-z0-9_]+((?:\.before)+) in", "", rest)
         if re.search(r"(?<![A-Za-z0-9_'.-])" + re.escape(v) + r"(?![A-Za-z0-9_'.-])", used):
-            return f"let {v} = (goal.at.{goal} c).{name(env[v])} in"
+            return f"let {v} = (goal.at.{goal} c).{name(env[v])} in" if env[v] != P.by[norm(place)] else f"let {v} = c in"
         return f"let {v} = c in"
     out = re.sub(r"let ([A-Za-z0-9_]+) = ([A-Za-z0-9_]+)((?:\.before)+) in", let, text)
+    k0 = P.by[norm(place)]
+    if named(e, k0)[0] != k0 and " =" in out:
+        cut = out.index(" =")
+        def bare_c(m):
+            k = HELPERS.get(m.group(1))
+            if k is None or named(e, k)[0] != named(e, k0)[0]: return m.group(0)
+            return f"{m.group(1)} (goal.at.{goal} c).{name(k0)}"
+        out = out[:cut] + re.sub(r"(?<![A-Za-z0-9_'.-])([A-Za-z0-9_'₀-₉-]+) c(?=[ ),]|$)", bare_c, out[cut:])
     def end(m):
         w = m.group(1)
         if w not in env: return m.group(0)
@@ -163,9 +195,79 @@ def stops(text, P, place, goal):
         return m.group(0) if k is None else f"(goal.at.{goal} c).{name(k)}"
     return re.sub(r"(?<![A-Za-z0-9_'.-])([A-Za-z0-9_]+)((?:\.before)+)(?![A-Za-z0-9_'-]|\.[A-Za-z0-9_])", end, out)
 
+def helpers(text):
+    """In a lemma over a place: names for earlier places of which only fields are read are the place itself."""
+    for m in list(re.finditer(r"(?m)^[ ]*abbrev ([A-Za-z0-9_]+) : tie\.[^\n]*\n[ ]*\1 = (c)(?:\.before)+[ ]*\n", text)):
+        v = m.group(1)
+        rest = text.replace(m.group(0), "")
+        if not re.search(r"(?<![A-Za-z0-9_'.-])" + v + r"(?![A-Za-z0-9_'.-])", rest):
+            text = re.sub(r"(?<![A-Za-z0-9_'.-])" + v + r"(?=\.[A-Za-z])", "c", rest)
+            GONE.add(v)
+    def let(m):
+        v = m.group(1)
+        rest = text[m.end():]
+        used = re.sub(r"let [A-Za-z0-9_]+ = [A-Za-z0-9_]+((?:\.before)+) in", "", rest)
+        if re.search(r"(?<![A-Za-z0-9_'.-])" + re.escape(v) + r"(?![A-Za-z0-9_'.-])", used): return m.group(0)
+        return f"let {v} = c in"
+    text = re.sub(r"let ([A-Za-z0-9_]+) = c((?:\.before)+) in", let, text)
+    return text
+
+GONE = set()
+HELPERS = {}
+
+def depth(P, k):
+    n = 0
+    while True:
+        parent = P.entry["places"][k][1]
+        k = P.by.get(norm(parent)) if parent else None
+        if k is None: return n
+        n += 1
+
+def passed(text, P, place):
+    """In a lemma over a place: an earlier place that is passed on, as the record of that place."""
+    e = P.entry
+    here, _ = named(e, P.by[norm(place)])
+    env = {"c": P.by[norm(place)]}
+    def up(k, n):
+        for _ in range(n):
+            parent = e["places"][k][1] if k is not None else None
+            k = P.by.get(norm(parent)) if parent else None
+        return k
+    def at(k):
+        k2, n = named(e, k)
+        steps = depth(P, here) - depth(P, k2)
+        if steps == 0: return "c"
+        raw = "c" + ".before" * (steps + (1 if e["typed"][here] else 0))
+        if not e["typed"][k2]: return raw
+        more = " ".join([f"goal.the-invariant-{l[0][1]} goal.the-decreases-{l[0][1]}" for l in e["loops"]] + (["tie.handed_clauses"] if any(e["clauses"]) else []))
+        return f"(view.up-{n} tie.the-claims reads.Pre reads.Post {more}{' ' if more else ''}{raw})"
+    for m in re.finditer(r"let ([A-Za-z0-9_]+) = ([A-Za-z0-9_]+)((?:\.before)+) in", text):
+        if m.group(2) in env and m.group(1) != "c":
+            k = up(env[m.group(2)], m.group(3).count("before"))
+            if k is not None: env[m.group(1)] = k
+    def let(m):
+        v, w = m.group(1), m.group(2)
+        if v not in env or w not in env or v == "c": return m.group(0)
+        return f"let {v} = {at(env[v])} in"
+    text = re.sub(r"let ([A-Za-z0-9_]+) = ([A-Za-z0-9_]+)((?:\.before)+) in", let, text)
+    def end(m):
+        w = m.group(1)
+        if w not in env: return m.group(0)
+        k = up(env[w], m.group(2).count("before"))
+        return m.group(0) if k is None else at(k)
+    return re.sub(r"(?<![A-Za-z0-9_'.-])([A-Za-z0-9_]+)((?:\.before)+)(?![A-Za-z0-9_'-]|\.[A-Za-z0-9_])", end, text)
+
 def rewrite(text, P, place, goal=None):
     """What a declaration at a place cites, in today's names."""
     e = P.entry
+    text = re.sub(r"(\.(?:if\d+|loop\d*-test|loop-test\d*))\.taken", r"\1.true", text)
+    text = re.sub(r"(\.(?:if\d+|loop\d*-test|loop-test\d*))\.left", r"\1.false", text)
+    text = re.sub(r"\.pre(?![A-Za-z0-9_'-])", ".requires", text)
+    text = text.replace(".is_Signed", ".is_signed")
+    text = re.sub(r"(\.loop\d*)\.inv(?![A-Za-z0-9_'-])", r"\1.invariant", text)
+    text = re.sub(r"\.(ranges|args)\.([a-z0-9]+(?:-[a-z0-9]+)+)", lambda m: f".{m.group(1)}.{m.group(2).replace('-', '_')}", text)
+    if goal is None: text = helpers(text)
+    if "w16" not in text: text = re.sub(r"to_z-of_z (?=\()", "to_z-of_z {w = w32} ", text)
     ks = P.chain(place) if place else range(len(e["places"]))
     labels_, callee, clauses, maps, arms = {}, {}, {}, {}, []
     for l in e["loops"]: labels_[norm(l[0][0])] = l[0][1]
@@ -179,6 +281,17 @@ def rewrite(text, P, place, goal=None):
         if p[4]: maps[new] = dict((x, y) for x, y in p[4])
         if e["arms"][k]: arms.append(e["arms"][k])
     # arms: steps of a match that are one step now
+    for m in list(re.finditer(r"let ([A-Za-z0-9_]+) = ([A-Za-z0-9_.-]*?)\.([A-Za-z0-9_-]+)\.given\.0 in\s*", text)):
+        v, front, step = m.group(1), m.group(2), m.group(3)
+        for name, n, fields in arms:
+            got = [(f, path[2:]) for f, s, path in fields if norm(s) == norm(step) and path[:2] == ["given", "0"] and len(path) > 2]
+            if not got: continue
+            rest = text[m.end():]
+            for f, path in sorted(got, key=lambda x: -len(x[1])):
+                rest = re.sub(r"(?<![A-Za-z0-9_'.-])" + v + "".join(r"\." + x for x in path) + r"(?![A-Za-z0-9_'-])", f"{front}.{name}.{f}", rest)
+            if not re.search(r"(?<![A-Za-z0-9_'.-])" + v + r"(?![A-Za-z0-9_'-])", rest):
+                text = text[:m.start()] + rest
+            break
     for name, n, fields in arms:
         for field, step, path in sorted(fields, key=lambda f: -len(f[2])):
             if path:
@@ -193,9 +306,9 @@ def rewrite(text, P, place, goal=None):
             rest = parts[1:]
             if rest[0] == "ensures" and n in clauses:
                 k, left = index_of(rest[1:], len(clauses[n]))
-                if k is not None and len(clauses[n]) > 1: return ".".join([parts[0], "ensures", clauses[n][k]] + left)
+                if k is not None: return ".".join([parts[0], "ensures", clauses[n][k]] + left)
             if rest[0] in ("new", "last") and callee.get(n):
-                k, left = index_of(rest[1:], len(callee[n]))
+                k, left = index_of(rest[1:], len(callee[n]), True)
                 if k is not None: return ".".join([parts[0], "new", callee[n][k]] + left)
             if rest[0] == "auto" and callee.get(n) and re.fullmatch(r"(1\.)*0(\..*)?", ".".join(rest[1:])):
                 steps = rest[1:]; k = 0
@@ -214,12 +327,10 @@ def rewrite(text, P, place, goal=None):
             out.append(n); i += 1
             if nxt == "ensures" and n in clauses:
                 k, left = index_of(parts[i + 1:], len(clauses[n]))
-                if k is not None and len(clauses[n]) > 1:
+                if k is not None:
                     out += ["ensures", clauses[n][k]] + left; i = len(parts)
-                elif k is not None:
-                    pass
             elif nxt in ("new", "last") and callee.get(n):
-                k, left = index_of(parts[i + 1:], len(callee[n]))
+                k, left = index_of(parts[i + 1:], len(callee[n]), True)
                 if k is not None:
                     out += ["new", callee[n][k]] + left; i = len(parts)
             elif nxt == "auto" and callee.get(n) and re.fullmatch(r"(1\.)*0(\..*)?", ".".join(parts[i + 1:])):
@@ -236,10 +347,13 @@ def rewrite(text, P, place, goal=None):
         if last in clauses or last in callee: aliases[m.group(1)] = last
     if aliases: text = re.sub(paths, one, text)
     if goal is not None: text = stops(text, P, place, goal)
+    elif place and re.search(r"\(c : tie\.", text): text = passed(text, P, place)
     text = re.sub(r"not-(?:true|false) _ \(([^()\s]+)\.(true|false)-raw\)", r"\1.\2", text)
     text = re.sub(r"not-(?:true|false) _ ([^()\s]+)\.(true|false)-raw", r"\1.\2", text)
     pre = e.get("pre")
-    if pre and len(pre["fields"]) > 1:
+    if pre and len(pre["fields"]) == 1:
+        text = re.sub(r"\.requires(?![A-Za-z0-9_'-])", ".requires." + pre["fields"][0], text)
+    elif pre and len(pre["fields"]) > 1:
         f = pre["fields"]
         def req(m):
             steps = m.group(1).split(".")[1:]
@@ -312,7 +426,7 @@ def turn(path, entry, crate, fn):
     n_inv = 2 * len(loops)
     fn_path = fn.replace("/", ".")
     P = Places(entry)
-    ptable = {norm(p[0]): n for p, n in zip(entry["places"], entry["places_by_name"])}
+    ptable = {norm(p[0]): named(entry, k)[1] for k, p in enumerate(entry["places"])}
     note = []
     defs = {}
     for i, b in enumerate(bs):
@@ -380,6 +494,11 @@ def turn(path, entry, crate, fn):
             if len(between) == ja - jb - 1: plan.setdefault(a, []).append(between[j - jb - 1])
             elif len(between) == 1: plan.setdefault(a, []).append(between[0])
             else: note.append(f"which goal: {a[:80]} (one of {', '.join(needs[k][1] for k in between)})")
+    HELPERS.clear()
+    for b in bs:
+        m = re.search(r"\(c : tie\.([A-Za-z0-9_-]+)", b)
+        if m and norm(m.group(1)) in P.by:
+            for x in re.findall(r"(?m)^[ ]*(?:abbrev )?([A-Za-z0-9_'₀-₉-]+) :", b): HELPERS[x] = P.by[norm(m.group(1))]
     rename, extra = {}, []
     for a, ks in plan.items():
         if re.fullmatch(r"λ c( κs)?\. search rules", a): continue
@@ -430,7 +549,10 @@ def turn(path, entry, crate, fn):
         out.append(rewrite(b, P, place if norm(place) in P.by else None, needs[k][1]))
     text_out = "\n\n".join(out)
     text_out = flatten(text_out)
+    for v in GONE: text_out = re.sub(r"\(" + v + r" ([A-Za-z0-9_.]+)\)\.", r"\1.", text_out)
+    GONE.clear()
     text_out = text_out.replace(".type-inv", ".type_inv")
+    if "{w = w32}" in text_out and not re.search(r"use mir\.Syntax\.\{[^}]*w32", text_out): text_out = re.sub(r"(?m)^use ", "use mir.Syntax.{w32}\nuse ", text_out, count=1)
     used_places = []
     def place_name(m):
         w = m.group(1)
@@ -439,7 +561,7 @@ def turn(path, entry, crate, fn):
         if new is None: note.append(f"no place {w}"); return m.group(0)
         if new not in used_places: used_places.append(new)
         return new
-    text_out = re.sub(r"tie\.([A-Za-z][A-Za-z0-9_-]*)", place_name, text_out)
+    text_out = re.sub(r"tie\.(?!the-claims)([A-Za-z][A-Za-z0-9_-]*)", place_name, text_out)
     if inv_names:
         alt = "|".join(map(re.escape, inv_names))
         for pl in used_places:
@@ -457,6 +579,7 @@ def turn(path, entry, crate, fn):
     if "goal." in rest_text:
         lead, rest_body = leading(rest_text)
         more = [f"use Rattle.{crate}.proofs.{fn_path}.Goals.{{{', '.join(used_places)}}}"] if used_places else []
+        if "view.up-" in rest_text: more += [f"use Rattle.{crate}.proofs.{fn_path}.Lts.View as view", f"use Rattle.{crate}.proofs.{fn_path}.Reads as reads", f"use Rattle.{crate}.proofs.{fn_path}.Tie as tie"]
         with open(os.path.join(folder, "Answers.antt"), "w") as f:
             f.write((lead + "\n" if lead else "") + "\n".join(used(rest_text) + rules + [f"use Rattle.{crate}.proofs.{fn_path}.Goals as goal"] + more) + "\n\n" + rest_body + "\n")
     os.remove(path)

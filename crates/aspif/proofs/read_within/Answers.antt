@@ -8,32 +8,31 @@ use Rattle.text.proofs.Fronts.{front_long}
 use Rattle.aspif.proofs.Programs.{read-long, read-other, read-refused, read_done, Done}
 use borrow.Author.Rules.{rules}
 use Rattle.aspif.proofs.read_within.Goals as goal
-use Rattle.aspif.proofs.read_within.Goals.{Else-not-starts_with, In-Program-2}
+use Rattle.aspif.proofs.read_within.Goals.{Else-not-starts_with, In-Program}
 
 -- past question 2
 begins : (c : Else-not-starts_with) → (let a = c.args in starts_with header a.text.now ≡ true)
 begins c = sym c.starts_with.ensures ∙ c.if-not-starts_with.false
 
 -- past the last line
-done : (c : In-Program-2)
-    → (let d = c.before in
+done : (c : In-Program)
+    → (let d = c in
     let a = d.args in
-    let g = c.read-in-Program-1.given.0 in
-    Done a.most a.text.now a.table.now d.if-text-gt-LONGEST.false (begins d.before) d.read_lines-read.ensures g.0 g.1.0 g.1.1.0)
+    Done a.most a.text.now a.table.now d.if-text-gt-LONGEST.false (begins d.before.before.before) d.read_lines-read.ensures c.in-Program.atoms c.in-Program.rules c.in-Program.used)
 done c =
-    let d = c.before in
+    let d = c in
     let a = d.args in
-    read_done a.most a.text.now a.table.now d.if-text-gt-LONGEST.false (begins d.before) d.read_lines-read.ensures c.in-Program.is
+    read_done a.most a.text.now a.table.now d.if-text-gt-LONGEST.false (begins d.before.before.before) d.read_lines-read.ensures c.in-Program.is
 
 pub returns-then-text-gt-LONGEST : goal.returns-then-text-gt-LONGEST
 returns-then-text-gt-LONGEST c =
-    let a = c.args in rw (c.refuse.ensures.0, c.refuse.ensures.1) (read-long a.most a.text.now a.table.now c.if-text-gt-LONGEST.true)
+    let a = c.args in rw (c.refuse.ensures.zeroed.0, c.refuse.ensures.zeroed.1) (read-long a.most a.text.now a.table.now c.if-text-gt-LONGEST.true)
 
 pub returns-then-not-starts_with : goal.returns-then-not-starts_with
 returns-then-not-starts_with c =
     let d = c in
     let a = c.args in
-    rw (c.refuse-then-not-starts_with.ensures.0, c.refuse-then-not-starts_with.ensures.1)
+    rw (c.refuse-then-not-starts_with.ensures.zeroed.0, c.refuse-then-not-starts_with.ensures.zeroed.1)
     (read-other a.most a.text.now a.table.now d.if-text-gt-LONGEST.false (sym d.starts_with.ensures ∙ c.if-not-starts_with.true))
 
 pub read_lines-read-requires : goal.read_lines-read-requires
@@ -42,20 +41,20 @@ read_lines-read-requires c = record { header_in_bounds = front_long header c.arg
 
 pub offset_bounds-table-used : goal.offset_bounds-table-used
 offset_bounds-table-used c =
-    record { fits = omega (arith, (done (goal.at.offset_bounds-table-used c).In-Program-2).fits, c.read_lines-read.auto.table, c.well-formed.1.0) }
+    record { fits = omega (arith, (done (goal.at.offset_bounds-table-used c).In-Program).fits, c.read_lines-read.auto.table, c.well-formed.1.0) }
 
 pub slice_bounds-zero_all-count : goal.slice_bounds-zero_all-count
 slice_bounds-zero_all-count c =
-    (done (goal.at.slice_bounds-zero_all-count c).In-Program-2).fits
+    (done (goal.at.slice_bounds-zero_all-count c).In-Program).fits
 
 pub returns-in-Refused : goal.returns-in-Refused
 returns-in-Refused c =
     let r = c in
     let d = c in
     let a = d.args in
-    rw (c.refuse-in-Refused.ensures.0, c.refuse-in-Refused.ensures.1)
+    rw (c.refuse-in-Refused.ensures.zeroed.0, c.refuse-in-Refused.ensures.zeroed.1)
     (read-refused a.most a.text.now a.table.now d.if-text-gt-LONGEST.false (begins (goal.at.returns-in-Refused c).Else-not-starts_with) d.read_lines-read.ensures r.in-Refused.is)
 
 pub returns-in-Program : goal.returns-in-Program
 returns-in-Program c =
-    rw c.zero_all.ensures (done (goal.at.returns-in-Program c).In-Program-2).read
+    rw c.zero_all.ensures (done (goal.at.returns-in-Program c).In-Program).read

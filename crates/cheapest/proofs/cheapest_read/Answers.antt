@@ -9,17 +9,15 @@ use lib.Seq.{take_at, length-take-le}
 use Rattle.words.specs.Lists.{ascends}
 use Rattle.cheapest.proofs.Answers.{too_many, no-set, with-set}
 use Rattle.cheapest.proofs.cheapest_read.Goals as goal
-use Rattle.cheapest.proofs.cheapest_read.Goals.{Else-not-ascends_within, Start, After-widen}
+use Rattle.cheapest.proofs.cheapest_read.Goals.{Else-not-ascends_within, After-widen}
 
 -- question 42 by the program's own atoms
 of-atoms : {N M : ℕ} {b : Bool} (l : List ℕ) → N ≡ M → ascends 0 N l ≡ b → ascends 0 M l ≡ b
 of-atoms {b = b} l e g = subst (λ (n : ℕ). ascends 0 n l ≡ b) e g
 
 module _ (c : Else-not-ascends_within) where
-  abbrev s : Start
-  s = c.before
 
-  passed : ascends 0 s.args.atoms s.args.set.now ≡ true
+  passed : ascends 0 c.args.atoms c.args.set.now ≡ true
   passed = sym c.ascends_within.ensures ∙ c.if-not-ascends_within.false
 
 -- the costs as words, at the front of the row
@@ -71,9 +69,9 @@ slice_bounds-judge_list-end-2 c = sym (length-take-le _ _ (omega (arith, c.if-n-
 pub judge_list-requires : goal.judge_list-requires
 judge_list-requires c = let e = c.if-n-gt-COST_WORDS.false in
     let d = (goal.at.judge_list-requires c).Else-not-ascends_within in
-    let p = (s d).requires in
+    let p = d.requires in
     let n = (goal.at.judge_list-requires c).After-widen in
-    let half = length (s d).args.costs.now / 2 in
+    let half = length d.args.costs.now / 2 in
     let h : length (take half (replicate 12 (pos 0))) ≡ half = length-take-le half (replicate 12 (pos 0)) (omega (arith, e, length-replicate 12 (pos 0))) in record { program = p.0; short = p.1.0; row = (omega (arith, fits n, h), omega (arith, fits n, h), omega (arith, e, h)); set = passed d; empty = p.1.1 }
 
 pub returns : goal.returns

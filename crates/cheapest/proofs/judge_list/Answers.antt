@@ -11,14 +11,12 @@ use Rattle.aspif.proofs.PairWords.{length-paired}
 use Rattle.costs.specs.Costs.{good_costs}
 use Rattle.cheapest.proofs.Answers.{no-costs, bad-costs, good-costs}
 use Rattle.cheapest.proofs.judge_list.Goals as goal
-use Rattle.cheapest.proofs.judge_list.Goals.{Else-not-all_weights, Start}
+use Rattle.cheapest.proofs.judge_list.Goals.{Else-not-all_weights}
 
 module _ (c : Else-not-all_weights) where
-  abbrev s : Start
-  s = c.before
 
   -- the second of each two words is a cost
-  weighed : all_weights s.args.pairs.now ≡ true
+  weighed : all_weights c.args.pairs.now ≡ true
   weighed = sym c.all_weights.ensures ∙ c.if-not-all_weights.false
 
 -- goodness by the program's own atoms
@@ -34,26 +32,26 @@ returns-then-not-all_weights c = λ ws p w.
 pub is_good-requires : goal.is_good-requires
 is_good-requires c =
     let d = (goal.at.is_good-requires c).Else-not-all_weights in
-    let r = (s d).requires.row in
-    (omega (arith, length-paired (s d).args.pairs.now (weighed d), r.0, r.1), r.2)
+    let r = d.requires.row in
+    (omega (arith, length-paired d.args.pairs.now (weighed d), r.0, r.1), r.2)
 
 pub returns-then-not-is_good : goal.returns-then-not-is_good
 returns-then-not-is_good c = λ ws p w.
     let d = (goal.at.returns-then-not-is_good c).Else-not-all_weights in
-    let a = (s d).args in
+    let a = d.args in
     c.refuse-then-not-is_good.ensures
     ∙ bad-costs (length a.table.now) (length a.store.now) ws a.set.now a.pairs.now a.proof.now (weighed d)
-    (of-atoms a.pairs.now p.top (sym c.is_good.ensures.0 ∙ c.if-not-is_good.true))
+    (of-atoms a.pairs.now p.top (sym c.is_good.ensures.good.0 ∙ c.if-not-is_good.true))
 
 pub judge_set-requires : goal.judge_set-requires
 judge_set-requires c = let d = (goal.at.judge_set-requires c).After-all_weights in
-    let p = (s d).requires in
-    let g = c.is_good.ensures in record { program = p.0; short = p.1.0; pairs = (weighed d, sym g.0 ∙ c.if-not-is_good.false); sorted = g.1; set = p.1.1.1.0; empty = p.1.1.1.1 }
+    let p = d.requires in
+    let g = c.is_good.ensures.good in record { program = p.0; short = p.1.0; pairs = (weighed d, sym g.0 ∙ c.if-not-is_good.false); sorted = g.1; set = p.1.1.1.0; empty = p.1.1.1.1 }
 
 pub returns : goal.returns
 returns c = λ ws p w.
     let d = (goal.at.returns c).After-all_weights in
-    let a = (s d).args in
+    let a = d.args in
     c.judge_set.ensures ws p w
     ∙ good-costs (length a.table.now) (length a.store.now) ws a.set.now a.pairs.now a.proof.now (weighed d)
-    (of-atoms a.pairs.now p.top (sym c.is_good.ensures.0 ∙ c.if-not-is_good.false))
+    (of-atoms a.pairs.now p.top (sym c.is_good.ensures.good.0 ∙ c.if-not-is_good.false))

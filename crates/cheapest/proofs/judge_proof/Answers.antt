@@ -17,17 +17,15 @@ module _ (s : Start) where
   few = sorted-few s.args.atoms (paired s.args.pairs.now) s.requires.pairs.1 s.requires.sorted
 
 module _ (c : After-write_restriction) where
-  abbrev start : Start
-  start = c.before
 
   long : length c.write_restriction.new.row ≡ 5 + 2 * most_weighted
   long = search rules
 
-  words : Restricts start.args.atoms (paired start.args.pairs.now) start.args.cost
-      (take (5 + 2 * length start.args.sorted.now) c.write_restriction.new.row)
+  words : Restricts c.args.atoms (paired c.args.pairs.now) c.args.cost
+      (take (5 + 2 * length c.args.sorted.now) c.write_restriction.new.row)
   words =
-      let p = start.pre.1.1 in
-      restricts-row start.args.atoms start.args.pairs.now start.args.sorted.now p.0.0 p.0.1 p.1.0 start.args.cost p.1.1.0 _ _
+      let p = c.requires.1.1 in
+      restricts-row c.args.atoms c.args.pairs.now c.args.sorted.now p.0.0 p.0.1 p.1.0 c.args.cost p.1.1.0 _ _
       c.write_restriction.ensures
 
 pub write_restriction-requires : goal.write_restriction-requires
@@ -41,20 +39,20 @@ pub slice_bounds-accepts-end : goal.slice_bounds-accepts-end
 slice_bounds-accepts-end c = sym (length-take-le _ _ (omega (arith, few (goal.at.slice_bounds-accepts-end c).Start, long (goal.at.slice_bounds-accepts-end c).After-write_restriction)))
 
 pub accepts-requires : goal.accepts-requires
-accepts-requires c = let d = (goal.at.accepts-requires c).After-row-1 in
-    let p = (start d).requires in record { program = p.0; short = p.1.0; rule = (paired (start d).args.pairs.now, (start d).args.cost, words d); empty = p.1.1.1.1.1 }
+accepts-requires c = let d = (goal.at.accepts-requires c).Start in
+    let p = d.requires in record { program = p.0; short = p.1.0; rule = (paired d.args.pairs.now, d.args.cost, words d); empty = p.1.1.1.1.1 }
 
 pub returns-then-accepts : goal.returns-then-accepts
 returns-then-accepts c = λ ws p w.
-    let d = (goal.at.returns-then-accepts c).After-row-1 in
-    let a = (start d).args in
+    let d = (goal.at.returns-then-accepts c).Start in
+    let a = d.args in
     proof-accepted (length a.table.now) (length a.store.now) ws (paired a.pairs.now) a.cost a.proof.now
     (c.accepts.ensures ws p (paired a.pairs.now) a.cost (words d)) c.if-accepts.true w
 
 pub returns : goal.returns
 returns c = λ ws p w.
-    let d = (goal.at.returns c).After-row-1 in
-    let a = (start d).args in
+    let d = (goal.at.returns c).Start in
+    let a = d.args in
     let s : length c.accepts.new.store.0 ≡ length a.store.now = search rules in
     c.refuse.ensures ∙ same-nothing 63 (refl {a = length a.table.now}) s
     ∙ proof-refused (length a.table.now) (length a.store.now) ws (paired a.pairs.now) a.cost a.proof.now

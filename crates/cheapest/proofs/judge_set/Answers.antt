@@ -17,29 +17,27 @@ use Rattle.cheapest.proofs.Answers.{rules-found, too-dear, no-answer-set, costs-
 use Rattle.cheapest.proofs.Words.{good-few}
 use borrow.Author.Rules.{rules}
 use Rattle.cheapest.proofs.judge_set.Goals as goal
-use Rattle.cheapest.proofs.judge_set.Goals.{After-cost_of-cost, Start, After-is_answer_set}
+use Rattle.cheapest.proofs.judge_set.Goals.{After-cost_of-cost, After-is_answer_set, Start}
 
 module _ (c : After-cost_of-cost) where
-  abbrev s : Start
-  s = c.before
 
   abbrev T : ℕ
-  T = length s.args.table.now
+  T = length c.args.table.now
 
   abbrev S : ℕ
-  S = length s.args.store.now
+  S = length c.args.store.now
 
   -- the cost is the set's
-  cost-is : c.cost_of-cost.result ≡ total (listed s.args.set.now) (paired s.args.pairs.now)
-  cost-is = c.cost_of-cost.ensures s.args.atoms s.pre.0.0.1.high s.pre.1.1.1.1.0
+  cost-is : c.cost_of-cost.result ≡ total (listed c.args.set.now) (paired c.args.pairs.now)
+  cost-is = c.cost_of-cost.ensures c.args.atoms c.requires.program.0.1.high c.requires.set
 
-  with-total : {x : CheapestLeft} (ws : List InputRule) → x ≡ with_cost T S ws s.args.set.now (paired s.args.pairs.now) c.cost_of-cost.result s.args.proof.now
-      → x ≡ with_cost T S ws s.args.set.now (paired s.args.pairs.now) (total (listed s.args.set.now) (paired s.args.pairs.now)) s.args.proof.now
-  with-total ws e = e ∙ ap (λ (C : ℕ). with_cost T S ws s.args.set.now (paired s.args.pairs.now) C s.args.proof.now) cost-is
+  with-total : {x : CheapestLeft} (ws : List InputRule) → x ≡ with_cost T S ws c.args.set.now (paired c.args.pairs.now) c.cost_of-cost.result c.args.proof.now
+      → x ≡ with_cost T S ws c.args.set.now (paired c.args.pairs.now) (total (listed c.args.set.now) (paired c.args.pairs.now)) c.args.proof.now
+  with-total ws e = e ∙ ap (λ (C : ℕ). with_cost T S ws c.args.set.now (paired c.args.pairs.now) C c.args.proof.now) cost-is
 
 module _ (c : After-is_answer_set) where
   abbrev before-it : After-cost_of-cost
-  before-it = c.before
+  before-it = c.before.before.before.before.before.before
 
   abbrev z : Start
   z = s before-it
@@ -48,8 +46,8 @@ module _ (c : After-is_answer_set) where
   told : (ws : List InputRule) → Program z.args.table.now z.args.rules z.args.atoms ws
       → c.is_answer_set.result ≡ is_yes (verdict_of (listed z.args.set.now) ws)
   told ws p =
-      c.is_answer_set.ensures ws (rules-found z.pre.0.1 p.holds)
-      (subst (λ (n : ℕ). ascends 0 n z.args.set.now ≡ true) p.top z.pre.1.1.1.1.0)
+      c.is_answer_set.ensures ws (rules-found z.requires.program.1 p.holds)
+      (subst (λ (n : ℕ). ascends 0 n z.args.set.now ≡ true) p.top z.requires.set)
 
 pub cost_of-cost-requires : goal.cost_of-cost-requires
 cost_of-cost-requires c =
@@ -60,14 +58,14 @@ cost_of-cost-requires c =
 pub returns-then-cost-gt-MOST_WEIGHT : goal.returns-then-cost-gt-MOST_WEIGHT
 returns-then-cost-gt-MOST_WEIGHT c = λ ws p w.
     let d = (goal.at.returns-then-cost-gt-MOST_WEIGHT c).After-cost_of-cost in
-    let a = (s d).args in
+    let a = d.args in
     with-total d ws (c.refuse.ensures ∙ too-dear (T d) (S d) ws a.set.now (paired a.pairs.now) d.cost_of-cost.result a.proof.now c.if-cost-gt-MOST_WEIGHT.true)
 
 pub returns-then-not-is_answer_set : goal.returns-then-not-is_answer_set
 returns-then-not-is_answer_set c = λ ws p w.
     let i = (goal.at.returns-then-not-is_answer_set c).After-is_answer_set in
     let d = before-it i in
-    let a = (s d).args in
+    let a = d.args in
     with-total d ws (c.refuse-then-not-is_answer_set.ensures
     ∙ no-answer-set (T d) (S d) ws a.set.now (paired a.pairs.now) d.cost_of-cost.result a.proof.now i.if-cost-gt-MOST_WEIGHT.false (sym (told i ws p) ∙ c.if-not-is_answer_set.true))
 
@@ -75,17 +73,17 @@ pub returns-then-cost-eq0 : goal.returns-then-cost-eq0
 returns-then-cost-eq0 c = λ ws p w.
     let i = (goal.at.returns-then-cost-eq0 c).After-is_answer_set in
     let d = before-it i in
-    let a = (s d).args in
-    with-total d ws (costs-nothing (T d) (S d) ws a.set.now (paired a.pairs.now) d.cost_of-cost.result a.proof.now i.if-cost-gt-MOST_WEIGHT.false (sym (told i ws p) ∙ c.if-not-is_answer_set.false) c.if-cost-eq0.true w (s d).pre.1.1.1.1.1)
+    let a = d.args in
+    with-total d ws (costs-nothing (T d) (S d) ws a.set.now (paired a.pairs.now) d.cost_of-cost.result a.proof.now i.if-cost-gt-MOST_WEIGHT.false (sym (told i ws p) ∙ c.if-not-is_answer_set.false) c.if-cost-eq0.true w d.requires.empty)
 
 pub judge_proof-requires : goal.judge_proof-requires
 judge_proof-requires c = let i = (goal.at.judge_proof-requires c).After-is_answer_set in
-    let p = (s (before-it i)).pre in record { program = p.0; short = p.1.0; pairs = p.1.1.0; sorted = p.1.1.1.0; cost = i.if-cost-gt-MOST_WEIGHT.false; empty = p.1.1.1.1.1 }
+    let p = (s (before-it i)).requires in record { program = p.0; short = p.1.0; pairs = p.1.1.0; sorted = p.1.1.1.0; cost = i.if-cost-gt-MOST_WEIGHT.false; empty = p.1.1.1.1.1 }
 
 pub returns : goal.returns
 returns c = λ ws p w.
     let i = (goal.at.returns c).After-is_answer_set in
     let d = before-it i in
-    let a = (s d).args in
+    let a = d.args in
     with-total d ws (c.judge_proof.ensures ws p w
     ∙ with-proof (T d) (S d) ws a.set.now (paired a.pairs.now) d.cost_of-cost.result a.proof.now i.if-cost-gt-MOST_WEIGHT.false (sym (told i ws p) ∙ c.if-not-is_answer_set.false) c.if-cost-eq0.false)

@@ -19,12 +19,12 @@ returns-then-not-is_signed c =
     let a = c.args in
     let t = le-ltb _ _ c.if-largest_variable-gt-LARGEST.false in
     sym
-    (good-parts a.letter a.numbers.now (rw c.largest_variable.ensures at t) (le-ltb _ _ c.if-numbers-gt-MOST_NUMBERS.false) (sym c.is_Signed.ensures ∙ c.if-not-is_signed.true) refl)
+    (good-parts a.letter a.numbers.now (rw c.largest_variable.ensures at t) (le-ltb _ _ c.if-numbers-gt-MOST_NUMBERS.false) (sym c.is_signed.ensures ∙ c.if-not-is_signed.true) refl)
 
 pub returns : goal.returns
 returns c =
     let a = c.args in
     let t = le-ltb _ _ c.if-largest_variable-gt-LARGEST.false in
-    c.sort_distinct.ensures.0
+    c.sort_distinct.ensures.sorted.0
     ∙ sym
-    (good-parts a.letter a.numbers.now (rw c.largest_variable.ensures at t) (le-ltb _ _ c.if-numbers-gt-MOST_NUMBERS.false) (sym c.is_Signed.ensures ∙ c.if-not-is_signed.false) refl)
+    (good-parts a.letter a.numbers.now (rw c.largest_variable.ensures at t) (le-ltb _ _ c.if-numbers-gt-MOST_NUMBERS.false) (sym c.is_signed.ensures ∙ c.if-not-is_signed.false) refl)

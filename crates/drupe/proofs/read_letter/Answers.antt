@@ -16,7 +16,7 @@ first : (c : After-class_of-class) (k : Class) → c.class_of-class.result ≡ k
     → (let a = c.args in
     line_from a.from a.text.now ≡ after_first k (a.from + 1) (drop 1 a.text.now))
 first c k e =
-    let b = c.before in
+    let b = c in
     let a = b.args in
     line_first a.from a.text.now k b.if-text-eq0.false (sym c.class_of-class.ensures ∙ e)
 

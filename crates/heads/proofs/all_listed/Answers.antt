@@ -15,7 +15,10 @@ use Rattle.heads.proofs.Starts.{head_of, all_seen}
 use Rattle.heads.proofs.Walks.{walk_from, walk-on, next-less}
 use borrow.Author.Rules.{rules}
 use Rattle.heads.proofs.all_listed.Goals as goal
-use Rattle.heads.proofs.all_listed.Goals.{In-loop-p, Start, After-word_of-k, Else-j-listed, After-place_of-j}
+use Rattle.heads.proofs.all_listed.Goals.{In-loop-p, After-word_of-k, Else-j-listed}
+use Rattle.heads.proofs.all_listed.Lts.View as view
+use Rattle.heads.proofs.all_listed.Reads as reads
+use Rattle.heads.proofs.all_listed.Tie as tie
 
 -- a hit number is the name of such a rule's body
 abbrev Named : List ℤ → ℕ → List ℕ → ℕ → List ℤ → List ℕ → Type 0
@@ -55,11 +58,9 @@ loop-p-init c =
 
 -- the place at hand
 module _ (c : In-loop-p) where
-  abbrev s : Start
-  s = c.before
 
   abbrev es : List Headed
-  es = headed_to s.args.rules s.args.table.now
+  es = headed_to c.args.rules c.args.table.now
 
   abbrev x : ℕ
   x = c.loop-p.p - 1
@@ -67,25 +68,25 @@ module _ (c : In-loop-p) where
   is : c.loop-p.p ≡ suc x
   is = omega (arith, c.loop-p-test.true)
 
-  place : Place es x s.args.v
+  place : Place es x c.args.v
   place = c.loop-p.invariant.1.ahead x is
 
   room : x < 8192
-  room = omega (arith, place.0, s.pre.0.0.entered.heads.few)
+  room = omega (arith, place.0, c.requires.index.0.entered.heads.few)
 
 -- and its rule
 module _ (c : After-word_of-k) where
   abbrev i : In-loop-p
-  i = c.before
+  i = (view.up-In-loop-p tie.the-claims reads.Pre reads.Post goal.the-invariant-loop-p goal.the-decreases-loop-p tie.handed_clauses c.before.before)
 
   owner : c.word_of-k.result ≡ (headed_at (es i) (x i)).rule
-  owner = c.word_of-k.ensures ∙ (s i).pre.0.0.entered.heads.owner (x i) (place i).0
+  owner = c.word_of-k.ensures ∙ i.requires.index.0.entered.heads.owner (x i) (place i).0
 
-  headed : HasHead (s i).args.table.now (s i).args.rules (s i).args.v c.word_of-k.result
-  headed = subst (HasHead (s i).args.table.now (s i).args.rules (s i).args.v) (sym owner) (head_of (s i).args.table.now (s i).args.rules (s i).args.v (x i) (s i).pre.0.1 (place i))
+  headed : HasHead i.args.table.now i.args.rules i.args.v c.word_of-k.result
+  headed = subst (HasHead i.args.table.now i.args.rules i.args.v) (sym owner) (head_of i.args.table.now i.args.rules i.args.v (x i) i.requires.index.1 (place i))
 
-  in-names : c.word_of-k.result < length (s i).args.names.now
-  in-names = omega (arith, headed.0, (s i).pre.0.2)
+  in-names : c.word_of-k.result < length i.args.names.now
+  in-names = omega (arith, headed.0, i.requires.index.2)
 
 pub returns-then-j-listed : goal.returns-then-j-listed
 returns-then-j-listed c =
@@ -95,40 +96,38 @@ returns-then-j-listed c =
 
 -- the name is listed
 module _ (c : Else-j-listed) where
-  abbrev p : After-place_of-j
-  p = c.before
 
   abbrev w : After-word_of-k
-  w = p.before
+  w = (view.up-After-word_of-k tie.the-claims reads.Pre reads.Post goal.the-invariant-loop-p goal.the-decreases-loop-p tie.handed_clauses c.before.before.before.before.before)
 
-  low : p.place_of-j.result < length (s (i w)).args.listed.now
-  low = omega (arith, c.if-j-listed.false, p.place_of-j.ensures.place)
+  low : c.place_of-j.result < length (s (i w)).args.listed.now
+  low = omega (arith, c.if-j-listed.false, c.place_of-j.ensures.place)
 
-  named : variable (get_or (s (i w)).args.listed.now p.place_of-j.result (pos 0)) ≡ get_or (s (i w)).args.names.now w.word_of-k.result 0
-  named = p.place_of-j.ensures.here low ∙ p.wide.ensures.same
+  named : variable (get_or (s (i w)).args.listed.now c.place_of-j.result (pos 0)) ≡ get_or (s (i w)).args.names.now w.word_of-k.result 0
+  named = c.place_of-j.ensures.here low ∙ c.wide.ensures.same
 
-  inside : p.place_of-j.result < length (i w).loop.hits
-  inside = omega (arith, low, (s (i w)).pre.1.1, (i w).loop.inv.0)
+  inside : c.place_of-j.result < length (i w).loop.hits
+  inside = omega (arith, low, (s (i w)).requires.line.1, (i w).loop.invariant.0)
 
 pub loop-p-smaller : goal.loop-p-smaller
 loop-p-smaller c =
     let d = i (w (goal.at.loop-p-smaller c).Else-j-listed) in
     let e = c.word_of-p-in-loop-p.ensures in
-    omega (arith, e, next-less (s d).pre.0.0.entered.heads.chains d.loop-p.inv.1 (is d))
+    omega (arith, e, next-less d.requires.index.0.entered.heads.chains d.loop-p.invariant.1 (is d))
 
 pub loop-p-preserved : goal.loop-p-preserved
 loop-p-preserved c =
     let e = (goal.at.loop-p-preserved c).Else-j-listed in
     let o = w e in
     let d = i o in
-    let j = (p e).place-of.result in
-    let a = (s d).args in
+    let j = e.place-of.result in
+    let a = d.args in
     let hits = d.loop-p.hits in (
-      length-set hits j 1 ∙ d.loop-p.inv.0,
-      walk-on (s d).pre.0.0.entered.heads.chains d.loop-p.inv.1 (is d) c.word_of-p-in-loop-p.ensures
+      length-set hits j 1 ∙ d.loop-p.invariant.0,
+      walk-on d.requires.index.0.entered.heads.chains d.loop-p.invariant.1 (is d) c.word_of-p-in-loop-p.ensures
           (λ y h. hit-keeps a.names.now a.listed.now hits j (inside e) _ h)
           (λ m. (j, low e, (named e ∙ ap (λ k. get_or a.names.now k 0) (owner o), get_or-set_same hits j 1 0 (inside e)))),
-      hit-named a.table.now a.rules a.names.now a.v a.listed.now hits j o.word_of-k.result (headed o) (sym (named e)) d.loop-p.inv.2,
+      hit-named a.table.now a.rules a.names.now a.v a.listed.now hits j o.word_of-k.result (headed o) (sym (named e)) d.loop-p.invariant.2,
     )
 
 pub returns : goal.returns

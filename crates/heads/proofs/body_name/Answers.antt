@@ -17,15 +17,15 @@ rule_with-found-requires c = (covers c, c.requires.program.0.1.sound)
 
 -- a rule that has the body
 found : (c : Then-found-gt0)
-    → (let r = c.before in let a = r.args in RuleWith a.table.now a.rules a.body.now (suc (r.rule_with-found.result - 1)))
+    → (let r = c in let a = r.args in RuleWith a.table.now a.rules a.body.now (suc (r.rule_with-found.result - 1)))
 found c =
-    let r = c.before in
+    let r = c in
     let a = r.args in
     let is : r.rule_with-found.result ≡ suc (r.rule_with-found.result - 1) = omega (arith, c.if-found-gt0.true) in
     subst (RuleWith a.table.now a.rules a.body.now) is r.rule_with-found.ensures
 
-in-names : (c : Then-found-gt0) → (let r = c.before in r.rule_with-found.result - 1 < length r.args.names.now)
-in-names c = let s = c.before in omega (arith, (found c).0, s.requires.program.1)
+in-names : (c : Then-found-gt0) → (let r = c in r.rule_with-found.result - 1 < length r.args.names.now)
+in-names c = let s = c in omega (arith, (found c).0, s.requires.program.1)
 
 pub returns-then-found-gt0 : goal.returns-then-found-gt0
 returns-then-found-gt0 c =

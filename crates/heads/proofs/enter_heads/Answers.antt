@@ -11,7 +11,7 @@ use Rattle.words.proofs.Places.{in-at}
 use Rattle.words.proofs.Words.{back}
 use Rattle.heads.specs.Heads.{Headed, headed_by, HeadChains}
 use Rattle.heads.proofs.enter_heads.Goals as goal
-use Rattle.heads.proofs.enter_heads.Goals.{After-variable_of, Start}
+use Rattle.heads.proofs.enter_heads.Goals.{After-variable_of}
 
 pub loop-j-init : goal.loop-j-init
 loop-j-init c = (omega arith, refl, (λ es H e. rw (append-nil es) H), λ i h. refl)
@@ -32,11 +32,9 @@ size hs j k h es e =
     omega (arith, length-append es (map (headed_by k) (take j hs)), length-map (take j hs) (headed_by k), length-take-le j hs h, e)
 
 module _ (c : After-variable_of) where
-  abbrev s : Start
-  s = c.before
 
   abbrev hs : List ℤ
-  hs = s.args.heads.now
+  hs = c.args.heads.now
 
   abbrev j : ℕ
   j = c.loop-j.j
@@ -48,10 +46,10 @@ pub enter_head-requires : goal.enter_head-requires
 enter_head-requires c =
     let l = c.loop-j in
     let t = c.loop-j-test.true in (
-      l.invariant.1 ∙ (s c).requires.index.0,
-      rw (tells c) ((s c).requires.heads _ (in-at (pos 0) (hs c) (j c) t)),
-      (s c).requires.index.1,
-      omega (arith, t, (s c).requires.index.2),
+      l.invariant.1 ∙ c.requires.index.0,
+      rw (tells c) (c.requires.heads _ (in-at (pos 0) (hs c) (j c) t)),
+      c.requires.index.1,
+      omega (arith, t, c.requires.index.2),
     )
 
 pub loop-j-preserved : goal.loop-j-preserved
@@ -62,8 +60,8 @@ loop-j-preserved c =
     let g = c.enter_head in (
       omega (arith, t),
       g.auto.index ∙ l.invariant.1,
-      (λ es H e. rw (one_more (hs v) (j v) (s v).args.k t es) (
-          as-head (es ++ map (headed_by (s v).args.k) (take (j v) (hs v))) (s v).args.k _ _ (tells v) (g.ensures.chains (es ++ map (headed_by (s v).args.k) (take (j v) (hs v))) (l.invariant.2 es H e) (size (hs v) (j v) (s v).args.k (omega (arith, t)) es e)))),
+      (λ es H e. rw (one_more (hs v) (j v) v.args.k t es) (
+          as-head (es ++ map (headed_by v.args.k) (take (j v) (hs v))) v.args.k _ _ (tells v) (g.ensures.chains (es ++ map (headed_by v.args.k) (take (j v) (hs v))) (l.invariant.2 es H e) (size (hs v) (j v) v.args.k (omega (arith, t)) es e)))),
       λ i h. g.ensures.others i h ∙ l.invariant.3 i h,
     )
 

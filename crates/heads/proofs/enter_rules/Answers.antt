@@ -18,12 +18,15 @@ use Rattle.heads.proofs.Walks.{walk_from, walk-on}
 use Rattle.heads.proofs.Bodies.{naming-start, naming-on, new-kept, naming-end, before-less}
 use borrow.Author.Rules.{rules}
 use Rattle.heads.proofs.enter_rules.Goals as goal
-use Rattle.heads.proofs.enter_rules.Goals.{In-loop-p, Start, After-word_of-at}
+use Rattle.heads.proofs.enter_rules.Goals.{In-loop-p, After-word_of-at}
+use Rattle.heads.proofs.enter_rules.Lts.View as view
+use Rattle.heads.proofs.enter_rules.Reads as reads
+use Rattle.heads.proofs.enter_rules.Tie as tie
 
 pub loop-p-init : goal.loop-p-init
 loop-p-init c =
     let s = c in
-    let h = c.hash_of.ensures in
+    let h = c.hash_of.ensures.hash in
     let e = c.word_of-p.ensures ∙ ap (λ k. get_or s.args.index.now (bucket_at + k) 0) h.0 in
     let D = s.requires.0.entered.bodies in (
       refl,
@@ -33,11 +36,9 @@ loop-p-init c =
 
 -- the rule at hand
 module _ (c : In-loop-p) where
-  abbrev s : Start
-  s = c.before
 
   abbrev t : List ℤ
-  t = s.args.table.now
+  t = c.args.table.now
 
   abbrev k : ℕ
   k = c.loop-p.p - 1
@@ -45,28 +46,28 @@ module _ (c : In-loop-p) where
   is : c.loop-p.p ≡ suc k
   is = omega (arith, c.loop-p-test.true)
 
-  place : BodyPlace t s.args.rules k (hash_from 0 s.args.body.now)
+  place : BodyPlace t c.args.rules k (hash_from 0 c.args.body.now)
   place = c.loop-p.invariant.1 k is
 
   few : k < most_held
-  few = (s.pre.0.entered.bodies.within k _ place).0
+  few = (c.requires.0.entered.bodies.within k _ place).0
 
   room : k < length c.loop-p.names
-  room = omega (arith, place.0, s.pre.2, c.loop-p.invariant.0)
+  room = omega (arith, place.0, c.requires.2, c.loop-p.invariant.0)
 
   here : (start_of k t ≤ length t) × (sound_at (words_from k t) ≡ true) × (shape_sound (words_from k t) ≡ true)
-  here = rule-here t s.args.rules s.pre.1 k place.0
+  here = rule-here t c.args.rules c.requires.1 k place.0
 
-  less : get_or s.args.index.now (before_at + k) 0 ≤ k
-  less = before-less s.pre.0 k place.0
+  less : get_or c.args.index.now (before_at + k) 0 ≤ k
+  less = before-less c.requires.0 k place.0
 
 -- and where it starts
 module _ (c : After-word_of-at) where
   abbrev i : In-loop-p
-  i = c.before
+  i = (view.up-In-loop-p tie.the-claims reads.Pre reads.Post goal.the-invariant-loop-p goal.the-decreases-loop-p tie.handed_clauses c.before.before)
 
   starts : c.word_of-at.result ≡ start_of (k i) (t i)
-  starts = c.word_of-at.ensures ∙ (s i).pre.0.entered.starts (k i) (place i).0
+  starts = c.word_of-at.ensures ∙ i.requires.0.entered.starts (k i) (place i).0
 
   within : c.word_of-at.result ≤ length (t i)
   within = omega (arith, starts, (here i).0)
@@ -90,15 +91,15 @@ loop-p-preserved c =
     let f = c in
     let w = (goal.at.loop-p-preserved c).After-word_of-at in
     let d = i w in
-    let a = (s d).args in
+    let a = d.args in
     let x = f.name_for.result in
-    let D = (s d).pre.0.entered.bodies in
+    let D = d.requires.0.entered.bodies in
     let e = c.word_of-p-in-loop-p.ensures in
     let ws = tail_of w.word_of-at.result (t d) ∙ words-at w in (
-      length-set d.loop-p.names (k d) x ∙ d.loop-p.inv.0,
+      length-set d.loop-p.names (k d) x ∙ d.loop-p.invariant.0,
       (λ q g. (D.next (k d) _ q (place d) (sym e ∙ g)).0),
       λ called B.
-          let N = d.loop-p.inv.2 called B in
+          let N = d.loop-p.invariant.2 called B in
           let new = f.name_for.ensures called (N.old (k d) (place d).0 (omega (arith, is d)) ∙ ap (λ l. entry called (body_at l)) (sym ws)) ∙ ap (λ l. entry (λ L. cond (same_list a.body.now L) a.name (called L)) (body_at l)) ws in
           naming-on (t d) a.rules a.body.now a.name called (k d) x (is d) (omega (arith, e, less d)) (room d) new N
           (walk-on D N.walk (is d) e (new-kept (t d) a.rules a.body.now a.name called d.loop-p.names (k d) x (room d) new) (λ m. get_or-set_same d.loop-p.names (k d) x 0 (room d) ∙ new)),
@@ -114,7 +115,7 @@ returns c =
     (l.invariant.2 called (rw (rules-count a.rules a.table.now) B))
 
 pub overflow_add-hash_of : goal.overflow_add-hash_of
-overflow_add-hash_of c = let h = c.hash_of.ensures.1 in search rules
+overflow_add-hash_of c = let h = c.hash_of.ensures.hash.1 in search rules
 
 pub overflow_add-k : goal.overflow_add-k
 overflow_add-k c = let h = few c in search rules

@@ -38,7 +38,7 @@ returns c =
     let a = s.args in
     let r = g.gather_all-count.result in
     let row = g.gather_all-count.new.row.0 in
-    let n : length o.new.words.0 ≡ r = ap length o.ensures ∙ length-ascending (take r row) ∙ size e in
+    let n : length o.new.words ≡ r = ap length o.ensures ∙ length-ascending (take r row) ∙ size e in
     λ ws H. rw (← H.are) (λ bodies called K.
-    all_told a.table.now a.rules s.requires.program.0 (s.requires.index.0 s.requires.index.1).plain K a.inside.now (o.new.words.0 ++ drop r row) g.gather_all-count.ensures e.if-count-gt-LARGEST.false
-    (take_at o.new.words.0 (drop r row) r n ∙ o.ensures))
+    all_told a.table.now a.rules s.requires.program.0 (s.requires.index.0 s.requires.index.1).plain K a.inside.now (o.new.words ++ drop r row) g.gather_all-count.ensures e.if-count-gt-LARGEST.false
+    (take_at o.new.words (drop r row) r n ∙ o.ensures))

@@ -16,7 +16,7 @@ use Rattle.heads.proofs.Starts.{start_first, start-on, course-at, rule-turn, hea
 use Rattle.heads.proofs.Entering.{heads-on, none-entered, entered-flag}
 use borrow.Author.Rules.{rules}
 use Rattle.heads.proofs.fill.Goals as goal
-use Rattle.heads.proofs.fill.Goals.{After-rest-1, Start, In-loop-k, After-heads_of-heads}
+use Rattle.heads.proofs.fill.Goals.{In-loop-k, After-heads_of-heads}
 
 -- no rule
 no-heads : (t : List ℤ) → ◌≡◌ {A = ℕ} 0 (length (headed_to 0 t))
@@ -50,12 +50,10 @@ nothing_said : {index : List ℕ} {t : List ℤ} {rules : ℕ} → get_or index 
 nothing_said {index} e c = absurd (omega (arith, e, eqb-true (get_or index 0 0) 1 c))
 
 -- the rule at hand
-module _ (c : After-rest-1) where
-  abbrev s : Start
-  s = c.before
+module _ (c : In-loop-k) where
 
   abbrev t : List ℤ
-  t = s.args.table.now
+  t = c.args.table.now
 
   abbrev i : ℕ
   i = c.loop-k.i
@@ -63,21 +61,21 @@ module _ (c : After-rest-1) where
   abbrev k : ℕ
   k = c.loop-k.k
 
-  taken : k < s.args.rules
+  taken : k < c.args.rules
   taken = c.loop-k-test.true
 
   starts : i ≡ start_of k t
   starts = c.loop-k.invariant.1
 
-  at : Turn (course-at t s.args.rules [] s.pre.0.0 k (omega (arith, taken)))
-  at = rule-turn t s.args.rules [] s.pre.0.0 k taken
+  at : Turn (course-at t c.args.rules [] c.requires.program.0 k (omega (arith, taken)))
+  at = rule-turn t c.args.rules [] c.requires.program.0 k taken
 
   words-at : drop i t ≡ words_from k t
   words-at = ap (λ j. drop j t) starts
 
 in_table : (c : In-loop-k) → c.loop-k.i ≤ length c.args.table.now
 in_table c =
-    let s = c.before in
+    let s = c in
     let l = c.loop-k in
     rw l.invariant.1 (rule-turn s.args.table.now s.args.rules [] s.requires.program.0 l.k c.loop-k-test.true).here.0
 
@@ -85,19 +83,19 @@ pub offset_bounds-table-i : goal.offset_bounds-table-i
 offset_bounds-table-i c = let w = in_table c in search rules
 
 pub heads_of-heads-requires : goal.heads_of-heads-requires
-heads_of-heads-requires c = rw (tail_of (i c) (t c), words-at c) (at c).here.1
+heads_of-heads-requires c = rw (tail_of (i (goal.at.heads_of-heads-requires c).In-loop-k) (t (goal.at.heads_of-heads-requires c).In-loop-k), words-at (goal.at.heads_of-heads-requires c).In-loop-k) (at (goal.at.heads_of-heads-requires c).In-loop-k).here.1
 
 -- the heads of the rule
 module _ (c : After-heads_of-heads) where
-  abbrev r : After-rest-1
-  r = c.before
+  abbrev r : In-loop-k
+  r = c.before.before
 
   heads-are : c.heads_of-heads.result.now ≡ heads_at (drop (i r) (t r))
   heads-are = c.heads_of-heads.ensures ∙ ap heads_at (tail_of (i r) (t r))
 
   room : (r.loop-k.n ≤ 8192) × (length c.heads_of-heads.result.now ≤ 64)
   room = (
-    omega (arith, r.loop-k.inv.2, r.loop-k.inv.3.heads.few),
+    omega (arith, r.loop-k.invariant.2, r.loop-k.invariant.3.heads.few),
     rw (heads-are, words-at r) (heads-few (words_from (k r) (t r)) (at r).here.1),
   )
 
@@ -115,23 +113,23 @@ enter_rule-requires c = let e = c in
     let h = (goal.at.enter_rule-requires c).After-heads_of-heads in
     let d = r h in
     let l = d.loop-k in record { index = (
-        l.inv.5 ∙ ap length (s d).pre.1 ∙ length-replicate {A = ℕ} index_words 0,
-        omega (arith, taken d, (s d).pre.0.2),
+        l.inv.5 ∙ ap length d.requires.zero ∙ length-replicate {A = ℕ} index_words 0,
+        omega (arith, taken d, d.requires.program.2),
         e.if-i-gt-LONGEST.false,
         rw (tail_of (i d) (t d)) (rw (heads-are h) at e.if-n-heads-gt-MOST_HEADS.false),
       ); rule = rw (tail_of (i d) (t d), words-at d) (at d).sound }
 
 pub next_rule-i-requires : goal.next_rule-i-requires
-next_rule-i-requires c = let d = (goal.at.next_rule-i-requires c).After-rest-1 in record { here = rw (starts d) (at d).here }
+next_rule-i-requires c = let d = (goal.at.next_rule-i-requires c).In-loop-k in record { here = rw (starts d) (at d).here }
 
 pub overflow_add-n-in-loop-k : goal.overflow_add-n-in-loop-k
 overflow_add-n-in-loop-k c = let w = room (goal.at.overflow_add-n-in-loop-k c).After-heads_of-heads in search rules
 
 pub overflow_add-k : goal.overflow_add-k
-overflow_add-k c = let d = (goal.at.overflow_add-k c).After-rest-1 in let w = (s d).requires.program.2 in search (rules, taken d)
+overflow_add-k c = let d = (goal.at.overflow_add-k c).In-loop-k in let w = d.requires.program.2 in search (rules, taken d)
 
 pub loop-k-smaller : goal.loop-k-smaller
-loop-k-smaller c = let d = (goal.at.loop-k-smaller c).After-rest-1 in omega (arith, taken d)
+loop-k-smaller c = let d = (goal.at.loop-k-smaller c).In-loop-k in omega (arith, taken d)
 
 pub loop-k-preserved : goal.loop-k-preserved
 loop-k-preserved c =
@@ -140,7 +138,7 @@ loop-k-preserved c =
     let d = r h in
     let l = d.loop-k in (
       omega (arith, taken d),
-      next_start (k d) (t d) (i d) _ (starts d) c.next_rule-i.ensures.0,
+      next_start (k d) (t d) (i d) _ (starts d) c.next_rule-i.ensures.next.0,
       next-heads (k d) (t d) (i d) _ _ (starts d) l.inv.2 (heads-are h),
       subst (Entered g.new.index (t d)) (sym (add-one (k d))) (g.ensures.entered (t d) (tail_of (i d) (t d) ∙ words-at d) (starts d) (sym l.inv.2) l.inv.3),
       g.ensures.first ∙ l.inv.4,

@@ -16,7 +16,7 @@ use Rattle.heads.specs.Heads.{HasHead, Gathers}
 use Rattle.heads.proofs.Externals.{Got, in-row-keeps, gather-stops, none-collected, atom-marked, external-head}
 use borrow.Author.Rules.{rules}
 use Rattle.heads.proofs.gather_all.Goals as goal
-use Rattle.heads.proofs.gather_all.Goals.{After-variable_of, Start}
+use Rattle.heads.proofs.gather_all.Goals.{After-variable_of}
 
 pub loop-i-init : goal.loop-i-init
 loop-i-init c =
@@ -25,32 +25,30 @@ loop-i-init c =
 
 -- the atom at hand
 module _ (c : After-variable_of) where
-  abbrev s : Start
-  s = c.before
 
   abbrev i : ℕ
   i = c.loop-i.i
 
   abbrev x : ℤ
-  x = get_or s.args.atoms.now i (pos 0)
+  x = get_or c.args.atoms.now i (pos 0)
 
-  taken : i < length s.args.atoms.now
+  taken : i < length c.args.atoms.now
   taken = c.loop-i-test.true
 
   tells : c.variable_of.result ≡ variable x
   tells = rw (back x c.variable_of-arg-1.given) at c.variable_of.ensures
 
-  among : x ∈ s.args.atoms.now
-  among = in-at (pos 0) s.args.atoms.now i taken
+  among : x ∈ c.args.atoms.now
+  among = in-at (pos 0) c.args.atoms.now i taken
 
-  good : (1 ≤ variable x) × (variable x ≤ largest) × (marked s.args.inside.now (variable x) ≡ true)
+  good : (1 ≤ variable x) × (variable x ≤ largest) × (marked c.args.inside.now (variable x) ≡ true)
   good =
-      let b = s.pre.1.0.1 x among in
-      (b.0, b.1, atom-marked s.args.inside.now s.args.atoms.now s.pre.1.0.0 x among b.1)
+      let b = c.requires.set.1 x among in
+      (b.0, b.1, atom-marked c.args.inside.now c.args.atoms.now c.requires.set.0 x among b.1)
 
 pub gather_head-count-requires : goal.gather_head-count-requires
 gather_head-count-requires c = let v = (goal.at.gather_head-count-requires c).After-variable_of in
-    let p = (s v).requires in record { index = p.0; head = subst (λ n. (1 ≤ n) × (n ≤ largest) × (marked (s v).args.inside.now n ≡ true)) (sym (tells v)) (good v); row = v.loop-i.invariant.1 }
+    let p = v.requires in record { index = p.0; head = subst (λ n. (1 ≤ n) × (n ≤ largest) × (marked v.args.inside.now n ≡ true)) (sym (tells v)) (good v); row = v.loop-i.invariant.1 }
 
 pub returns-then-count-gt-LARGEST : goal.returns-then-count-gt-LARGEST
 returns-then-count-gt-LARGEST c = gather-stops c.gather_head-count.ensures c.if-count-gt-LARGEST.true
@@ -71,7 +69,7 @@ loop-i-preserved c =
     let g = c.gather_head-count in
     let v = (goal.at.loop-i-preserved c).After-variable_of in
     let l = v.loop-i in
-    let a = (s v).args in
+    let a = v.args in
     let h = c.if-count-gt-LARGEST.false in (
       omega (arith, taken v),
       g.ensures.collected h,

@@ -18,7 +18,10 @@ use Rattle.heads.proofs.Bodies.{covers-few}
 use Rattle.heads.proofs.Externals.{Got, collected-few, in-row-keeps, gather-stops, head-inside}
 use borrow.Author.Rules.{rules}
 use Rattle.heads.proofs.gather_head.Goals as goal
-use Rattle.heads.proofs.gather_head.Goals.{In-loop-p, Start, After-word_of-k, After-word_of-at, After-gather_rule-count}
+use Rattle.heads.proofs.gather_head.Goals.{In-loop-p, After-word_of-k, After-word_of-at, After-gather_rule-count}
+use Rattle.heads.proofs.gather_head.Lts.View as view
+use Rattle.heads.proofs.gather_head.Reads as reads
+use Rattle.heads.proofs.gather_head.Tie as tie
 
 pub loop-p-init : goal.loop-p-init
 loop-p-init c =
@@ -27,14 +30,12 @@ loop-p-init c =
 
 -- the place at hand
 module _ (c : In-loop-p) where
-  abbrev s : Start
-  s = c.before
 
   abbrev t : List ℤ
-  t = s.args.table.now
+  t = c.args.table.now
 
   abbrev es : List Headed
-  es = headed_to s.args.rules t
+  es = headed_to c.args.rules t
 
   abbrev x : ℕ
   x = c.loop-p.p - 1
@@ -42,45 +43,45 @@ module _ (c : In-loop-p) where
   is : c.loop-p.p ≡ suc x
   is = omega (arith, c.loop-p-test.true)
 
-  place : Place es x s.args.v
+  place : Place es x c.args.v
   place = c.loop-p.invariant.2.ahead x is
 
   room : x < 8192
-  room = omega (arith, place.0, s.pre.0.0.entered.heads.few)
+  room = omega (arith, place.0, c.requires.index.0.entered.heads.few)
 
 -- its rule
 module _ (c : After-word_of-k) where
   abbrev i : In-loop-p
-  i = c.before
+  i = (view.up-In-loop-p tie.the-claims reads.Pre reads.Post goal.the-invariant-loop-p goal.the-decreases-loop-p c.before.before)
 
   abbrev k : ℕ
   k = c.word_of-k.result
 
   owner : k ≡ (headed_at (es i) (x i)).rule
-  owner = c.word_of-k.ensures ∙ (s i).pre.0.0.entered.heads.owner (x i) (place i).0
+  owner = c.word_of-k.ensures ∙ i.requires.index.0.entered.heads.owner (x i) (place i).0
 
-  headed : HasHead (t i) (s i).args.rules (s i).args.v k
-  headed = subst (HasHead (t i) (s i).args.rules (s i).args.v) (sym owner) (head_of (t i) (s i).args.rules (s i).args.v (x i) (s i).pre.0.1 (place i))
+  headed : HasHead (t i) i.args.rules i.args.v k
+  headed = subst (HasHead (t i) i.args.rules i.args.v) (sym owner) (head_of (t i) i.args.rules i.args.v (x i) i.requires.index.1 (place i))
 
   few : k < most_held
-  few = omega (arith, headed.0, covers-few (s i).pre.0.0)
+  few = omega (arith, headed.0, covers-few i.requires.index.0)
 
-  in-names : k < length (s i).args.names.now
-  in-names = omega (arith, headed.0, (s i).pre.0.2)
+  in-names : k < length i.args.names.now
+  in-names = omega (arith, headed.0, i.requires.index.2)
 
   here : (start_of k (t i) ≤ length (t i)) × (sound_at (words_from k (t i)) ≡ true) × (shape_sound (words_from k (t i)) ≡ true)
-  here = rule-here (t i) (s i).args.rules (s i).pre.0.1 k headed.0
+  here = rule-here (t i) i.args.rules i.requires.index.1 k headed.0
 
-  inside : any (is_inside (s i).args.inside.now) (heads_at (words_from k (t i))) ≡ true
-  inside = head-inside (s i).args.inside.now (s i).args.v (heads_at (words_from k (t i))) (s i).pre.1.0.0 (s i).pre.1.0.2 headed.1
+  inside : any (is_inside i.args.inside.now) (heads_at (words_from k (t i))) ≡ true
+  inside = head-inside i.args.inside.now i.args.v (heads_at (words_from k (t i))) i.requires.head.0 i.requires.head.2 headed.1
 
 -- and where it starts
 module _ (c : After-word_of-at) where
   abbrev o : After-word_of-k
-  o = c.before
+  o = (view.up-After-word_of-k tie.the-claims reads.Pre reads.Post goal.the-invariant-loop-p goal.the-decreases-loop-p c.before.before)
 
   starts : c.word_of-at.result ≡ start_of (k o) (t (i o))
-  starts = c.word_of-at.ensures ∙ (s (i o)).pre.0.0.entered.starts (k o) (headed o).0
+  starts = c.word_of-at.ensures ∙ (s (i o)).requires.index.0.entered.starts (k o) (headed o).0
 
   within : c.word_of-at.result ≤ length (t (i o))
   within = omega (arith, starts, (here o).0)
@@ -92,20 +93,20 @@ pub gather_rule-count-requires : goal.gather_rule-count-requires
 gather_rule-count-requires c =
     let w = (goal.at.gather_rule-count-requires c).After-word_of-at in
     let d = i (o w) in
-    let C = d.loop-p.inv.0 in
-    (subst (λ ws. shape_sound ws ≡ true) (sym (words-at w)) (here (o w)).2, C.is, omega (arith, collected-few (s d).pre.0.2 C, covers-few (s d).pre.0.0))
+    let C = d.loop-p.invariant.0 in
+    (subst (λ ws. shape_sound ws ≡ true) (sym (words-at w)) (here (o w)).2, C.is, omega (arith, collected-few d.requires.index.2 C, covers-few d.requires.index.0))
 
 -- what the call gathers
 module _ (c : After-gather_rule-count) where
   abbrev w : After-word_of-at
-  w = c.before
+  w = (view.up-After-word_of-at tie.the-claims reads.Pre reads.Post goal.the-invariant-loop-p goal.the-decreases-loop-p c.before.before.before.before.before)
 
   abbrev d : In-loop-p
   d = i (o w)
 
-  gathers : Gathers (t d) (s d).args.rules (s d).args.names.now (s d).args.inside.now (λ j. j ≡ k (o w)) d.loop-p.row d.loop-p.count
+  gathers : Gathers (t d) d.args.rules d.args.names.now d.args.inside.now (λ j. j ≡ k (o w)) d.loop-p.row d.loop-p.count
       c.gather_rule-count.new.row c.gather_rule-count.result
-  gathers = c.gather_rule-count.ensures (t d) (s d).args.rules (s d).args.names.now (k (o w)) (words-at w) refl (headed (o w)).0 (inside (o w)) d.loop-p.inv.0
+  gathers = c.gather_rule-count.ensures (t d) d.args.rules d.args.names.now (k (o w)) (words-at w) refl (headed (o w)).0 (inside (o w)) d.loop-p.invariant.0
 
 pub returns-then-count-gt-LARGEST : goal.returns-then-count-gt-LARGEST
 returns-then-count-gt-LARGEST c = gather-stops (gathers (goal.at.returns-then-count-gt-LARGEST c).After-gather_rule-count) c.if-count-gt-LARGEST.true
@@ -114,7 +115,7 @@ pub loop-p-smaller : goal.loop-p-smaller
 loop-p-smaller c =
     let e = d (goal.at.loop-p-smaller c).After-gather_rule-count in
     let f = c.word_of-p-in-loop-p.ensures in
-    omega (arith, f, next-less (s e).pre.0.0.entered.heads.chains e.loop-p.inv.2 (is e))
+    omega (arith, f, next-less e.requires.index.0.entered.heads.chains e.loop-p.invariant.2 (is e))
 
 pub loop-p-preserved : goal.loop-p-preserved
 loop-p-preserved c =
@@ -122,12 +123,12 @@ loop-p-preserved c =
     let h = c.if-count-gt-LARGEST.false in
     let G = gathers g in
     let e = d g in
-    let a = (s e).args in
+    let a = e.args in
     let row = g.gather_rule-count.new.row in
     let r = g.gather_rule-count.result in (
       G.collected h,
-      (λ y m. G.keeps h y (e.loop-p.inv.1 y m)),
-      walk-on (s e).pre.0.0.entered.heads.chains e.loop-p.inv.2 (is e) c.word_of-p-in-loop-p.ensures
+      (λ y m. G.keeps h y (e.loop-p.invariant.1 y m)),
+      walk-on e.requires.index.0.entered.heads.chains e.loop-p.invariant.2 (is e) c.word_of-p-in-loop-p.ensures
           (λ y f X. in-row-keeps e.loop-p.row row e.loop-p.count r (G.keeps h) _ (f X))
           (λ m. subst (Got (t e) a.rules a.names.now a.inside.now row r) (owner (o (w g))) (λ X. G.all h (k (o (w g))) refl X)),
     )

@@ -26,8 +26,8 @@ loop-i-preserved c =
     let l = c.loop-i in
     let ws = c.args.literals.now in
     let t = c.loop-i-test.true in
-    let v : c.mix-h.result ≡ mixed l.h (get_or ws l.i (pos 0)) = rw (back (get_or ws l.i (pos 0)) c.mix-arg-1.given) at c.mix-h.ensures.0 in
-    (omega arith, c.mix-h.ensures.1, ap (λ (h : ℕ). hash_from h (drop (l.i + 1) ws)) v ∙ sym (hash-on l.h ws l.i t) ∙ l.invariant.2)
+    let v : c.mix-h.result ≡ mixed l.h (get_or ws l.i (pos 0)) = rw (back (get_or ws l.i (pos 0)) c.mix-arg-1.given) at c.mix-h.ensures.mixed.0 in
+    (omega arith, c.mix-h.ensures.mixed.1, ap (λ (h : ℕ). hash_from h (drop (l.i + 1) ws)) v ∙ sym (hash-on l.h ws l.i t) ∙ l.invariant.2)
 
 pub returns : goal.returns
 returns c = let l = c.loop-i in record { hash = (sym (hash-end l.h _ l.i c.loop-i-test.false) ∙ l.invariant.2, l.invariant.1) }

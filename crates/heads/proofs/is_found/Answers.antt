@@ -13,38 +13,39 @@ use Rattle.heads.proofs.Starts.{rule-here}
 use Rattle.heads.proofs.Bodies.{covers-few, before-less}
 use borrow.Author.Rules.{rules}
 use Rattle.heads.proofs.is_found.Goals as goal
-use Rattle.heads.proofs.is_found.Goals.{In-loop-p, Start, After-word_of-at}
+use Rattle.heads.proofs.is_found.Goals.{In-loop-p, After-word_of-at}
+use Rattle.heads.proofs.is_found.Lts.View as view
+use Rattle.heads.proofs.is_found.Reads as reads
+use Rattle.heads.proofs.is_found.Tie as tie
 
 -- the rule at hand
 module _ (c : In-loop-p) where
-  abbrev s : Start
-  s = c.before
 
   abbrev t : List ℤ
-  t = s.args.table.now
+  t = c.args.table.now
 
   abbrev k : ℕ
   k = c.loop-p.p - 1
 
-  low : k < s.args.rules
+  low : k < c.args.rules
   low = omega (arith, c.loop-p-test.true, c.loop-p.invariant)
 
   few : k < most_held
-  few = omega (arith, low, covers-few s.pre.0)
+  few = omega (arith, low, covers-few c.requires.0)
 
-  in-names : k < length s.args.names.now
-  in-names = omega (arith, low, s.pre.2)
+  in-names : k < length c.args.names.now
+  in-names = omega (arith, low, c.requires.2)
 
   here : (start_of k t ≤ length t) × (sound_at (words_from k t) ≡ true) × (shape_sound (words_from k t) ≡ true)
-  here = rule-here t s.args.rules s.pre.1 k low
+  here = rule-here t c.args.rules c.requires.1 k low
 
 -- and where it starts
 module _ (c : After-word_of-at) where
   abbrev i : In-loop-p
-  i = c.before
+  i = (view.up-In-loop-p tie.the-claims reads.Pre reads.Post goal.the-invariant-loop-p goal.the-decreases-loop-p tie.handed_clauses c.before.before)
 
   starts : c.word_of-at.result ≡ start_of (k i) (t i)
-  starts = c.word_of-at.ensures ∙ (s i).pre.0.entered.starts (k i) (low i)
+  starts = c.word_of-at.ensures ∙ i.requires.0.entered.starts (k i) (low i)
 
   within : c.word_of-at.result ≤ length (t i)
   within = omega (arith, starts, (here i).0)
@@ -62,7 +63,7 @@ returns-then-completes c =
     let g = c in
     let w = (goal.at.returns-then-completes c).After-word_of-at in
     let d = i w in
-    let a = (s d).args in
+    let a = d.args in
     let q = g.completes.ensures c.if-completes.true in
     let ws = tail_of w.word_of-at.result (t d) ∙ words-at w in
     λ e. (k d, low d, subst (λ (l : List ℤ). Completes l a.heads.now a.name (get_or a.names.now (k d) 0)) ws (q.0, sym g.wide.ensures.same ∙ q.1))
@@ -71,13 +72,13 @@ pub loop-p-preserved : goal.loop-p-preserved
 loop-p-preserved c =
     let d = i (goal.at.loop-p-preserved c).After-word_of-at in
     let e = c.word_of-p-in-loop-p.ensures in
-    omega (arith, e, before-less (s d).pre.0 (k d) (low d), low d)
+    omega (arith, e, before-less d.requires.0 (k d) (low d), low d)
 
 pub loop-p-smaller : goal.loop-p-smaller
 loop-p-smaller c =
     let d = i (goal.at.loop-p-smaller c).After-word_of-at in
     let e = c.word_of-p-in-loop-p.ensures in
-    omega (arith, e, before-less (s d).pre.0 (k d) (low d), d.loop-p-test.taken)
+    omega (arith, e, before-less d.requires.0 (k d) (low d), d.loop-p-test.true)
 
 pub returns-then-rules-p : goal.returns-then-rules-p
 returns-then-rules-p c = (λ c e. absurd (true≢false (sym e))) c

@@ -15,21 +15,22 @@ use Rattle.heads.proofs.Walks.{walk_from, walk-on, next-less}
 use Rattle.heads.proofs.Bodies.{none-with}
 use borrow.Author.Rules.{rules}
 use Rattle.heads.proofs.rule_with.Goals as goal
-use Rattle.heads.proofs.rule_with.Goals.{In-loop-p, Start, After-word_of-at, After-is_same_list}
+use Rattle.heads.proofs.rule_with.Goals.{In-loop-p, After-word_of-at, After-is_same_list}
+use Rattle.heads.proofs.rule_with.Lts.View as view
+use Rattle.heads.proofs.rule_with.Reads as reads
+use Rattle.heads.proofs.rule_with.Tie as tie
 
 pub loop-p-init : goal.loop-p-init
 loop-p-init c =
     let s = c in
-    let h = c.hash_of.ensures in
+    let h = c.hash_of.ensures.hash in
     walk_from s.requires.0.entered.bodies (omega (arith, h)) (c.word_of-p.ensures ∙ ap (λ k. get_or s.args.index.now (bucket_at + k) 0) h.0)
 
 -- the rule at hand
 module _ (c : In-loop-p) where
-  abbrev s : Start
-  s = c.before
 
   abbrev t : List ℤ
-  t = s.args.table.now
+  t = c.args.table.now
 
   abbrev k : ℕ
   k = c.loop-p.p - 1
@@ -37,22 +38,22 @@ module _ (c : In-loop-p) where
   is : c.loop-p.p ≡ suc k
   is = omega (arith, c.loop-p-test.true)
 
-  place : BodyPlace t s.args.rules k (hash_from 0 s.args.body.now)
+  place : BodyPlace t c.args.rules k (hash_from 0 c.args.body.now)
   place = c.loop-p.invariant.ahead k is
 
   few : k < most_held
-  few = (s.pre.0.entered.bodies.within k _ place).0
+  few = (c.requires.0.entered.bodies.within k _ place).0
 
   here : (start_of k t ≤ length t) × (sound_at (words_from k t) ≡ true) × (shape_sound (words_from k t) ≡ true)
-  here = rule-here t s.args.rules s.pre.1 k place.0
+  here = rule-here t c.args.rules c.requires.1 k place.0
 
 -- and where it starts
 module _ (c : After-word_of-at) where
   abbrev i : In-loop-p
-  i = c.before
+  i = (view.up-In-loop-p tie.the-claims reads.Pre reads.Post goal.the-invariant-loop-p goal.the-decreases-loop-p tie.handed_clauses c.before.before)
 
   starts : c.word_of-at.result ≡ start_of (k i) (t i)
-  starts = c.word_of-at.ensures ∙ (s i).pre.0.entered.starts (k i) (place i).0
+  starts = c.word_of-at.ensures ∙ i.requires.0.entered.starts (k i) (place i).0
 
   within : c.word_of-at.result ≤ length (t i)
   within = omega (arith, starts, (here i).0)
@@ -67,28 +68,28 @@ body_of-requires c =
 
 -- what the calls tell of its body
 tells : (c : After-is_same_list)
-    → (let d = i c.before in same_list (s d).args.body.now (body_words_at (words_from (k d) (t d))) ≡ c.is_same_list.result)
+    → (let d = i (view.up-After-word_of-at tie.the-claims reads.Pre reads.Post goal.the-invariant-loop-p goal.the-decreases-loop-p tie.handed_clauses c.before.before.before.before) in same_list d.args.body.now (body_words_at (words_from (k d) (t d))) ≡ c.is_same_list.result)
 tells c =
-    let w = c.before in
+    let w = (view.up-After-word_of-at tie.the-claims reads.Pre reads.Post goal.the-invariant-loop-p goal.the-decreases-loop-p tie.handed_clauses (view.up-In-loop-p tie.the-claims reads.Pre reads.Post goal.the-invariant-loop-p goal.the-decreases-loop-p tie.handed_clauses c.before.before.before.before.before)) in
     sym (c.is_same_list.ensures ∙ ap (same_list (s (i w)).args.body.now) (c.body_of.ensures ∙ ap body_words_at (tail_of w.word_of-at.result (t (i w)) ∙ words-at w)))
 
 pub returns-then-is_same_list : goal.returns-then-is_same_list
 returns-then-is_same_list c =
     let b = (goal.at.returns-then-is_same_list c).After-is_same_list in
     let d = i (goal.at.returns-then-is_same_list c).After-word_of-at in
-    subst (RuleWith (t d) (s d).args.rules (s d).args.body.now) (sym (is d)) ((place d).0, tells b ∙ c.if-is_same_list.true)
+    subst (RuleWith (t d) d.args.rules d.args.body.now) (sym (is d)) ((place d).0, tells b ∙ c.if-is_same_list.true)
 
 pub loop-p-smaller : goal.loop-p-smaller
 loop-p-smaller c =
     let d = i (goal.at.loop-p-smaller c).After-word_of-at in
     let e = c.word_of-p-in-loop-p.ensures in
-    omega (arith, e, next-less (s d).pre.0.entered.bodies d.loop-p.inv (is d))
+    omega (arith, e, next-less d.requires.0.entered.bodies d.loop-p.invariant (is d))
 
 pub loop-p-preserved : goal.loop-p-preserved
 loop-p-preserved c =
     let b = (goal.at.loop-p-preserved c).After-is_same_list in
     let d = i (goal.at.loop-p-preserved c).After-word_of-at in
-    walk-on (s d).pre.0.entered.bodies d.loop-p.inv (is d) c.word_of-p-in-loop-p.ensures (λ x o. o) (λ m. tells b ∙ c.if-is_same_list.false)
+    walk-on d.requires.0.entered.bodies d.loop-p.invariant (is d) c.word_of-p-in-loop-p.ensures (λ x o. o) (λ m. tells b ∙ c.if-is_same_list.false)
 
 pub returns : goal.returns
 returns c =
@@ -96,7 +97,7 @@ returns c =
     none-with s.args.table.now s.args.rules s.args.body.now c.loop-p.p c.loop-p-test.false c.loop-p.invariant
 
 pub overflow_add-hash_of : goal.overflow_add-hash_of
-overflow_add-hash_of c = let h = c.hash_of.ensures.1 in search rules
+overflow_add-hash_of c = let h = c.hash_of.ensures.hash.1 in search rules
 
 pub overflow_add-k : goal.overflow_add-k
 overflow_add-k c = let h = few c in search rules

@@ -11,35 +11,36 @@ use Rattle.heads.proofs.Starts.{rule-here, head_of}
 use Rattle.heads.proofs.Bodies.{covers-few}
 use borrow.Author.Rules.{rules}
 use Rattle.heads.proofs.words_of.Goals as goal
-use Rattle.heads.proofs.words_of.Goals.{After-word_of-k, Start, After-word_of-at}
+use Rattle.heads.proofs.words_of.Goals.{After-word_of-k, After-word_of-at}
+use Rattle.heads.proofs.words_of.Lts.View as view
+use Rattle.heads.proofs.words_of.Reads as reads
+use Rattle.heads.proofs.words_of.Tie as tie
 
 -- the rule of the head
 module _ (c : After-word_of-k) where
-  abbrev s : Start
-  s = c.before
 
   abbrev t : List ℤ
-  t = s.args.table.now
+  t = c.args.table.now
 
   abbrev k : ℕ
   k = c.word_of-k.result
 
-  owner : k ≡ (headed_at (headed_to s.args.rules t) s.args.x).rule
-  owner = c.word_of-k.ensures ∙ s.pre.0.0.entered.heads.owner s.args.x s.pre.1
+  owner : k ≡ (headed_at (headed_to c.args.rules t) c.args.x).rule
+  owner = c.word_of-k.ensures ∙ c.requires.index.0.entered.heads.owner c.args.x c.requires.place
 
-  rule : k < s.args.rules
-  rule = omega (arith, owner, (head_of t s.args.rules _ s.args.x s.pre.0.1 (s.pre.1, refl)).0)
+  rule : k < c.args.rules
+  rule = omega (arith, owner, (head_of t c.args.rules _ c.args.x c.requires.index.1 (c.requires.place, refl)).0)
 
   few : k < most_held
-  few = omega (arith, rule, covers-few s.pre.0.0)
+  few = omega (arith, rule, covers-few c.requires.index.0)
 
 -- and where it starts
 module _ (c : After-word_of-at) where
-  starts : c.word_of-at.result ≡ start_of (k c.before) (t c.before)
-  starts = c.word_of-at.ensures ∙ (s c.before).pre.0.0.entered.starts (k c.before) (rule c.before)
+  starts : c.word_of-at.result ≡ start_of (k (view.up-After-word_of-k tie.the-claims reads.Pre reads.Post c.before.before)) (t (view.up-After-word_of-k tie.the-claims reads.Pre reads.Post c.before.before))
+  starts = c.word_of-at.ensures ∙ (s (view.up-After-word_of-k tie.the-claims reads.Pre reads.Post c.before.before)).requires.index.0.entered.starts (k (view.up-After-word_of-k tie.the-claims reads.Pre reads.Post c.before.before)) (rule (view.up-After-word_of-k tie.the-claims reads.Pre reads.Post c.before.before))
 
-  within : c.word_of-at.result ≤ length (t c.before)
-  within = omega (arith, starts, (rule-here (t c.before) (s c.before).args.rules (s c.before).pre.0.1 (k c.before) (rule c.before)).0)
+  within : c.word_of-at.result ≤ length (t (view.up-After-word_of-k tie.the-claims reads.Pre reads.Post c.before.before))
+  within = omega (arith, starts, (rule-here (t (view.up-After-word_of-k tie.the-claims reads.Pre reads.Post c.before.before)) (s (view.up-After-word_of-k tie.the-claims reads.Pre reads.Post c.before.before)).args.rules (s (view.up-After-word_of-k tie.the-claims reads.Pre reads.Post c.before.before)).requires.index.1 (k (view.up-After-word_of-k tie.the-claims reads.Pre reads.Post c.before.before)) (rule (view.up-After-word_of-k tie.the-claims reads.Pre reads.Post c.before.before))).0)
 
 pub returns : goal.returns
 returns c =

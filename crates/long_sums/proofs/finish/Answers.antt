@@ -19,13 +19,13 @@ returns-then-not-is_writable c =
 
 -- the question is passed
 passed : (c : Else-not-is_writable)
-    → (let s = c.before in
+    → (let s = c in
     let q = s.args.written in
     (((leb q.place.rules most_rules && leb q.atom (suc largest)) && leb q.place.at longest) && leb q.place.at (length s.args.output.now)) ≡ true)
 passed c = sym c.is_writable.ensures ∙ c.if-not-is_writable.false
 
 there : (c : Else-not-is_writable)
-    → (let s = c.before in (s.args.written.place.rules ≤ most_rules) × (s.args.written.place.at ≤ length s.args.output.now))
+    → (let s = c in (s.args.written.place.rules ≤ most_rules) × (s.args.written.place.at ≤ length s.args.output.now))
 there c = let q = c.args.written in numbers-passed q.place.rules q.atom q.place.at _ (passed c)
 
 pub slice_bounds-zero_bytes-count : goal.slice_bounds-zero_bytes-count
@@ -41,4 +41,4 @@ returns c =
     let o = length s.args.output.now in
     let t = length s.args.table.now in
     λ ws rs before w n e a.
-    written-66 w n ws s.args.table.now t (sym (asked w o) ∙ passed d) c.zero_bytes.new.bytes.0 s.args.old c.zero_bytes.ensures e a
+    written-66 w n ws s.args.table.now t (sym (asked w o) ∙ passed d) c.zero_bytes.new.bytes s.args.old c.zero_bytes.ensures e a

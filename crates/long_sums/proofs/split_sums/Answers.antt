@@ -5,21 +5,21 @@ use Rattle.aspif.specs.Reading.{read_text_within}
 use Rattle.long_sums.proofs.Answers.{LongRead, long-read, refused-left, read_left}
 use borrow.Author.Rules.{rules}
 use Rattle.long_sums.proofs.split_sums.Goals as goal
-use Rattle.long_sums.proofs.split_sums.Goals.{In-Read-2}
+use Rattle.long_sums.proofs.split_sums.Goals.{In-Read}
 
 -- what was read, and what it leaves in the table
-told : (c : In-Read-2)
-    → (let r = c.before in
-    let s = r.before in
+told : (c : In-Read)
+    → (let r = c in
+    let s = r.before.before.before.before in
     LongRead (read_text_within most_literals (length s.args.table.now) s.args.text.now) c.in-Read.rules c.in-Read.atoms r.read_within-read.new.table)
 told c =
-    let r = c.before in
-    let s = r.before in
+    let r = c in
+    let s = r.before.before.before.before in
     let l = r.read_within-read.ensures in
     long-read (length s.args.table.now) s.args.text.now _ refl (sym l.answer ∙ c.in-Read.is) r.read_within-read.new.table l.table r.read_within-read.auto.table
 
 pub split_table-requires : goal.split_table-requires
-split_table-requires c = (told (goal.at.split_table-requires c).In-Read-2).long
+split_table-requires c = (told (goal.at.split_table-requires c).In-Read).long
 
 pub returns-in-Refused : goal.returns-in-Refused
 returns-in-Refused c =
@@ -31,7 +31,7 @@ returns-in-Refused c =
 
 pub returns-in-Read : goal.returns-in-Read
 returns-in-Read c =
-    let e = (goal.at.returns-in-Read c).In-Read-2 in
+    let e = (goal.at.returns-in-Read c).In-Read in
     let r = c in
     let a = r.args in
     read_left (length a.table.now) (length a.output.now) a.text.now a.group r.read_within-read.auto.table _ (told e) c.split_table.ensures

@@ -18,6 +18,9 @@ use Rattle.packets.proofs.Given.{no-mark, no_lengths, parts-left}
 use Rattle.moves.proofs.Answers.{moved-early, moved-kept}
 use Rattle.moves.proofs.move_packet.Goals as goal
 use Rattle.moves.proofs.move_packet.Goals.{Else-not-lengths_fit, After-count_at-steps}
+use Rattle.moves.proofs.move_packet.Lts.View as view
+use Rattle.moves.proofs.move_packet.Reads as reads
+use Rattle.moves.proofs.move_packet.Tie as tie
 
 pub returns-then-not-is_marked : goal.returns-then-not-is_marked
 returns-then-not-is_marked c =
@@ -44,7 +47,7 @@ module _ (c : Else-not-lengths_fit) where
   known = fit_parts packet fit
 
   -- the output holds zeros
-  cleared : Zeros 0 c.zero_bytes.new.bytes.0 × (length c.zero_bytes.new.bytes.0 ≡ length c.args.output.now)
+  cleared : Zeros 0 c.zero_bytes.new.bytes × (length c.zero_bytes.new.bytes ≡ length c.args.output.now)
   cleared = zeros 0 c.zero_bytes.ensures
 
 pub count_at-count-requires : goal.count_at-count-requires
@@ -56,7 +59,7 @@ count_at-steps-requires c = omega (arith, (known (goal.at.count_at-steps-require
 -- the words end within the packet, and the parts are those of the packet
 module _ (c : After-count_at-steps) where
   abbrev p : List ℕ
-  p = packet c.before
+  p = packet (view.up-Else-not-lengths_fit tie.the-claims reads.Pre reads.Post c.before.before.before)
 
   abbrev v : Version
   v = c.args.from
@@ -71,7 +74,7 @@ module _ (c : After-count_at-steps) where
   steps-part = take (length p - (13 + 4 * n)) (drop (13 + 4 * n) p)
 
   room : 13 + 4 * n ≤ length p
-  room = omega (arith, c.count_at-count.ensures.0, (known c.before).1.0)
+  room = omega (arith, c.count_at-count.ensures.0, (known (view.up-Else-not-lengths_fit tie.the-claims reads.Pre reads.Post c.before.before.before)).1.0)
 
   words-there : words-part ≡ word_part p
   words-there = part-is (4 * n) 13 p ∙ ap (λ (w : ℕ). take (4 * w) (drop 13 p)) c.count_at-count.ensures.0
@@ -82,7 +85,7 @@ module _ (c : After-count_at-steps) where
   comes-to : pair_in v p ≡ parts_read v n words-part c.count_at-steps.result steps-part
   comes-to =
       let m = sym c.is_marked.ensures ∙ c.if-not-is_marked.false in
-      parts-left v p m (fit c.before) _ _ _ _ c.count_at-count.ensures.0 words-there c.count_at-steps.ensures.0 steps-there
+      parts-left v p m (fit (view.up-Else-not-lengths_fit tie.the-claims reads.Pre reads.Post c.before.before.before)) _ _ _ _ c.count_at-count.ensures.0 words-there c.count_at-steps.ensures.0 steps-there
 
 pub slice_bounds-move_parts-count-2 : goal.slice_bounds-move_parts-count-2
 slice_bounds-move_parts-count-2 c = room (goal.at.slice_bounds-move_parts-count-2 c).After-count_at-steps

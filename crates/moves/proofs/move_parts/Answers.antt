@@ -11,16 +11,19 @@ use Rattle.packets.specs.Claims.{Bytes}
 use Rattle.packets.proofs.Littles.{bytes-all}
 use Rattle.moves.proofs.Answers.{moved-early, told-refused, PairTaken, told-taken, moved-61, movable, few_bytes, few_words, moved-52, moved_all}
 use Rattle.moves.proofs.move_parts.Goals as goal
-use Rattle.moves.proofs.move_parts.Goals.{Start, In-Taken-2, Else-not-fits}
+use Rattle.moves.proofs.move_parts.Goals.{Start, In-Taken, Else-not-fits}
+use Rattle.moves.proofs.move_parts.Lts.View as view
+use Rattle.moves.proofs.move_parts.Reads as reads
+use Rattle.moves.proofs.move_parts.Tie as tie
 
 -- what stands in the packet's parts
 abbrev read : Start → PacketRead
 read s = parts_read s.args.from s.args.count s.args.words.now s.args.steps s.args.bytes.now
 
 -- a pair was read
-module _ (c : In-Taken-2) where
+module _ (c : In-Taken) where
   abbrev s : Start
-  s = c.before
+  s = c.before.before.before.before.before.before.before.before
 
   abbrev n : ℕ
   n = c.decreases.given.0.0
@@ -35,12 +38,12 @@ module _ (c : In-Taken-2) where
   bytes-in = bytes-all s.args.bytes.now (λ i. (c.shared_slice_known-2-1.given i).fits)
 
 pub returns-then-not-fits : goal.returns-then-not-fits
-returns-then-not-fits c = let d = (goal.at.returns-then-not-fits c).In-Taken-2 in moved-61 _ _ (s d).args.output.now (taken d) (c.if-not-fits.true) (s d).requires.zeros
+returns-then-not-fits c = let d = (goal.at.returns-then-not-fits c).In-Taken in moved-61 _ _ (s d).args.output.now (taken d) (c.if-not-fits.true) (s d).requires.zeros
 
 -- the other version can hold it
 module _ (c : Else-not-fits) where
-  abbrev d : In-Taken-2
-  d = c.before
+  abbrev d : In-Taken
+  d = (view.up-In-Taken tie.the-claims reads.Pre reads.Post c.before.before)
 
   abbrev a : Start
   a = s d
@@ -49,7 +52,7 @@ module _ (c : Else-not-fits) where
   held = c.if-not-fits.false
 
   few : n d ≤ most_words * most_rules
-  few = few_words _ _ _ _ _ _ (bytes-in d) a.pre.0.1 (taken d) held
+  few = few_words _ _ _ _ _ _ (bytes-in d) a.requires.count_in_bounds.1 (taken d) held
 
 pub overflow_mul-size : goal.overflow_mul-size
 overflow_mul-size c = record { fits = omega (arith, few c) }

@@ -9,26 +9,24 @@ use Rattle.packets.specs.Bytes.{numbers_from}
 use Rattle.packets.specs.Packets.{rule_in}
 use Rattle.moves.proofs.Moving.{row-rule}
 use Rattle.moves.proofs.move_rule.Goals as goal
-use Rattle.moves.proofs.move_rule.Goals.{After-read_rule-read, Start}
+use Rattle.moves.proofs.move_rule.Goals.{After-read_rule-read}
 
 -- the row that the rule stands in
 module _ (c : After-read_rule-read) where
-  abbrev s : Start
-  s = c.before
 
   abbrev row : List ℤ
   row = c.read_rule-read.new.table
 
   abbrev ws : List ℤ
-  ws = numbers_from 4 s.args.count s.args.bytes.now
+  ws = numbers_from 4 c.args.count c.args.bytes.now
 
-  stands : (sound_at row ≡ true) × (rule_at row ≡ rule_in s.args.from ws)
-  stands = row-rule s.args.from ws s.pre.1.0 c.read_rule-read.ensures
+  stands : (sound_at row ≡ true) × (rule_at row ≡ rule_in c.args.from ws)
+  stands = row-rule c.args.from ws c.requires.sound c.read_rule-read.ensures
 
 pub put_rule-end-requires : goal.put_rule-end-requires
 put_rule-end-requires c =
     let d = (goal.at.put_rule-end-requires c).After-read_rule-read in
-    ((stands d).0, (rw (stands d).1 (s d).requires.words, (s d).requires.room.1))
+    ((stands d).0, (rw (stands d).1 d.requires.words, d.requires.room.1))
 
 pub returns : goal.returns
 returns c =

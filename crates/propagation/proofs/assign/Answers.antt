@@ -40,8 +40,8 @@ pub make_true-v-requires : goal.make_true-v-requires
 make_true-v-requires c = let k = (goal.at.make_true-v-requires c).In-loop-i in record { literal = rw (back (word k) c.make_true-arg-1.given) (k.requires.literals.high (word k) (inside k)); size = k.loop-i.invariant.1 }
 
 -- its variable
-made : (c : After-make_true-v) → c.make_true-v.result ≡ variable (word c.before)
-made c = let k = c.before in rw (back (word k) c.make_true-arg-1.given) at c.make_true-v.ensures.variable
+made : (c : After-make_true-v) → c.make_true-v.result ≡ variable (word c.before.before.before)
+made c = let k = c.before.before.before in rw (back (word k) c.make_true-arg-1.given) at c.make_true-v.ensures.variable
 
 pub past-end-requires : goal.past-end-requires
 past-end-requires c =

@@ -21,7 +21,7 @@ use Rattle.nogoods.proofs.Recorded.{used-words}
 use Rattle.nogoods.proofs.Indexing.{keeps-part, marked}
 use Rattle.propagation.proofs.Closures.{no-conflict}
 use Rattle.propagation.proofs.decide.Goals as goal
-use Rattle.propagation.proofs.decide.Goals.{After-run, After-start_of-at, After-cover, Start}
+use Rattle.propagation.proofs.decide.Goals.{After-run, After-cover, Start}
 
 module _ (s : List ℤ) (stored : List Stored) (enc : Encodes s stored) (L : List ℤ) (lits : Literals L) (m : List ℕ)
     (only : (z : ℤ) → Assigns m z → z ∈ L) (all : (z : ℤ) → z ∈ L → Assigns m z) where
@@ -36,30 +36,28 @@ module _ (s : List ℤ) (stored : List Stored) (enc : Encodes s stored) (L : Lis
 
 -- what is kept after the search
 module _ (c : After-run) where
-  abbrev o : After-start_of-at
-  o = c.before
 
   abbrev k : After-cover
-  k = o.before
+  k = c.before.before.before.before.before
 
   abbrev s : Start
-  s = k.before
+  s = k.before.before.before
 
   abbrev index : List ℕ
   index = k.cover.new.index.0
 
   abbrev at : ℕ
-  at = o.start_of-at.result
+  at = c.start_of-at.result
 
   abbrev found : List ℕ
   found = put_mid at (length index - at) index c.run.new.cells.0
 
   searched : (stored : List Stored) → Keeps s.args.store.now s.args.index.now s.args.used stored → Keeps s.args.store.now found s.args.used stored
-  searched stored K = keeps-part at index c.run.new.cells.0 o.start_of-at.ensures.upper_bound c.run.auto.cells o.start_of-at.ensures.value (k.cover.ensures stored K)
+  searched stored K = keeps-part at index c.run.new.cells.0 c.start_of-at.ensures.upper_bound c.run.auto.cells c.start_of-at.ensures.value (k.cover.ensures stored K)
 
 pub slice_bounds-propagate-end : goal.slice_bounds-propagate-end
 slice_bounds-propagate-end c =
-    let s = c.before in
+    let s = c.before.before.before.before.before.before.before.before.before.before.before.before.before in
     sym (length-take-le s.args.used s.args.store.now s.requires.held.1.holds.fits)
 
 pub propagate-requires : goal.propagate-requires

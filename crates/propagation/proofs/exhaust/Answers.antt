@@ -11,12 +11,12 @@ use Rattle.propagation.proofs.exhaust.Goals as goal
 use Rattle.propagation.proofs.exhaust.Goals.{After-settle-swept, After-zero_bytes}
 
 -- what the sweeps gave
-told : (c : After-settle-swept) (x : Swept) → c.settle-swept.result ≡ x → let s = c.before in
+told : (c : After-settle-swept) (x : Swept) → c.settle-swept.result ≡ x → let s = c in
     Settles s.args.nogoods.now (entries + 1) s.args.assignment.now c.settle-swept.new.assignment.0 x
 told c x e = rw e at c.settle-swept.ensures
 
 -- all are free afterwards
-freed : (c : After-zero_bytes) → c.zero_bytes.new.bytes.0 ≡ replicate entries 0
+freed : (c : After-zero_bytes) → c.zero_bytes.new.bytes ≡ replicate entries 0
 freed c = c.zero_bytes.ensures ∙ ap (λ (n : ℕ). replicate n 0) c.zero_bytes-arg-1.given.0.1
 
 pub returns-in-Refuted : goal.returns-in-Refuted

@@ -11,6 +11,9 @@ use Rattle.propagation.specs.declared.replay.Replayed.{Replayed}
 use Rattle.propagation.proofs.Closures.{grows-on, clashes-before}
 use Rattle.propagation.proofs.propagate.Goals as goal
 use Rattle.propagation.proofs.propagate.Goals.{After-replay, In-Open}
+use Rattle.propagation.proofs.propagate.Lts.View as view
+use Rattle.propagation.proofs.propagate.Reads as reads
+use Rattle.propagation.proofs.propagate.Tie as tie
 
 -- what comes of an assignment that has grown comes of the one before
 ends-before : (s : List ℤ) (m m' : List ℕ) → Grows s m m' → (r : Bool) → Ends s m' r → Ends s m r
@@ -18,7 +21,7 @@ ends-before s m m' g true k = clashes-before s m m' g k
 ends-before s m m' g false (n, h, a) = (n, grows-on g h, a)
 
 -- what the replay gave
-told : (c : After-replay) (x : Replayed) → c.replay.result ≡ x → let s = c.before in
+told : (c : After-replay) (x : Replayed) → c.replay.result ≡ x → let s = c in
     Replays s.args.nogoods.now s.args.assignment.now c.replay.new.assignment.0 x
 told c x e = rw e at c.replay.ensures
 
@@ -33,9 +36,9 @@ pub returns-in-Clashing : goal.returns-in-Clashing
 returns-in-Clashing c = let k = c in record { decided = (told (goal.at.returns-in-Clashing c).After-replay _ k.in-Clashing.is).0; free = c.release.ensures ∙ ap (λ (n : ℕ). replicate n 0) c.release-arg-1.given.0.1 }
 
 -- none
-grew : (c : In-Open) → let o = c.before in let s = o.before in
+grew : (c : In-Open) → let o = c in let s = o.before.before.before in
     Grows s.args.nogoods.now s.args.assignment.now o.replay.new.assignment.0
-grew c = told c.before _ c.in-Open.is
+grew c = told (view.up-After-replay tie.the-claims reads.Pre reads.Post tie.handed_clauses c.before.before.before) _ c.in-Open.is
 
 pub exhaust-requires : goal.exhaust-requires
 exhaust-requires c = let s = c in record { encoded = s.requires.encoded; size = (grew (goal.at.exhaust-requires c).In-Open).size ∙ s.requires.size }

@@ -5,7 +5,7 @@ use Rattle.propagation.specs.Propagate.{Sweeps}
 use Rattle.propagation.specs.declared.Swept.{Swept}
 use Rattle.propagation.proofs.Closures.{grows-not, grows-on, clashes-before}
 use Rattle.propagation.proofs.settle.Goals as goal
-use Rattle.propagation.proofs.settle.Goals.{After-sweep-swept, At-loop-left}
+use Rattle.propagation.proofs.settle.Goals.{After-sweep-swept}
 
 pub loop-left-init : goal.loop-left-init
 loop-left-init c = (omega arith, grows-not, omega arith)
@@ -15,20 +15,18 @@ sweep-swept-requires c = let l = c in record { encoded = l.requires.encoded; siz
 
 -- what the sweep gave
 module _ (c : After-sweep-swept) where
-  abbrev l : At-loop-left
-  l = c.before
 
-  told : (x : Swept) → c.sweep-swept.result ≡ x → Sweeps l.args.nogoods.now l.loop-left.assignment c.sweep-swept.new.assignment.0 x
+  told : (x : Swept) → c.sweep-swept.result ≡ x → Sweeps c.args.nogoods.now c.loop-left.assignment c.sweep-swept.new.assignment.0 x
   told x e = rw e at c.sweep-swept.ensures
 
 pub returns-in-Refuted : goal.returns-in-Refuted
-returns-in-Refuted c = let o = (goal.at.returns-in-Refuted c).After-sweep-swept in clashes-before _ _ _ (l o).loop.invariant.1 (told o _ c.in-Refuted.is)
+returns-in-Refuted c = let o = (goal.at.returns-in-Refuted c).After-sweep-swept in clashes-before _ _ _ o.loop.invariant.1 (told o _ c.in-Refuted.is)
 
 pub returns-in-Same : goal.returns-in-Same
 returns-in-Same c =
     let o = (goal.at.returns-in-Same c).After-sweep-swept in
     let t = told o _ c.in-Same.is in
-    rw t.0 ((l o).loop.invariant.1, t.1)
+    rw t.0 (o.loop.invariant.1, t.1)
 
 pub loop-left-smaller : goal.loop-left-smaller
 loop-left-smaller c = omega (arith, c.loop-left-test.true)
@@ -36,7 +34,7 @@ loop-left-smaller c = omega (arith, c.loop-left-test.true)
 pub loop-left-preserved : goal.loop-left-preserved
 loop-left-preserved c =
     let o = (goal.at.loop-left-preserved c).After-sweep-swept in
-    let v = (l o).loop.invariant in
+    let v = o.loop.invariant in
     let t = told o _ c.in-Changed.is in
     (omega (arith, v.0), grows-on v.1 t.0, omega (arith, t.1, v.2, o.loop-left-test.true))
 

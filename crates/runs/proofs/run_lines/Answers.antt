@@ -14,18 +14,19 @@ use Rattle.steps.proofs.Tracking.{same-rules, rules-held, start-tracks}
 use Rattle.runs.proofs.Courses.{Going, going_start, going-ends, going-fails, going_on}
 use borrow.Author.Rules.{rules}
 use Rattle.runs.proofs.run_lines.Goals as goal
-use Rattle.runs.proofs.run_lines.Goals.{After-turn_at, At-loop-number, Start, In-Goes}
+use Rattle.runs.proofs.run_lines.Goals.{After-turn_at, Start, In-Goes}
+use Rattle.runs.proofs.run_lines.Lts.View as view
+use Rattle.runs.proofs.run_lines.Reads as reads
+use Rattle.runs.proofs.run_lines.Tie as tie
 
 -- where the loop stands, and what the turn there left
 module _ (c : After-turn_at) where
-  abbrev l : At-loop-number
-  l = c.before
 
   abbrev start : Start
-  start = l.before
+  start = (view.up-At-loop-number tie.the-claims reads.Pre reads.Post goal.the-invariant-loop-number goal.the-decreases-loop-number tie.handed_clauses c.before.before.before.before.before.before.before.before.before.before.before.before)
 
   abbrev ws : List InputRule
-  ws = l.loop-number.inv.0
+  ws = c.loop-number.invariant.0
 
   abbrev store' : List ℤ
   store' = c.turn_at.new.store
@@ -42,43 +43,43 @@ module _ (c : After-turn_at) where
   abbrev bodies' : List ℤ
   bodies' = c.turn_at.new.bodies
 
-  G : Going start.args.atoms ws (length start.args.store.now) start.args.proof.now l.loop-number.store l.loop-number.index l.loop-number.known l.loop-number.names l.loop-number.bodies l.loop-number.state.used l.loop-number.state.at l.loop-number.state.steps
-  G = l.loop-number.inv.2
+  G : Going start.args.atoms ws (length start.args.store.now) start.args.proof.now c.loop-number.store c.loop-number.index c.loop-number.known c.loop-number.names c.loop-number.bodies c.loop-number.state.used c.loop-number.state.at c.loop-number.state.steps
+  G = c.loop-number.invariant.2
 
-  turned : LineLeaves start.args.atoms ws known' names' bodies' store' index' l.loop-number.state.used (l.loop-number.state.steps + 1) (length start.args.store.now) G.z G.stored (line_at start.args.proof.now l.loop-number.state.at) c.turn_at.result
+  turned : LineLeaves start.args.atoms ws known' names' bodies' store' index' c.loop-number.state.used (c.loop-number.state.steps + 1) (length start.args.store.now) G.z G.stored (line_at start.args.proof.now c.loop-number.state.at) c.turn_at.result
   turned =
-      subst (λ n. LineLeaves start.args.atoms ws known' names' bodies' store' index' l.loop-number.state.used (l.loop-number.state.steps + 1) n G.z G.stored (line_at start.args.proof.now l.loop-number.state.at) c.turn_at.result)
-      G.long (c.turn_at.ensures.left ws l.loop-number.inv.1 G.z G.stored G.tracks G.keeps)
+      subst (λ n. LineLeaves start.args.atoms ws known' names' bodies' store' index' c.loop-number.state.used (c.loop-number.state.steps + 1) n G.z G.stored (line_at start.args.proof.now c.loop-number.state.at) c.turn_at.result)
+      G.long (c.turn_at.ensures.left ws c.loop-number.invariant.1 G.z G.stored G.tracks G.keeps)
 
   -- as many words as were lent
   same_known : length known' ≡ length start.args.known.now
-  same_known = c.turn_at.auto.known ∙ l.loop-number.inv.3
+  same_known = c.turn_at.auto.known ∙ c.loop-number.invariant.3
 
   same_names : length names' ≡ length start.args.names.now
-  same_names = c.turn_at.auto.names ∙ l.loop-number.inv.4
+  same_names = c.turn_at.auto.names ∙ c.loop-number.invariant.4
 
   same-bodies : length bodies' ≡ length start.args.bodies.now
-  same-bodies = c.turn_at.auto.bodies ∙ l.loop-number.inv.5
+  same-bodies = c.turn_at.auto.bodies ∙ c.loop-number.invariant.5
 
   same_numbers : length c.turn_at.new.numbers ≡ most_numbers
-  same_numbers = c.turn_at.auto.numbers ∙ l.loop-number.inv.6
+  same_numbers = c.turn_at.auto.numbers ∙ c.loop-number.invariant.6
 
   same-sorted : length c.turn_at.new.sorted ≡ most_numbers
-  same-sorted = c.turn_at.auto.sorted ∙ l.loop-number.inv.7
+  same-sorted = c.turn_at.auto.sorted ∙ c.loop-number.invariant.7
 
   same_index : length index' ≡ length start.args.index.now
-  same_index = c.turn_at.auto.index ∙ l.loop-number.inv.9
+  same_index = c.turn_at.auto.index ∙ c.loop-number.invariant.9
 
   -- every program that the table holds is the same
   same : {us : List InputRule} → Program start.args.table.now start.args.rules start.args.atoms us → us ≡ ws
-  same q = same-rules q.holds l.loop-number.inv.1.holds
+  same q = same-rules q.holds c.loop-number.invariant.1.holds
 
 pub loop-number-init : goal.loop-number-init
 loop-number-init c =
     let q = c.requires in
     let p = q.0.0.1 in
     let b = q.1.1.1 in
-    (q.0.0.0, p, going_start _ _ _ _ c.start-state.ensures (rw b.0.1 (start-tracks b.0.0 (omega (arith, q.0.1, rules-held p.holds)) (rw (← p.holds.are) b.1.0))) b.1.1.1.0 refl b.1.1.1.1, refl, refl, refl, length-replicate {A = ℤ} most_numbers (pos 0), length-replicate {A = ℤ} most_numbers (pos 0), refl, refl)
+    (q.0.0.0, p, going_start _ _ _ _ c.start-state.ensures.start (rw b.0.1 (start-tracks b.0.0 (omega (arith, q.0.1, rules-held p.holds)) (rw (← p.holds.are) b.1.0))) b.1.1.1.0 refl b.1.1.1.1, refl, refl, refl, length-replicate {A = ℤ} most_numbers (pos 0), length-replicate {A = ℤ} most_numbers (pos 0), refl, refl)
 
 -- the number of the next step
 pub overflow_add-step : goal.overflow_add-step
@@ -109,10 +110,9 @@ returns-in-Fails c =
     λ limit h Q q. rw (same t q) (going-fails _ _ _ _ (G t) (store' t) (index' t) (known' t) (names' t) (bodies' t) (search rules) _ c.in-Fails.is (turned t) limit h)
 
 onward : (c : In-Goes)
-    → (let t = c.before in let g = c.next-1.given.0 in
-    Going (start t).args.atoms (ws t) (length (start t).args.store.now) (start t).args.proof.now (store' t) (index' t) (known' t) (names' t) (bodies' t) g.1.0 g.0 ((l t).loop.state.steps + 1) × ((l t).loop.state.at < g.0))
+    → (let t = (view.up-After-turn_at tie.the-claims reads.Pre reads.Post goal.the-invariant-loop-number goal.the-decreases-loop-number tie.handed_clauses (view.up-At-loop-number tie.the-claims reads.Pre reads.Post goal.the-invariant-loop-number goal.the-decreases-loop-number tie.handed_clauses c.before.before.before.before.before.before.before.before.before.before.before.before.before.before.before.before.before.before.before.before.before.before.before.before.before)) in Going (start t).args.atoms (ws t) (length (start t).args.store.now) (start t).args.proof.now (store' t) (index' t) (known' t) (names' t) (bodies' t) c.in-Goes.used c.in-Goes.next (t.loop.state.steps + 1) × (t.loop.state.at < c.in-Goes.next))
 onward c =
-    let t = c.before in
+    let t = (view.up-After-turn_at tie.the-claims reads.Pre reads.Post goal.the-invariant-loop-number goal.the-decreases-loop-number tie.handed_clauses (view.up-At-loop-number tie.the-claims reads.Pre reads.Post goal.the-invariant-loop-number goal.the-decreases-loop-number tie.handed_clauses c.before.before.before.before.before.before.before.before.before.before.before.before.before.before.before.before.before.before.before.before.before.before.before.before.before)) in
     going_on _ _ _ _ (G t) (store' t) (index' t) (known' t) (names' t) (bodies' t) (search rules) _ _ c.in-Goes.is (turned t)
 
 pub loop-number-smaller : goal.loop-number-smaller
@@ -121,17 +121,17 @@ loop-number-smaller c = let o = onward c in omega (arith, o.0.within, o.1)
 pub loop-number-preserved : goal.loop-number-preserved
 loop-number-preserved c =
     let t = (goal.at.loop-number-preserved c).After-turn_at in
-    let i = (l t).loop.invariant in
+    let i = t.loop.invariant in
     (i.0, i.1, (onward c).0, same_known t, same_names t, same-bodies t, same_numbers t, same-sorted t, t.turn_at.ensures.free, same_index t)
 
 pub through-requires : goal.through-requires
-through-requires c = same_known (goal.at.through-requires c).After-assignment-1
+through-requires c = same_known (goal.at.through-requires c).At-loop-number
 
 pub through-requires : goal.through-requires
-through-requires c = same_names (goal.at.through-requires c).After-assignment-1
+through-requires c = same_names (goal.at.through-requires c).At-loop-number
 
 pub through-requires : goal.through-requires
-through-requires c = same-bodies (goal.at.through-requires c).After-assignment-1
+through-requires c = same-bodies (goal.at.through-requires c).At-loop-number
 
 pub through-requires : goal.through-requires
-through-requires c = same_index (goal.at.through-requires c).After-assignment-1
+through-requires c = same_index (goal.at.through-requires c).At-loop-number

@@ -15,58 +15,56 @@ use Rattle.drupe.proofs.Lines.{passed-line}
 use Rattle.drupe.proofs.Rows.{into-told, into-sorted, into-room}
 use Rattle.steps.proofs.Turns.{good-line, step_is}
 use Rattle.runs.proofs.turn_at.Goals as goal
-use Rattle.runs.proofs.turn_at.Goals.{In-Line-2, After-step_at-answer, Start}
+use Rattle.runs.proofs.turn_at.Goals.{In-Line, Start, After-step_at-answer}
 
 -- the line that was read
-module _ (c : In-Line-2) where
-  abbrev b : After-step_at-answer
-  b = c.before
+module _ (c : In-Line) where
 
   abbrev start : Start
-  start = b.before
+  start = c.before.before.before.before.before.before.before.before.before.before.before.before.before.before.before
 
   abbrev numbers : List ℤ
-  numbers = b.step_at-answer.new.numbers
+  numbers = c.step_at-answer.new.numbers
 
   abbrev sorted : List ℤ
-  sorted = b.step_at-answer.new.sorted.0
+  sorted = c.step_at-answer.new.sorted.0
 
   there : (let g = c.answer-in-Line-1.given.0 in line_at start.args.proof.now start.args.at ≡ line g.0 (take g.1.0 numbers) g.1.1.0)
-  there = into-told b.step_at-answer.ensures c.in-Line.is
+  there = into-told c.step_at-answer.ensures c.in-Line.is
 
   -- its numbers are within the rows
   room : (let g = c.answer-in-Line-1.given.0 in (g.1.0 ≤ length numbers) × (g.1.0 ≤ length sorted))
   room =
-      let u = into-room b.step_at-answer.ensures c.in-Line.is in
-      let k = b.step_at-answer.kept in
-      let r = start.pre.1.1.1.1.1.1.0 in
+      let u = into-room c.step_at-answer.ensures c.in-Line.is in
+      let k = c.step_at-answer.kept in
+      let r = start.requires.rows in
       (omega (arith, u.2, k.1.1.1.0, r.0), omega (arith, u.2, k.1.1.1.1.0, r.1))
 
   -- the step's number is at most that of the bytes
   numbered : (let a = start.args in (1 ≤ a.origin) × (a.origin ≤ widest))
   numbered =
       let u = passed-line start.args.proof.now start.args.at there in
-      let o = start.pre.1.1.1.0.1 in
-      (o.0, omega (arith, u.0, u.1, o.1, start.pre.1.1.1.1.0))
+      let o = start.requires.store.1 in
+      (o.0, omega (arith, u.0, u.1, o.1, start.requires.short))
 
-  good : (let g = c.answer-in-Line-1.given.0 in let zs = take g.1.0 numbers in (line_refusal g.0 zs ≡ none) × (has (pos 0) zs ≡ false))
+  good : (let zs = take c.in-Line.count numbers in (line_refusal c.in-Line.letter zs ≡ none) × (has (pos 0) zs ≡ false))
   good = let u = passed-line start.args.proof.now start.args.at there in (u.2, u.3)
 
 pub slice_bounds-step-end : goal.slice_bounds-step-end
-slice_bounds-step-end c = (room (goal.at.slice_bounds-step-end c).In-Line-2).0
+slice_bounds-step-end c = (room (goal.at.slice_bounds-step-end c).In-Line).0
 
 pub slice_bounds-step-end-in-Line : goal.slice_bounds-step-end-in-Line
-slice_bounds-step-end-in-Line c = sym (length-take-le _ _ (room (goal.at.slice_bounds-step-end-in-Line c).In-Line-2).0)
+slice_bounds-step-end-in-Line c = sym (length-take-le _ _ (room (goal.at.slice_bounds-step-end-in-Line c).In-Line).0)
 
 pub slice_bounds-step-end-in-Line-2 : goal.slice_bounds-step-end-in-Line-2
-slice_bounds-step-end-in-Line-2 c = (room (goal.at.slice_bounds-step-end-in-Line-2 c).In-Line-2).1
+slice_bounds-step-end-in-Line-2 c = (room (goal.at.slice_bounds-step-end-in-Line-2 c).In-Line).1
 
 pub slice_bounds-step-end-in-Line-3 : goal.slice_bounds-step-end-in-Line-3
-slice_bounds-step-end-in-Line-3 c = sym (length-take-le _ _ (room (goal.at.slice_bounds-step-end-in-Line-3 c).In-Line-1).1)
+slice_bounds-step-end-in-Line-3 c = sym (length-take-le _ _ (room (goal.at.slice_bounds-step-end-in-Line-3 c).In-Line).1)
 
 pub step-stepped-requires : goal.step-stepped-requires
-step-stepped-requires c = let d = (goal.at.step-stepped-requires c).In-Line-1 in
-    let s = start d in record { state = s.pre.0; index = s.pre.1.0; relevant = s.pre.1.1.0; store = (s.pre.1.1.1.0.0, numbered d); line = good-line _ _ (good d).0 (good d).1; sorted = into-sorted (b d).step-at.ensures d.in-Line.is; free = s.pre.1.1.1.1.1.1.1 }
+step-stepped-requires c = let d = (goal.at.step-stepped-requires c).In-Line in
+    let s = start d in record { state = s.requires.state; index = s.requires.index; relevant = s.requires.relevant; store = (s.requires.store.0, numbered d); line = good-line _ _ (good d).0 (good d).1; sorted = into-sorted d.step-at.ensures d.in-Line.is; free = s.requires.free }
 
 -- where there is no step the assignment is as it was
 free : (c : After-step_at-answer) → c.args.assignment.now ≡ replicate entries 0
@@ -80,7 +78,6 @@ returns-in-Refused c = let o = (goal.at.returns-in-Refused c).After-step_at-answ
 
 pub returns-in-Line : goal.returns-in-Line
 returns-in-Line c = let t = c.step-stepped in
-    let d = (goal.at.returns-in-Line c).In-Line-1 in
-    let g = d.answer-in-Line-1.given.0 in
-    let zs = take g.1.0 (numbers d) in record { left = λ ws p z stored T K.
-          rw (there d, step_is g.0 zs (good d).0 (good d).1 (start d).args.atoms (expand ws) z) (t.result, c.turn_of.ensures, t.ensures.stepped ws p z stored T K); free = t.ensures.free }
+    let d = (goal.at.returns-in-Line c).In-Line in
+    let zs = take d.in-Line.count (numbers d) in record { left = λ ws p z stored T K.
+          rw (there d, step_is d.in-Line.letter zs (good d).0 (good d).1 (start d).args.atoms (expand ws) z) (t.result, c.turn_of.ensures, t.ensures.stepped ws p z stored T K); free = t.ensures.free }

@@ -9,7 +9,7 @@ use Rattle.runs.specs.Course.{Course, course}
 use Rattle.splits.proofs.Answers.{same-nothing, text_in, found-inconsistent, found-otherwise}
 use borrow.Author.Rules.{rules}
 use Rattle.splits.proofs.judge.Goals as goal
-use Rattle.splits.proofs.judge.Goals.{After-check_proof-verdict, Start}
+use Rattle.splits.proofs.judge.Goals.{After-check_proof-verdict}
 
 pub slice_bounds-check_proof-end-2 : goal.slice_bounds-check_proof-end-2
 slice_bounds-check_proof-end-2 c = sym (length-take-le _ _ c.requires.text)
@@ -19,17 +19,15 @@ check_proof-verdict-requires c = let q = c.requires in record { program = (q.0.0
 
 -- what the check of the text says
 module _ (c : After-check_proof-verdict) where
-  abbrev a : Start
-  a = c.before
 
   module _ (ws : List InputRule) (text : List ℕ) where
     abbrev came : Course
-    came = course (atoms ws) (expand ws) (length a.args.store.now) text
+    came = course (atoms ws) (expand ws) (length c.args.store.now) text
 
 pub returns-then-is_inconsistent : goal.returns-then-is_inconsistent
 returns-then-is_inconsistent c = λ ws text p w l e.
     let d = (goal.at.returns-then-is_inconsistent c).After-check_proof-verdict in
-    let x = (a d).args in
+    let x = d.args in
     found-inconsistent (length x.table.now) (length x.store.now) (length x.output.now) ws text (came d ws text)
     (rw (text_in text (length x.output.now - x.n) l e) at (d.check_proof-verdict.ensures ws p w)) (sym c.is_inconsistent.ensures ∙ c.if-is_inconsistent.true) l e
 
@@ -37,7 +35,7 @@ pub returns : goal.returns
 returns c = λ ws text p w l e.
     let f = c in
     let d = (goal.at.returns c).After-check_proof-verdict in
-    let x = (a d).args in
+    let x = d.args in
     let t : length d.check_proof-verdict.new.table ≡ length x.table.now = search rules in
     let s : length d.check_proof-verdict.new.store.0 ≡ length x.store.now = search rules in
     c.refuse.ensures ∙ same-nothing 59 t s (refl {a = length x.output.now})

@@ -15,12 +15,10 @@ use Rattle.splits.proofs.Answers.{same-nothing, judged-same, not_written, Text, 
 use native.Mathlib.Omega.{arith}
 use borrow.Author.Rules.{rules}
 use Rattle.splits.proofs.merge_read.Goals as goal
-use Rattle.splits.proofs.merge_read.Goals.{After-write-written, Start}
+use Rattle.splits.proofs.merge_read.Goals.{After-write-written}
 
 -- what 57 and 58 left
 module _ (c : After-write-written) where
-  abbrev start : Start
-  start = c.before
 
   abbrev store' : List ℤ
   store' = c.write-written.new.store
@@ -30,13 +28,13 @@ module _ (c : After-write-written) where
 
   -- the lengths of what was lent
   abbrev t : ℕ
-  t = length start.args.table.now
+  t = length c.args.table.now
 
   abbrev s : ℕ
-  s = length start.args.store.now
+  s = length c.args.store.now
 
   abbrev o : ℕ
-  o = length start.args.output.now
+  o = length c.args.output.now
 
   same_store : length store' ≡ s
   same_store = c.write-written.auto.store
@@ -44,17 +42,17 @@ module _ (c : After-write-written) where
   same-output : length output' ≡ o
   same-output = c.write-written.auto.output
 
-  module _ (ws : List InputRule) (p : Program start.args.table.now start.args.rules start.args.atoms ws) where
+  module _ (ws : List InputRule) (p : Program c.args.table.now c.args.rules c.args.atoms ws) where
     -- the merged text
     abbrev text : List ℕ
-    text = text_of (merged_steps ws start.args.v start.args.first.now start.args.second.now)
+    text = text_of (merged_steps ws c.args.v c.args.first.now c.args.second.now)
 
     refused : (k : ℕ) → c.write-written.result ≡ Written.Refused k
-        → leaves_nothing t s o (Refused k) ≡ merged_reading t s o start.args.v start.args.first.now start.args.second.now (program ws)
-    refused k e = not_written t s o ws start.args.v start.args.first.now start.args.second.now output' same-output k e (c.write-written.ensures.written ws p)
+        → leaves_nothing t s o (Refused k) ≡ merged_reading t s o c.args.v c.args.first.now c.args.second.now (program ws)
+    refused k e = not_written t s o ws c.args.v c.args.first.now c.args.second.now output' same-output k e (c.write-written.ensures.written ws p)
 
-    written : (n : ℕ) → c.write-written.result ≡ Written.Text n → Text t s o ws start.args.v start.args.first.now start.args.second.now output' same-output n
-    written n e = is-written t s o ws start.args.v start.args.first.now start.args.second.now output' same-output n e (c.write-written.ensures.written ws p)
+    written : (n : ℕ) → c.write-written.result ≡ Written.Text n → Text t s o ws c.args.v c.args.first.now c.args.second.now output' same-output n
+    written n e = is-written t s o ws c.args.v c.args.first.now c.args.second.now output' same-output n e (c.write-written.ensures.written ws p)
 
 -- a program that was read is far below the limits of one with constraints behind it
 pub write-written-requires : goal.write-written-requires
@@ -62,7 +60,7 @@ write-written-requires c = let p = c.requires in record { program = (p.0.0, omeg
 
 pub judge-requires : goal.judge-requires
 judge-requires c = let d = (goal.at.judge-requires c).After-write-written in
-    let q = (start d).requires.program in record { program = q; empty = (zeros (pos 0) {n = s d} d.write-written.ensures.empty).0; text = (written d q.0.0 q.0.1 _ c.in-Text.is).within }
+    let q = d.requires.program in record { program = q; empty = (zeros (pos 0) {n = s d} d.write-written.ensures.empty).0; text = (written d q.0.0 q.0.1 _ c.in-Text.is).within }
 
 pub returns-in-Refused : goal.returns-in-Refused
 returns-in-Refused c = λ ws p w.

@@ -12,7 +12,7 @@ line : (s : Start) {x : Letter} → s.args.letter ≡ x → PassedLine x s.args.
 line s e = subst (λ x. PassedLine x s.args.line.now) e s.requires.line
 
 -- the letter is not `b`
-other : (m : In_default) → (let s = m.before in s.args.letter ≡ Completion)
+other : (m : In_default) → (let s = m.before.before.before.before.before in s.args.letter ≡ Completion)
 other m = second m.requires.letter (0 ∷ 2 ∷ 3 ∷ 4 ∷ 5 ∷ 6 ∷ []) tt m.in_default.keys2
 
 pub body-requires : goal.body-requires
@@ -20,8 +20,8 @@ body-requires c = let t = c in
     let s = (goal.at.body-requires c).Start in record { program = s.requires.program; index = s.requires.index; store = s.requires.store; line = line s t.in-Body.is }
 
 pub completion-requires : goal.completion-requires
-completion-requires c = let m = (goal.at.completion-requires c).After-slice_known-1 in
-    let s = m.before in record { program = s.requires.program; index = s.requires.index; store = s.requires.store; line = line s (other m) }
+completion-requires c = let m = (goal.at.completion-requires c).Start in
+    let s = m.before.before.before.before.before in record { program = s.requires.program; index = s.requires.index; store = s.requires.store; line = line s (other m) }
 
 pub returns-in-Body : goal.returns-in-Body
 returns-in-Body c =
@@ -30,5 +30,5 @@ returns-in-Body c =
 
 pub returns-in_default : goal.returns-in_default
 returns-in_default c =
-    let m = (goal.at.returns-in_default c).After-slice_known-1 in
+    let m = (goal.at.returns-in_default c).Start in
     λ N ws h z b tracks K. rw (other m) (c.completion.ensures N ws h z b tracks K)

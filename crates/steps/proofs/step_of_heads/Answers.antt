@@ -13,12 +13,12 @@ line : (s : Start) {x : Letter} → s.args.letter ≡ x → PassedLine x s.args.
 line s e = subst (λ x. PassedLine x s.args.line.now) e s.requires.line
 
 -- the letter is not `l`
-other : (m : In_default) → (let s = m.before in s.args.letter ≡ Support)
+other : (m : In_default) → (let s = m.before.before.before.before.before.before in s.args.letter ≡ Support)
 other m = second m.requires.letter (0 ∷ 1 ∷ 2 ∷ 3 ∷ 4 ∷ 6 ∷ []) tt m.in_default.keys2
 
 pub loops-requires : goal.loops-requires
 loops-requires c = let t = c in
-    let s = t.before in record { state = s.requires.state; index = s.requires.index; relevant = s.requires.relevant; store = s.requires.store; line = line s t.in-Loop.is }
+    let s = t.before.before.before.before.before.before.before in record { state = s.requires.state; index = s.requires.index; relevant = s.requires.relevant; store = s.requires.store; line = line s t.in-Loop.is }
 
 pub support-requires : goal.support-requires
 support-requires c = let m = (goal.at.support-requires c).In_default in

@@ -17,41 +17,42 @@ use Rattle.trees.specs.declared.sides.Place.{Place}
 use Rattle.trees.proofs.Constraints.{room_for, standing-first}
 use borrow.Author.Rules.{rules}
 use Rattle.trees.proofs.merge_whole.Goals as goal
-use Rattle.trees.proofs.merge_whole.Goals.{After-copy, Start, After-merge_side, In-Text-2}
+use Rattle.trees.proofs.merge_whole.Goals.{After-copy, After-merge_side, Start, In-Text}
+use Rattle.trees.proofs.merge_whole.Lts.View as view
+use Rattle.trees.proofs.merge_whole.Reads as reads
+use Rattle.trees.proofs.merge_whole.Tie as tie
 
 pub slice_bounds-copy-end-3 : goal.slice_bounds-copy-end-3
-slice_bounds-copy-end-3 c = sym (length-take-le _ _ c.words_used-used.ensures.1)
+slice_bounds-copy-end-3 c = sym (length-take-le _ _ c.words_used-used.ensures.used.1)
 
 pub copy-requires : goal.copy-requires
 copy-requires c =
     let u = c.words_used-used in
-    let s = c.before in
-    room_for u.result s.args.table.now 65565 u.ensures.1 (omega (arith, u.ensures.0, s.requires.short))
+    let s = c.before.before.before.before.before.before.before.before in
+    room_for u.result s.args.table.now 65565 u.ensures.used.1 (omega (arith, u.ensures.used.0, s.requires.short))
 
 -- the program in the wider table
 module _ (c : After-copy) where
-  abbrev start : Start
-  start = c.before
 
   abbrev wide : List ℤ
   wide = c.copy.new.destination
 
   abbrev place : Place
-  place = record { depth = most_splits; used = c.words_used-used.result; rules = start.args.rules; atoms = start.args.atoms; limit = length start.args.output.now }
+  place = record { depth = most_splits; used = c.words_used-used.result; rules = c.args.rules; atoms = c.args.atoms; limit = length c.args.output.now }
 
-  standing : {ws : List InputRule} → Program start.args.table.now start.args.rules start.args.atoms ws → Standing most_splits place wide ws
+  standing : {ws : List InputRule} → Program c.args.table.now c.args.rules c.args.atoms ws → Standing most_splits place wide ws
   standing P =
       let u = c.words_used-used in
-      standing-first P u.result (length start.args.output.now) u.ensures.0 u.ensures.1 (omega (arith, u.ensures.0, start.pre.1.0)) start.pre.0.1 c.copy.ensures
+      standing-first P u.result (length c.args.output.now) u.ensures.used.0 u.ensures.used.1 (omega (arith, u.ensures.used.0, c.requires.short)) c.requires.program.1 c.copy.ensures
 
 pub merge_side-requires : goal.merge_side-requires
 merge_side-requires c = let d = (goal.at.merge_side-requires c).After-copy in
-    let q = (start d).requires in record { place = (q.0.0.0, standing d q.0.0.1); tree = (q.1.1.0.0, [], q.1.1.0.1); empty = q.1.1.1.0; blank = refl }
+    let q = d.requires in record { place = (q.0.0.0, standing d q.0.0.1); tree = (q.1.1.0.0, [], q.1.1.0.1); empty = q.1.1.1.0; blank = refl }
 
 -- what the tree comes to
 module _ (c : After-merge_side) where
   abbrev copied : After-copy
-  copied = c.before
+  copied = (view.up-After-copy tie.the-claims reads.Pre reads.Post tie.handed_clauses c.before.before.before.before.before.before)
 
   abbrev begun : Start
   begun = start copied
@@ -83,16 +84,16 @@ module _ (c : After-merge_side) where
     merged = c.merge_side.ensures.side ws (standing copied P) u [] T
 
 -- it is a text
-module _ (c : In-Text-2) where
+module _ (c : In-Text) where
   abbrev side : After-merge_side
-  side = c.before
+  side = (view.up-After-merge_side tie.the-claims reads.Pre reads.Post tie.handed_clauses c.before.before.before.before.before.before.before)
 
   abbrev n : ℕ
   n = c.in-Text.pending.size
 
   within : n ≤ longest
   within =
-      let q = (begun side).pre in
+      let q = (begun side).requires in
       (subst (Merged (s side) (o side) q.0.0.0 q.1.1.0.0 [] (begun side).args.tree.now (begun side).args.texts.now (begun side).args.lengths.now (whole side)) c.in-Text.is (merged side q.0.0.1 q.1.1.0.1)).took.0
 
   inside : n ≤ length (whole side)
@@ -102,8 +103,8 @@ module _ (c : In-Text-2) where
   size_is = length-take-le n (whole side) inside
 
 pub write_out-requires : goal.write_out-requires
-write_out-requires c = let d = (goal.at.write_out-requires c).In-Text-2 in
-    let q = (begun (side d)).pre in record { program = q.0; empty = ((zeros (pos 0) {n = s (side d)} (side d).merge-side.ensures.0).0, q.1.1.1.1); text = omega (arith, size_is d, within d) }
+write_out-requires c = let d = (goal.at.write_out-requires c).In-Text in
+    let q = (begun (side d)).requires in record { program = q.0; empty = ((zeros (pos 0) {n = s (side d)} (side d).merge-side.ensures.0).0, q.1.1.1.1); text = omega (arith, size_is d, within d) }
 
 pub returns-in-Refused : goal.returns-in-Refused
 returns-in-Refused c = λ ws p w u T.
@@ -115,7 +116,7 @@ returns-in-Refused c = λ ws p w u T.
 pub returns-in-Text : goal.returns-in-Text
 returns-in-Text c = λ ws p w u T.
     let d = (goal.at.returns-in-Text c).After-merge_side in
-    let e = (goal.at.returns-in-Text c).In-Text-2 in
+    let e = (goal.at.returns-in-Text c).In-Text in
     let a = (begun d).args in
     c.write_out.ensures ws p w
     ∙ (ap (λ (z : ℕ). written_tree (t d) z (o d) ws (pending z ws (take (n e) (whole d)) e.in-Text.pending.refusal)) (same_store d)

@@ -23,15 +23,13 @@ use Rattle.trimming.specs.declared.TrimAnswer.TheVariants.{Trimmed}
 use Rattle.trimming.proofs.Answers.{front_kept, not-accepted, written}
 use borrow.Author.Rules.{rules}
 use Rattle.trimming.proofs.trim_read.Goals as goal
-use Rattle.trimming.proofs.trim_read.Goals.{After-is_accepted, Start, Else-not-is_accepted, After-passes-n, After-zero_bytes}
+use Rattle.trimming.proofs.trim_read.Goals.{After-is_accepted, Else-not-is_accepted, After-passes-n, Start, After-zero_bytes}
 
 -- the first check
 module _ (c : After-is_accepted) where
-  abbrev s : Start
-  s = c.before
 
   abbrev size : ℕ
-  size = length s.args.store.now
+  size = length c.args.store.now
 
   abbrev store₁ : List ℤ
   store₁ = c.is_accepted.new.store.0
@@ -42,32 +40,32 @@ module _ (c : After-is_accepted) where
 pub returns-then-not-is_accepted : goal.returns-then-not-is_accepted
 returns-then-not-is_accepted c =
     let d = (goal.at.returns-then-not-is_accepted c).After-is_accepted in
-    λ ws p w. not-accepted (length (s d).args.table.now) (size d) (s d).args.text.now ws
+    λ ws p w. not-accepted (length d.args.table.now) (size d) d.args.text.now ws
     (sym (d.is_accepted.ensures.accepted ws p) ∙ c.if-not-is_accepted.true) c.zero_all.ensures d.is_accepted.ensures.empty
 
 -- the proof is accepted
 module _ (c : Else-not-is_accepted) where
   abbrev first : After-is_accepted
-  first = c.before
+  first = c.before.before
 
-  is-good : (ws : List InputRule) → Program (s first).args.table.now (s first).args.rules (s first).args.atoms ws
-      → is_accepted (size first) ws (s first).args.text.now ≡ true
+  is-good : (ws : List InputRule) → Program first.args.table.now first.args.rules first.args.atoms ws
+      → is_accepted (size first) ws first.args.text.now ≡ true
   is-good ws p = sym (first.is_accepted.ensures.accepted ws p) ∙ c.if-not-is_accepted.false
 
-  short : length (s first).args.text.now ≤ longest
+  short : length first.args.text.now ≤ longest
   short =
-      let q = (s first).pre.0.0 in
-      let x = accepted-steps (size first) q.0 (s first).args.text.now (is-good q.0 q.1) in
-      ((steps-exact longest (s first).args.text.now x.0).0 x.1).1
+      let q = first.requires.program.0 in
+      let x = accepted-steps (size first) q.0 first.args.text.now (is-good q.0 q.1) in
+      ((steps-exact longest first.args.text.now x.0).0 x.1).1
 
 pub passes-n-requires : goal.passes-n-requires
-passes-n-requires c = let e = (goal.at.passes-n-requires c).After-store-1 in
-    let d = first e in record { short = short e; program = (s d).pre.0; empty = (zeros (pos 0) {n = size d} d.is_accepted.ensures.empty).0 }
+passes-n-requires c = let e = (goal.at.passes-n-requires c).After-is_accepted in
+    let d = first e in record { short = short e; program = d.requires.program; empty = (zeros (pos 0) {n = size d} d.is_accepted.ensures.empty).0 }
 
 -- the passes
 module _ (c : After-passes-n) where
   abbrev e : Else-not-is_accepted
-  e = c.before
+  e = c.before.before.before.before.before
 
   abbrev a : Start
   a = s (first e)
@@ -93,28 +91,28 @@ module _ (c : After-passes-n) where
 -- what is behind the text is zero
 module _ (c : After-zero_bytes) where
   abbrev done : After-passes-n
-  done = c.before
+  done = c.before.before.before.before.before
 
   abbrev text'' : List ℕ
-  text'' = put_mid (n done) (length (text' done) - n done) (text' done) c.zero_bytes.new.bytes.0
+  text'' = put_mid (n done) (length (text' done) - n done) (text' done) c.zero_bytes.new.bytes
 
   behind : text'' ≡ take (n done) (text' done) ++ replicate (length (text' done) - n done) 0
-  behind = tail-filled (n done) (text' done) 0 c.zero_bytes.new.bytes.0 (within done) c.zero_bytes.ensures
+  behind = tail-filled (n done) (text' done) 0 c.zero_bytes.new.bytes (within done) c.zero_bytes.ensures
 
 pub slice_bounds-check_proof-end-2 : goal.slice_bounds-check_proof-end-2
 slice_bounds-check_proof-end-2 c =
-    let z = (goal.at.slice_bounds-check_proof-end-2 c).After-zero_bytes-arg-1 in
+    let z = (goal.at.slice_bounds-check_proof-end-2 c).After-passes-n in
     let d = done z in
     sym (ap length (front_kept (n d) (length (text' d) - n d) (text' d) (within d) (behind z)) ∙ length-take-le (n d) (text' d) (within d))
 
 pub check_proof-requires : goal.check_proof-requires
-check_proof-requires c = let d = done (goal.at.check_proof-requires c).After-zero_bytes-arg-1 in
-    let q = (a d).pre.0 in record { program = (q.0, omega (arith, q.1)); empty = (zeros (pos 0) {n = length (store₁ (first (e d)))} d.passes-n.ensures.empty).0 }
+check_proof-requires c = let d = done (goal.at.check_proof-requires c).After-passes-n in
+    let q = (a d).requires.program in record { program = (q.0, omega (arith, q.1)); empty = (zeros (pos 0) {n = length (store₁ (first (e d)))} d.passes-n.ensures.empty).0 }
 
 pub returns : goal.returns
 returns c =
     let k = c in
-    let z = (goal.at.returns c).After-zero_bytes-arg-1 in
+    let z = (goal.at.returns c).After-passes-n in
     let d = done z in
     let x = (a d).args in
     let t = length x.table.now in

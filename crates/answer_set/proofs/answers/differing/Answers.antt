@@ -7,15 +7,13 @@ use Rattle.answer_set.specs.SetTest.{lowest_from, differs_at}
 use Rattle.answer_set.specs.Private.{searched}
 use Rattle.answer_set.proofs.Marking.{lowest-here, lowest-on, lowest-end}
 use Rattle.answer_set.proofs.answers.differing.Goals as goal
-use Rattle.answer_set.proofs.answers.differing.Goals.{After-just_one, Start}
+use Rattle.answer_set.proofs.answers.differing.Goals.{After-just_one}
 
 -- what the calls tell of the number i
 module _ (c : After-just_one) where
-  abbrev s : Start
-  s = c.before
 
   abbrev f : ℕ → Bool
-  f = differs_at (marked s.args.inside.now) s.args.marks.now
+  f = differs_at (marked c.args.inside.now) c.args.marks.now
 
   abbrev i : ℕ
   i = c.loop-i.i
@@ -30,7 +28,7 @@ loop-i-init c =
     (omega arith, ap (λ k. lowest_from (differs_at (marked a.inside.now) a.marks.now) k 0) e)
 
 pub overflow_cast-result : goal.overflow_cast-result
-overflow_cast-result c = let d = (goal.at.overflow_cast-result c).After-just_one in record { fits = omega (arith, (s d).requires, d.loop-i-test.true) }
+overflow_cast-result c = let d = (goal.at.overflow_cast-result c).After-just_one in record { fits = omega (arith, d.requires, d.loop-i-test.true) }
 
 pub returns-then-just_one : goal.returns-then-just_one
 returns-then-just_one c =
@@ -38,7 +36,7 @@ returns-then-just_one c =
     ap searched (sym (d.loop-i.invariant.1 ∙ lowest-here (f d) _ (i d) d.loop-i-test.true (tells d ∙ c.if-just_one.true)))
 
 pub overflow_add-i : goal.overflow_add-i
-overflow_add-i c = let d = (goal.at.overflow_add-i c).After-just_one in record { fits = omega (arith, (s d).requires, d.loop-i-test.true) }
+overflow_add-i c = let d = (goal.at.overflow_add-i c).After-just_one in record { fits = omega (arith, d.requires, d.loop-i-test.true) }
 
 pub loop-i-smaller : goal.loop-i-smaller
 loop-i-smaller c = let h = c.loop-i-test.true in omega arith

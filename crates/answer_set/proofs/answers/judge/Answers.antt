@@ -23,13 +23,13 @@ abbrev lowest : After-differing-found → Option ℕ
 lowest c = let a = c.args in lowest_from (differs_at (marked a.inside.now) a.marks.now) (a.atoms + 1) 0
 
 pub overflow_add-atoms : goal.overflow_add-atoms
-overflow_add-atoms c = record { fits = omega (arith, c.requires.1) }
+overflow_add-atoms c = record { fits = omega (arith, c.requires.program.1) }
 
 pub differing-found-requires : goal.differing-found-requires
-differing-found-requires c = omega (arith, c.requires.1)
+differing-found-requires c = omega (arith, c.requires.program.1)
 
 pub first_broken-requires : goal.first_broken-requires
-first_broken-requires c = c.requires.0
+first_broken-requires c = c.requires.program.0
 
 pub returns-in-At : goal.returns-in-At
 returns-in-At c =

@@ -11,27 +11,25 @@ use Rattle.marks.specs.Marks.{marked, Marking}
 use Rattle.answer_set.specs.SetTest.{give_head}
 use Rattle.answer_set.proofs.Marking.{heads-on, heads-end}
 use Rattle.answer_set.proofs.models.give_heads.Goals as goal
-use Rattle.answer_set.proofs.models.give_heads.Goals.{After-give_head, Start}
+use Rattle.answer_set.proofs.models.give_heads.Goals.{After-give_head}
 
 -- the head at i, and what the call tells of it
 module _ (c : After-give_head) where
-  abbrev s : Start
-  s = c.before
 
   abbrev head : ℤ
-  head = get_or s.args.heads.now c.loop-i.i (pos 0)
+  head = get_or c.args.heads.now c.loop-i.i (pos 0)
 
   abbrev after : List ℕ
   after = c.give_head.new.marks.0
 
-  told : (let m = c.loop-i.marks in Marking (give_head (marked s.args.inside.now) s.args.kind head m) m after c.give_head.result)
+  told : (let m = c.loop-i.marks in Marking (give_head (marked c.args.inside.now) c.args.kind head m) m after c.give_head.result)
   told = rw (back head c.give_head-arg-1.given) at c.give_head.ensures
 
 pub loop-i-preserved : goal.loop-i-preserved
 loop-i-preserved c =
     let d = (goal.at.loop-i-preserved c).After-give_head in
     let l = d.loop-i in
-    let a = (s d).args in (
+    let a = d.args in (
       omega arith,
       c.marks-1.given ∙ l.invariant.1,
       l.invariant.2 ∙ heads-on (marked a.inside.now) a.kind a.heads.now l.marks l.i d.loop-i-test.true ∙ rw (← (told d).marks),

@@ -10,11 +10,11 @@ use Rattle.answer_set.specs.Private.{RuleStart, nothing}
 use Rattle.answer_set.proofs.Giving.{given-one}
 use borrow.Author.Rules.{rules}
 use Rattle.answer_set.proofs.worklist.look.Goals as goal
-use Rattle.answer_set.proofs.worklist.look.Goals.{After-start-1, After-give_rule}
+use Rattle.answer_set.proofs.worklist.look.Goals.{After-get-work, After-give_rule}
 
 -- the rule that is looked at
-start : (c : After-start-1) → (let a = c.args in RuleStart a.table.now a.rules (get_or a.starts.now (a.entry % 1025) 0))
-start c = let s = c.before in s.requires.rule_starts (s.args.entry % 1025)
+start : (c : After-get-work) → (let a = c.args in RuleStart a.table.now a.rules (get_or a.starts.now (a.entry % 1025) 0))
+start c = let s = c in s.requires.rule_starts (s.args.entry % 1025)
 
 -- and what giving it tells
 told : (c : After-give_rule)
@@ -25,19 +25,19 @@ told c =
     rw (tail_of (get_or a.starts.now (a.entry % 1025) 0) a.table.now) at c.give_rule.ensures
 
 pub offset_bounds-table-start : goal.offset_bounds-table-start
-offset_bounds-table-start c = let w = (start c).within in search rules
+offset_bounds-table-start c = let w = (start (goal.at.offset_bounds-table-start c).After-get-work).within in search rules
 
 pub is_ready-requires : goal.is_ready-requires
-is_ready-requires c = record { words_value = rw (tail_of _ _) (start (goal.at.is_ready-requires c).After-way_told-1).sound; rule_le_most_rules = omega arith }
+is_ready-requires c = record { words_value = rw (tail_of _ _) (start (goal.at.is_ready-requires c).After-get-work).sound; rule_le_most_rules = omega arith }
 
 pub give_rule-requires : goal.give_rule-requires
-give_rule-requires c = rw (tail_of _ _) (start (goal.at.give_rule-requires c).After-way_told-1).sound
+give_rule-requires c = rw (tail_of _ _) (start (goal.at.give_rule-requires c).After-get-work).sound
 
 pub heads_of-requires : goal.heads_of-requires
-heads_of-requires c = rw (tail_of _ _) (shape_of _ (start (goal.at.heads_of-requires c).After-way_told-1).sound)
+heads_of-requires c = rw (tail_of _ _) (shape_of _ (start (goal.at.heads_of-requires c).After-get-work).sound)
 
 pub returns-then-is_ready : goal.returns-then-is_ready
-returns-then-is_ready c = let g = (goal.at.returns-then-is_ready c).After-give_rule-arg-1 in
+returns-then-is_ready c = let g = (goal.at.returns-then-is_ready c).Then-is_ready in
     let d = (goal.at.returns-then-is_ready c).After-get-work in record { upper_bound = c.wake_all.ensures; given = given-one (start d).among (told g).marks }
 
 pub returns : goal.returns

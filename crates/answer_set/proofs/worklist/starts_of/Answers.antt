@@ -19,7 +19,7 @@ next_rule-i-requires c = record { here = (at-rule c.loop-left-test.true c.loop-l
 pub loop-left-preserved : goal.loop-left-preserved
 loop-left-preserved c =
     let l = c.loop-left in
-    (omega (arith, l.invariant.0), rw c.next_rule-i.ensures.0 (starts-on c.loop-left-test.true l.left l.invariant.1))
+    (omega (arith, l.invariant.0), rw c.next_rule-i.ensures.next.0 (starts-on c.loop-left-test.true l.left l.invariant.1))
 
 pub returns : goal.returns
 returns c = c.loop-left.invariant.1.noted

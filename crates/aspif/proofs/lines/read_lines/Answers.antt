@@ -4,7 +4,10 @@ use Rattle.words.proofs.Parts.{tail_of}
 use Rattle.aspif.specs.Turns.{TurnTaken}
 use Rattle.aspif.proofs.Passes.{stands-start, free, turn, lines-refused, lines-ended, lines-added, Onward}
 use Rattle.aspif.proofs.lines.read_lines.Goals as goal
-use Rattle.aspif.proofs.lines.read_lines.Goals.{After-read_rule-turn, In-Adds-2}
+use Rattle.aspif.proofs.lines.read_lines.Goals.{After-read_rule-turn, In-Adds}
+use Rattle.aspif.proofs.lines.read_lines.Lts.View as view
+use Rattle.aspif.proofs.lines.read_lines.Reads as reads
+use Rattle.aspif.proofs.lines.read_lines.Tie as tie
 
 -- the turn that a call took, of the text and the words that are left
 taken : (c : After-read_rule-turn)
@@ -15,10 +18,9 @@ taken c =
     rw (tail_of l.at a.text.now, tail_of l.used l.table) at c.read_rule-turn.ensures
 
 -- what a rule added leaves
-onward : (c : In-Adds-2)
-    → (let d = c.before in let g = c.turn-in-Adds-1.given.0 in
-    Onward d.loop-k.invariant (taken d) g.0 g.1.0 g.1.1.0)
-onward c = let d = c.before in lines-added d.loop-k.invariant (taken d) c.in-Adds.is
+onward : (c : In-Adds)
+    → (let d = (view.up-After-read_rule-turn tie.the-claims reads.Pre reads.Post goal.the-invariant-loop-k goal.the-decreases-loop-k (view.up-At-loop-k tie.the-claims reads.Pre reads.Post goal.the-invariant-loop-k goal.the-decreases-loop-k c.before.before.before.before.before.before.before.before)) in Onward d.loop-k.invariant (taken d) c.in-Adds.next c.in-Adds.words c.in-Adds.top)
+onward c = let d = (view.up-After-read_rule-turn tie.the-claims reads.Pre reads.Post goal.the-invariant-loop-k goal.the-decreases-loop-k (view.up-At-loop-k tie.the-claims reads.Pre reads.Post goal.the-invariant-loop-k goal.the-decreases-loop-k c.before.before.before.before.before.before.before.before)) in lines-added d.loop-k.invariant (taken d) c.in-Adds.is
 
 pub loop-k-init : goal.loop-k-init
 loop-k-init c =
@@ -34,16 +36,16 @@ returns-in-Ends c =
 
 pub overflow_add-at : goal.overflow_add-at
 overflow_add-at c =
-    let o = onward (goal.at.overflow_add-at c).In-Adds-2 in omega (arith, o.text-left)
+    let o = onward (goal.at.overflow_add-at c).In-Adds in omega (arith, o.text-left)
 
 pub overflow_add-used : goal.overflow_add-used
 overflow_add-used c =
-    let o = onward (goal.at.overflow_add-used c).In-Adds-2 in omega (arith, o.words_left)
+    let o = onward (goal.at.overflow_add-used c).In-Adds in omega (arith, o.words_left)
 
 pub loop-k-smaller : goal.loop-k-smaller
 loop-k-smaller c =
-    let o = onward (goal.at.loop-k-smaller c).In-Adds-2 in omega (arith, o.text-left, o.bytes)
+    let o = onward (goal.at.loop-k-smaller c).In-Adds in omega (arith, o.text-left, o.bytes)
 
 pub loop-k-preserved : goal.loop-k-preserved
 loop-k-preserved c =
-    rw c.larger-atoms.ensures (onward (goal.at.loop-k-preserved c).In-Adds-2).stands
+    rw c.larger-atoms.ensures (onward (goal.at.loop-k-preserved c).In-Adds).stands

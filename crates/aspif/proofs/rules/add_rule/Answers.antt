@@ -17,19 +17,17 @@ module _ (s : Start) where
   rule = row_rule s.args.row.now s.args.kind s.args.heads s.args.body
 
   size : length (rule_words rule) ≡ 4 + s.args.heads + s.args.body
-  size = row-rule-size s.args.row.now s.args.kind s.args.heads s.args.body s.pre.2
+  size = row-rule-size s.args.row.now s.args.kind s.args.heads s.args.body s.requires.sizes.2
 
 -- the largest variable of the heads and of the body
 module _ (c : After-largest_variable-b) where
-  abbrev start : Start
-  start = c.before
 
-  in-heads : c.largest_variable-a.result ≡ top (row_heads start.args.row.now start.args.heads)
-  in-heads = let e : 3 + start.args.heads - 3 ≡ start.args.heads = omega arith in rw e at c.largest_variable-a.ensures
+  in-heads : c.largest_variable-a.result ≡ top (row_heads c.args.row.now c.args.heads)
+  in-heads = let e : 3 + c.args.heads - 3 ≡ c.args.heads = omega arith in rw e at c.largest_variable-a.ensures
 
-  in_body : c.largest_variable-b.result ≡ top (row_body start.args.row.now start.args.heads start.args.body)
+  in_body : c.largest_variable-b.result ≡ top (row_body c.args.row.now c.args.heads c.args.body)
   in_body =
-      let a = start.args in
+      let a = c.args in
       let e : 5 + a.heads + a.body - (5 + a.heads) ≡ a.body = omega arith in
       rw e at c.largest_variable-b.ensures
 

@@ -19,12 +19,12 @@ module _ (s : Start) where
   rule = row_weighed s.args.row.now s.args.literals.now s.args.kind s.args.heads
 
   size : length (rule_words rule) ≡ 5 + s.args.heads + 2 * length s.args.literals.now
-  size = row-weighed-size s.args.row.now s.args.literals.now s.args.kind s.args.heads (omega (arith, s.pre.0.2))
+  size = row-weighed-size s.args.row.now s.args.literals.now s.args.kind s.args.heads (omega (arith, s.requires.sizes.2))
 
 -- the largest variable of the heads and of the body
 module _ (c : After-largest_variable-b) where
   abbrev start : Start
-  start = c.before
+  start = c.before.before.before.before.before.before.before.before.before
 
   in-heads : c.largest_variable-a.result ≡ top (row_heads start.args.row.now start.args.heads)
   in-heads = let e : 3 + start.args.heads - 3 ≡ start.args.heads = omega arith in rw e at c.largest_variable-a.ensures

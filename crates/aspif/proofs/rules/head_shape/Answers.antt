@@ -1,3 +1,4 @@
+use mir.Syntax.{w32}
 use mathlib.Core.Path.{◌≡◌, ◌∙◌, sym, ap}
 use mathlib.Core.Bool.{true}
 use Prim.Native.Nat.{◌≤◌}
@@ -22,7 +23,7 @@ module _ (c : After-variable_of-heads) where
   heads : c.variable_of-heads.result ≡ variable (get_or c.args.row.now 2 (pos 0))
   heads =
       let w = c.word_at in
-      c.variable_of-heads.ensures ∙ ap variable (to_z-of_z (sfits_of {z = w.result} w.type_inv) ∙ w.ensures)
+      c.variable_of-heads.ensures ∙ ap variable (to_z-of_z {w = w32} (sfits_of {z = w.result} w.type_inv) ∙ w.ensures)
 
   small : c.variable_of-heads.result ≤ most_literals
   small = rw heads (let a = c.args in count-small-at a.row.now a.count 2 counted)

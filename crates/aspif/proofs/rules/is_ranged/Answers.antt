@@ -1,3 +1,4 @@
+use mir.Syntax.{w32}
 use mathlib.Core.Path.{◌≡◌, ◌∙◌, sym, ap}
 use Prim.Native.Nat.{◌+◌, ◌*◌, ◌-◌}
 use native.Mathlib.Omega.{arith}
@@ -14,7 +15,7 @@ use Rattle.aspif.proofs.rules.is_ranged.Goals.{After-is_weight}
 bound : (c : After-is_weight) → (let a = c.args in is_weight (get_or a.row.now (4 + a.heads) (pos 0)) ≡ c.is_weight.result)
 bound c =
     let w = c.word_at in
-    sym (c.is_weight.ensures ∙ ap is_weight (to_z-of_z (sfits_of {z = w.result} w.type_inv) ∙ w.ensures))
+    sym (c.is_weight.ensures ∙ ap is_weight (to_z-of_z {w = w32} (sfits_of {z = w.result} w.type_inv) ∙ w.ensures))
 
 pub returns-then-is_weight : goal.returns-then-is_weight
 unfolding ranged

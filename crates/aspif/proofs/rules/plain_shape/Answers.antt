@@ -1,3 +1,4 @@
+use mir.Syntax.{w32}
 use mathlib.Core.Path.{◌≡◌, ◌∙◌, sym, ap}
 use mathlib.Core.Bool.{true}
 use Prim.Native.Nat.{◌+◌, ◌≤◌}
@@ -22,7 +23,7 @@ module _ (c : After-variable_of-body) where
   body : (let a = c.args in c.variable_of-body.result ≡ variable (get_or a.row.now (4 + a.heads) (pos 0)))
   body =
       let w = c.word_at in
-      c.variable_of-body.ensures ∙ ap variable (to_z-of_z (sfits_of {z = w.result} w.type_inv) ∙ w.ensures)
+      c.variable_of-body.ensures ∙ ap variable (to_z-of_z {w = w32} (sfits_of {z = w.result} w.type_inv) ∙ w.ensures)
 
   small : c.variable_of-body.result ≤ most_literals
   small = rw body (let a = c.args in count-small-at a.row.now a.count (4 + a.heads) counted)

@@ -24,10 +24,10 @@ module _ (c : After-sort_body) where
   b = length c.args.literals.now
 
   abbrev hs : List ℤ
-  hs = c.sort_heads-good.new.part.0
+  hs = c.sort_heads-good.new.part
 
   abbrev ls : List ℤ
-  ls = c.sort_body.new.part.0
+  ls = c.sort_body.new.part
 
   abbrev fits : 6 + h + 2 * b ≤ length row
   fits = c.requires.sizes.2
@@ -40,17 +40,17 @@ module _ (c : After-sort_body) where
   eb = omega arith
 
   of-heads : (c.sort_heads-good.result ≡ heads_good (row_heads row h)) × (hs ≡ ascending (row_heads row h))
-  of-heads = rw eh at c.sort_heads-good.ensures
+  of-heads = rw eh at c.sort_heads-good.ensures.sorted
 
   copied : c.copy_literals.new.row.0 ≡ literals (paired (row_pairs row h b))
   copied = rw eb at c.copy_literals.ensures
 
   of-body : (c.sort_body.result ≡ body_good (literals (paired (row_pairs row h b)))) × (ls ≡ ascending (literals (paired (row_pairs row h b))))
-  of-body = rw copied at c.sort_body.ensures
+  of-body = rw copied at c.sort_body.ensures.sorted
 
 pub add_weighed-requires : goal.add_weighed-requires
-add_weighed-requires c = let d = (goal.at.add_weighed-requires c).After-row-1 in
-    let s = d.before in
+add_weighed-requires c = let d = (goal.at.add_weighed-requires c).After-sort_heads-good in
+    let s = d.before.before.before.before.before.before.before.before.before.before in
     let k = s.args.kind in
     let l = literals-long (row d) k (h d) (b d) (fits d) (hs d) (ls d) (of-heads d).1 (of-body d).1 in
     let n = row-long (row d) k (h d) (b d) (fits d) (hs d) (ls d) (of-heads d).1 (of-body d).1 in
@@ -60,7 +60,7 @@ add_weighed-requires c = let d = (goal.at.add_weighed-requires c).After-row-1 in
 pub returns-then-good : goal.returns-then-good
 returns-then-good c =
     let e = c in
-    let d = (goal.at.returns-then-good c).After-row-1 in
+    let d = (goal.at.returns-then-good c).After-sort_heads-good in
     let k = d.args.kind in
     let p = sym (of-heads d).0 ∙ e.if-good.true in
     let q = sym (of-body d).0 ∙ e.if-sort_body.true in

@@ -10,4 +10,4 @@ pub returns : goal.returns
 returns c =
     let s = c in
     let counts = kind_word s.args.kind ∷ pos s.args.heads ∷ pos 1 ∷ pos s.args.body ∷ [] in
-    bound-written counts s.args.free.now _ _ refl s.requires.2 c.write_counts.ensures (to_z-of_z s.ranges.bound)
+    bound-written counts s.args.free.now _ _ refl s.requires.sizes.2 c.write_counts.ensures (to_z-of_z s.ranges.bound)

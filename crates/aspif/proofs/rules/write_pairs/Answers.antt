@@ -14,9 +14,9 @@ use Rattle.weights.specs.Weights.{paired}
 use Rattle.aspif.specs.Reading.{weight_in}
 use Rattle.aspif.proofs.Pairs.{pairs-more}
 use Rattle.aspif.proofs.rules.write_pairs.Goals as goal
-use Rattle.aspif.proofs.rules.write_pairs.Goals.{After-free-1}
+use Rattle.aspif.proofs.rules.write_pairs.Goals.{After-weight_in-weight}
 
-module _ (c : After-free-1) where
+module _ (c : After-weight_in-weight) where
   abbrev ls : List ℤ
   ls = c.args.literals.now
 
@@ -31,7 +31,7 @@ module _ (c : After-free-1) where
       to_z w32 (of_z w32 c.weight_in-weight.result) ≡ pos (weight_in (paired ws) (get_or ls i (pos 0))))
   weight =
       let w = c.weight_in-weight in
-      to_z-of_z (sfits_of {z = w.result} w.type_inv) ∙ rw literal at w.ensures
+      to_z-of_z {w = w32} (sfits_of {z = w.result} w.type_inv) ∙ rw literal at w.ensures
 
 pub bounds-free-i-in-loop-i : goal.bounds-free-i-in-loop-i
 bounds-free-i-in-loop-i c =
@@ -44,7 +44,7 @@ loop-i-preserved c =
     let s = c in
     let l = c.loop-i in
     let t = c.loop-i-test.true in
-    let m = pairs-more s.args.pairs.now (ls c) s.args.free.now (i c) t s.requires.sizes.1 (literal c) (weight c) in
+    let m = pairs-more s.args.pairs.now (ls (goal.at.loop-i-preserved c).After-weight_in-weight) s.args.free.now (i (goal.at.loop-i-preserved c).After-weight_in-weight) t s.requires.sizes.1 (literal (goal.at.loop-i-preserved c).After-weight_in-weight) (weight (goal.at.loop-i-preserved c).After-weight_in-weight) in
     (omega (arith, t), simp length-set l.invariant.1, rw l.invariant.2 m)
 
 pub returns : goal.returns

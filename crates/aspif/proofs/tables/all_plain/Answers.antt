@@ -13,10 +13,10 @@ use Rattle.aspif.proofs.Cursors.{plain_at, AtRule, at-rule, no-rules}
 use Rattle.aspif.specs.Rules.{all_plain}
 use borrow.Author.Rules.{rules}
 use Rattle.aspif.proofs.tables.all_plain.Goals as goal
-use Rattle.aspif.proofs.tables.all_plain.Goals.{After-rest-1, After-is_weighted}
+use Rattle.aspif.proofs.tables.all_plain.Goals.{In-loop-left, After-is_weighted}
 
 -- the words from i on, and the rule there
-module _ (c : After-rest-1) where
+module _ (c : In-loop-left) where
   abbrev t : List ℤ
   t = c.args.table.now
 
@@ -28,8 +28,8 @@ module _ (c : After-rest-1) where
 
 -- all is asked of that rule and of those after it
 module _ (c : After-is_weighted) where
-  abbrev d : After-rest-1
-  d = c.before
+  abbrev d : In-loop-left
+  d = c.before.before
 
   abbrev later : Bool
   later = all_plain (rules_at (d.loop-left.left - 1) (drop (i d + size_at (drop (i d) (t d))) (t d)))
@@ -37,7 +37,7 @@ module _ (c : After-is_weighted) where
   asked : all_plain (rules_at d.args.rules (t d)) ≡ (not c.is_weighted.result && later)
   asked =
       let w = rw (tail_of (i d) (t d)) at c.is_weighted.ensures in
-      d.loop-left.inv.1 ∙ ap all_plain (at d).rules ∙ ap (λ (x : Bool). x && later) (plain_at (drop (i d) (t d)) ∙ ap not (sym w))
+      d.loop-left.invariant.1 ∙ ap all_plain (at d).rules ∙ ap (λ (x : Bool). x && later) (plain_at (drop (i d) (t d)) ∙ ap not (sym w))
 
 pub loop-left-init : goal.loop-left-init
 loop-left-init c = (record { within = omega arith; sound = c.requires }, refl)
@@ -49,7 +49,7 @@ pub returns-then-is_weighted : goal.returns-then-is_weighted
 returns-then-is_weighted c = sym (asked (goal.at.returns-then-is_weighted c).After-is_weighted ∙ ap (λ (x : Bool). not x && later (goal.at.returns-then-is_weighted c).After-is_weighted) c.if-is_weighted.true)
 
 pub next_rule-i-requires : goal.next_rule-i-requires
-next_rule-i-requires c = record { here = (at (goal.at.next_rule-i-requires c).After-rest-1).here }
+next_rule-i-requires c = record { here = (at (goal.at.next_rule-i-requires c).In-loop-left).here }
 
 pub loop-left-smaller : goal.loop-left-smaller
 loop-left-smaller c = omega (arith, c.loop-left-test.true)
@@ -57,7 +57,7 @@ loop-left-smaller c = omega (arith, c.loop-left-test.true)
 pub loop-left-preserved : goal.loop-left-preserved
 loop-left-preserved c =
     let e = (goal.at.loop-left-preserved c).After-is_weighted in
-    rw c.next_rule-i.ensures.0 ((at (goal.at.loop-left-preserved c).After-rest-1).next, asked e ∙ ap (λ (x : Bool). not x && later e) c.if-is_weighted.false)
+    rw c.next_rule-i.ensures.next.0 ((at (goal.at.loop-left-preserved c).In-loop-left).next, asked e ∙ ap (λ (x : Bool). not x && later e) c.if-is_weighted.false)
 
 pub returns : goal.returns
 returns c =

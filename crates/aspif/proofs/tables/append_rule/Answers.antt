@@ -6,17 +6,17 @@ use borrow.Author.Rules.{rules}
 use Rattle.aspif.proofs.tables.append_rule.Goals as goal
 
 pub slice_bounds-copy-end : goal.slice_bounds-copy-end
-slice_bounds-copy-end c = sym (length-take-le _ _ c.words_used-used.ensures.1)
+slice_bounds-copy-end c = sym (length-take-le _ _ c.words_used-used.ensures.used.1)
 
 pub copy-requires : goal.copy-requires
 copy-requires c =
     let u = c.words_used-used in
-    let s = c.before in
-    omega (arith, length-take-le u.result s.args.table.now u.ensures.1, u.ensures.0, s.requires.short)
+    let s = c.before.before.before in
+    omega (arith, length-take-le u.result s.args.table.now u.ensures.used.1, u.ensures.used.0, s.requires.short)
 
 pub returns : goal.returns
 returns c =
-    let s = c.before in
+    let s = c.before.before.before.before.before.before.before.before in
     let u = c.words_used-used in
-    rule-put s.args.table.now s.args.rules s.requires.rules u.result u.ensures.0 s.requires.wide s.args.rule.now c.copy.new.destination
+    rule-put s.args.table.now s.args.rules s.requires.rules u.result u.ensures.used.0 s.requires.wide s.args.rule.now c.copy.new.destination
     c.copy-2.new.destination c.copy.ensures c.copy-2.ensures

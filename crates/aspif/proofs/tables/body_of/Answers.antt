@@ -33,16 +33,16 @@ offset_bounds-words-start c =
 
 pub slice_bounds-result-count : goal.slice_bounds-result-count
 unfolding size_at
-slice_bounds-result-count c = let v = (goal.at.slice_bounds-result-count c).After-variable_of in omega (arith, c.rule_size-end.ensures.0, heads v, v.head_start.ensures)
+slice_bounds-result-count c = let v = (goal.at.slice_bounds-result-count c).After-variable_of in omega (arith, c.rule_size-end.ensures.size.0, heads v, v.head_start.ensures)
 
 pub slice_bounds-result-start : goal.slice_bounds-result-start
 unfolding size_at
-slice_bounds-result-start c = let v = (goal.at.slice_bounds-result-start c).After-variable_of in omega (arith, c.rule_size-end.ensures.0, heads v, v.head_start.ensures)
+slice_bounds-result-start c = let v = (goal.at.slice_bounds-result-start c).After-variable_of in omega (arith, c.rule_size-end.ensures.size.0, heads v, v.head_start.ensures)
 
 pub returns : goal.returns
 unfolding body_words_at size_at
 returns c =
     let v = (goal.at.returns c).After-variable_of in
     let ws = v.args.words.now in
-    let b : c.rule_size-end.result - (head_start ws + head_count ws) ≡ body_length ws = omega (arith, c.rule_size-end.ensures.0) in
+    let b : c.rule_size-end.result - (head_start ws + head_count ws) ≡ body_length ws = omega (arith, c.rule_size-end.ensures.size.0) in
     rw (v.head_start.ensures, heads v, b)

@@ -13,7 +13,7 @@ use Rattle.aspif.proofs.tables.is_headed.Goals.{After-is_kind}
 kind : (c : After-is_kind) → is_kind (get_or c.args.words.now 0 (pos 0)) ≡ c.is_kind.result
 kind c =
     let w = c.word_at in
-    let e : to_z w32 (of_z w32 w.result) ≡ get_or c.args.words.now 0 (pos 0) = to_z-of_z (sfits_of {z = w.result} w.type_inv) ∙ w.ensures in
+    let e : to_z w32 (of_z w32 w.result) ≡ get_or c.args.words.now 0 (pos 0) = to_z-of_z {w = w32} (sfits_of {z = w.result} w.type_inv) ∙ w.ensures in
     sym (rw e at c.is_kind.ensures)
 
 pub returns-then-is_kind : goal.returns-then-is_kind

@@ -48,7 +48,7 @@ loop-left-smaller c = omega arith
 pub loop-left-preserved : goal.loop-left-preserved
 loop-left-preserved c =
     let d = (goal.at.loop-left-preserved c).After-is_sound in
-    let n = c.next_rule-i.ensures in
+    let n = c.next_rule-i.ensures.next in
     (n.1, whole d ∙ rw (tells d ∙ c.if-not-is_sound.false, n.0, drop-drop (size_at (drop (i d) (t d))) (i d) (t d)))
 
 pub returns : goal.returns

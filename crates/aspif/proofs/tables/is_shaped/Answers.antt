@@ -24,7 +24,7 @@ first c = sym c.is_count.ensures
 kind : (c : After-is_kind) → is_kind (get_or c.args.words.now 2 (pos 0)) ≡ c.is_kind.result
 kind c =
     let w = c.word_at in
-    let e : to_z w32 (of_z w32 w.result) ≡ get_or c.args.words.now 2 (pos 0) = to_z-of_z (sfits_of {z = w.result} w.type_inv) ∙ w.ensures in
+    let e : to_z w32 (of_z w32 w.result) ≡ get_or c.args.words.now 2 (pos 0) = to_z-of_z {w = w32} (sfits_of {z = w.result} w.type_inv) ∙ w.ensures in
     sym (rw e at c.is_kind.ensures)
 
 -- the questions before the fourth are passed
@@ -33,17 +33,17 @@ module _ (c : Else-not-is_count-2) where
   ws = c.args.words.now
 
   heads : is_count (get_or ws 1 (pos 0)) ≡ true
-  heads = first c.before ∙ c.if-not-is_count.false
+  heads = first c.before.before.before.before.before.before ∙ c.if-not-is_count.false
 
   body_kind : is_kind (get_or ws 2 (pos 0)) ≡ true
-  body_kind = kind c.before ∙ c.if-not-is_kind.false
+  body_kind = kind c.before.before.before ∙ c.if-not-is_kind.false
 
   count : is_count (get_or ws 3 (pos 0)) ≡ true
   count = sym c.is_count-2.ensures ∙ c.if-not-is_count-2.false
 
 -- how many heads there are
-many : (c : After-variable_of) → c.variable_of.result ≡ head_count (ws c.before)
-many c = rw (back (get_or (ws c.before) 1 (pos 0)) c.variable_of-arg-1.given) at c.variable_of.ensures
+many : (c : After-variable_of) → c.variable_of.result ≡ head_count (ws c.before.before.before.before.before)
+many c = rw (back (get_or (ws c.before.before.before.before.before) 1 (pos 0)) c.variable_of-arg-1.given) at c.variable_of.ensures
 
 pub overflow_add-result : goal.overflow_add-result
 overflow_add-result c =

@@ -20,7 +20,7 @@ ws c = c.args.words.now
 positive : (c : After-all_positive) → all (λ h. lt_z (pos 0) h) (heads_at (ws c.before)) ≡ c.all_positive.result
 positive c = sym (rw c.heads_of-heads.ensures at c.all_positive.ensures)
 
-ascending : (c : After-ascends_by_variable) → ascends 0 largest (map variable (heads_at (ws c.before))) ≡ c.ascends_by_variable.result
+ascending : (c : After-ascends_by_variable) → ascends 0 largest (map variable (heads_at (ws c.before.before.before))) ≡ c.ascends_by_variable.result
 ascending c = sym (rw c.heads_of-heads.ensures at c.ascends_by_variable.ensures)
 
 pub heads_of-heads-requires : goal.heads_of-heads-requires

@@ -12,7 +12,7 @@ use Rattle.aspif.proofs.tables.kind_of.Goals.{After-is_same}
 tells : (c : After-is_same) → same (get_or c.args.words.now 0 (pos 0)) (pos 1) ≡ c.is_same.result
 tells c =
     let w = c.word_at in
-    let e : to_z w32 (of_z w32 w.result) ≡ get_or c.args.words.now 0 (pos 0) = to_z-of_z (sfits_of {z = w.result} w.type_inv) ∙ w.ensures in
+    let e : to_z w32 (of_z w32 w.result) ≡ get_or c.args.words.now 0 (pos 0) = to_z-of_z {w = w32} (sfits_of {z = w.result} w.type_inv) ∙ w.ensures in
     sym (rw e at c.is_same.ensures)
 
 pub returns-then-is_same : goal.returns-then-is_same

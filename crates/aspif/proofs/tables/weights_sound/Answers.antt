@@ -22,7 +22,7 @@ few c = le-leb (body_count c.args.words.now) most_weighted (omega (arith, c.size
 bound : (c : After-is_weight) → is_weight (get_or c.args.words.now 4 (pos 0)) ≡ c.is_weight.result
 bound c =
     let w = c.word_at in
-    let e : to_z w32 (of_z w32 w.result) ≡ get_or c.args.words.now 4 (pos 0) = to_z-of_z (sfits_of {z = w.result} w.type_inv) ∙ w.ensures in
+    let e : to_z w32 (of_z w32 w.result) ≡ get_or c.args.words.now 4 (pos 0) = to_z-of_z {w = w32} (sfits_of {z = w.result} w.type_inv) ∙ w.ensures in
     sym (rw e at c.is_weight.ensures)
 
 all : (c : After-all_weights) → all_weights (body_words_at c.args.words.now) ≡ c.all_weights.result

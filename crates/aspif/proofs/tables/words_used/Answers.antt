@@ -16,7 +16,7 @@ loop-left-smaller c = omega (arith, c.loop-left-test.true)
 pub loop-left-preserved : goal.loop-left-preserved
 loop-left-preserved c =
     let t = c in
-    rw c.next_rule-i.ensures.0 (passed_on t.args.rules t.loop-left-test.true t.loop-left.invariant)
+    rw c.next_rule-i.ensures.next.0 (passed_on t.args.rules t.loop-left-test.true t.loop-left.invariant)
 
 pub returns : goal.returns
 returns c = let p = c.loop-left.invariant in record { used = (passed-all c.args.rules c.loop-left-test.false p, p.0.within) }

@@ -15,7 +15,7 @@ tells : (c : After-is_atom)
     → (let a = c.args in
     is_atom a.atoms (variable (get_or a.literals.now c.loop-i.i (pos 0))) ≡ c.is_atom.result)
 tells c =
-    let v = c.before in
+    let v = c in
     let l = v.loop-i in
     let x = get_or v.args.literals.now l.i (pos 0) in
     sym (rw (v.variable_of.ensures, back x v.variable_of-arg-1.given) at c.is_atom.ensures)

@@ -12,16 +12,14 @@ use Rattle.cheapest.proofs.Answers.{checked-by}
 use Rattle.cheapest.proofs.Words.{restricts-size, restricted-program}
 use borrow.Author.Rules.{rules}
 use Rattle.cheapest.proofs.restricted.accepts.Goals as goal
-use Rattle.cheapest.proofs.restricted.accepts.Goals.{After-append_rule, Start}
+use Rattle.cheapest.proofs.restricted.accepts.Goals.{After-append_rule}
 
 -- the program with the restriction
 module _ (c : After-append_rule) where
-  abbrev s : Start
-  s = c.before
 
-  whole : {ws : List InputRule} → Program s.args.table.now s.args.rules s.args.atoms ws
-      → {ks : List Cost} {C : ℕ} → Restricts s.args.atoms ks C s.args.rule.now
-      → Program c.append_rule.new.wide.0 (s.args.rules + 1) s.args.atoms (restricted ws ks C)
+  whole : {ws : List InputRule} → Program c.args.table.now c.args.rules c.args.atoms ws
+      → {ks : List Cost} {C : ℕ} → Restricts c.args.atoms ks C c.args.rule.now
+      → Program c.append_rule.new.wide.0 (c.args.rules + 1) c.args.atoms (restricted ws ks C)
       × (c.append_rule.new.wide.0 ≡ table_words (length c.append_rule.new.wide.0) (restricted ws ks C))
   whole p R = let k = c.append_rule.ensures in restricted-program R p k.0 k.1
 
@@ -31,11 +29,11 @@ append_rule-requires c = let p = c.requires in
 
 pub check_proof-verdict-requires : goal.check_proof-verdict-requires
 check_proof-verdict-requires c = let d = (goal.at.check_proof-verdict-requires c).After-append_rule in
-    let p = (s d).requires in
+    let p = d.requires in
     let r = p.1.1.0 in record { program = ((restricted p.0.0.0 r.0 r.1, (whole d p.0.0.1 r.2).0), omega (arith, p.0.1)); empty = p.1.1.1 }
 
 pub returns : goal.returns
 returns c = λ ws p ks C R.
     let d = (goal.at.returns c).After-append_rule in
     let w = whole d p R in
-    checked-by 0 (length (s d).args.store.now) ws ks C (s d).args.proof.now _ (c.check_proof-verdict.ensures (restricted ws ks C) w.0 w.1) c.is_inconsistent.ensures
+    checked-by 0 (length d.args.store.now) ws ks C d.args.proof.now _ (c.check_proof-verdict.ensures (restricted ws ks C) w.0 w.1) c.is_inconsistent.ensures

@@ -14,24 +14,22 @@ use Rattle.checker.proofs.Origins.{course-live}
 use Rattle.checker.proofs.Verdicts.{too_long, ran-stopped, ran-through, judged-stopped, judged-through}
 use borrow.Author.Rules.{rules}
 use Rattle.checker.proofs.judging.check_within.Goals as goal
-use Rattle.checker.proofs.judging.check_within.Goals.{After-run_long-run, Start}
+use Rattle.checker.proofs.judging.check_within.Goals.{After-run_long-run}
 
 -- what the lines came to
 module _ (c : After-run_long-run) where
-  abbrev start : Start
-  start = c.before
 
   abbrev store' : List ℤ
   store' = c.run_long-run.new.store
 
   abbrev came : List InputRule → Course
-  came ws = course_within start.args.limit (atoms ws) (expand ws) (length start.args.store.now) start.args.proof.now
+  came ws = course_within c.args.limit (atoms ws) (expand ws) (length c.args.store.now) c.args.proof.now
 
-  ran : (ws : List InputRule) → Program start.args.table.now start.args.rules start.args.atoms ws → Ran store' (came ws) c.run_long-run.result
+  ran : (ws : List InputRule) → Program c.args.table.now c.args.rules c.args.atoms ws → Ran store' (came ws) c.run_long-run.result
   ran ws p =
-      let h : length start.args.proof.now ≤ start.args.limit = search rules in
-      subst (λ (n : ℕ). Ran store' (course_within start.args.limit n (expand ws) (length start.args.store.now) start.args.proof.now) c.run_long-run.result) p.top
-      (c.run_long-run.ensures start.args.limit h ws p)
+      let h : length c.args.proof.now ≤ c.args.limit = search rules in
+      subst (λ (n : ℕ). Ran store' (course_within c.args.limit n (expand ws) (length c.args.store.now) c.args.proof.now) c.run_long-run.result) p.top
+      (c.run_long-run.ensures c.args.limit h ws p)
 
 pub returns-then-limit-proof : goal.returns-then-limit-proof
 returns-then-limit-proof c = λ ws p w.
@@ -41,8 +39,8 @@ returns-then-limit-proof c = λ ws p w.
 
 pub conclude-requires : goal.conclude-requires
 conclude-requires c =
-    let q = (goal.at.conclude-requires c).After-run_long-arg-2-1 in
-    let p = (start q).requires.program.0 in
+    let q = (goal.at.conclude-requires c).Else-limit-proof in
+    let p = q.requires.program.0 in
     let r = ran-through (store' q) (came q p.0) _ _ (ran q p.0 p.1) c.in-Through.is in
     (r.1, r.3)
 
@@ -50,14 +48,14 @@ pub returns-in-Stopped : goal.returns-in-Stopped
 returns-in-Stopped c = λ ws p w.
     let q = (goal.at.returns-in-Stopped c).After-run_long-run in
     let r = c.refuse-in-Stopped.ensures in
-    let same : length (store' q) ≡ length (start q).args.store.now = search rules in
+    let same : length (store' q) ≡ length q.args.store.now = search rules in
     let o = ran-stopped (store' q) (came q ws) _ (ran q ws p) c.in-Stopped.is in
     judged-stopped _ _ ws _ _ o r.0 r.1.0 (r.1.1 ∙ ap (λ (k : ℕ). replicate k (pos 0)) same)
 
 pub returns-in-Through : goal.returns-in-Through
 returns-in-Through c = λ ws p w.
-    let q = (goal.at.returns-in-Through c).After-run_long-arg-2-1 in
-    let same : length (store' q) ≡ length (start q).args.store.now = search rules in
+    let q = (goal.at.returns-in-Through c).Else-limit-proof in
+    let same : length (store' q) ≡ length q.args.store.now = search rules in
     let t = ran-through (store' q) (came q ws) _ _ (ran q ws p) c.in-Through.is in
     judged-through _ _ ws _ _ _ _ _ t.0 t.1 t.2 (course-live _ _ _ _ _ t.2) (c.conclude.ensures t.1 t.3) p.top (sym (rules-held p.holds)) w t.3 same
 

@@ -19,15 +19,15 @@ emit_part-side-requires c = let s = c in
 abbrev group_of : Start → List ℕ
 group_of s = group_levels s.args.bound s.args.from s.args.to s.args.pairs.now
 
-counted : (c : After-emit_part-side) → c.emit_part-side.result.count ≡ length (group_of c.before)
+counted : (c : After-emit_part-side) → c.emit_part-side.result.count ≡ length (group_of c.before.before.before.before.before.before.before.before.before.before.before.before.before.before.before)
 counted c = let y = c.emit_part-side in let e = y.ensures in count-is y.new.levels.0 e.1.1.1 e.1.0
 
 -- the next atoms are in reach
 atoms : (c : After-emit_part-side) → after c.args.node + c.emit_part-side.result.count + 4096 ≤ farthest
-atoms c = let s = c.before in omega (arith, counted c, few-group s.args.bound s.args.from s.args.to s.args.pairs.now, s.requires.pairs.1, s.requires.node.3)
+atoms c = let s = c in omega (arith, counted c, few-group s.args.bound s.args.from s.args.to s.args.pairs.now, s.requires.pairs.1, s.requires.node.3)
 
 pub overflow_add-atom-2 : goal.overflow_add-atom-2
-overflow_add-atom-2 c = record { fits = omega (arith, atoms (goal.at.overflow_add-atom-2 c).After-output-1) }
+overflow_add-atom-2 c = record { fits = omega (arith, atoms (goal.at.overflow_add-atom-2 c).After-emit_part-side) }
 
 pub slice_bounds-emit_node-end-2 : goal.slice_bounds-emit_node-end-2
 slice_bounds-emit_node-end-2 c = let s = c in sym (length-take-le s.args.node.count s.args.left.now s.requires.node.1)
@@ -36,8 +36,8 @@ pub slice_bounds-emit_node-end-4 : goal.slice_bounds-emit_node-end-4
 slice_bounds-emit_node-end-4 c = sym (length-take-le _ _ c.emit_part-side.ensures.within.1)
 
 pub emit_node-place-requires : goal.emit_node-place-requires
-emit_node-place-requires c = let s = c.before in
-    let d = (goal.at.emit_node-place-requires c).After-emit_part-arg-5-1 in
+emit_node-place-requires c = let s = c.before.before.before.before.before.before.before.before.before.before.before.before.before.before.before.before.before.before.before.before.before.before.before.before.before.before.before.before in
+    let d = (goal.at.emit_node-place-requires c).Start in
     let e = d.emit_part-side.ensures in
     let b = s.requires.pairs.1 in
     let ws = s.args.pairs.now in
@@ -51,8 +51,8 @@ emit_node-place-requires c = let s = c.before in
         ) }
 
 pub returns : goal.returns
-returns c = let s = c.before in
+returns c = let s = c.before.before.before.before.before.before.before.before.before.before.before.before.before.before.before.before.before.before.before.before.before.before.before.before.before.before.before.before.before.before.before in
     let a = s.args in
-    let d = (goal.at.returns c).After-emit_part-arg-5-1 in
+    let d = (goal.at.returns c).Start in
     let e = d.emit_part-side.ensures in
     let n = counted d in record { rules = turn-emits a.node.first (after a.node) (pairs_within a.from a.to a.pairs.now) (a.bound ∷ []) s.requires.node.2 e.1.0 refl n e.0 c.emit_node-place.ensures; atom = omega (arith, n) }

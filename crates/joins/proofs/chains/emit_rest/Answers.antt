@@ -15,7 +15,7 @@ use Rattle.joins.proofs.chains.emit_rest.Goals.{At-loop-from, Start}
 
 -- where the loop begins
 abbrev start : At-loop-from → Start
-start c = c.before
+start c = c.before.before.before.before.before.before.before.before
 
 begun : (c : At-loop-from) (before : List ℕ) (p : Place)
     → (let a = (start c).args in
@@ -141,7 +141,7 @@ loop-from-preserved c =
     }
 
 pub emit_last-requires : goal.emit_last-requires
-emit_last-requires c = let d = (goal.at.emit_last-requires c).After-slice_known-7-1 in
+emit_last-requires c = let d = (goal.at.emit_last-requires c).Start in
     let C = stands d in
     let p = (start d).requires.pairs in
     let g = (start d).requires.group in
@@ -150,7 +150,7 @@ emit_last-requires c = let d = (goal.at.emit_last-requires c).After-slice_known-
 
 pub returns : goal.returns
 returns c =
-    let d = (goal.at.returns c).After-slice_known-7-1 in
+    let d = (goal.at.returns c).Start in
     let p = (start d).requires.pairs in
     let y = c.emit_last in
     λ before q e. chained-last p.0 (d.loop-from.invariant.linked before q (begun d before q e)) (start d).requires.group.0 p.1 c.loop-from-test.false p.3 y.result y.ensures.rules y.ensures.atom

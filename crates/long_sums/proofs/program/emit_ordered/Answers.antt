@@ -40,10 +40,10 @@ returns-then-end-gt-MOST_RULES c =
 
 -- the next atom, where there are not too many rules
 next : (c : Else-end-gt-MOST_RULES)
-    → (let s = c.before in
+    → (let s = c.before.before.before.before.before.before.before.before.before.before in
     let e = c.emit_long-sum.result in
     e.atom ≡ s.args.atom + size (plan_of c.bound_of-bound.result (sides s).0 (sides s).1))
-next c = let t = sides c.before in c.emit_long-sum.ensures.atoms t.0 t.1 t.2 c.if-end-gt-MOST_RULES.false
+next c = let t = sides c.before.before.before.before.before.before.before.before.before.before in c.emit_long-sum.ensures.atoms t.0 t.1 t.2 c.if-end-gt-MOST_RULES.false
 
 pub overflow_sub-next : goal.overflow_sub-next
 overflow_sub-next c = omega (arith, next (goal.at.overflow_sub-next c).Else-end-gt-MOST_RULES)

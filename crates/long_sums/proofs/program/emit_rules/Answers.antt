@@ -25,7 +25,7 @@ loop-left-preserved c =
     let s = c in
     let e = c.emit_item-here in
     let i = rw (tail_of l.i s.args.table.now) at e.ensures in
-    stands_on l.invariant c.loop-left-test.true c.if-p-gt-MOST_RULES.false i c.next_rule-i.ensures.0 c.next_rule-i.ensures.1 e.auto.output
+    stands_on l.invariant c.loop-left-test.true c.if-p-gt-MOST_RULES.false i c.next_rule-i.ensures.next.0 c.next_rule-i.ensures.next.1 e.auto.output
 
 pub returns : goal.returns
 returns c = stands-done c.loop-left.invariant c.loop-left-test.false

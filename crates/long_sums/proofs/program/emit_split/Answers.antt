@@ -16,9 +16,9 @@ pub body_of-body-requires : goal.body_of-body-requires
 body_of-body-requires c = let s = c in held-shape s.args.words.now s.requires.rule.0
 
 -- the body's words fit the words lent
-few : (c : After-body_of-body) → (let s = c.before in length c.body_of-body.result.now ≤ length s.args.sorted.now)
+few : (c : After-body_of-body) → (let s = c in length c.body_of-body.result.now ≤ length s.args.sorted.now)
 few c =
-    let s = c.before in
+    let s = c in
     let n = pairs-long s.args.words.now s.requires.rule.0 s.requires.rule.1 in
     omega (arith, ap length c.body_of-body.ensures, n.1, s.requires.room)
 
@@ -42,11 +42,11 @@ slice_bounds-emit_ordered-end c =
 pub slice_bounds-emit_ordered-end-2 : goal.slice_bounds-emit_ordered-end-2
 slice_bounds-emit_ordered-end-2 c =
     let o = c in
-    let s = o.before in
-    sym (length-take-le _ _ (front-there _ s.args.sorted.now o.order.new.to.0 (few (goal.at.slice_bounds-emit_ordered-end-2 c).After-slice_known-1) o.order.auto.to))
+    let s = o.before.before.before.before in
+    sym (length-take-le _ _ (front-there _ s.args.sorted.now o.order.new.to.0 (few (goal.at.slice_bounds-emit_ordered-end-2 c).Start) o.order.auto.to))
 
 pub emit_ordered-requires : goal.emit_ordered-requires
 emit_ordered-requires c = let o = c in
-    let y = (goal.at.emit_ordered-requires c).After-slice_known-1 in
-    let s = y.before in
+    let y = (goal.at.emit_ordered-requires c).Start in
+    let s = y.before.before in
     let n = o.order.auto.to in record { rule = s.requires.rule; place = s.requires.place; group = s.requires.group; pairs = rw (front-back _ s.args.sorted.now o.order.new.to.0 (few y) n) (o.order.ensures.weights, n ∙ length-take-le _ s.args.sorted.now (few y) ∙ ap length y.body_of-body.ensures, o.order.ensures.groups ∙ ap (λ (l : List ℤ). sorted_groups (s.args.group - 1) (paired l)) y.body_of-body.ensures) }

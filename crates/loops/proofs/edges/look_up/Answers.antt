@@ -17,7 +17,7 @@ use Rattle.loops.proofs.EdgeMarks.{filling-on, filled}
 use Rattle.loops.proofs.Chained.{numbers-left, number-split}
 use borrow.Author.Rules.{rules}
 use Rattle.loops.proofs.edges.look_up.Goals as goal
-use Rattle.loops.proofs.edges.look_up.Goals.{After-variable_of-v, In-loop-j, Start}
+use Rattle.loops.proofs.edges.look_up.Goals.{After-variable_of-v, Start}
 
 pub loop-j-init : goal.loop-j-init
 loop-j-init c =
@@ -26,23 +26,21 @@ loop-j-init c =
 
 -- the number at hand
 module _ (c : After-variable_of-v) where
-  abbrev i : In-loop-j
-  i = c.before
 
   abbrev s : Start
-  s = i.before
+  s = c.before.before.before.before.before.before.before
 
   abbrev U : List ℤ
   U = s.args.numbers.now
 
   abbrev j : ℕ
-  j = i.loop-j.j
+  j = c.loop-j.j
 
   abbrev x : ℤ
   x = get_or U j (pos 0)
 
   taken : j < length U
-  taken = i.loop-j-test.taken
+  taken = c.loop-j-test.true
 
   among : x ∈ U
   among = in-at (pos 0) U j taken
@@ -51,13 +49,13 @@ module _ (c : After-variable_of-v) where
   tells = rw (back x c.variable_of-arg-1.given) at c.variable_of-v.ensures
 
   atom : x ≡ pos c.variable_of-v.result
-  atom = positive-is x ((passed _).from (s.pre.1.0.positive x among)) ∙ ap pos (sym tells)
+  atom = positive-is x ((passed _).from (s.requires.places.0.positive x among)) ∙ ap pos (sym tells)
 
   abbrev m : List ℕ
   m = s.args.places.now
 
   placed : place_by m (pos c.variable_of-v.result) ≡ suc j
-  placed = sym (ap (place_by m) atom) ∙ s.pre.1.1.from j taken
+  placed = sym (ap (place_by m) atom) ∙ s.requires.places.1.from j taken
 
   there : c.variable_of-v.result < length m
   there = place-there m c.variable_of-v.result placed
@@ -68,14 +66,14 @@ module _ (c : After-variable_of-v) where
 pub mark_chain-requires : goal.mark_chain-requires
 mark_chain-requires c = let v = (goal.at.mark_chain-requires c).After-variable_of-v in
     let p = (s v).requires in
-    let a = v.variable_of-v.result in record { index = p.0; head = (part v (a + 1 - a) (omega arith), omega (arith, tells v, p.1.0.high (x v) (among v))); sizes = ((i v).loop.invariant.1.long, placed-low p.1.0.few p.1.1, (U v, p.1.1)) }
+    let a = v.variable_of-v.result in record { index = p.0; head = (part v (a + 1 - a) (omega arith), omega (arith, tells v, p.1.0.high (x v) (among v))); sizes = (v.loop.invariant.1.long, placed-low p.1.0.few p.1.1, (U v, p.1.1)) }
 
 pub loop-j-preserved : goal.loop-j-preserved
 loop-j-preserved c =
     let v = (goal.at.loop-j-preserved c).After-variable_of-v in
     let a = (s v).args in (
       omega (arith, taken v),
-      filling-on (i v).loop.invariant.1 c.mark_chain.ensures
+      filling-on v.loop.invariant.1 c.mark_chain.ensures
           (number-split a.table.now a.rules a.places.now (U v) _ (j v) (taken v) (ap (λ y. y ∷ []) (sym (atom v)))),
     )
 

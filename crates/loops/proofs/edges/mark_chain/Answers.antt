@@ -15,7 +15,10 @@ use Rattle.loops.specs.Edges.{LowPlaces}
 use Rattle.loops.proofs.Chained.{Drawn, drawing-start, drawing-on, drawn-keeps, drawn-here, drawing-end}
 use borrow.Author.Rules.{rules}
 use Rattle.loops.proofs.edges.mark_chain.Goals as goal
-use Rattle.loops.proofs.edges.mark_chain.Goals.{In-loop-p, Start, After-mark_body, After-body_of}
+use Rattle.loops.proofs.edges.mark_chain.Goals.{In-loop-p, After-mark_body}
+use Rattle.loops.proofs.edges.mark_chain.Lts.View as view
+use Rattle.loops.proofs.edges.mark_chain.Reads as reads
+use Rattle.loops.proofs.edges.mark_chain.Tie as tie
 
 pub loop-p-init : goal.loop-p-init
 loop-p-init c =
@@ -27,14 +30,12 @@ loop-p-init c =
 
 -- the place at hand, and its rule
 module _ (c : In-loop-p) where
-  abbrev s : Start
-  s = c.before
 
   abbrev t : List ℤ
-  t = s.args.table.now
+  t = c.args.table.now
 
   abbrev es : List Headed
-  es = headed_to s.args.rules t
+  es = headed_to c.args.rules t
 
   abbrev x : ℕ
   x = c.loop-p.p - 1
@@ -42,23 +43,23 @@ module _ (c : In-loop-p) where
   is : c.loop-p.p ≡ suc x
   is = omega (arith, c.loop-p-test.true)
 
-  place : Place es x s.args.v
+  place : Place es x c.args.v
   place = c.loop-p.invariant.1.ahead x is
 
   room : x < 8192
-  room = omega (arith, place.0, s.pre.0.0.entered.heads.few)
+  room = omega (arith, place.0, c.requires.index.0.entered.heads.few)
 
   abbrev k : ℕ
   k = (headed_at es x).rule
 
-  headed : HasHead t s.args.rules s.args.v k
-  headed = head_of t s.args.rules s.args.v x s.pre.0.1 place
+  headed : HasHead t c.args.rules c.args.v k
+  headed = head_of t c.args.rules c.args.v x c.requires.index.1 place
 
   shape : shape_sound (words_from k t) ≡ true
-  shape = (rule-here t s.args.rules s.pre.0.1 k headed.0).2
+  shape = (rule-here t c.args.rules c.requires.index.1 k headed.0).2
 
 pub words_of-words-requires : goal.words_of-words-requires
-words_of-words-requires c = record { index = (s c).requires.index; place = (place c).0 }
+words_of-words-requires c = record { index = c.requires.index; place = (place c).0 }
 
 pub body_of-requires : goal.body_of-requires
 body_of-requires c = subst (λ ws. shape_sound ws ≡ true) (sym c.words_of-words.ensures) (shape (goal.at.body_of-requires c).In-loop-p)
@@ -66,20 +67,18 @@ body_of-requires c = subst (λ ws. shape_sound ws ≡ true) (sym c.words_of-word
 pub mark_body-requires : goal.mark_body-requires
 mark_body-requires c =
     let i = (goal.at.mark_body-requires c).In-loop-p in
-    let low : LowPlaces (s i).args.head.now = λ p m.
-    rw (Memᴰ.eq_of_singleton (subst (λ l. p ∈ l) (s i).requires.head.0 m)) ((s i).requires.sizes.1 (pos (s i).args.v)) in
-    (i.loop-p.invariant.0.long, (s i).requires.sizes.1, low)
+    let low : LowPlaces i.args.head.now = λ p m.
+    rw (Memᴰ.eq_of_singleton (subst (λ l. p ∈ l) i.requires.head.0 m)) (i.requires.sizes.1 (pos i.args.v)) in
+    (i.loop-p.invariant.0.long, i.requires.sizes.1, low)
 
 -- what the call marks
 module _ (c : After-mark_body) where
-  abbrev b : After-body_of
-  b = c.before
 
   abbrev d : In-loop-p
-  d = b.before
+  d = (view.up-After-body_of tie.the-claims reads.Pre reads.Post goal.the-invariant-loop-p goal.the-decreases-loop-p c.before.before.before)
 
-  body : b.body_of.result.now ≡ body_words_at (words_from (k d) (t d))
-  body = b.body_of.ensures ∙ ap body_words_at b.words_of-words.ensures
+  body : c.body_of.result.now ≡ body_words_at (words_from (k d) (t d))
+  body = c.body_of.ensures ∙ ap body_words_at c.words_of-words.ensures
 
 pub next_head-p-requires : goal.next_head-p-requires
 next_head-p-requires c = let r = room (d (goal.at.next_head-p-requires c).After-mark_body) in omega (arith, r)
@@ -88,17 +87,17 @@ pub loop-p-smaller : goal.loop-p-smaller
 loop-p-smaller c =
     let i = d (goal.at.loop-p-smaller c).After-mark_body in
     let f = c.next_head-p.ensures in
-    omega (arith, f, next-less (s i).pre.0.0.entered.heads.chains i.loop-p.inv.1 (is i))
+    omega (arith, f, next-less i.requires.index.0.entered.heads.chains i.loop-p.invariant.1 (is i))
 
 pub loop-p-preserved : goal.loop-p-preserved
 loop-p-preserved c =
     let m = (goal.at.loop-p-preserved c).After-mark_body in
     let i = d m in
-    let a = (s i).args in
-    let p = (s i).pre.0.0.plain in
-    let M = rw (s i).pre.1.0.0 at m.mark_body.ensures in (
-      drawing-on (t i) a.rules a.places.now p refl (headed i) (body m) M i.loop-p.inv.0,
-      walk-on (s i).pre.0.0.entered.heads.chains i.loop-p.inv.1 (is i) c.next_head-p.ensures
+    let a = i.args in
+    let p = i.requires.index.0.plain in
+    let M = rw i.requires.head.0 at m.mark_body.ensures in (
+      drawing-on (t i) a.rules a.places.now p refl (headed i) (body m) M i.loop-p.invariant.0,
+      walk-on i.requires.index.0.entered.heads.chains i.loop-p.invariant.1 (is i) c.next_head-p.ensures
           (λ y f. drawn-keeps (t i) a.rules a.places.now p refl (headed i) (body m) M _ f)
           (λ q. drawn-here (t i) a.rules a.places.now p refl (headed i) (body m) M),
     )

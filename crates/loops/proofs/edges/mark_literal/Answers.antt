@@ -8,7 +8,7 @@ use Rattle.loops.proofs.edges.mark_literal.Goals as goal
 use Rattle.loops.proofs.edges.mark_literal.Goals.{After-place_of-a}
 
 tells : (c : After-place_of-a)
-    → (let s = c.before in c.place_of-a.result ≡ place_by s.args.places.now s.args.word)
+    → (let s = c in c.place_of-a.result ≡ place_by s.args.places.now s.args.word)
 tells c = rw (to_z-of_z c.ranges.word) at c.place_of-a.ensures
 
 pub mark_heads-requires : goal.mark_heads-requires

@@ -22,7 +22,7 @@ mark_if-requires c =
 pub loop-i-preserved : goal.loop-i-preserved
 loop-i-preserved c =
     let m = c in
-    let a = (goal.at.loop-i-preserved c).After-mark_if-arg-1 in
+    let a = (goal.at.loop-i-preserved c).After-is_marked in
     let t = c in
     let l = t.loop-i in
     let s = c in

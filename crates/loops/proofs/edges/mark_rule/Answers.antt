@@ -16,7 +16,10 @@ use Rattle.loops.proofs.EdgeMarks.{more-none}
 use Rattle.loops.proofs.HeadPlaces.{gathered_none}
 use Rattle.loops.proofs.Expanded.{plain_more, weight-more}
 use Rattle.loops.proofs.edges.mark_rule.Goals as goal
-use Rattle.loops.proofs.edges.mark_rule.Goals.{After-gather-n, Start, After-is_weighted}
+use Rattle.loops.proofs.edges.mark_rule.Goals.{After-gather-n, After-is_weighted}
+use Rattle.loops.proofs.edges.mark_rule.Lts.View as view
+use Rattle.loops.proofs.edges.mark_rule.Reads as reads
+use Rattle.loops.proofs.edges.mark_rule.Tie as tie
 
 pub gather-n-requires : goal.gather-n-requires
 gather-n-requires c =
@@ -25,11 +28,9 @@ gather-n-requires c =
 
 -- the places in the row
 module _ (c : After-gather-n) where
-  abbrev s : Start
-  s = c.before
 
   abbrev ws : List ℤ
-  ws = s.args.words.now
+  ws = c.args.words.now
 
   abbrev row : List ℕ
   row = c.gather-n.new.row.0
@@ -37,33 +38,33 @@ module _ (c : After-gather-n) where
   abbrev n : ℕ
   n = c.gather-n.result
 
-  here : Gathered s.args.places.now (heads_at ws) row n
+  here : Gathered c.args.places.now (heads_at ws) row n
   here = rw c.heads_of.ensures at c.gather-n.ensures
 
   within : n ≤ length row
-  within = omega (arith, here.most, heads-few ws s.pre.0.0, c.gather-n.auto.row)
+  within = omega (arith, here.most, heads-few ws c.requires.rule.0, c.gather-n.auto.row)
 
 pub returns-then-n-eq0 : goal.returns-then-n-eq0
 returns-then-n-eq0 c =
     let g = (goal.at.returns-then-n-eq0 c).After-gather-n in
-    more-none _ _ (s g).requires.sizes.0
-    (λ i j. rw (gathered_none (here g) c.if-n-eq0.true j) (and-false (any (any (is_at (s g).args.places.now i)) (bodies_of (body_at (ws g))))))
+    more-none _ _ g.requires.sizes.0
+    (λ i j. rw (gathered_none (here g) c.if-n-eq0.true j) (and-false (any (any (is_at g.args.places.now i)) (bodies_of (body_at (ws g))))))
 
 -- a rule with a head that has a place
 module _ (c : After-is_weighted) where
   abbrev g : After-gather-n
-  g = c.before
+  g = (view.up-After-gather-n tie.the-claims reads.Pre reads.Post c.before.before.before.before)
 
   weighted : is_weighted (ws g) ≡ c.is_weighted.result
   weighted = sym c.is_weighted.ensures
 
-  relevant : RelevantPairs (s g).args.relevant.now (body_at (ws g))
-  relevant = (s g).pre.0.1 (omega (arith, (here g).most, c.if-n-eq0.false))
+  relevant : RelevantPairs g.args.relevant.now (body_at (ws g))
+  relevant = g.requires.rule.1 (omega (arith, (here g).most, c.if-n-eq0.false))
 
 pub mark_pairs-requires : goal.mark_pairs-requires
 mark_pairs-requires c =
     let a = g (goal.at.mark_pairs-requires c).After-is_weighted in
-    ((s a).pre.1.0, (s a).pre.1.1, (here a).low)
+    (a.requires.sizes.0, a.requires.sizes.1, (here a).low)
 
 pub returns-then-is_weighted : goal.returns-then-is_weighted
 returns-then-is_weighted c =
@@ -76,7 +77,7 @@ returns-then-is_weighted c =
 pub mark_body-requires : goal.mark_body-requires
 mark_body-requires c =
     let a = g (goal.at.mark_body-requires c).After-is_weighted in
-    ((s a).pre.1.0, (s a).pre.1.1, (here a).low)
+    (a.requires.sizes.0, a.requires.sizes.1, (here a).low)
 
 pub returns : goal.returns
 returns c =

@@ -13,22 +13,20 @@ use Rattle.loops.proofs.EdgeMarks.{filling-none, filling-on, filled}
 use Rattle.loops.proofs.Expanded.{relevant-on}
 use borrow.Author.Rules.{rules}
 use Rattle.loops.proofs.edges.scan.Goals as goal
-use Rattle.loops.proofs.edges.scan.Goals.{In-loop-left, Start}
+use Rattle.loops.proofs.edges.scan.Goals.{In-loop-left}
 
 -- the words from i on, and the rule there
 module _ (c : In-loop-left) where
-  abbrev s : Start
-  s = c.before
 
   abbrev t : List ℤ
-  t = s.args.table.now
+  t = c.args.table.now
 
   abbrev i : ℕ
   i = c.loop-left.i
 
   -- the entries from there on
   abbrev m : List ℕ
-  m = drop c.loop-left.at s.args.relevant.now
+  m = drop c.loop-left.at c.args.relevant.now
 
   here : AtRule t c.loop-left.left i
   here = at-rule c.loop-left-test.true c.loop-left.invariant.0
@@ -53,8 +51,8 @@ slice_bounds-mark_rule-end-in-loop-left-2 c = sym c.loop-left.invariant.3.long
 
 pub mark_rule-requires : goal.mark_rule-requires
 mark_rule-requires c = let d = (goal.at.mark_rule-requires c).In-loop-left in
-    let a = (s d).args in let all = rw (tail_of (i d) (t d), tail_of d.loop-left.at a.relevant.now)
-    (((here d).here.1, (relevant d).0), (d.loop-left.invariant.3.long, (s d).requires.places)) in record { rule = all.0; sizes = all.1 }
+    let a = d.args in let all = rw (tail_of (i d) (t d), tail_of d.loop-left.at a.relevant.now)
+    (((here d).here.1, (relevant d).0), (d.loop-left.invariant.3.long, d.requires.places)) in record { rule = all.0; sizes = all.1 }
 
 pub next_rule-i-requires : goal.next_rule-i-requires
 next_rule-i-requires c = record { here = (here (goal.at.next_rule-i-requires c).In-loop-left).here }
@@ -70,7 +68,7 @@ loop-left-preserved c =
     let l = d.loop-left in
     let q = c.next_entries-at.ensures in
     let told = rw (tail_of (i d) (t d)) at r.mark_rule.ensures in
-    rw n.next_rule-i.ensures.0 (
+    rw n.next_rule-i.ensures.next.0 (
       (here d).next,
       q.0,
       rw q.1 (relevant d).1,

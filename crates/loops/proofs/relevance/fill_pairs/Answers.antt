@@ -14,7 +14,7 @@ use Rattle.loops.specs.Relevance.{is_relevant}
 use Rattle.loops.proofs.Filling.{Filled, filled_none, filled-all, filled-room, filled_in, filled_more}
 use borrow.Author.Rules.{rules}
 use Rattle.loops.proofs.relevance.fill_pairs.Goals as goal
-use Rattle.loops.proofs.relevance.fill_pairs.Goals.{After-is_relevant-arg-in-loop-i-1, Start}
+use Rattle.loops.proofs.relevance.fill_pairs.Goals.{In-loop-i}
 
 -- the entry of a pair
 abbrev entry : ℕ → List ℤ → Weighted → ℕ
@@ -24,17 +24,15 @@ pub loop-i-init : goal.loop-i-init
 loop-i-init c = (filled_none _ _ c.requires.2, refl)
 
 -- the pair at i
-module _ (c : After-is_relevant-arg-in-loop-i-1) where
-  abbrev s : Start
-  s = c.before
+module _ (c : In-loop-i) where
 
   abbrev ws : List ℤ
-  ws = s.args.pairs.now
+  ws = c.args.pairs.now
 
   abbrev i : ℕ
   i = c.loop-i.i
 
-  filled : Filled (entry s.args.bound ws) ws c.loop-i.entries c.loop-i.n i
+  filled : Filled (entry c.args.bound ws) ws c.loop-i.entries c.loop-i.n i
   filled = c.loop-i.invariant.0
 
   in-loop : i + 1 < length ws
@@ -48,17 +46,17 @@ module _ (c : After-is_relevant-arg-in-loop-i-1) where
 
 pub is_relevant-requires : goal.is_relevant-requires
 is_relevant-requires c =
-    let p = (s c).requires in (p.0, p.1, rw (literal c, weight c) (filled_in _ _ (filled c) (in-loop c)))
+    let p = (s (goal.at.is_relevant-requires c).In-loop-i).requires in (p.0, p.1, rw (literal (goal.at.is_relevant-requires c).In-loop-i, weight (goal.at.is_relevant-requires c).In-loop-i) (filled_in _ _ (filled (goal.at.is_relevant-requires c).In-loop-i) (in-loop (goal.at.is_relevant-requires c).In-loop-i)))
 
 pub bounds-entries-n : goal.bounds-entries-n
-bounds-entries-n c = let d = (goal.at.bounds-entries-n c).After-is_relevant-arg-in-loop-i-1 in filled-room _ _ (filled d) (in-loop d)
+bounds-entries-n c = let d = (goal.at.bounds-entries-n c).In-loop-i in filled-room _ _ (filled d) (in-loop d)
 
 pub overflow_add-n : goal.overflow_add-n
-overflow_add-n c = let d = (goal.at.overflow_add-n c).After-is_relevant-arg-in-loop-i-1 in let h = filled-room _ _ (filled d) (in-loop d) in search rules
+overflow_add-n c = let d = (goal.at.overflow_add-n c).In-loop-i in let h = filled-room _ _ (filled d) (in-loop d) in search rules
 
 pub loop-i-preserved : goal.loop-i-preserved
 loop-i-preserved c =
-    let d = (goal.at.loop-i-preserved c).After-is_relevant-arg-in-loop-i-1 in
+    let d = (goal.at.loop-i-preserved c).In-loop-i in
     let l = d.loop-i in
     let e = rw (literal d) at c.is_relevant.ensures in
     let more = filled_more _ _ (filled d) (in-loop d) (c.one_if.ensures ∙ ap (λ (t : Bool). cond t 1 0) e) in

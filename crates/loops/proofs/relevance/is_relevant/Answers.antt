@@ -12,24 +12,22 @@ use Rattle.weights.specs.Weights.{Weighted, sum, paired}
 use Rattle.loops.specs.Relevance.{has_sum, others}
 use Rattle.loops.proofs.Sums.{others-sum, relevant-by-sums}
 use Rattle.loops.proofs.relevance.is_relevant.Goals as goal
-use Rattle.loops.proofs.relevance.is_relevant.Goals.{After-sum_of, Start}
+use Rattle.loops.proofs.relevance.is_relevant.Goals.{After-sum_of}
 
 -- the weight, and what the others add up to
 module _ (c : After-sum_of) where
-  abbrev s : Start
-  s = c.before
 
   abbrev all : List Weighted
-  all = paired s.args.pairs.now
+  all = paired c.args.pairs.now
 
-  own : to_z w32 (of_z w32 s.args.literal) ≡ s.args.literal
-  own = to_z-of_z s.fits.literal
+  own : to_z w32 (of_z w32 c.args.literal) ≡ c.args.literal
+  own = to_z-of_z c.fits.literal
 
-  weight : c.variable_of-w.result ≡ variable s.args.weight
-  weight = rw (to_z-of_z s.fits.weight) at c.variable_of-w.ensures
+  weight : c.variable_of-w.result ≡ variable c.args.weight
+  weight = rw (to_z-of_z c.fits.weight) at c.variable_of-w.ensures
 
-  sums : c.sum_of.result ≡ c.variable_of-w.result + sum (others s.args.literal all)
-  sums = omega (arith, c.sum_of.ensures, weight, others-sum s.pre.0 s.pre.2)
+  sums : c.sum_of.result ≡ c.variable_of-w.result + sum (others c.args.literal all)
+  sums = omega (arith, c.sum_of.ensures, weight, others-sum c.requires.0 c.requires.2)
 
 pub overflow_sub-left : goal.overflow_sub-left
 overflow_sub-left c = omega (arith, sums c)
@@ -40,8 +38,8 @@ has_sum-requires c = let d = (goal.at.has_sum-requires c).After-sum_of in rw (ow
 pub returns : goal.returns
 returns c =
     let d = (goal.at.returns c).After-sum_of in
-    let b = (s d).args.bound in
+    let b = d.args.bound in
     let low = c.less.ensures ∙ ap (λ (w : ℕ). b - w) (weight d) in
     rw (own d) at c.has_sum.ensures
-    ∙ ap (λ (n : ℕ). has_sum n b (others (s d).args.literal (all d))) low
-    ∙ sym (relevant-by-sums b (all d) _ (s d).requires.0 (s d).requires.2)
+    ∙ ap (λ (n : ℕ). has_sum n b (others d.args.literal (all d))) low
+    ∙ sym (relevant-by-sums b (all d) _ d.requires.0 d.requires.2)

@@ -10,7 +10,7 @@ use Rattle.words.proofs.Lists.{passed, and_left, and_right}
 use Rattle.marks.specs.Marks.{marked}
 use Rattle.loops.proofs.Reaching.{reaching-start, reaching-on, reaching-end, undone-less}
 use Rattle.loops.proofs.searches.explore.Goals as goal
-use Rattle.loops.proofs.searches.explore.Goals.{After-advance-a, In-loop-a, Start}
+use Rattle.loops.proofs.searches.explore.Goals.{After-advance-a, Start}
 
 size : {m : List ℕ} → m ≡ replicate most_numbers 0 → length m ≡ most_numbers
 size e = ap length e ∙ length-replicate {A = ℕ} most_numbers 0
@@ -21,42 +21,40 @@ begin-requires c = let s = c in (s.requires.0, size s.requires.1)
 pub loop-a-init : goal.loop-a-init
 loop-a-init c =
     let p = c in
-    let s = p.before in
+    let s = p.before.before.before.before.before in
     (rw s.requires.2 (reaching-start _ _ (rw s.requires.1 at p.begin.ensures)), c.next_open-a.ensures)
 
 pub advance-a-requires : goal.advance-a-requires
 advance-a-requires c =
     let t = c in
     let l = t.loop-a in
-    let s = t.before in
+    let s = t.before.before.before.before.before.before.before.before.before.before.before.before in
     (s.requires.0, omega (arith, t.loop-a-test.true, s.requires.0), l.invariant.0.long)
 
 -- the place is open
 module _ (c : After-advance-a) where
-  abbrev t : In-loop-a
-  t = c.before
 
   abbrev s : Start
-  s = t.before
+  s = c.before.before.before.before.before.before.before.before.before.before.before.before.before.before
 
-  still : (marked t.loop-a.found t.loop-a.a
-      && not (marked t.loop-a.done t.loop-a.a)) ≡ true
-  still = t.loop-a.inv.1.is t.loop-a-test.taken
+  still : (marked c.loop-a.found c.loop-a.a
+      && not (marked c.loop-a.done c.loop-a.a)) ≡ true
+  still = c.loop-a.invariant.1.is c.loop-a-test.true
 
 pub loop-a-smaller : goal.loop-a-smaller
 loop-a-smaller c =
     let a = (goal.at.loop-a-smaller c).After-advance-a in
-    let l = (t a).loop in
+    let l = a.loop in
     rw a.advance-a.ensures.1
-    (undone-less _ l.a l.done (t a).loop-test.true (s a).requires.0 l.inv.0.wide
+    (undone-less _ l.a l.done a.loop-test.true (s a).requires.0 l.inv.0.wide
     (not-true _ (and_right (marked l.found l.a) _ (still a))))
 
 pub loop-a-preserved : goal.loop-a-preserved
 loop-a-preserved c =
     let a = (goal.at.loop-a-preserved c).After-advance-a in
-    let l = (t a).loop in (
+    let l = a.loop in (
       rw a.advance-a.ensures.1
-          (reaching-on _ _ l.a (t a).loop-test.true (s a).requires.0 l.inv.0
+          (reaching-on _ _ l.a a.loop-test.true (s a).requires.0 l.inv.0
           ((passed _).from (and_left (marked l.found l.a) _ (still a))) a.advance-a.ensures.0),
       a.advance-a.ensures.2,
     )

@@ -46,7 +46,7 @@ module _ (c : After-is_positive) where
       let word = to_z-of_z {w = w32} (sfits_of {z = w.result} w.type_inv) ∙ w.ensures in
       sym (rw word at c.is_positive.ensures)
 
-size : (c : After-variable_of-count) → c.variable_of-count.result ≡ variable (first c.before)
+size : (c : After-variable_of-count) → c.variable_of-count.result ≡ variable (first c.before.before)
 size c =
     let w = c.word_of-first in
     let word = to_z-of_z {w = w32} (sfits_of {z = w.result} w.type_inv) ∙ w.ensures in

@@ -22,7 +22,7 @@ put_body-requires c =
 -- what the call has written
 wrote : (c : After-put_body) → (let a = c.args in Written a.bodies.now c.put_body.new.bodies a.name a.body.now)
 wrote c =
-    let b = c.before in
+    let b = c in
     let s = b.before in
     let a = s.args in
     let count = to_z_pos w16 {n = length a.body.now + 1} (omega (arith, s.requires.2)) in
@@ -33,7 +33,7 @@ wrote c =
 index : (c : After-put_body) → (k : ℕ)
     → get_or c.put_body.new.bodies (width * entries + k) (pos 0) ≡ get_or c.args.bodies.now (width * entries + k) (pos 0)
 index c k =
-    let b = c.before in
+    let b = c in
     let s = b.before in
     let a = s.args in
     let count = to_z_pos w16 {n = length a.body.now + 1} (omega (arith, s.requires.2)) in

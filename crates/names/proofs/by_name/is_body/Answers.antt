@@ -16,11 +16,11 @@ use Rattle.names.proofs.by_name.is_body.Goals.{After-is_same}
 
 -- the words at i, and what the calls tell of them
 tells : (c : After-is_same)
-    → (let l = c.before in
+    → (let l = c in
     let a = l.args in
     same (get_or a.words.now l.loop-i.i (pos 0)) (get_or a.body.now l.loop-i.i (pos 0)) ≡ c.is_same.result)
 tells c =
-    let l = c.before in
+    let l = c in
     let w = c.word_of in
     let word = to_z-of_z {w = w32} (sfits_of {z = w.result} w.type_inv) ∙ w.ensures in
     sym (rw (word, back (get_or l.args.body.now l.loop-i.i (pos 0)) c.is_same-arg-1.given) at c.is_same.ensures)

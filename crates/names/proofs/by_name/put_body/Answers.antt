@@ -1,5 +1,6 @@
 -- `by_name::put_body` meets its contract: what is left of the body, put from there on, gives the whole.
 -- Assumes nothing.
+use mir.Syntax.{w32}
 use mathlib.Core.Path.{◌≡◌, ◌∙◌, refl}
 use mathlib.Core.List.{List}
 use Prim.Native.Nat.{ℕ, suc, ◌+◌, ◌-◌, ◌<◌, ◌≤◌}
@@ -17,7 +18,7 @@ use Rattle.words.proofs.Places.{in-at}
 use Rattle.words.proofs.Tops.{top-le}
 use Rattle.words.proofs.Words.{back}
 use Rattle.names.proofs.by_name.put_body.Goals as goal
-use Rattle.names.proofs.by_name.put_body.Goals.{After-bodies-1}
+use Rattle.names.proofs.by_name.put_body.Goals.{In-loop-i}
 
 -- one word more
 on : (d s : List ℤ) (at i : ℕ) → i < length s → sets (set d (at + i) (get_or s i (pos 0))) (at + (i + 1)) (drop (i + 1) s) ≡ sets d (at + i) (drop i s)
@@ -30,13 +31,13 @@ short : (z : ℤ) → variable z ≤ largest → SFits w16 z
 short (pos n) h = record { sfits = omega arith }
 short (negsuc n) h = record { sfits = omega arith }
 
-module _ (c : After-bodies-1) where
+module _ (c : In-loop-i) where
   abbrev x : ℤ
   x = get_or c.args.body.now c.loop-i.i (pos 0)
 
   fits : SFits w16 x
   fits =
-      let s = c.before in
+      let s = c in
       let b = s.args.body.now in
       short x (omega (arith, top-le (in-at (pos 0) b c.loop-i.i c.loop-i-test.true), s.requires.1))
 
@@ -47,7 +48,7 @@ loop-i-init c =
     (omega arith, refl, rw e refl)
 
 pub overflow_cast-bodies : goal.overflow_cast-bodies
-overflow_cast-bodies c = rw (back (x c) c.bodies-1.given) (fits c)
+overflow_cast-bodies c = rw (back (x (goal.at.overflow_cast-bodies c).In-loop-i) c.bodies-1.given) (fits (goal.at.overflow_cast-bodies c).In-loop-i)
 
 pub loop-i-preserved : goal.loop-i-preserved
 loop-i-preserved c =
@@ -56,7 +57,7 @@ loop-i-preserved c =
     let t = c.loop-i-test.true in (
       omega arith,
       simp length-set l.invariant.1,
-      rw (back (x c) c.bodies-1.given, to_z-of_z (fits c)) (on l.bodies a.body.now a.at l.i t ∙ l.invariant.2),
+      rw (back (x (goal.at.loop-i-preserved c).In-loop-i) c.bodies-1.given, to_z-of_z {w = w32} (fits (goal.at.loop-i-preserved c).In-loop-i)) (on l.bodies a.body.now a.at l.i t ∙ l.invariant.2),
     )
 
 pub returns : goal.returns

@@ -14,19 +14,20 @@ use Rattle.names.proofs.Asked.{any-bodies}
 use Rattle.names.proofs.ByRule.{course-start, no-plain-rules, Turn, turn, one_passes, none_passes}
 use borrow.Author.Rules.{rules}
 use Rattle.names.proofs.queries.body_name.Goals as goal
-use Rattle.names.proofs.queries.body_name.Goals.{After-rest-1, Start, After-has_body}
+use Rattle.names.proofs.queries.body_name.Goals.{In-loop-k, After-has_body}
+use Rattle.names.proofs.queries.body_name.Lts.View as view
+use Rattle.names.proofs.queries.body_name.Reads as reads
+use Rattle.names.proofs.queries.body_name.Tie as tie
 
 -- the plain rules with the body
 abbrev with : List ℤ → Rule → Bool
 with body r = same_list body r.body
 
 -- the words from i on, and the rule there
-module _ (c : After-rest-1) where
-  abbrev s : Start
-  s = c.before
+module _ (c : In-loop-k) where
 
   abbrev t : List ℤ
-  t = s.args.table.now
+  t = c.args.table.now
 
   abbrev i : ℕ
   i = c.loop-k.i
@@ -39,42 +40,42 @@ module _ (c : After-rest-1) where
 
 -- what the call tells of the rule
 tells : (c : After-has_body)
-    → (let d = c.before in any (with (s d).args.body.now) (expand_rule (rule_at (drop (i d) (t d)))) ≡ c.has_body.result)
+    → (let d = (view.up-In-loop-k tie.the-claims reads.Pre reads.Post goal.the-invariant-loop-k goal.the-decreases-loop-k tie.handed_clauses (view.up-At-loop-k tie.the-claims reads.Pre reads.Post goal.the-invariant-loop-k goal.the-decreases-loop-k tie.handed_clauses c.before.before.before.before)) in any (with d.args.body.now) (expand_rule (rule_at (drop (i d) (t d)))) ≡ c.has_body.result)
 tells c =
-    let d = c.before in
-    any-bodies (rule_at (drop (i d) (t d))) (same_list (s d).args.body.now) ∙ sym (rw (tail_of (i d) (t d)) at c.has_body.ensures)
+    let d = (view.up-In-loop-k tie.the-claims reads.Pre reads.Post goal.the-invariant-loop-k goal.the-decreases-loop-k tie.handed_clauses (view.up-At-loop-k tie.the-claims reads.Pre reads.Post goal.the-invariant-loop-k goal.the-decreases-loop-k tie.handed_clauses c.before.before.before.before)) in
+    any-bodies (rule_at (drop (i d) (t d))) (same_list d.args.body.now) ∙ sym (rw (tail_of (i d) (t d)) at c.has_body.ensures)
 
 pub loop-k-init : goal.loop-k-init
-loop-k-init c = let a = c.args in (course-start a.table.now a.rules a.names.now c.requires.0.1.sound, refl)
+loop-k-init c = let a = c.args in (course-start a.table.now a.rules a.names.now c.requires.program.0.1.sound, refl)
 
 pub offset_bounds-table-i : goal.offset_bounds-table-i
 offset_bounds-table-i c = let w = c.loop-k.invariant.0.cursor.within in search rules
 
 pub has_body-requires : goal.has_body-requires
-has_body-requires c = rw (tail_of (i c) (t c)) (at c).sound
+has_body-requires c = rw (tail_of (i (goal.at.has_body-requires c).In-loop-k) (t (goal.at.has_body-requires c).In-loop-k)) (at (goal.at.has_body-requires c).In-loop-k).sound
 
 pub name_at-requires : goal.name_at-requires
-name_at-requires c = let d = (goal.at.name_at-requires c).After-rest-1 in
+name_at-requires c = let d = (goal.at.name_at-requires c).In-loop-k in
     let has = sym (any-bodies (rule_at (drop (i d) (t d))) _) ∙ tells (goal.at.name_at-requires c).After-has_body ∙ c.if-has_body.true in record { rule = rw (tail_of (i d) (t d)) ((at d).sound, has) }
 
 pub returns-then-has_body : goal.returns-then-has_body
 returns-then-has_body c =
     let b = c in
-    let d = (goal.at.returns-then-has_body c).After-rest-1 in
+    let d = (goal.at.returns-then-has_body c).In-loop-k in
     let l = d.loop-k in
-    let here = one_passes (at d) (with (s d).args.body.now) (tells (goal.at.returns-then-has_body c).After-has_body ∙ b.if-has_body.true) in
+    let here = one_passes (at d) (with d.args.body.now) (tells (goal.at.returns-then-has_body c).After-has_body ∙ b.if-has_body.true) in
     λ ws H. rw (← H.are) (λ called K.
     rw (l.invariant.1 ∙ here) (c.name_at.ensures called (rw (tail_of (i d) (t d)) (λ w. K.by_name ((at d).weighted w))) (rw (tail_of (i d) (t d)) ((at d).kept called K.by_rule))))
 
 pub next_rule-i-requires : goal.next_rule-i-requires
-next_rule-i-requires c = record { here = (at (goal.at.next_rule-i-requires c).After-rest-1).here }
+next_rule-i-requires c = record { here = (at (goal.at.next_rule-i-requires c).In-loop-k).here }
 
 pub loop-k-preserved : goal.loop-k-preserved
 loop-k-preserved c =
     let b = c in
-    let d = (goal.at.loop-k-preserved c).After-rest-1 in
+    let d = (goal.at.loop-k-preserved c).In-loop-k in
     let l = d.loop-k in
-    rw c.next_rule-i.ensures.0 ((at d).next, l.invariant.1 ∙ none_passes (at d) (with (s d).args.body.now) (tells (goal.at.loop-k-preserved c).After-has_body ∙ b.if-has_body.false))
+    rw c.next_rule-i.ensures.next.0 ((at d).next, l.invariant.1 ∙ none_passes (at d) (with d.args.body.now) (tells (goal.at.loop-k-preserved c).After-has_body ∙ b.if-has_body.false))
 
 pub returns : goal.returns
 returns c =
@@ -82,7 +83,7 @@ returns c =
     λ ws H. rw (← H.are) (λ called K. rw (l.invariant.1, no-plain-rules l.invariant.0 c.loop-k-test.false))
 
 pub bounds-names-k : goal.bounds-names-k
-bounds-names-k c = omega (arith, c.loop-k-test.true, (s (goal.at.bounds-names-k c).After-rest-1).pre.1)
+bounds-names-k c = omega (arith, c.loop-k-test.true, (s (goal.at.bounds-names-k c).In-loop-k).requires.program.1)
 
 pub loop-k-smaller : goal.loop-k-smaller
 loop-k-smaller c = omega arith

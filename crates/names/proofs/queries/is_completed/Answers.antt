@@ -12,15 +12,16 @@ use Rattle.names.specs.Queries.{Kept, completing}
 use Rattle.names.proofs.ByRule.{course-start, no-plain-rules, Turn, turn, one_passes, none_passes}
 use borrow.Author.Rules.{rules}
 use Rattle.names.proofs.queries.is_completed.Goals as goal
-use Rattle.names.proofs.queries.is_completed.Goals.{After-rest-1, Start, After-completes}
+use Rattle.names.proofs.queries.is_completed.Goals.{In-loop-k, After-completes}
+use Rattle.names.proofs.queries.is_completed.Lts.View as view
+use Rattle.names.proofs.queries.is_completed.Reads as reads
+use Rattle.names.proofs.queries.is_completed.Tie as tie
 
 -- the words from i on, and the rule there
-module _ (c : After-rest-1) where
-  abbrev s : Start
-  s = c.before
+module _ (c : In-loop-k) where
 
   abbrev t : List ℤ
-  t = s.args.table.now
+  t = c.args.table.now
 
   abbrev i : ℕ
   i = c.loop-k.i
@@ -30,14 +31,14 @@ module _ (c : After-rest-1) where
 
 -- what the call tells of the rule
 tells : (c : After-completes) (called : List ℤ → ℕ)
-    → (let d = c.before in
-    let a = (s d).args in
+    → (let d = (view.up-In-loop-k tie.the-claims reads.Pre reads.Post goal.the-invariant-loop-k goal.the-decreases-loop-k tie.handed_clauses (view.up-At-loop-k tie.the-claims reads.Pre reads.Post goal.the-invariant-loop-k goal.the-decreases-loop-k tie.handed_clauses c.before.before.before.before.before.before)) in
+    let a = d.args in
     Kept a.names.now a.bodies.now called (rules_at a.rules (t d))
     → any (completing called a.heads.now a.name) (expand_rule (rule_at (drop (i d) (t d)))) ≡ c.completes.result)
 tells c called K =
-    let d = c.before in
-    let b = d.before in
-    sym (rw (tail_of (i d) (t d)) at (c.completes.ensures (s d).args.bodies.now called (rw (tail_of (i d) (t d)) (λ w. K.by_name ((at d).weighted w))) b.body_of-recorded.ensures (s d).requires.name.0
+    let d = (view.up-In-loop-k tie.the-claims reads.Pre reads.Post goal.the-invariant-loop-k goal.the-decreases-loop-k tie.handed_clauses (view.up-At-loop-k tie.the-claims reads.Pre reads.Post goal.the-invariant-loop-k goal.the-decreases-loop-k tie.handed_clauses c.before.before.before.before.before.before)) in
+    let b = (view.up-After-body_of-recorded tie.the-claims reads.Pre reads.Post goal.the-invariant-loop-k goal.the-decreases-loop-k tie.handed_clauses c.before.before.before.before.before.before.before.before.before.before.before) in
+    sym (rw (tail_of (i d) (t d)) at (c.completes.ensures d.args.bodies.now called (rw (tail_of (i d) (t d)) (λ w. K.by_name ((at d).weighted w))) b.body_of-recorded.ensures d.requires.name.0
     (rw (tail_of (i d) (t d)) ((at d).kept called K.by_rule))))
 
 pub loop-k-init : goal.loop-k-init
@@ -49,25 +50,25 @@ pub offset_bounds-table-i : goal.offset_bounds-table-i
 offset_bounds-table-i c = let w = c.loop-k.invariant.0.cursor.within in search rules
 
 pub completes-requires : goal.completes-requires
-completes-requires c = let d = (goal.at.completes-requires c).After-rest-1 in
-    let b = c in let all = rw (tail_of (i d) (t d)) ((at d).sound, (b.body_of-recorded.auto.row, ((s d).args.bodies.now, b.body_of-recorded.ensures))) in record { rule = all.0; row = all.1 }
+completes-requires c = let d = (goal.at.completes-requires c).In-loop-k in
+    let b = c in let all = rw (tail_of (i d) (t d)) ((at d).sound, (b.body_of-recorded.auto.row, (d.args.bodies.now, b.body_of-recorded.ensures))) in record { rule = all.0; row = all.1 }
 
 pub returns-then-completes : goal.returns-then-completes
 returns-then-completes c =
     let b = (goal.at.returns-then-completes c).After-completes in
-    let d = (goal.at.returns-then-completes c).After-rest-1 in
+    let d = (goal.at.returns-then-completes c).In-loop-k in
     let l = d.loop-k in
     λ ws H. rw (← H.are) (λ called K. sym (l.invariant.1 called K ∙ one_passes (at d) _ (tells b called K ∙ c.if-completes.true)))
 
 pub next_rule-i-requires : goal.next_rule-i-requires
-next_rule-i-requires c = record { here = (at (goal.at.next_rule-i-requires c).After-rest-1).here }
+next_rule-i-requires c = record { here = (at (goal.at.next_rule-i-requires c).In-loop-k).here }
 
 pub loop-k-preserved : goal.loop-k-preserved
 loop-k-preserved c =
     let e = c in
-    let d = (goal.at.loop-k-preserved c).After-rest-1 in
+    let d = (goal.at.loop-k-preserved c).In-loop-k in
     let l = d.loop-k in
-    rw c.next_rule-i.ensures.0 ((at d).next, λ called K. l.invariant.1 called K ∙ none_passes (at d) _ (tells (goal.at.loop-k-preserved c).After-completes called K ∙ e.if-completes.false))
+    rw c.next_rule-i.ensures.next.0 ((at d).next, λ called K. l.invariant.1 called K ∙ none_passes (at d) _ (tells (goal.at.loop-k-preserved c).After-completes called K ∙ e.if-completes.false))
 
 pub returns : goal.returns
 returns c =
@@ -78,7 +79,7 @@ pub body_of-recorded-requires : goal.body_of-recorded-requires
 body_of-recorded-requires c = (c.requires.name.1, omega arith)
 
 pub bounds-names-k : goal.bounds-names-k
-bounds-names-k c = omega (arith, (s (goal.at.bounds-names-k c).After-rest-1).pre.0.1, c.loop-k-test.true)
+bounds-names-k c = omega (arith, (s (goal.at.bounds-names-k c).In-loop-k).requires.program.1, c.loop-k-test.true)
 
 pub loop-k-smaller : goal.loop-k-smaller
 loop-k-smaller c = omega arith

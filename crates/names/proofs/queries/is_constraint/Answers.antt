@@ -12,15 +12,13 @@ use Rattle.names.specs.Queries.{constraining}
 use Rattle.names.proofs.ByRule.{course-start, no-plain-rules, Turn, turn, one_passes, none_passes}
 use borrow.Author.Rules.{rules}
 use Rattle.names.proofs.queries.is_constraint.Goals as goal
-use Rattle.names.proofs.queries.is_constraint.Goals.{After-rest-1, Start, After-constrains}
+use Rattle.names.proofs.queries.is_constraint.Goals.{In-loop-k, After-constrains}
 
 -- the words from i on, and the rule there
-module _ (c : After-rest-1) where
-  abbrev s : Start
-  s = c.before
+module _ (c : In-loop-k) where
 
   abbrev t : List ℤ
-  t = s.args.table.now
+  t = c.args.table.now
 
   abbrev i : ℕ
   i = c.loop-k.i
@@ -30,8 +28,8 @@ module _ (c : After-rest-1) where
 
 -- what the call tells of the rule
 tells : (c : After-constrains)
-    → (let d = c.before in any (constraining (s d).args.body.now) (expand_rule (rule_at (drop (i d) (t d)))) ≡ c.constrains.result)
-tells c = let d = c.before in sym (rw (tail_of (i d) (t d)) at c.constrains.ensures)
+    → (let d = c.before.before in any (constraining d.args.body.now) (expand_rule (rule_at (drop (i d) (t d)))) ≡ c.constrains.result)
+tells c = let d = c.before.before in sym (rw (tail_of (i d) (t d)) at c.constrains.ensures)
 
 pub loop-k-init : goal.loop-k-init
 loop-k-init c = (course-start c.args.table.now c.args.rules [] c.requires.1.sound, refl)
@@ -40,24 +38,24 @@ pub offset_bounds-table-i : goal.offset_bounds-table-i
 offset_bounds-table-i c = let w = c.loop-k.invariant.0.cursor.within in search rules
 
 pub constrains-requires : goal.constrains-requires
-constrains-requires c = rw (tail_of (i c) (t c)) (at c).sound
+constrains-requires c = rw (tail_of (i (goal.at.constrains-requires c).In-loop-k) (t (goal.at.constrains-requires c).In-loop-k)) (at (goal.at.constrains-requires c).In-loop-k).sound
 
 pub returns-then-constrains : goal.returns-then-constrains
 returns-then-constrains c =
     let b = (goal.at.returns-then-constrains c).After-constrains in
-    let d = (goal.at.returns-then-constrains c).After-rest-1 in
+    let d = (goal.at.returns-then-constrains c).In-loop-k in
     let l = d.loop-k in
     λ ws H. rw (← H.are) (sym (l.invariant.1 ∙ one_passes (at d) _ (tells b ∙ c.if-constrains.true)))
 
 pub next_rule-i-requires : goal.next_rule-i-requires
-next_rule-i-requires c = record { here = (at (goal.at.next_rule-i-requires c).After-rest-1).here }
+next_rule-i-requires c = record { here = (at (goal.at.next_rule-i-requires c).In-loop-k).here }
 
 pub loop-k-preserved : goal.loop-k-preserved
 loop-k-preserved c =
     let e = c in
-    let d = (goal.at.loop-k-preserved c).After-rest-1 in
+    let d = (goal.at.loop-k-preserved c).In-loop-k in
     let l = d.loop-k in
-    rw c.next_rule-i.ensures.0 ((at d).next, l.invariant.1 ∙ none_passes (at d) _ (tells (goal.at.loop-k-preserved c).After-constrains ∙ e.if-constrains.false))
+    rw c.next_rule-i.ensures.next.0 ((at d).next, l.invariant.1 ∙ none_passes (at d) _ (tells (goal.at.loop-k-preserved c).After-constrains ∙ e.if-constrains.false))
 
 pub returns : goal.returns
 returns c =

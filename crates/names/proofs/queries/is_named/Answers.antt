@@ -31,7 +31,7 @@ module _ (c : Else-not-is_weighted) where
 pub slice_bounds-is_body-end : goal.slice_bounds-is_body-end
 slice_bounds-is_body-end c =
     let d = c in
-    let s = d.before in
+    let s = d.before.before.before.before in
     sym (length-take-le _ _ (omega (arith, told-few _ s.args.row.now s.args.name d.in-Body.is s.requires.row.1.1, s.requires.row.0)))
 
 pub is_body-requires : goal.is_body-requires

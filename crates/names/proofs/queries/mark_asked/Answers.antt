@@ -9,6 +9,9 @@ use Rattle.names.proofs.Choosing.{also-none, also_one}
 use Rattle.names.proofs.Asked.{asked-bodies, weight-bodies, plain-bodies, plain_entry}
 use Rattle.names.proofs.queries.mark_asked.Goals as goal
 use Rattle.names.proofs.queries.mark_asked.Goals.{After-asks_heads, After-is_weighted, After-any_inside}
+use Rattle.names.proofs.queries.mark_asked.Lts.View as view
+use Rattle.names.proofs.queries.mark_asked.Reads as reads
+use Rattle.names.proofs.queries.mark_asked.Tie as tie
 
 heads : (c : After-asks_heads)
     → (let a = c.args in asks_heads a.query a.inside.now (heads_at a.words.now) ≡ c.asks_heads.result)
@@ -23,7 +26,7 @@ module _ (c : After-is_weighted) where
   weighted = sym c.is_weighted.ensures
 
   asked : (let a = c.args in asks_heads a.query a.inside.now (heads_at a.words.now) ≡ true)
-  asked = heads c.before ∙ c.if-not-asks_heads.false
+  asked = heads (view.up-After-asks_heads tie.the-claims reads.Pre reads.Post c.before.before.before) ∙ c.if-not-asks_heads.false
 
 pub mark_bodies-requires : goal.mark_bodies-requires
 mark_bodies-requires c =
@@ -43,7 +46,7 @@ returns-then-is_weighted c =
 -- a plain rule
 module _ (c : After-any_inside) where
   plain : is_weighted c.args.words.now ≡ false
-  plain = let d = c.before in weighted d.before ∙ d.if-is_weighted.false
+  plain = let d = c in weighted d.before ∙ d.if-is_weighted.false
 
   inside : (let a = c.args in
       any (is_inside a.inside.now) (body_words_at a.words.now) ≡ c.any_inside.result)

@@ -8,36 +8,34 @@ use Rattle.nogoods.specs.Index.{proved_cells, covered_at, key_of, linked_in}
 use Rattle.nogoods.specs.Records.{nogood_at}
 use Rattle.nogoods.proofs.Indexing.{same-part}
 use Rattle.nogoods.proofs.chains.enter.Goals as goal
-use Rattle.nogoods.proofs.chains.enter.Goals.{After-slice_known-2-1, Start}
+use Rattle.nogoods.proofs.chains.enter.Goals.{After-link}
 
 pub link-requires : goal.link-requires
 link-requires c = let p = c.requires in
     let k = c.key_of.ensures.upper_bound in record { place = (omega (arith, p.0), k); index = (p.1.0, p.1.1 _ k) }
 
 -- the cells that are lent on
-module _ (c : After-slice_known-2-1) where
-  abbrev s : Start
-  s = c.before
+module _ (c : After-link) where
 
   abbrev w : List ℕ
-  w = set c.link.new.index (covered_at s.args.m) s.args.end
+  w = set c.link.new.index (covered_at c.args.m) c.args.end
 
-  same_size : length w ≡ length s.args.index.now
-  same_size = length-set c.link.new.index (covered_at s.args.m) s.args.end ∙ c.link.auto.index
+  same_size : length w ≡ length c.args.index.now
+  same_size = length-set c.link.new.index (covered_at c.args.m) c.args.end ∙ c.link.auto.index
 
-  long : proved_cells s.args.m ≤ length w
-  long = omega (arith, same_size, s.pre.1.0.0)
+  long : proved_cells c.args.m ≤ length w
+  long = omega (arith, same_size, c.requires.index.0.0)
 
-  written : w ≡ set (linked_in s.args.m s.args.index.now s.args.r (key_of s.args.m (nogood_at s.args.store.now s.args.r))) (covered_at s.args.m) s.args.end
+  written : w ≡ set (linked_in c.args.m c.args.index.now c.args.r (key_of c.args.m (nogood_at c.args.store.now c.args.r))) (covered_at c.args.m) c.args.end
   written =
       let k = c.key_of.ensures.value in
       let g = c.nogood_at.ensures in
-      ap (λ (l : List ℕ). set l (covered_at s.args.m) s.args.end) (c.link.ensures ∙ ap (linked_in s.args.m s.args.index.now s.args.r) (k ∙ ap (key_of s.args.m) g))
+      ap (λ (l : List ℕ). set l (covered_at c.args.m) c.args.end) (c.link.ensures ∙ ap (linked_in c.args.m c.args.index.now c.args.r) (k ∙ ap (key_of c.args.m) g))
 
 pub slice_bounds-enter-count : goal.slice_bounds-enter-count
-slice_bounds-enter-count c = long c
+slice_bounds-enter-count c = long (goal.at.slice_bounds-enter-count c).After-link
 
 pub returns : goal.returns
 returns c j h =
-    let k = (goal.at.returns c).After-slice_known-2-1 in
-    same-part (proved_cells (s k).args.m) (w k) c.enter.new.cells.0 (long k) c.enter.auto.cells j h ∙ ap (λ (l : List ℕ). get_or l j 0) (written k)
+    let k = (goal.at.returns c).After-link in
+    same-part (proved_cells k.args.m) (w k) c.enter.new.cells.0 (long k) c.enter.auto.cells j h ∙ ap (λ (l : List ℕ). get_or l j 0) (written k)

@@ -11,7 +11,7 @@ use Rattle.nogoods.specs.Records.{end_at}
 use Rattle.nogoods.specs.Index.{Keeps, Start, key_of, before_of, reach}
 use Rattle.nogoods.proofs.Indexing.{roomy, front, start-room, is-wanted, not-wanted, target-member}
 use Rattle.nogoods.proofs.chains.walk.Goals as goal
-use Rattle.nogoods.proofs.chains.walk.Goals.{In-loop-p, Start}
+use Rattle.nogoods.proofs.chains.walk.Goals.{In-loop-p}
 
 -- no words are reached
 pub returns-then-m-eq0 : goal.returns-then-m-eq0
@@ -39,8 +39,6 @@ loop-p-init c stored K =
 
 -- the place x
 module _ (c : In-loop-p) where
-  abbrev s : Start
-  s = c.before
 
   abbrev x : ℕ
   x = c.loop-p.p - 1
@@ -52,29 +50,29 @@ module _ (c : In-loop-p) where
   m = c.scale_of-m.result
 
   -- the scale of any index that is kept
-  scaled : {stored : List Stored} (K : Keeps s.args.store.now s.args.index.now s.args.used stored) → K.scale ≡ m
+  scaled : {stored : List Stored} (K : Keeps c.args.store.now c.args.index.now c.args.used stored) → K.scale ≡ m
   scaled K = K.size ∙ sym c.scale_of-m.ensures.value
 
-  abbrev keeps : Keeps s.args.store.now s.args.index.now s.args.used s.pre.0
-  keeps = s.pre.1
+  abbrev keeps : Keeps c.args.store.now c.args.index.now c.args.used c.requires.0
+  keeps = c.requires.1
 
   abbrev key : ℕ
-  key = key_of keeps.scale s.args.literals.now
+  key = key_of keeps.scale c.args.literals.now
 
   start : Start keeps.scale (front keeps) x key
-  start = (c.loop-p.invariant s.pre.0 keeps).ahead x is
+  start = (c.loop-p.invariant c.requires.0 keeps).ahead x is
 
-  room : (end_at s.args.store.now x ≤ length s.args.store.now) × (x < reach keeps.scale)
+  room : (end_at c.args.store.now x ≤ length c.args.store.now) × (x < reach keeps.scale)
   room = start-room keeps x key start
 
-  less : before_of m s.args.index.now x < c.loop-p.p
-  less = subst (λ (k : ℕ). before_of k s.args.index.now x < c.loop-p.p) (scaled keeps) (step_less keeps.covers.chains x is (c.loop-p.invariant s.pre.0 keeps))
+  less : before_of m c.args.index.now x < c.loop-p.p
+  less = subst (λ (k : ℕ). before_of k c.args.index.now x < c.loop-p.p) (scaled keeps) (step_less keeps.covers.chains x is (c.loop-p.invariant c.requires.0 keeps))
 
 pub entry_after-p-requires : goal.entry_after-p-requires
 entry_after-p-requires c =
     let t = scaled c (keeps c) in
     let x = (room c).1 in
-    (roomy (s c).args.index.now (m c) (sym t ∙ (keeps c).size) (omega (arith, x, t)), omega (arith, x, t))
+    (roomy c.args.index.now (m c) (sym t ∙ (keeps c).size) (omega (arith, x, t)), omega (arith, x, t))
 
 pub is_target-requires : goal.is_target-requires
 is_target-requires c = (room (goal.at.is_target-requires c).In-loop-p).0
@@ -86,8 +84,8 @@ pub loop-p-preserved-then-is_target : goal.loop-p-preserved-then-is_target
 loop-p-preserved-then-is_target c stored K =
     let i = (goal.at.loop-p-preserved-then-is_target c).In-loop-p in
     let w = i.loop-p.invariant stored K in
-    rw (c.entry_after-p.ensures ∙ ap (λ (k : ℕ). before_of k (s i).args.index.now (x i)) (sym (scaled i K)))
-    (step-found K.covers.chains (x i) (is i) w (is-wanted K _ (x i) (key_of K.scale (s i).args.literals.now) (w.ahead (x i) (is i)) (sym c.is_target.ensures ∙ c.if-is_target.true)))
+    rw (c.entry_after-p.ensures ∙ ap (λ (k : ℕ). before_of k i.args.index.now (x i)) (sym (scaled i K)))
+    (step-found K.covers.chains (x i) (is i) w (is-wanted K _ (x i) (key_of K.scale i.args.literals.now) (w.ahead (x i) (is i)) (sym c.is_target.ensures ∙ c.if-is_target.true)))
 
 pub loop-p-smaller : goal.loop-p-smaller
 loop-p-smaller c = rw c.entry_after-p.ensures (less (goal.at.loop-p-smaller c).In-loop-p)
@@ -96,7 +94,7 @@ pub loop-p-preserved : goal.loop-p-preserved
 loop-p-preserved c stored K =
     let i = (goal.at.loop-p-preserved c).In-loop-p in
     let w = i.loop-p.invariant stored K in
-    rw (c.entry_after-p.ensures ∙ ap (λ (k : ℕ). before_of k (s i).args.index.now (x i)) (sym (scaled i K)))
+    rw (c.entry_after-p.ensures ∙ ap (λ (k : ℕ). before_of k i.args.index.now (x i)) (sym (scaled i K)))
     (step_past K.covers.chains (x i) (is i) w (not-wanted K _ (x i) (sym c.is_target.ensures ∙ c.if-is_target.false)))
 
 pub returns-then-found-eq0 : goal.returns-then-found-eq0

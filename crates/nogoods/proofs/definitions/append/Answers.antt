@@ -13,28 +13,26 @@ use Rattle.nogoods.proofs.Stored.{full, added, added-origins}
 use Rattle.nogoods.proofs.Defined.{defined-size, defined-literals}
 use Rattle.nogoods.proofs.Indexing.{covers_more}
 use Rattle.nogoods.proofs.definitions.append.Goals as goal
-use Rattle.nogoods.proofs.definitions.append.Goals.{After-make_room-end, Start}
+use Rattle.nogoods.proofs.definitions.append.Goals.{After-make_room-end}
 
 -- what is held once there is room
 module _ (c : After-make_room-end) where
-  abbrev s : Start
-  s = c.before
 
   abbrev l : List ℤ
-  l = s.args.numbers.now
+  l = c.args.numbers.now
 
   abbrev new : List Stored
-  new = added_in s.args.origin (defined l)
+  new = added_in c.args.origin (defined l)
 
   size : length (words_of new) ≡ defined_size (length l)
-  size = defined-size s.args.origin l s.pre.1.1.1
+  size = defined-size c.args.origin l c.requires.numbers.1
 
-  held : (stored : List Stored) → Keeps s.args.store.now s.args.index.now s.args.used stored
-      → Keeps c.make_room-end.new.store c.make_room-end.new.index c.make_room-end.result (kept_for (length s.args.store.now) (length (words_of new)) stored)
+  held : (stored : List Stored) → Keeps c.args.store.now c.args.index.now c.args.used stored
+      → Keeps c.make_room-end.new.store c.make_room-end.new.index c.make_room-end.result (kept_for (length c.args.store.now) (length (words_of new)) stored)
   held stored K = rw size (c.make_room-end.ensures stored K)
 
   end-in : c.make_room-end.result ≤ length c.make_room-end.new.store
-  end-in = (held s.pre.0.0 s.pre.0.1).holds.fits
+  end-in = (held c.requires.held.0 c.requires.held.1).holds.fits
 
 pub overflow_sub-store : goal.overflow_sub-store
 overflow_sub-store c = end-in (goal.at.overflow_sub-store c).After-make_room-end
@@ -43,20 +41,20 @@ pub returns-then-store-end : goal.returns-then-store-end
 returns-then-store-end c =
     λ stored K.
     let m = (goal.at.returns-then-store-end c).After-make_room-end in
-    full K.holds (new m) (size m) (closed-added (s m).args.origin (defined (l m))) m.make_room-end.auto.store (held m stored K).holds c.if-store-end.true
+    full K.holds (new m) (size m) (closed-added m.args.origin (defined (l m))) m.make_room-end.auto.store (held m stored K).holds c.if-store-end.true
 
 pub write_definition-requires : goal.write_definition-requires
 write_definition-requires c = let e = c in
     let m = (goal.at.write_definition-requires c).After-make_room-end in
-    let p = (s m).requires.1 in record { origin = p.0.1; numbers = p.1; room = rw (tail_of m.make_room-end.result m.make_room-end.new.store, length-drop) (omega (arith, e.if-store-end.false, p.1)) }
+    let p = m.requires.1 in record { origin = p.0.1; numbers = p.1; room = rw (tail_of m.make_room-end.result m.make_room-end.new.store, length-drop) (omega (arith, e.if-store-end.false, p.1)) }
 
 pub returns : goal.returns
 returns c =
     λ stored K.
     let w = c.write_definition in
     let m = (goal.at.returns c).After-make_room-end in
-    let o = (s m).args.origin in
-    let p = (s m).requires.1 in
+    let o = m.args.origin in
+    let p = m.requires.1 in
     let G = held m stored K in
     record {
       holds = added G.holds (new m) (size m) (defined-literals o (l m) p.1.1 p.1.0) (added-origins o p.0.0 (defined (l m)))

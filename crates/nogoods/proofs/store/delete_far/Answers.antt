@@ -5,20 +5,20 @@ use Rattle.nogoods.specs.Keeps.{Holds}
 use Rattle.nogoods.specs.Finds.{Skips}
 use Rattle.nogoods.proofs.Stored.{Hit, hit, miss, hit-room, hit-killed}
 use Rattle.nogoods.proofs.store.delete_far.Goals as goal
-use Rattle.nogoods.proofs.store.delete_far.Goals.{In-At-2}
+use Rattle.nogoods.proofs.store.delete_far.Goals.{In-At}
 
 -- the nogood that was found
-found : (c : In-At-2) (stored : List Stored) → let a = c.args in
+found : (c : In-At) (stored : List Stored) → let a = c.args in
     Holds a.store.now a.used stored → Skips a.from a.literals.now stored → Hit 0 c.in-At.i a.literals.now stored
 found c stored H S = hit 0 _ _ stored (sym (c.find.ensures stored H S) ∙ c.in-At.is)
 
 pub kill-requires : goal.kill-requires
-kill-requires c = let d = (goal.at.kill-requires c).In-At-2 in let p = d.requires in hit-room p.1 (found d p.0 p.1 p.2)
+kill-requires c = let d = (goal.at.kill-requires c).In-At in let p = d.requires in hit-room p.1 (found d p.0 p.1 p.2)
 
 pub returns-in-At : goal.returns-in-At
 returns-in-At c =
     λ stored H S.
-    let d = (goal.at.returns-in-At c).In-At-2 in
+    let d = (goal.at.returns-in-At c).In-At in
     rw c.kill.ensures (hit-killed H (found d stored H S))
 
 pub returns-in-Nothing : goal.returns-in-Nothing

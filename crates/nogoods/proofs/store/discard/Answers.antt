@@ -7,40 +7,38 @@ use Rattle.nogoods.specs.declared.chains.Spot.{Spot}
 use Rattle.nogoods.specs.declared.chains.Spot.TheVariants.{Nowhere}
 use Rattle.nogoods.proofs.Indexing.{spotted, skips, covers-far}
 use Rattle.nogoods.proofs.store.discard.Goals as goal
-use Rattle.nogoods.proofs.store.discard.Goals.{After-cover, Start, After-walk-spot, In-Nowhere}
+use Rattle.nogoods.proofs.store.discard.Goals.{After-cover, After-walk-spot, In-Nowhere}
 
 -- what is kept after covering
 module _ (c : After-cover) where
-  abbrev s : Start
-  s = c.before
 
-  covered : (stored : List Stored) → Keeps s.args.store.now s.args.index.now s.args.used stored
-      → Keeps s.args.store.now c.cover.new.index.0 s.args.used stored
+  covered : (stored : List Stored) → Keeps c.args.store.now c.args.index.now c.args.used stored
+      → Keeps c.args.store.now c.cover.new.index.0 c.args.used stored
   covered = c.cover.ensures
 
 pub walk-spot-requires : goal.walk-spot-requires
-walk-spot-requires c = let d = (goal.at.walk-spot-requires c).After-slice_known-1 in let p = (s d).requires in (p.0, covered d p.0 p.1)
+walk-spot-requires c = let d = (goal.at.walk-spot-requires c).Start in let p = d.requires in (p.0, covered d p.0 p.1)
 
 -- what the walk said
 module _ (c : After-walk-spot) where
   abbrev d : After-cover
-  d = c.before
+  d = c.before.before.before.before.before.before
 
-  said : (t : Spot) → c.walk-spot.result ≡ t → (stored : List Stored) (K : Keeps (s d).args.store.now d.cover.new.index.0 (s d).args.used stored)
-      → Spotted K.scale K.covers.front (s d).args.literals.now d.cover.new.index.0 t
-  said t e stored K = spotted K.scale K.covers.front (s d).args.literals.now d.cover.new.index.0 c.walk-spot.result t e (c.walk-spot.ensures stored K)
+  said : (t : Spot) → c.walk-spot.result ≡ t → (stored : List Stored) (K : Keeps d.args.store.now d.cover.new.index.0 d.args.used stored)
+      → Spotted K.scale K.covers.front d.args.literals.now d.cover.new.index.0 t
+  said t e stored K = spotted K.scale K.covers.front d.args.literals.now d.cover.new.index.0 c.walk-spot.result t e (c.walk-spot.ensures stored K)
 
 pub delete_near-requires : goal.delete_near-requires
 delete_near-requires c =
     let w = (goal.at.delete_near-requires c).After-walk-spot in
-    let p = (s (d w)).pre in
+    let p = (s (d w)).requires in
     let K = covered (d w) p.0 p.1 in
     (p.0, K, said w _ c.in-Here.is p.0 K)
 
 -- no nogood in front has the literals
 module _ (c : In-Nowhere) where
   abbrev w : After-walk-spot
-  w = c.before
+  w = c.before.before
 
   none : (stored : List Stored) (K : Keeps (s (d w)).args.store.now (s (d w)).args.index.now (s (d w)).args.used stored)
       → Spotted (covered (d w) stored K).scale (covered (d w) stored K).covers.front (s (d w)).args.literals.now (d w).cover.last.1.1.0 Nowhere
@@ -48,8 +46,8 @@ module _ (c : In-Nowhere) where
 
 pub delete_far-requires : goal.delete_far-requires
 delete_far-requires c =
-    let e = (goal.at.delete_far-requires c).In-Nowhere-1 in
-    let p = (s (d (w e))).pre in
+    let e = (goal.at.delete_far-requires c).In-Nowhere in
+    let p = (s (d (w e))).requires in
     let K = covered (d (w e)) p.0 p.1 in
     (p.0, K.holds, skips _ K _ c.covered-from.ensures (none e p.0 p.1))
 
@@ -65,7 +63,7 @@ pub returns-in-Nowhere : goal.returns-in-Nowhere
 returns-in-Nowhere c =
     λ stored K.
     let a = c in
-    let e = (goal.at.returns-in-Nowhere c).In-Nowhere-1 in
+    let e = (goal.at.returns-in-Nowhere c).In-Nowhere in
     let G = covered (d (w e)) stored K in
     record {
       holds = c.delete_far.ensures stored G.holds (skips _ G _ a.covered-from.ensures (none e stored K));

@@ -50,15 +50,15 @@ pub returns-then-is_target : goal.returns-then-is_target
 returns-then-is_target c =
     λ stored H S.
     let k = i (goal.at.returns-then-is_target c).After-is_target in
-    let w = k.loop-i.inv stored H S in
-    let h = k.loop-i-test.taken in
+    let w = k.loop-i.invariant stored H S in
+    let h = k.loop-i-test.true in
     sym (found_here _ k.args.literals.now (it k) (rest_at w h).others (tells (goal.at.returns-then-is_target c).After-is_target ∙ c.if-is_target.true)) ∙ rest-first w h
 
 pub end_at-i-requires : goal.end_at-i-requires
 end_at-i-requires c = room (i (goal.at.end_at-i-requires c).After-is_target)
 
 pub loop-i-smaller : goal.loop-i-smaller
-loop-i-smaller c = omega (arith, (i (goal.at.loop-i-smaller c).After-is_target).loop-test.taken, c.end_at-i.ensures)
+loop-i-smaller c = omega (arith, (i (goal.at.loop-i-smaller c).After-is_target).loop-test.true, c.end_at-i.ensures)
 
 pub loop-i-preserved : goal.loop-i-preserved
 loop-i-preserved c =
@@ -66,8 +66,8 @@ loop-i-preserved c =
     let k = i o in
     let L = k.args.literals.now in
     rw c.end_at-i.ensures (λ stored H S.
-    let w = k.loop-i.inv stored H S in
-    let h = k.loop-i-test.taken in
+    let w = k.loop-i.invariant stored H S in
+    let h = k.loop-i-test.true in
     rest-next w h (λ es q. ap (λ m. found_at m L es) (rest_at w h).size ∙ sym (found-on _ L (it k) es (tells o ∙ c.if-is_target.false)) ∙ q))
 
 pub returns : goal.returns

@@ -29,4 +29,4 @@ returns c =
     let a = c.args in
     let w = get_or a.store.now a.r (pos 0) in
     let f = sfits_of {w = w32} {z = w} c.store-1.given in
-    simp (to_z-of_z f, +ℤ_idl, to_z-of_z (fits w f c.requires.1))
+    simp (to_z-of_z f, +ℤ_idl, to_z-of_z {w = w32} (fits w f c.requires.1))

@@ -14,7 +14,7 @@ returns c stored K =
     let o = c in
     let k = c in
     let e = c in
-    let blank : BlankIndex k.clear.new.index.index.0 = rw k.clear.auto.index k.clear.ensures in
+    let blank : BlankIndex k.clear.new.index.index = rw k.clear.auto.index k.clear.ensures in
     rw (kept-live K.holds e.args.size (omega (arith, e.if-size-store.false)))
-    (keeps-part o.start_of-at.result k.clear.new.index.index.0 r.new.cells.0 o.start_of-at.ensures.upper_bound r.auto.cells o.start_of-at.ensures.value
+    (keeps-part o.start_of-at.result k.clear.new.index.index r.new.cells o.start_of-at.ensures.upper_bound r.auto.cells o.start_of-at.ensures.value
     (keeps-blank (c.close.ensures stored K.holds) blank))

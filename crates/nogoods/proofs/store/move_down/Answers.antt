@@ -9,7 +9,7 @@ use Rattle.words.proofs.Words.{back}
 use Rattle.nogoods.proofs.Closing.{moved_none, moved_more}
 use borrow.Author.Rules.{rules}
 use Rattle.nogoods.proofs.store.move_down.Goals as goal
-use Rattle.nogoods.proofs.store.move_down.Goals.{In-loop-k, Start}
+use Rattle.nogoods.proofs.store.move_down.Goals.{In-loop-k}
 
 pub returns-then-to-from : goal.returns-then-to-from
 returns-then-to-from c =
@@ -20,14 +20,12 @@ pub loop-k-init : goal.loop-k-init
 loop-k-init c = (omega arith, moved_none _ _ _)
 
 module _ (c : In-loop-k) where
-  abbrev a : Start
-  a = c.before
 
   -- the word to read and the one to write are there
-  room : let l = c.loop-k in (a.args.to + l.k < length l.words) × (a.args.from + l.k < length l.words)
+  room : let l = c.loop-k in (c.args.to + l.k < length l.words) × (c.args.from + l.k < length l.words)
   room =
       let v = c.loop-k.invariant.1.size in
-      (omega (arith, a.pre, v, c.loop-k-test.true), omega (arith, a.pre, v, c.loop-k-test.true))
+      (omega (arith, c.requires, v, c.loop-k-test.true), omega (arith, c.requires, v, c.loop-k-test.true))
 
 pub loop-k-preserved : goal.loop-k-preserved
 loop-k-preserved c =

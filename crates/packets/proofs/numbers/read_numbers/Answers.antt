@@ -18,7 +18,7 @@ use Rattle.packets.specs.Bytes.{numbers_from}
 use Rattle.packets.proofs.Littles.{length-numbers, number_at, part-is, room_at}
 use borrow.Author.Rules.{rules}
 use Rattle.packets.proofs.numbers.read_numbers.Goals as goal
-use Rattle.packets.proofs.numbers.read_numbers.Goals.{In-loop-i, After-signed_of-arg-1}
+use Rattle.packets.proofs.numbers.read_numbers.Goals.{In-loop-i}
 
 pub loop-i-init : goal.loop-i-init
 loop-i-init c = (omega arith, (omega arith, (refl, refl)))
@@ -27,16 +27,16 @@ loop-i-init c = (omega arith, (omega arith, (refl, refl)))
 room : (c : In-loop-i) → (let l = c.loop-i in let a = c.args in l.at + a.k ≤ length a.bytes.now)
 room c =
     let l = c.loop-i in
-    let a = c.before in
+    let a = c in
     rw l.invariant.1.0 (room_at a.args.k (length a.args.row.now) l.i (length a.args.bytes.now) (omega (arith, c.loop-i-test.true, l.invariant.1.1.1)) a.requires.1)
 
 -- they are k bytes
-part_length : (c : After-signed_of-arg-1)
+part_length : (c : In-loop-i)
     → (let l = c.loop-i in let a = c.args in length (take (l.at + a.k - l.at) (drop l.at a.bytes.now)) ≡ a.k)
 part_length c =
     let l = c.loop-i in
     let a = c.args in
-    rw (part-is a.k l.at a.bytes.now) (length-take-le a.k (drop l.at a.bytes.now) (omega (arith, room c.before, length-drop l.at a.bytes.now)))
+    rw (part-is a.k l.at a.bytes.now) (length-take-le a.k (drop l.at a.bytes.now) (omega (arith, room c, length-drop l.at a.bytes.now)))
 
 pub overflow_add-end : goal.overflow_add-end
 overflow_add-end c = record { fits = omega (arith, room c) }
@@ -47,7 +47,7 @@ slice_bounds-signed_of-count c = omega arith
 pub signed_of-requires : goal.signed_of-requires
 signed_of-requires c =
     let a = c in
-    let r = part_length c in
+    let r = part_length (goal.at.signed_of-requires c).In-loop-i in
     (omega (arith, r, a.requires.0), omega (arith, r, a.requires.0))
 
 pub offset_bounds-row-i : goal.offset_bounds-row-i
@@ -73,7 +73,7 @@ loop-i-preserved c =
     let s = numbers_from k n bytes in
     let h : l.i < n = omega (arith, c.loop-i-test.true, l.invariant.1.1.1) in
     let q = rw (part-is k l.at bytes, l.invariant.1.0) at c.Signed-of.ensures in
-    let v : to_z w32 (of_z w32 c.Signed-of.result) ≡ get_or s l.i (pos 0) = to_z-of_z (sfits_of {z = c.Signed-of.result} c.Signed-of.type_inv) ∙ (q ∙ sym (number_at k n bytes l.i h)) in
+    let v : to_z w32 (of_z w32 c.Signed-of.result) ≡ get_or s l.i (pos 0) = to_z-of_z {w = w32} (sfits_of {z = c.Signed-of.result} c.Signed-of.type_inv) ∙ (q ∙ sym (number_at k n bytes l.i h)) in
     (omega arith, (omega (arith, l.invariant.1.0, add-one l.i, mul-suc k l.i), (rw (v, l.invariant.1.1.0) (copy_more s row l.i (pos 0) (omega (arith, length-numbers k n bytes)) h), simp length-set l.invariant.1.1.1)))
 
 pub returns : goal.returns

@@ -12,7 +12,7 @@ use Rattle.packets.proofs.numbers.signed_of.Goals.{After-value_of-n}
 -- the value is in the range of 32 bits
 small : (c : After-value_of-n) → c.value_of-n.result < 2147483648
 small c =
-    let a = c.before in
+    let a = c in
     signed-bits a.args.bytes.now c.value_of-n.result a.requires.0 a.requires.1 (λ i. (c.shared_slice_known-1.given i).fits) c.value_of-n.ensures.0
 
 pub overflow_cast-n : goal.overflow_cast-n

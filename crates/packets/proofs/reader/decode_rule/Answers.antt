@@ -23,14 +23,14 @@ module _ (c : After-read_numbers) where
   row = let r = c.args.row.now in put_mid 1 (length r - 1) r c.read_numbers.new.row
 
   row_is : drop 1 row ≡ ws
-  row_is = let a = c.before in row_words a.args.row.now a.args.bytes.now (omega (arith, a.requires.0)) c.read_numbers.ensures
+  row_is = let a = c in row_words a.args.row.now a.args.bytes.now (omega (arith, a.requires.0)) c.read_numbers.ensures
 
 pub returns-in-One : goal.returns-in-One
 returns-in-One c =
-    let d = (goal.at.returns-in-One c).After-read_numbers-arg-1 in
+    let d = (goal.at.returns-in-One c).Start in
     rw c.in-One.is (c.take_rule.ensures (ws d) (c.put_kind.ensures ∙ ap with_kind (row_is d)))
 
 pub returns-in-Two : goal.returns-in-Two
 returns-in-Two c =
-    let d = (goal.at.returns-in-Two c).After-read_numbers-arg-1 in
+    let d = (goal.at.returns-in-Two c).Start in
     rw c.in-Two.is (c.take_rule-in-Two.ensures (ws d) (tail_of 1 (row d) ∙ row_is d))

@@ -13,46 +13,47 @@ use Rattle.packets.proofs.Littles.{length-numbers, numbers-later}
 use Rattle.packets.proofs.RulesRead.{filling-start, filling-kept, filling-full, filling-stop, filling-near, filling-on, filling-end}
 use borrow.Author.Rules.{rules}
 use Rattle.packets.proofs.reader.read_rules.Goals as goal
-use Rattle.packets.proofs.reader.read_rules.Goals.{In-loop-i, Start, After-read_rule-read}
+use Rattle.packets.proofs.reader.read_rules.Goals.{In-loop-i, After-read_rule-read}
+use Rattle.packets.proofs.reader.read_rules.Lts.View as view
+use Rattle.packets.proofs.reader.read_rules.Reads as reads
+use Rattle.packets.proofs.reader.read_rules.Tie as tie
 
 pub loop-i-init : goal.loop-i-init
 loop-i-init c = filling-start _ _ _
 
 -- the words, and those that are left
 module _ (c : In-loop-i) where
-  abbrev a : Start
-  a = c.before
 
   abbrev ws : List ℤ
-  ws = numbers_from 4 a.args.count a.args.bytes.now
+  ws = numbers_from 4 c.args.count c.args.bytes.now
 
   abbrev i : ℕ
   i = c.loop-i.i
 
-  long : length ws ≡ a.args.count
-  long = length-numbers 4 a.args.count a.args.bytes.now
+  long : length ws ≡ c.args.count
+  long = length-numbers 4 c.args.count c.args.bytes.now
 
   some_left : i < length ws
   some_left = omega (arith, long, c.loop-i-test.true)
 
-  room : 4 * i ≤ length a.args.bytes.now
-  room = omega (arith, a.pre, c.loop-i-test.true)
+  room : 4 * i ≤ length c.args.bytes.now
+  room = omega (arith, c.requires, c.loop-i-test.true)
 
 -- what is told of the rule there
 module _ (c : After-read_rule-read) where
   abbrev d : In-loop-i
-  d = c.before
+  d = (view.up-In-loop-i tie.the-claims reads.Pre reads.Post goal.the-invariant-loop-i goal.the-decreases-loop-i c.before.before.before.before.before)
 
   abbrev after : List ℤ
   after = c.read_rule-read.new.table
 
-  kept : length after ≡ length (a d).args.table.now
-  kept = c.read_rule-read.auto.table ∙ filling-kept d.loop-i.inv
+  kept : length after ≡ length d.args.table.now
+  kept = c.read_rule-read.auto.table ∙ filling-kept d.loop-i.invariant
 
-  told : RuleTold (a d).args.version (drop (i d) (ws d)) d.loop-i.table after d.loop-i.words c.read_rule-read.result
+  told : RuleTold d.args.version (drop (i d) (ws d)) d.loop-i.table after d.loop-i.words c.read_rule-read.result
   told =
-      let bytes = (a d).args.bytes.now in
-      rw (tail_of (4 * i d) bytes, numbers-later 4 (i d) (a d).args.count bytes (omega (arith, d.loop-i-test.taken))) at c.read_rule-read.ensures
+      let bytes = d.args.bytes.now in
+      rw (tail_of (4 * i d) bytes, numbers-later 4 (i d) d.args.count bytes (omega (arith, d.loop-i-test.true))) at c.read_rule-read.ensures
 
 pub returns-then-rules-ge-MOST_RULES : goal.returns-then-rules-ge-MOST_RULES
 returns-then-rules-ge-MOST_RULES c = let d = (goal.at.returns-then-rules-ge-MOST_RULES c).In-loop-i in rw (filling-full d.loop-i.invariant (some_left d) c.if-rules-ge-MOST_RULES.true) refl
@@ -66,40 +67,40 @@ slice_bounds-read_rule-count c = room (goal.at.slice_bounds-read_rule-count c).I
 pub read_rule-read-requires : goal.read_rule-read-requires
 read_rule-read-requires c =
     let d = (goal.at.read_rule-read-requires c).In-loop-i in
-    let bytes = (a d).args.bytes.now in
-    rw (tail_of (4 * i d) bytes) (omega (arith, length-drop (4 * i d) bytes, (a d).requires))
+    let bytes = d.args.bytes.now in
+    rw (tail_of (4 * i d) bytes) (omega (arith, length-drop (4 * i d) bytes, d.requires))
 
 pub returns-then-read-eq0 : goal.returns-then-read-eq0
 returns-then-read-eq0 c =
     let e = (goal.at.returns-then-read-eq0 c).After-read_rule-read in
     let f = d e in
-    rw (filling-stop f.loop-i.inv (some_left f) (told e) c.if-read-eq0.true) refl
+    rw (filling-stop f.loop-i.invariant (some_left f) (told e) c.if-read-eq0.true) refl
 
 pub overflow_add-i : goal.overflow_add-i
 overflow_add-i c =
     let e = (goal.at.overflow_add-i c).After-read_rule-read in
     let f = d e in
-    record { fits = omega (arith, (told e).within, length-drop (i f) (ws f), long f, (a f).fits.count, f.loop-i-test.taken) }
+    record { fits = omega (arith, (told e).within, length-drop (i f) (ws f), long f, f.fits.count, f.loop-i-test.true) }
 
 pub overflow_add-words : goal.overflow_add-words
 overflow_add-words c =
     let e = (goal.at.overflow_add-words c).After-read_rule-read in
     let f = d e in
-    let g = f.loop-i.inv in
+    let g = f.loop-i.invariant in
     let n = filling-near g (some_left f) (told e) c.if-read-eq0.false in
-    record { fits = omega (arith, n, (told e).within, length-drop (i f) (ws f), long f, room f, (a f).pre, g.near, g.few) }
+    record { fits = omega (arith, n, (told e).within, length-drop (i f) (ws f), long f, room f, f.requires, g.near, g.few) }
 
 pub overflow_add-rules : goal.overflow_add-rules
 overflow_add-rules c = record { fits = omega (arith, c.loop-i.invariant.few) }
 
 pub loop-i-smaller : goal.loop-i-smaller
-loop-i-smaller c = let f = d (goal.at.loop-i-smaller c).After-read_rule-read in omega (arith, c.if-read-eq0.false, f.loop-i-test.taken)
+loop-i-smaller c = let f = d (goal.at.loop-i-smaller c).After-read_rule-read in omega (arith, c.if-read-eq0.false, f.loop-i-test.true)
 
 pub loop-i-preserved : goal.loop-i-preserved
 loop-i-preserved c =
     let e = (goal.at.loop-i-preserved c).After-read_rule-read in
     let f = d e in
-    filling-on f.loop-i.inv (some_left f) (told e) c.if-read-eq0.false c.larger-top.ensures (omega (arith, c.if-rules-ge-MOST_RULES.false))
+    filling-on f.loop-i.invariant (some_left f) (told e) c.if-read-eq0.false c.larger-top.ensures (omega (arith, c.if-rules-ge-MOST_RULES.false))
 
 pub returns : goal.returns
 returns c =

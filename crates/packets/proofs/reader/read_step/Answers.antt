@@ -38,7 +38,7 @@ returns-in-Step c =
 module _ (c : After-class_of-class) where
   nothing : letter_in c.class_of-class.result ≡ none → step_at c.args.bytes.now ≡ none
   nothing e =
-      let a = c.before in
+      let a = c in
       no-letter a.args.bytes.now (size-bytes a.args.bytes.now a.requires.bytes_nonzero.0).0 (ap letter_in (sym c.class_of-class.ensures) ∙ e)
 
 pub returns-in-Newline : goal.returns-in-Newline

@@ -15,7 +15,10 @@ use Rattle.drupe.proofs.Rows.{into-told, into-room}
 use Rattle.packets.proofs.Writes.{put-length, stepping-start, stepping-on, stepping-end, stepping-refused}
 use borrow.Author.Rules.{rules}
 use Rattle.packets.proofs.writer.put_lines.Goals as goal
-use Rattle.packets.proofs.writer.put_lines.Goals.{At-loop-letter, After-step_at-answer, In-Line-2, Start}
+use Rattle.packets.proofs.writer.put_lines.Goals.{At-loop-letter, After-step_at-answer, In-Line, Start}
+use Rattle.packets.proofs.writer.put_lines.Lts.View as view
+use Rattle.packets.proofs.writer.put_lines.Reads as reads
+use Rattle.packets.proofs.writer.put_lines.Tie as tie
 
 pub loop-letter-init : goal.loop-letter-init
 loop-letter-init c = (stepping-start _ _ c.requires.0, length-replicate {A = ℤ} most_numbers (pos 0), length-replicate {A = ℤ} most_numbers (pos 0))
@@ -26,18 +29,18 @@ same c = put-length c.loop-letter.invariant.0.put
 
 -- where the loop stands, when a line was read there
 abbrev here : After-step_at-answer → At-loop-letter
-here c = c.before
+here c = c.before.before.before.before
 
 -- the line that was read
-module _ (c : In-Line-2) where
+module _ (c : In-Line) where
   abbrev b : After-step_at-answer
-  b = c.before
+  b = (view.up-After-step_at-answer tie.the-claims reads.Pre reads.Post goal.the-invariant-loop-letter goal.the-decreases-loop-letter tie.handed_clauses c.before.before.before.before.before.before)
 
   abbrev l : At-loop-letter
   l = here b
 
   abbrev a : Start
-  a = l.before
+  a = l.before.before.before
 
   abbrev numbers : List ℤ
   numbers = b.step_at-answer.new.numbers
@@ -46,10 +49,10 @@ module _ (c : In-Line-2) where
   there = into-told b.step_at-answer.ensures c.in-Line.is
 
   -- its numbers are within the row
-  room : (let g = c.answer-1.given.0 in (g.1.0 ≤ most_numbers) × (g.1.0 ≤ length numbers))
+  room : ((c.in-Line.count ≤ most_numbers) × (c.in-Line.count ≤ length numbers))
   room =
       let u = into-room b.step_at-answer.ensures c.in-Line.is in
-      (u.2, omega (arith, u.2, b.step_at-answer.kept.1.1.1.0, l.loop-letter.inv.1))
+      (u.2, omega (arith, u.2, b.step_at-answer.kept.1.1.1.0, l.loop-letter.invariant.1))
 
 pub slice_bounds-step_at-end : goal.slice_bounds-step_at-end
 slice_bounds-step_at-end c = let p = c.loop-letter.invariant.1 in search rules
@@ -68,38 +71,38 @@ pub returns-in-Refused : goal.returns-in-Refused
 returns-in-Refused c = let b = (goal.at.returns-in-Refused c).After-step_at-answer in stepping-refused (here b).loop.invariant.0 _ (into-told b.step_at-answer.ensures c.in-Refused.is)
 
 pub slice_bounds-numbers-end : goal.slice_bounds-numbers-end
-slice_bounds-numbers-end c = (room (goal.at.slice_bounds-numbers-end c).In-Line-2).1
+slice_bounds-numbers-end c = (room (goal.at.slice_bounds-numbers-end c).In-Line).1
 
 pub slice_bounds-put_step-end : goal.slice_bounds-put_step-end
-slice_bounds-put_step-end c = sym (length-take-le _ _ (room (goal.at.slice_bounds-put_step-end c).In-Line-2).1)
+slice_bounds-put_step-end c = sym (length-take-le _ _ (room (goal.at.slice_bounds-put_step-end c).In-Line).1)
 
 pub put_step-end-requires : goal.put_step-end-requires
 put_step-end-requires c =
-    let d = (goal.at.put_step-end-requires c).In-Line-2 in
+    let d = (goal.at.put_step-end-requires c).In-Line in
     let S = (l d).loop.invariant.0 in
     (rw (length-take-le _ _ (room d).1) (room d).0, omega (arith, S.near, S.within, (a d).requires.0, (a d).requires.1))
 
 pub slice_bounds-numbers-end-in-Line : goal.slice_bounds-numbers-end-in-Line
-slice_bounds-numbers-end-in-Line c = (room (goal.at.slice_bounds-numbers-end-in-Line c).In-Line-2).1
+slice_bounds-numbers-end-in-Line c = (room (goal.at.slice_bounds-numbers-end-in-Line c).In-Line).1
 
 pub slice_bounds-largest_variable-end : goal.slice_bounds-largest_variable-end
-slice_bounds-largest_variable-end c = sym (length-take-le _ _ (room (goal.at.slice_bounds-largest_variable-end c).In-Line-2).1)
+slice_bounds-largest_variable-end c = sym (length-take-le _ _ (room (goal.at.slice_bounds-largest_variable-end c).In-Line).1)
 
 pub overflow_add-steps : goal.overflow_add-steps
 overflow_add-steps c =
-    let d = (goal.at.overflow_add-steps c).In-Line-2 in
+    let d = (goal.at.overflow_add-steps c).In-Line in
     let S = (l d).loop.invariant.0 in
     record { fits = omega (arith, S.few, S.within, (a d).requires.0) }
 
 pub loop-letter-smaller : goal.loop-letter-smaller
 loop-letter-smaller c =
-    let d = (goal.at.loop-letter-smaller c).In-Line-2 in
+    let d = (goal.at.loop-letter-smaller c).In-Line in
     let u = passed-line (a d).args.text.now (l d).loop.position (there d) in
     omega (arith, u.0, u.1)
 
 pub loop-letter-preserved : goal.loop-letter-preserved
 loop-letter-preserved c =
-    let d = (goal.at.loop-letter-preserved c).In-Line-2 in
+    let d = (goal.at.loop-letter-preserved c).In-Line in
     let p = c.put_step-end.ensures in
     let i = (l d).loop.invariant in
     let k = (b d).step-at.auto in

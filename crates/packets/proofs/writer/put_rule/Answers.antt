@@ -22,22 +22,22 @@ pub rule_size-size-requires : goal.rule_size-size-requires
 rule_size-size-requires c = shape_of _ c.requires.0
 
 pub slice_bounds-put_all-end : goal.slice_bounds-put_all-end
-slice_bounds-put_all-end c = sym (length-take-le _ _ c.rule_size-size.ensures.1)
+slice_bounds-put_all-end c = sym (length-take-le _ _ c.rule_size-size.ensures.size.1)
 
 -- the words that are put are those of the rule
 module _ (c : After-rule_size-size) where
   words_are : take c.rule_size-size.result c.args.rule.now ≡ rule_words (rule_at c.args.rule.now)
-  words_are = let w = c.args.rule.now in ap (λ n. take n w) c.rule_size-size.ensures.0 ∙ rule-part w c.requires.0
+  words_are = let w = c.args.rule.now in ap (λ n. take n w) c.rule_size-size.ensures.size.0 ∙ rule-part w c.requires.0
 
 pub put_all-requires : goal.put_all-requires
 put_all-requires c =
-    let b = c.before in
+    let b = c.before.before.before.before.before.before in
     (omega arith, rw (words_are (goal.at.put_all-requires c).In-Two) (omega (arith, rule-few Two (rule_at b.args.rule.now) (rule-formed b.args.rule.now b.requires.0), b.requires.1.1)))
 
 pub returns-in-One : goal.returns-in-One
 returns-in-One c = let all = rw c.in-One.is c.put_old_rule.ensures in record { put = all.0; upper_bound = all.1 }
 
 pub returns-in-Two : goal.returns-in-Two
-returns-in-Two c = let b = c.before in
+returns-in-Two c = let b = c.before.before.before.before.before.before.before.before.before in
     let f = rule-few Two (rule_at b.args.rule.now) (rule-formed b.args.rule.now b.requires.0) in
     let p = rw (words_are (goal.at.returns-in-Two c).In-Two) at c.put_all.ensures in let all = rw c.in-Two.is (p.0, omega (arith, p.1, f)) in record { put = all.0; upper_bound = all.1 }

@@ -19,10 +19,10 @@ use Rattle.packets.specs.declared.Version.{Version}
 use Rattle.packets.proofs.Writes.{going_start, going_end, rule-on}
 use borrow.Author.Rules.{rules}
 use Rattle.packets.proofs.writer.put_rules.Goals as goal
-use Rattle.packets.proofs.writer.put_rules.Goals.{After-rest-1, After-loop-left}
+use Rattle.packets.proofs.writer.put_rules.Goals.{In-loop-left, After-loop-left}
 
 -- the words from i on, and the rule there
-module _ (c : After-rest-1) where
+module _ (c : In-loop-left) where
   abbrev t : List ℤ
   t = c.args.table.now
 
@@ -47,22 +47,22 @@ offset_bounds-table-i c = let w = c.loop-left.invariant.0.0.within in search rul
 
 pub put_rule-end-requires : goal.put_rule-end-requires
 put_rule-end-requires c =
-    let d = (goal.at.put_rule-end-requires c).After-rest-1 in
+    let d = (goal.at.put_rule-end-requires c).In-loop-left in
     let p = d.requires in
     (rw (tail_of (i d) (t d)) (at d).sound, (rw (tail_of (i d) (t d)) (and_left (has_words (v d) (rule_at (drop (i d) (t d)))) _ (worded d)), omega (arith, d.loop-left.invariant.1.1, d.loop-left-test.true, p.1.0, p.1.1)))
 
 pub next_rule-i-requires : goal.next_rule-i-requires
-next_rule-i-requires c = record { here = (at (goal.at.next_rule-i-requires c).After-rest-1).here }
+next_rule-i-requires c = record { here = (at (goal.at.next_rule-i-requires c).In-loop-left).here }
 
 pub loop-left-smaller : goal.loop-left-smaller
 loop-left-smaller c = omega (arith, c.loop-left-test.true)
 
 pub loop-left-preserved : goal.loop-left-preserved
 loop-left-preserved c =
-    let d = (goal.at.loop-left-preserved c).After-rest-1 in
+    let d = (goal.at.loop-left-preserved c).In-loop-left in
     let l = d.loop-left in
     let p = rw (tail_of (i d) (t d)) at c.put_rule-end.ensures in
-    rw c.next_rule-i.ensures.0
+    rw c.next_rule-i.ensures.next.0
     (((at d).next, and_right (has_words (v d) (rule_at (drop (i d) (t d)))) _ (worded d)), (rule-on (v d) (rule_at (drop (i d) (t d))) _ _ (at d).rules l.invariant.1.0 p.0, omega (arith, p.1, l.invariant.1.1, d.loop-left-test.true)))
 
 -- all of them are put

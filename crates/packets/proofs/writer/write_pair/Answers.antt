@@ -19,7 +19,10 @@ use Rattle.packets.specs.Writes.{is_read, steps_read, StepsPutAs, writing_told}
 use Rattle.packets.proofs.Writes.{put-length, packet-put, packet-ends, by_questions, asked, answer-told, zeros-left, packet-left}
 use borrow.Author.Rules.{rules}
 use Rattle.packets.proofs.writer.write_pair.Goals as goal
-use Rattle.packets.proofs.writer.write_pair.Goals.{After-answer_of-answer, Start, After-put_steps-put, After-put_rules-middle}
+use Rattle.packets.proofs.writer.write_pair.Goals.{After-answer_of-answer, After-put_steps-put, After-put_rules-middle}
+use Rattle.packets.proofs.writer.write_pair.Lts.View as view
+use Rattle.packets.proofs.writer.write_pair.Reads as reads
+use Rattle.packets.proofs.writer.write_pair.Tie as tie
 
 pub put_rules-middle-requires : goal.put_rules-middle-requires
 put_rules-middle-requires c = let a = c in record { table_value = (sound-rules a.args.table.now a.args.rules a.requires.rules_value.0, a.requires.rules_value.1); rules_le_most_rules = (few-rules a.args.table.now a.args.rules a.requires.rules_value.0, omega arith) }
@@ -29,26 +32,24 @@ largest_atom-requires c = let a = c in sound-rules a.args.table.now a.args.rules
 
 -- the rules and the steps are put, and the questions asked
 module _ (c : After-answer_of-answer) where
-  abbrev s : Start
-  s = c.before
 
   abbrev v : Version
-  v = s.args.version
+  v = c.args.version
 
   abbrev steps-put : After-put_steps-put
-  steps-put = c.before
+  steps-put = (view.up-After-put_steps-put tie.the-claims reads.Pre reads.Post tie.handed_clauses c.before.before.before.before.before.before.before.before.before)
 
   abbrev rules-put : After-put_rules-middle
-  rules-put = c.before
+  rules-put = (view.up-After-put_rules-middle tie.the-claims reads.Pre reads.Post tie.handed_clauses c.before.before.before.before.before.before.before.before.before.before.before.before.before)
 
   abbrev proof : List ℕ
-  proof = s.args.proof.now
+  proof = c.args.proof.now
 
   abbrev packet : List ℕ
-  packet = s.args.packet.now
+  packet = c.args.packet.now
 
   abbrev P : List InputRule
-  P = rules_at s.args.rules s.args.table.now
+  P = rules_at c.args.rules c.args.table.now
 
   abbrev ts : List Step
   ts = steps_read (steps_of proof)
@@ -79,13 +80,13 @@ module _ (c : After-answer_of-answer) where
   told : c.answer_of-answer.result ≡ writing_told good (length whole) fits
   told = answer-told _ _ _ _ (length steps-put.put_steps-put.new.buffer) _ c.answer_of-answer.ensures passes (packet-ends v P ts R S.put) same
 
-  comes-to : writing v s.args.table.now s.args.rules proof (length packet) ≡ by_questions good fits whole
-  comes-to = asked v s.args.table.now s.args.rules proof (length packet) s.pre.0.0 s.pre.0.1
+  comes-to : writing v c.args.table.now c.args.rules proof (length packet) ≡ by_questions good fits whole
+  comes-to = asked v c.args.table.now c.args.rules proof (length packet) c.requires.rules_value.0 c.requires.rules_value.1
 
 pub returns-in-Written : goal.returns-in-Written
 returns-in-Written c =
     let d = (goal.at.returns-in-Written c).After-answer_of-answer in
-    packet-left (good d) (fits d) (whole d) (packet d) _ (comes-to d) (told d) _ c.in-Written.is refl (s d).requires.packet_value (packet-put (v d) (P d) (ts d) _ (R d) (S d).put (S d).count c.put_header.ensures)
+    packet-left (good d) (fits d) (whole d) (packet d) _ (comes-to d) (told d) _ c.in-Written.is refl d.requires.packet_value (packet-put (v d) (P d) (ts d) _ (R d) (S d).put (S d).count c.put_header.ensures)
 
 pub returns-in-Refused : goal.returns-in-Refused
 returns-in-Refused c =

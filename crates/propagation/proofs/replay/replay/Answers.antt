@@ -16,7 +16,10 @@ use Rattle.nogoods.proofs.Recorded.{readable}
 use Rattle.propagation.proofs.Assignments.{blank-set}
 use Rattle.propagation.proofs.Closures.{grows-not, grows-on, derived, conflicting, clashes-before}
 use Rattle.propagation.proofs.replay.replay.Goals as goal
-use Rattle.propagation.proofs.replay.replay.Goals.{Else-m-eq0, Start, Then-is_start, At-loop-k, After-derive_at-given, In-Assigned}
+use Rattle.propagation.proofs.replay.replay.Goals.{Else-m-eq0, Then-is_start, At-loop-k, Start, After-derive_at-given, In-Assigned}
+use Rattle.propagation.proofs.replay.replay.Lts.View as view
+use Rattle.propagation.proofs.replay.replay.Reads as reads
+use Rattle.propagation.proofs.replay.replay.Tie as tie
 
 -- the first of the search's cells at whose end the path stands
 abbrev path_at : ℕ → ℕ
@@ -34,11 +37,9 @@ module _ (c : Else-m-eq0) where
   abbrev scale : ℕ
   scale = c.scale_of-m.result
 
-  abbrev started : Start
-  started = c.before
 
-  enough : cells_per_chain * scale + fixed_cells ≤ length started.args.index.now
-  enough = cells started.args.index.now scale c.scale_of-m.ensures.value c.if-m-eq0.false
+  enough : cells_per_chain * scale + fixed_cells ≤ length c.args.index.now
+  enough = cells c.args.index.now scale c.scale_of-m.ensures.value c.if-m-eq0.false
 
 pub bounds-index-at : goal.bounds-index-at
 bounds-index-at c = omega (arith, enough (goal.at.bounds-index-at c).Else-m-eq0)
@@ -49,15 +50,15 @@ bounds-index-at-in-loop-k c = omega (arith, c.loop-k-test.true, enough (goal.at.
 pub is_start-requires : goal.is_start-requires
 is_start-requires c =
     let e = (goal.at.is_start-requires c).Else-m-eq0 in
-    roomy (started e).args.index.now (scale e) e.scale_of-m.ensures.value (omega (arith, e.if-m-eq0.false))
+    roomy e.args.index.now (scale e) e.scale_of-m.ensures.value (omega (arith, e.if-m-eq0.false))
 
 -- the nogood at the place
 module _ (d : Then-is_start) where
   abbrev l : At-loop-k
-  l = d.before
+  l = d.before.before.before.before
 
   abbrev e : Else-m-eq0
-  e = l.before
+  e = l.before.before
 
   abbrev s : Start
   s = started e
@@ -70,14 +71,14 @@ module _ (d : Then-is_start) where
 
   stands : Stands words x
   stands =
-      let t = d.is_start.ensures d.if-is_start.taken in
-      subst (λ (n : ℕ). Marked n words s.args.index.now) (sym e.scale_of-m.ensures.value) s.pre.1.0 x t.0 t.1
+      let t = d.is_start.ensures d.if-is_start.true in
+      subst (λ (n : ℕ). Marked n words s.args.index.now) (sym e.scale_of-m.ensures.value) s.requires.index x t.0 t.1
 
   read : Readable words x
-  read = readable words x s.pre.0 stands
+  read = readable words x s.requires.encoded stands
 
   size : length l.loop-k.assignment ≡ entries
-  size = l.loop-k.inv.0.size ∙ s.pre.1.1.0
+  size = l.loop-k.invariant.0.size ∙ s.requires.size
 
 pub derive_at-given-requires : goal.derive_at-given-requires
 derive_at-given-requires c = let d = (goal.at.derive_at-given-requires c).Then-is_start in record { record = read d; size = size d }
@@ -85,7 +86,7 @@ derive_at-given-requires c = let d = (goal.at.derive_at-given-requires c).Then-i
 -- what it gave
 module _ (c : After-derive_at-given) where
   abbrev at : Then-is_start
-  at = c.before
+  at = (view.up-Then-is_start tie.the-claims reads.Pre reads.Post goal.the-invariant-loop-k goal.the-decreases-loop-k tie.handed_clauses c.before.before.before)
 
   told : (y : Derived) → c.derive_at-given.result ≡ y → DerivesAt (words at) (x at) (l at).loop.assignment c.derive_at-given.new.assignment.0 y
   told y e = rw e at c.derive_at-given.ensures
@@ -95,7 +96,7 @@ returns-in-Conflicting c =
     let o = (goal.at.returns-in-Conflicting c).After-derive_at-given in
     let d = at o in
     let t = told o _ c.in-Conflicting.is in
-    let v = (l d).loop.inv in (
+    let v = (l d).loop.invariant in (
       clashes-before _ _ _ v.0 (conflicting _ _ (stands d) t.0 (read d).literals (l d).loop.assignment (size d) t.1.1),
       (v.1.0, rw t.1.0 v.1.1),
     )
@@ -103,7 +104,7 @@ returns-in-Conflicting c =
 -- the variable that it assigned
 module _ (c : In-Assigned) where
   abbrev o : After-derive_at-given
-  o = c.before
+  o = (view.up-After-derive_at-given tie.the-claims reads.Pre reads.Post goal.the-invariant-loop-k goal.the-decreases-loop-k tie.handed_clauses c.before.before.before.before)
 
   abbrev v : ℕ
   v = c.in-Assigned.v
@@ -118,10 +119,10 @@ module _ (c : In-Assigned) where
       (g.0, g.3)
 
 pub past-end-requires : goal.past-end-requires
-past-end-requires c = ((l (at (o c))).loop.inv.1.0, (grown c).1)
+past-end-requires c = ((l (at (o c))).loop.invariant.1.0, (grown c).1)
 
 pub loop-k-smaller-in-Assigned : goal.loop-k-smaller-in-Assigned
-loop-k-smaller-in-Assigned c = omega (arith, (at (o (goal.at.loop-k-smaller-in-Assigned c).In-Assigned)).loop-test.taken)
+loop-k-smaller-in-Assigned c = omega (arith, (at (o (goal.at.loop-k-smaller-in-Assigned c).In-Assigned)).loop-test.true)
 
 pub loop-k-preserved-in-Assigned : goal.loop-k-preserved-in-Assigned
 loop-k-preserved-in-Assigned c =
@@ -134,7 +135,7 @@ pub loop-k-smaller-in-Nothing : goal.loop-k-smaller-in-Nothing
 loop-k-smaller-in-Nothing c = omega (arith, (at (goal.at.loop-k-smaller-in-Nothing c).After-derive_at-given).loop-test.true)
 
 pub loop-k-preserved-in-Nothing : goal.loop-k-preserved-in-Nothing
-loop-k-preserved-in-Nothing c = let o = (goal.at.loop-k-preserved-in-Nothing c).After-derive_at-given in rw (told o _ c.in-Nothing.is).0 (l (at o)).loop.inv
+loop-k-preserved-in-Nothing c = let o = (goal.at.loop-k-preserved-in-Nothing c).After-derive_at-given in rw (told o _ c.in-Nothing.is).0 (l (at o)).loop.invariant
 
 pub loop-k-smaller : goal.loop-k-smaller
 loop-k-smaller c = omega (arith, c.loop-k-test.true)

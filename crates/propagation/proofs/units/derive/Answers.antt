@@ -22,9 +22,9 @@ told : (c : After-look_at-look) (x : Look) → c.look_at-look.result ≡ x → L
 told c x e = rw e at c.look_at-look.ensures
 
 -- the one free literal
-unit : (c : In-Unit) → let s = c.before in
+unit : (c : In-Unit) → let s = c in
     Looked s.args.assignment.now s.args.literals.now (Unit c.in-Unit.j)
-unit c = told c.before _ c.in-Unit.is
+unit c = told c.before.before.before _ c.in-Unit.is
 
 abbrev one : In-Unit → ℤ
 one c = get_or c.args.literals.now c.in-Unit.j (pos 0)
@@ -42,10 +42,10 @@ pub complement_of-requires : goal.complement_of-requires
 complement_of-requires c = rw (back (one (goal.at.complement_of-requires c).In-Unit) c.complement_of-arg-1.given) (small (goal.at.complement_of-requires c).In-Unit)
 
 -- what becomes true
-other : (c : After-complement_of) → to_z w32 (of_z w32 c.complement_of.result) ≡ complement (one c.before)
+other : (c : After-complement_of) → to_z w32 (of_z w32 c.complement_of.result) ≡ complement (one c.before.before)
 other c =
-    to_z-of_z (sfits_of {z = c.complement_of.result} c.complement_of.type_inv)
-    ∙ (rw (back (one c.before) c.complement_of-arg-1.given) at c.complement_of.ensures)
+    to_z-of_z {w = w32} (sfits_of {z = c.complement_of.result} c.complement_of.type_inv)
+    ∙ (rw (back (one c.before.before) c.complement_of-arg-1.given) at c.complement_of.ensures)
 
 pub make_true-v-requires : goal.make_true-v-requires
 make_true-v-requires c = let k = (goal.at.make_true-v-requires c).In-Unit in record { literal = rw (other (goal.at.make_true-v-requires c).After-complement_of, variable-complement (one k)) (small k); size = k.requires.size }

@@ -25,12 +25,12 @@ value_of-value-requires c = let s = c in
 
 -- what the call tells of it
 told : (c : After-value_of-value) (x : Value) → c.value_of-value.result ≡ x
-    → Valued c.args.assignment.now (read c.before) x
-told c x e = rw (back (read c.before) c.value_of-arg-1.given, e) at c.value_of-value.ensures
+    → Valued c.args.assignment.now (read c.before.before) x
+told c x e = rw (back (read c.before.before) c.value_of-arg-1.given, e) at c.value_of-value.ensures
 
 -- what is known before the turn
 module _ (c : After-value_of-value) where
-  abbrev before : let l = c.before in
+  abbrev before : let l = c in
       Seen l.args.assignment.now l.args.literals.now l.loop-i.i l.loop-i.one
   before = c.loop-i.invariant.1
 

@@ -1,3 +1,4 @@
+use mir.Syntax.{w32}
 use mathlib.Core.Path.{◌≡◌, sym, ap, ◌∙◌}
 use mathlib.Core.List.{append-nil, map}
 use Prim.Native.Nat.{◌+◌, ◌-◌}
@@ -26,7 +27,7 @@ loop-i-preserved c =
     let value : c.rename_word.result ≡ get_or (map f s) l.i (f (pos 0)) =
     c.rename_word.ensures ∙ ap f (back (get_or l.numbers l.i (pos 0)) c.rename_word-arg-1.given ∙ read) ∙ sym (get_or-map f s l.i (pos 0)) in (
       omega (arith, h, l.invariant.2),
-      rw (to_z-of_z (sfits_of {z = c.rename_word.result} c.rename_word.type_inv), value, l.invariant.1) (copy_more (map f s) s l.i (f (pos 0)) (omega (arith, n, h, l.invariant.2)) (omega (arith, h, l.invariant.2))),
+      rw (to_z-of_z {w = w32} (sfits_of {z = c.rename_word.result} c.rename_word.type_inv), value, l.invariant.1) (copy_more (map f s) s l.i (f (pos 0)) (omega (arith, n, h, l.invariant.2)) (omega (arith, h, l.invariant.2))),
       simp length-set l.invariant.2,
     )
 

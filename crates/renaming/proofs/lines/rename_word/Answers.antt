@@ -53,7 +53,7 @@ pub returns-then-word-lt0 : goal.returns-then-word-lt0
 returns-then-word-lt0 c =
     let k = (goal.at.returns-then-word-lt0 c).After-name_of-name in
     let t = rw (to_z-of_z k.ranges.word) at c.if-word-lt0.true in
-    simp (is_pos k, +ℤ_idl, to_z-of_z (negated k)) (sym (renamed-neg (new k) (word k) t))
+    simp (is_pos k, +ℤ_idl, to_z-of_z {w = w32} (negated k)) (sym (renamed-neg (new k) (word k) t))
 
 pub returns : goal.returns
 returns c =

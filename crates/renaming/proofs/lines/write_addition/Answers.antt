@@ -12,15 +12,15 @@ use Rattle.renaming.proofs.lines.write_addition.Goals.{After-contains, After-con
 -- the first test
 both_ways : (c : After-contains) → (let a = c.args in c.contains.result ≡ has (complement a.x) a.numbers.now)
 both_ways c =
-    let s = c.before in
+    let s = c in
     let k = c.complement_of in
-    let y : to_z w32 (of_z w32 k.result) ≡ complement s.args.x = to_z-of_z (sfits_of {z = k.result} k.type_inv) ∙ (k.ensures ∙ ap complement (to_z-of_z s.ranges.x)) in
+    let y : to_z w32 (of_z w32 k.result) ≡ complement s.args.x = to_z-of_z {w = w32} (sfits_of {z = k.result} k.type_inv) ∙ (k.ensures ∙ ap complement (to_z-of_z s.ranges.x)) in
     c.contains.ensures ∙ ap (λ (z : ℤ). has z s.args.numbers.now) y
 
 -- the second
 with-literal : (c : After-contains-2) → (let a = c.args in c.contains-2.result ≡ has a.x a.numbers.now)
 with-literal c =
-    let s = c.before in
+    let s = c in
     c.contains-2.ensures ∙ ap (λ (z : ℤ). has z s.args.numbers.now) (to_z-of_z s.ranges.x)
 
 pub returns-then-contains : goal.returns-then-contains

@@ -16,15 +16,16 @@ use Rattle.renaming.proofs.Agrees.{half-stands}
 use Rattle.renaming.proofs.Walk.{Walks, walk_start, walk_ends, walk-over, walk-on}
 use borrow.Author.Rules.{rules}
 use Rattle.renaming.proofs.lines.write_half.Goals as goal
-use Rattle.renaming.proofs.lines.write_half.Goals.{After-write_at, At-loop-next, Start, In-Goes}
+use Rattle.renaming.proofs.lines.write_half.Goals.{After-write_at, Start, In-Goes}
+use Rattle.renaming.proofs.lines.write_half.Lts.View as view
+use Rattle.renaming.proofs.lines.write_half.Reads as reads
+use Rattle.renaming.proofs.lines.write_half.Tie as tie
 
 -- where the loop stands, and what the turn there left
 module _ (c : After-write_at) where
-  abbrev l : At-loop-next
-  l = c.before
 
   abbrev start : Start
-  start = l.before
+  start = (view.up-At-loop-next tie.the-claims reads.Pre reads.Post goal.the-invariant-loop-next goal.the-decreases-loop-next c.before.before.before.before.before.before)
 
   abbrev new : ℕ → ℕ
   new v = get_or start.args.new.now v 0
@@ -36,7 +37,7 @@ module _ (c : After-write_at) where
   literal = to_z-of_z start.fits.x
 
   same-output : length output' ≡ length start.args.output.now
-  same-output = c.write_at.auto.output ∙ l.loop-next.inv.2
+  same-output = c.write_at.auto.output ∙ c.loop-next.invariant.2
 
 pub loop-next-init : goal.loop-next-init
 loop-next-init c =
@@ -61,8 +62,8 @@ returns-in-Ends c =
     let a = (start t).args in
     λ N P bodies ts H.
     rw (half-stands (new t) H)
-    (subst (λ (x : ℤ). Writes (all_standing x (new t) a.shared.now a.has_body a.has-constraint 0 ts) a.output.now (output' t) a.at (At (l t).loop.end)) (literal t)
-    (walk_ends a.text.now _ (new t) a.shared.now a.has_body a.has-constraint a.output.now a.at (l t).loop.invariant.0 (l t).loop.invariant.1 (output' t) c.in-Ends.is t.write_at.ensures ts H.reads))
+    (subst (λ (x : ℤ). Writes (all_standing x (new t) a.shared.now a.has_body a.has-constraint 0 ts) a.output.now (output' t) a.at (At t.loop.end)) (literal t)
+    (walk_ends a.text.now _ (new t) a.shared.now a.has_body a.has-constraint a.output.now a.at t.loop.invariant.0 t.loop.invariant.1 (output' t) c.in-Ends.is t.write_at.ensures ts H.reads))
 
 pub returns-in-Over : goal.returns-in-Over
 returns-in-Over c =
@@ -71,16 +72,16 @@ returns-in-Over c =
     λ N P bodies ts H.
     rw (half-stands (new t) H)
     (subst (λ (x : ℤ). Writes (all_standing x (new t) a.shared.now a.has_body a.has-constraint 0 ts) a.output.now (output' t) a.at Over) (literal t)
-    (walk-over a.text.now _ (new t) a.shared.now a.has_body a.has-constraint a.output.now a.at (l t).loop.invariant.0 (l t).loop.invariant.1 (output' t) c.in-Over.is t.write_at.ensures ts H.reads))
+    (walk-over a.text.now _ (new t) a.shared.now a.has_body a.has-constraint a.output.now a.at t.loop.invariant.0 t.loop.invariant.1 (output' t) c.in-Over.is t.write_at.ensures ts H.reads))
 
 onward : (c : In-Goes)
-    → (let t = c.before in let g = c.next-1.given.0 in let a = (start t).args in
-    Walks a.text.now (to_z w32 (of_z w32 a.x)) (new t) a.shared.now a.has_body a.has-constraint a.output.now a.at (output' t) g.0 g.1.0 g.1.1.0
-    × ((g.1.1.0 ≤ longest) × (((l t).loop.position < g.0) × (g.0 ≤ length a.text.now))))
+    → (let t = (view.up-After-write_at tie.the-claims reads.Pre reads.Post goal.the-invariant-loop-next goal.the-decreases-loop-next (view.up-At-loop-next tie.the-claims reads.Pre reads.Post goal.the-invariant-loop-next goal.the-decreases-loop-next c.before.before.before.before.before.before.before.before.before.before.before.before.before)) in let a = (start t).args in
+    Walks a.text.now (to_z w32 (of_z w32 a.x)) (new t) a.shared.now a.has_body a.has-constraint a.output.now a.at (output' t) c.in-Goes.next c.in-Goes.n c.in-Goes.e
+    × ((c.in-Goes.e ≤ longest) × ((t.loop.position < c.in-Goes.next) × (c.in-Goes.next ≤ length a.text.now))))
 onward c =
-    let t = c.before in
+    let t = (view.up-After-write_at tie.the-claims reads.Pre reads.Post goal.the-invariant-loop-next goal.the-decreases-loop-next (view.up-At-loop-next tie.the-claims reads.Pre reads.Post goal.the-invariant-loop-next goal.the-decreases-loop-next c.before.before.before.before.before.before.before.before.before.before.before.before.before)) in
     let a = (start t).args in
-    walk-on a.text.now _ (new t) a.shared.now a.has_body a.has-constraint a.output.now a.at (l t).loop.invariant.0 (l t).loop.invariant.1 (output' t) _ _ _ c.in-Goes.is t.write_at.ensures
+    walk-on a.text.now _ (new t) a.shared.now a.has_body a.has-constraint a.output.now a.at t.loop.invariant.0 t.loop.invariant.1 (output' t) _ _ _ c.in-Goes.is t.write_at.ensures
 
 pub loop-next-smaller : goal.loop-next-smaller
 loop-next-smaller c = let o = onward c in omega (arith, o.1.1.0, o.1.1.1)
@@ -89,5 +90,5 @@ pub loop-next-preserved : goal.loop-next-preserved
 loop-next-preserved c =
     let t = (goal.at.loop-next-preserved c).After-write_at in
     let o = onward c in
-    let i = (l t).loop.invariant in
+    let i = t.loop.invariant in
     (o.0, o.1.0, same-output t, t.write_at.auto.numbers ∙ i.3, t.write_at.auto.sorted ∙ i.4)

@@ -12,7 +12,7 @@ use Rattle.text.specs.Line.{any_outside}
 use Rattle.text.specs.declared.Letter.TheVariants.{Addition}
 use Rattle.renaming.proofs.Written.{one-long, put-row, inside-end}
 use Rattle.renaming.proofs.lines.write_widened.Goals as goal
-use Rattle.renaming.proofs.lines.write_widened.Goals.{After-row-2-1}
+use Rattle.renaming.proofs.lines.write_widened.Goals.{After-copy}
 
 pub returns-then-count-ge-MOST_NUMBERS : goal.returns-then-count-ge-MOST_NUMBERS
 returns-then-count-ge-MOST_NUMBERS c =
@@ -23,7 +23,7 @@ returns-then-count-ge-MOST_NUMBERS c =
     (rw (length-append l (a.x ∷ [])) (omega (arith, c.if-count-ge-MOST_NUMBERS.true)))
 
 -- the row, once the literal is put
-module _ (c : After-row-2-1) where
+module _ (c : After-copy) where
   abbrev line : List ℤ
   line = c.args.numbers.now
 
@@ -42,14 +42,14 @@ module _ (c : After-row-2-1) where
   row-length = ap length row_is ∙ length-append line (literal ∷ [])
 
 pub slice_bounds-row-end : goal.slice_bounds-row-end
-slice_bounds-row-end c = omega (arith, row-length c, length-take (length (line c) + 1) (row c))
+slice_bounds-row-end c = omega (arith, row-length (goal.at.slice_bounds-row-end c).After-copy, length-take (length (line (goal.at.slice_bounds-row-end c).After-copy) + 1) (row (goal.at.slice_bounds-row-end c).After-copy))
 
 pub slice_bounds-write_line-end : goal.slice_bounds-write_line-end
-slice_bounds-write_line-end c = sym (row-length (goal.at.slice_bounds-write_line-end c).After-row-2-1)
+slice_bounds-write_line-end c = sym (row-length (goal.at.slice_bounds-write_line-end c).After-copy)
 
 pub write_line-requires : goal.write_line-requires
-write_line-requires c = let k = (goal.at.write_line-requires c).After-row-2-1 in
+write_line-requires c = let k = (goal.at.write_line-requires c).After-copy in
     let s = c in record { at = s.requires.at; numbers = ap any_outside (row_is k) ∙ inside-end (line k) (literal k) s.requires.numbers s.requires.literal }
 
 pub returns : goal.returns
-returns c = rw (row_is (goal.at.returns c).After-row-2-1) at c.write_line.ensures
+returns c = rw (row_is (goal.at.returns c).After-copy) at c.write_line.ensures

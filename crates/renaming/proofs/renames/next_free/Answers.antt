@@ -6,18 +6,16 @@ use native.Mathlib.Omega.{arith}
 use Rattle.words.proofs.Places.{equal?}
 use Rattle.marks.specs.Marks.{marked}
 use Rattle.renaming.proofs.renames.next_free.Goals as goal
-use Rattle.renaming.proofs.renames.next_free.Goals.{After-is_marked-in-loop-n, At-loop-n}
+use Rattle.renaming.proofs.renames.next_free.Goals.{After-is_marked-in-loop-n}
 
 pub loop-n-init : goal.loop-n-init
 loop-n-init c = (omega arith, c.requires, λ k a b. absurd (omega (arith, a, b)))
 
 -- what the calls tell of n
 module _ (c : After-is_marked-in-loop-n) where
-  abbrev l : At-loop-n
-  l = c.before
 
-  known : (let a = l.args in
-      (marked a.known1.now l.loop-n.n || marked a.known2.now l.loop-n.n) ≡ (c.is_marked.result || c.is_marked-in-loop-n.result))
+  known : (let a = c.args in
+      (marked a.known1.now c.loop-n.n || marked a.known2.now c.loop-n.n) ≡ (c.is_marked.result || c.is_marked-in-loop-n.result))
   known = ap₂ (λ (a b : Bool). a || b) (sym c.is_marked.ensures) (sym c.is_marked-in-loop-n.ensures)
 
 pub loop-n-preserved : goal.loop-n-preserved

@@ -12,15 +12,16 @@ use Rattle.renaming.specs.Renames.{TurnBounds}
 use Rattle.renaming.proofs.Renamed.{walked_start, turn-ends, turn-over, turn_on}
 use borrow.Author.Rules.{rules}
 use Rattle.renaming.proofs.renames.rename_all.Goals as goal
-use Rattle.renaming.proofs.renames.rename_all.Goals.{After-rename_at, At-loop-next, Start, In-Goes}
+use Rattle.renaming.proofs.renames.rename_all.Goals.{After-rename_at, Start, In-Goes}
+use Rattle.renaming.proofs.renames.rename_all.Lts.View as view
+use Rattle.renaming.proofs.renames.rename_all.Reads as reads
+use Rattle.renaming.proofs.renames.rename_all.Tie as tie
 
 -- where the loop stands, and what the turn there left
 module _ (c : After-rename_at) where
-  abbrev l : At-loop-next
-  l = c.before
 
   abbrev start : Start
-  start = l.before
+  start = c.before.before.before.before.before.before.before.before.before.before.before.before.before.before.before.before.before.before.before
 
   abbrev new' : List ℕ
   new' = c.rename_at.new.new
@@ -29,23 +30,23 @@ module _ (c : After-rename_at) where
   shared' = c.rename_at.new.shared.0
 
   same_new : length new' ≡ entries
-  same_new = c.rename_at.auto.new ∙ l.loop-next.inv.1
+  same_new = c.rename_at.auto.new ∙ c.loop-next.invariant.1
 
   same-shared : length shared' ≡ entries
-  same-shared = c.rename_at.auto.shared ∙ l.loop-next.inv.2
+  same-shared = c.rename_at.auto.shared ∙ c.loop-next.invariant.2
 
   -- as many words as were lent
   lent-new : length new' ≡ length start.args.new.now
-  lent-new = same_new ∙ sym start.pre.1.1.0
+  lent-new = same_new ∙ sym start.requires.new
 
   lent-shared : length shared' ≡ length start.args.shared.now
-  lent-shared = same-shared ∙ sym start.pre.1.1.1.0
+  lent-shared = same-shared ∙ sym start.requires.shared.0
 
   same_numbers : length c.rename_at.new.numbers ≡ most_numbers
-  same_numbers = c.rename_at.auto.numbers ∙ l.loop-next.inv.3
+  same_numbers = c.rename_at.auto.numbers ∙ c.loop-next.invariant.3
 
   same-sorted : length c.rename_at.new.sorted ≡ most_numbers
-  same-sorted = c.rename_at.auto.sorted ∙ l.loop-next.inv.4
+  same-sorted = c.rename_at.auto.sorted ∙ c.loop-next.invariant.4
 
 pub keep_all-requires : goal.keep_all-requires
 keep_all-requires c = c.requires.new
@@ -70,7 +71,7 @@ rename_at-requires c = let i = c.loop-next.invariant in
 pub returns-in-Ends : goal.returns-in-Ends
 returns-in-Ends c =
     let t = (goal.at.returns-in-Ends c).After-rename_at in
-    let i = (l t).loop.invariant in
+    let i = t.loop.invariant in
     λ ws v one two z₁ z₂ H.
     turn-ends H (i.0 ws v one two z₁ z₂ H) i.1 i.2 i.6 (new' t) (shared' t) c.in-Ends.is
     (t.rename_at.ensures.renamed ws H.holds (name_of (named_in [] one)) H.kept)
@@ -78,16 +79,15 @@ returns-in-Ends c =
 pub returns-in-Over : goal.returns-in-Over
 returns-in-Over c =
     let t = (goal.at.returns-in-Over c).After-rename_at in
-    let i = (l t).loop.invariant in
+    let i = t.loop.invariant in
     λ ws v one two z₁ z₂ H.
     turn-over H (i.0 ws v one two z₁ z₂ H) i.1 i.2 i.6 (new' t) (shared' t) c.in-Over.is
     (t.rename_at.ensures.renamed ws H.holds (name_of (named_in [] one)) H.kept)
 
 -- a turn that goes on
 within : (c : In-Goes)
-    → (let t = c.before in let g = c.next-1.given.0 in
-    ((l t).loop.at < g.0) × (g.0 ≤ length (start t).args.second.now) × (g.1.0 ≤ entries))
-within c = let t = c.before in subst (TurnBounds (l t).loop.at (length (start t).args.second.now)) c.in-Goes.is t.rename_at.ensures.within
+    → (let t = (view.up-After-rename_at tie.the-claims reads.Pre reads.Post goal.the-invariant-loop-next goal.the-decreases-loop-next tie.handed_clauses (view.up-At-loop-next tie.the-claims reads.Pre reads.Post goal.the-invariant-loop-next goal.the-decreases-loop-next tie.handed_clauses c.before.before.before.before.before.before.before.before.before.before.before.before.before.before.before.before)) in (t.loop.at < c.in-Goes.next) × (c.in-Goes.next ≤ length (start t).args.second.now) × (c.in-Goes.c ≤ entries))
+within c = let t = (view.up-After-rename_at tie.the-claims reads.Pre reads.Post goal.the-invariant-loop-next goal.the-decreases-loop-next tie.handed_clauses (view.up-At-loop-next tie.the-claims reads.Pre reads.Post goal.the-invariant-loop-next goal.the-decreases-loop-next tie.handed_clauses c.before.before.before.before.before.before.before.before.before.before.before.before.before.before.before.before)) in subst (TurnBounds t.loop.at (length (start t).args.second.now)) c.in-Goes.is t.rename_at.ensures.within
 
 pub loop-next-smaller : goal.loop-next-smaller
 loop-next-smaller c = let o = within c in omega (arith, o.0, o.1)
@@ -95,7 +95,7 @@ loop-next-smaller c = let o = within c in omega (arith, o.0, o.1)
 pub loop-next-preserved : goal.loop-next-preserved
 loop-next-preserved c =
     let t = (goal.at.loop-next-preserved c).After-rename_at in
-    let i = (l t).loop.invariant in
+    let i = t.loop.invariant in
     let o = within c in (
       λ ws v one two z₁ z₂ H.
           turn_on H (i.0 ws v one two z₁ z₂ H) i.1 i.2 i.6 (new' t) (shared' t) _ _ c.in-Goes.is

@@ -12,16 +12,14 @@ use Rattle.names.specs.Queries.{HoldsRules, Kept}
 use Rattle.renaming.proofs.Renamed.{no-variable, a-variable}
 use borrow.Author.Rules.{rules}
 use Rattle.renaming.proofs.renames.rename_body.Goals as goal
-use Rattle.renaming.proofs.renames.rename_body.Goals.{After-body_name-k, Start}
+use Rattle.renaming.proofs.renames.rename_body.Goals.{After-body_name-k}
 
 -- what the first half calls the body
 module _ (c : After-body_name-k) where
-  abbrev s : Start
-  s = c.before
 
-  module _ (ws : List InputRule) (H : HoldsRules s.args.table.now s.args.rules ws) (called : List ℤ → ℕ)
-      (K : Kept s.args.names.now s.args.bodies.now called ws) where
-    answer : c.body_name-k.result ≡ cond (any (λ x. same_list (ascending s.args.body.now) x.body) (expand ws)) (called (ascending s.args.body.now)) entries
+  module _ (ws : List InputRule) (H : HoldsRules c.args.table.now c.args.rules ws) (called : List ℤ → ℕ)
+      (K : Kept c.args.names.now c.args.bodies.now called ws) where
+    answer : c.body_name-k.result ≡ cond (any (λ x. same_list (ascending c.args.body.now) x.body) (expand ws)) (called (ascending c.args.body.now)) entries
     answer =
         subst (λ (t : List ℤ). c.body_name-k.result ≡ cond (any (λ x. same_list t x.body) (expand ws)) (called t) entries)
         c.sort.ensures (c.body_name-k.ensures ws H called K)

@@ -20,46 +20,47 @@ use Rattle.splits.specs.Halves.{HalfChecked}
 use Rattle.splits.proofs.Accepting.{no-atom, no-half, halves-checked}
 use borrow.Author.Rules.{sfits_of}
 use Rattle.splits.proofs.halves.accept_halves.Goals as goal
-use Rattle.splits.proofs.halves.accept_halves.Goals.{Else-not-is_atom, Start, After-accepts_with, After-complement_of}
+use Rattle.splits.proofs.halves.accept_halves.Goals.{Else-not-is_atom, After-accepts_with, After-complement_of}
+use Rattle.splits.proofs.halves.accept_halves.Lts.View as view
+use Rattle.splits.proofs.halves.accept_halves.Reads as reads
+use Rattle.splits.proofs.halves.accept_halves.Tie as tie
 
 -- the number is an atom, and a literal
 module _ (c : Else-not-is_atom) where
-  abbrev s : Start
-  s = c.before
 
-  is-atom : is_atom s.args.atoms s.args.v ≡ true
+  is-atom : is_atom c.args.atoms c.args.v ≡ true
   is-atom = sym c.is_atom.ensures ∙ c.if-not-is_atom.false
 
-  small : s.args.v ≤ largest
+  small : c.args.v ≤ largest
   small =
-      let h = (and-decides (leb-decides 1 s.args.v) (leb-decides s.args.v s.args.atoms)).to ((passed _).from is-atom) in
-      omega (arith, h.1, s.pre.0.0.1.high)
+      let h = (and-decides (leb-decides 1 c.args.v) (leb-decides c.args.v c.args.atoms)).to ((passed _).from is-atom) in
+      omega (arith, h.1, c.requires.program.0.1.high)
 
-  literal : to_z w32 s.args.v ≡ pos s.args.v
-  literal = to_z_pos w32 {n = s.args.v} (omega (arith, small))
+  literal : to_z w32 c.args.v ≡ pos c.args.v
+  literal = to_z_pos w32 {n = c.args.v} (omega (arith, small))
 
 -- what the check of the second half left
 module _ (c : After-accepts_with) where
   abbrev e : Else-not-is_atom
-  e = c.before
+  e = (view.up-Else-not-is_atom tie.the-claims reads.Pre reads.Post tie.handed_clauses c.before.before.before.before.before.before)
 
   -- as many words as were lent
-  same_store : length c.accepts_with.new.store.0 ≡ length (s e).args.store.now
+  same_store : length c.accepts_with.new.store.0 ≡ length e.args.store.now
   same_store = c.accepts_with.auto.store
 
   same_names : length c.accepts_with.new.names ≡ name_words
-  same_names = c.accepts_with.auto.names ∙ ap length (s e).pre.1.1.1.0 ∙ length-replicate {A = ℕ} name_words 0
+  same_names = c.accepts_with.auto.names ∙ ap length e.requires.names ∙ length-replicate {A = ℕ} name_words 0
 
-  same-bodies : {n : ℕ} → (s e).args.bodies.now ≡ replicate n (pos 0) → length c.accepts_with.new.bodies ≡ n
+  same-bodies : {n : ℕ} → e.args.bodies.now ≡ replicate n (pos 0) → length c.accepts_with.new.bodies ≡ n
   same-bodies {n} b = c.accepts_with.auto.bodies ∙ ap length b ∙ length-replicate {A = ℤ} n (pos 0)
 
 -- the atom's complement
 module _ (c : After-complement_of) where
   abbrev d : Else-not-is_atom
-  d = c.before
+  d = (view.up-Else-not-is_atom tie.the-claims reads.Pre reads.Post tie.handed_clauses c.before.before.before.before.before.before.before.before.before.before.before.before.before.before.before.before.before.before.before.before.before)
 
-  other : to_z w32 (of_z w32 c.complement_of.result) ≡ complement (pos (s d).args.v)
-  other = to_z-of_z (sfits_of {z = c.complement_of.result} c.complement_of.type_inv) ∙ c.complement_of.ensures ∙ ap complement (literal d)
+  other : to_z w32 (of_z w32 c.complement_of.result) ≡ complement (pos d.args.v)
+  other = to_z-of_z {w = w32} (sfits_of {z = c.complement_of.result} c.complement_of.type_inv) ∙ c.complement_of.ensures ∙ ap complement (literal d)
 
 pub returns-then-not-is_atom : goal.returns-then-not-is_atom
 returns-then-not-is_atom c = let t = c in
@@ -70,7 +71,7 @@ overflow_cast-atom c = record { sfits = omega (arith, small c) }
 
 pub accepts_with-requires : goal.accepts_with-requires
 accepts_with-requires c = let x = (goal.at.accepts_with-requires c).Else-not-is_atom in
-    let p = (s x).requires in record { program = p.0; short = p.1.0; atom = rw (literal x) (is-atom x); start = (p.1.1.0.1, p.1.1.1.0); bodies = p.1.1.1.1.0; empty = p.1.1.1.1.1 }
+    let p = x.requires in record { program = p.0; short = p.1.0; atom = rw (literal x) (is-atom x); start = (p.1.1.0.1, p.1.1.1.0); bodies = p.1.1.1.1.0; empty = p.1.1.1.1.1 }
 
 pub returns-then-not-accepts_with : goal.returns-then-not-accepts_with
 returns-then-not-accepts_with c = let a = (goal.at.returns-then-not-accepts_with c).After-accepts_with in
@@ -84,16 +85,16 @@ pub accepts_with-requires-2 : goal.accepts_with-requires-2
 accepts_with-requires-2 c = let k = (goal.at.accepts_with-requires-2 c).After-complement_of in
     let x = d k in
     let a = (goal.at.accepts_with-requires-2 c).After-accepts_with in
-    let p = (s x).pre in record { program = p.0; short = p.1.0; atom = rw (other k, variable-complement (pos (s x).args.v)) (is-atom x); start = (p.1.1.0.0, c.zero_names.ensures ∙ ap (λ (n : ℕ). replicate n 0) (same_names a)); bodies = λ w. c.zero_bodies.ensures ∙ ap (λ (n : ℕ). replicate n (pos 0)) (same-bodies a {n = body_words} (p.1.1.1.1.0 w)); empty = (zeros (pos 0) {n = length (s x).args.store.now} a.accepts_with.ensures.empty).0 }
+    let p = x.requires in record { program = p.0; short = p.1.0; atom = rw (other k, variable-complement (pos x.args.v)) (is-atom x); start = (p.1.1.0.0, c.zero_names.ensures ∙ ap (λ (n : ℕ). replicate n 0) (same_names a)); bodies = λ w. c.zero_bodies.ensures ∙ ap (λ (n : ℕ). replicate n (pos 0)) (same-bodies a {n = body_words} (p.1.1.1.1.0 w)); empty = (zeros (pos 0) {n = length x.args.store.now} a.accepts_with.ensures.empty).0 }
 
 pub returns : goal.returns
 returns c = let b = c.accepts_with-2 in
     let k = (goal.at.returns c).After-complement_of in
     let a = (goal.at.returns c).After-accepts_with in
     let x = e a in
-    let v = (s x).args.v in record { empty = b.ensures.empty ∙ ap (λ (n : ℕ). replicate n (pos 0)) (same_store a); checked = λ ws p.
+    let v = x.args.v in record { empty = b.ensures.empty ∙ ap (λ (n : ℕ). replicate n (pos 0)) (same_store a); checked = λ ws p.
           let Half : ℕ → Type 0 = λ n.
-          HalfChecked (s x).args.atoms (demanding_as_written ws (complement (to_z w32 (of_z w32 k.complement_of.result)))) n (s x).args.first.now
+          HalfChecked x.args.atoms (demanding_as_written ws (complement (to_z w32 (of_z w32 k.complement_of.result)))) n x.args.first.now
           b.new.known b.new.names b.new.bodies b.result in
-          halves-checked (length (s x).args.store.now) ws v _ _ p.top (is-atom x) (literal x) (a.accepts_with.ensures.checked ws p)
+          halves-checked (length x.args.store.now) ws v _ _ p.top (is-atom x) (literal x) (a.accepts_with.ensures.checked ws p)
           (c.if-not-accepts_with.false) (other k) (subst Half (same_store a) (b.ensures.checked ws p)) }

@@ -12,7 +12,7 @@ use Rattle.merging.specs.Claims.{demanding_as_written}
 use Rattle.splits.proofs.Demands.{demanded, demanded-bodies}
 use borrow.Author.Rules.{rules}
 use Rattle.splits.proofs.halves.accepts_with.Goals as goal
-use Rattle.splits.proofs.halves.accepts_with.Goals.{After-append_demand, Start}
+use Rattle.splits.proofs.halves.accepts_with.Goals.{After-append_demand}
 
 -- zeros are as long as they are
 blank : (n : ℕ) → (n ≤ length (replicate n (pos 0))) × (replicate n (pos 0) ≡ replicate (length (replicate n (pos 0))) (pos 0))
@@ -23,19 +23,17 @@ append_demand-requires c = let p = c.requires in record { rules = p.0.0.1.holds.
 
 -- the program with the constraint
 module _ (c : After-append_demand) where
-  abbrev s : Start
-  s = c.before
 
-  whole : {ws : List InputRule} → Program s.args.table.now s.args.rules s.args.atoms ws
-      → Program c.append_demand.new.wide.0 (s.args.rules + 1) s.args.atoms (demanding_as_written ws (complement s.args.literal))
-  whole p = let k = rw (to_z-of_z s.fits.literal) at c.append_demand.ensures in demanded p s.args.literal s.pre.1.1.0 k.0 k.1
+  whole : {ws : List InputRule} → Program c.args.table.now c.args.rules c.args.atoms ws
+      → Program c.append_demand.new.wide.0 (c.args.rules + 1) c.args.atoms (demanding_as_written ws (complement c.args.literal))
+  whole p = let k = rw (to_z-of_z c.fits.literal) at c.append_demand.ensures in demanded p c.args.literal c.requires.atom k.0 k.1
 
 pub accepts-requires : goal.accepts-requires
 accepts-requires c = let d = (goal.at.accepts-requires c).After-append_demand in
-    let p = (s d).requires in
+    let p = d.requires in
     let q = p.0.0.1 in
-    let w = whole d q in record { program = ((demanding_as_written p.0.0.0 (complement (s d).args.literal), w), omega (arith, p.0.1)); start = p.1.1.1.0; bodies = demanded-bodies q (s d).args.literal p.1.1.0 w p.1.1.1.1.0; empty = p.1.1.1.1.1 }
+    let w = whole d q in record { program = ((demanding_as_written p.0.0.0 (complement d.args.literal), w), omega (arith, p.0.1)); start = p.1.1.1.0; bodies = demanded-bodies q d.args.literal p.1.1.0 w p.1.1.1.1.0; empty = p.1.1.1.1.1 }
 
 pub returns : goal.returns
 returns c = let a = c.accepts.ensures in
-    let d = (goal.at.returns c).After-append_demand in record { empty = a.0; checked = λ ws p. a.1 (demanding_as_written ws (complement (s d).args.literal)) (whole d p) }
+    let d = (goal.at.returns c).After-append_demand in record { empty = a.0; checked = λ ws p. a.1 (demanding_as_written ws (complement d.args.literal)) (whole d p) }

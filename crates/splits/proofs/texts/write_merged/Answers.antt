@@ -23,6 +23,9 @@ use borrow.Author.Rules.{rules, sfits_of}
 use borrow.Author.Rules.{rules}
 use Rattle.splits.proofs.texts.write_merged.Goals as goal
 use Rattle.splits.proofs.texts.write_merged.Goals.{Start, After-rename_all, After-added_of-forbidden}
+use Rattle.splits.proofs.texts.write_merged.Lts.View as view
+use Rattle.splits.proofs.texts.write_merged.Reads as reads
+use Rattle.splits.proofs.texts.write_merged.Tie as tie
 
 module _ (s : Start) where
   abbrev Held : Type 0
@@ -31,7 +34,7 @@ module _ (s : Start) where
 
   -- the split atom as a literal
   within : (1 ≤ s.args.v) × (s.args.v ≤ largest)
-  within = let h = s.pre.0 in atom-within s.args.atoms s.args.v h.atom h.program.high
+  within = let h = s.requires.halves in atom-within s.args.atoms s.args.v h.atom h.program.high
 
   atom-is : to_z w32 s.args.v ≡ pos s.args.v
   atom-is = to_z_pos w32 {n = s.args.v} (omega (arith, within.1))
@@ -43,7 +46,7 @@ rename_all-requires c = let s = c in
 -- the new names
 module _ (c : After-rename_all) where
   abbrev s : Start
-  s = c.before
+  s = c.before.before.before.before.before.before.before.before.before.before.before
 
   abbrev new : List ℕ
   new = c.rename_all.new.new
@@ -75,13 +78,13 @@ added_of-forbidden-requires c = let s = c in let h = s.requires.halves in record
 -- what the program has of both constraints
 module _ (c : After-added_of-forbidden) where
   abbrev d : After-rename_all
-  d = c.before
+  d = (view.up-After-rename_all tie.the-claims reads.Pre reads.Post c.before.before.before.before.before.before.before)
 
   new-names : (h : Held (s d)) → NewNames (s d).args.atoms (steps_in (s d).args.first.now) (steps_in (s d).args.second.now) (new d) (shared d)
   new-names h = renamed d true (c.if-not-rename_all.false) h
 
   literal : to_z w32 (of_z w32 c.complement_of.result) ≡ complement (pos (s d).args.v)
-  literal = let k = c.complement_of in to_z-of_z (sfits_of {z = k.result} k.type_inv) ∙ (k.ensures ∙ ap complement (atom-is (s d)))
+  literal = let k = c.complement_of in to_z-of_z {w = w32} (sfits_of {z = k.result} k.type_inv) ∙ (k.ensures ∙ ap complement (atom-is (s d)))
 
   demanded : (h : Held (s d)) → AddedTo (expand h.ws) (complement (pos (s d).args.v) ∷ []) c.Added-of.result
   demanded h =
@@ -96,7 +99,7 @@ module _ (c : After-added_of-forbidden) where
 pub write_text-requires : goal.write_text-requires
 write_text-requires c = let k = (goal.at.write_text-requires c).After-added_of-forbidden in
     let a = (s (d k)).args in
-    let h = (s (d k)).pre.0 in record { literal = rw (atom-is (s (d k))) (within (s (d k))); new = (new-names k h).within; first = subst (λ (y : ℤ). HalfText a.first.now y (0 ∷ []) k.Added-of.result) (sym (atom-is (s (d k)))) (demanded-half h (demanded k h)); second = subst (λ (y : ℤ). HalfText a.second.now (complement y) (shared (d k)) k.added_of-forbidden.result) (sym (atom-is (s (d k)))) (forbidden-half h (new-names k h) (forbidden k h)) }
+    let h = (s (d k)).requires.halves in record { literal = rw (atom-is (s (d k))) (within (s (d k))); new = (new-names k h).within; first = subst (λ (y : ℤ). HalfText a.first.now y (0 ∷ []) k.Added-of.result) (sym (atom-is (s (d k)))) (demanded-half h (demanded k h)); second = subst (λ (y : ℤ). HalfText a.second.now (complement y) (shared (d k)) k.added_of-forbidden.result) (sym (atom-is (s (d k)))) (forbidden-half h (new-names k h) (forbidden k h)) }
 
 pub returns : goal.returns
 returns c = λ h.

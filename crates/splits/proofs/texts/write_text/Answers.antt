@@ -21,49 +21,47 @@ use Rattle.splits.specs.Joined.{HalfText, lines_of, closing}
 use Rattle.splits.proofs.Joining.{kept-within}
 use borrow.Author.Rules.{sfits_of}
 use Rattle.splits.proofs.texts.write_text.Goals as goal
-use Rattle.splits.proofs.texts.write_text.Goals.{After-write_half-wrote, Start, After-complement_of}
+use Rattle.splits.proofs.texts.write_text.Goals.{After-write_half-wrote, After-complement_of}
 
 pub write_half-wrote-requires : goal.write_half-wrote-requires
 write_half-wrote-requires c = let s = c in
-    let k = c.keep_all in record { at = omega arith; literal = rw (to_z-of_z s.ranges.x) s.requires.literal; new = kept-within k.new.new.0 (k.auto.new ∙ length-replicate {A = ℕ} entries 0) k.ensures }
+    let k = c.keep_all in record { at = omega arith; literal = rw (to_z-of_z s.ranges.x) s.requires.literal; new = kept-within k.new.new (k.auto.new ∙ length-replicate {A = ℕ} entries 0) k.ensures }
 
 -- the first half's lines
 module _ (c : After-write_half-wrote) where
-  abbrev s : Start
-  s = c.before
 
   abbrev same : ℕ → ℕ
-  same u = get_or c.keep_all.new.new.0 u 0
+  same u = get_or c.keep_all.new.new u 0
 
   abbrev output' : List ℕ
   output' = c.write_half-wrote.new.output
 
   abbrev Half : Type 0
-  Half = HalfText s.args.first.now s.args.x (0 ∷ []) s.args.demanded
+  Half = HalfText c.args.first.now c.args.x (0 ∷ []) c.args.demanded
 
-  wrote : (r : Wrote) → c.write_half-wrote.result ≡ r → (h : Half) → Writes (lines_of h (λ u. u)) s.args.output.now output' 0 r
+  wrote : (r : Wrote) → c.write_half-wrote.result ≡ r → (h : Half) → Writes (lines_of h (λ u. u)) c.args.output.now output' 0 r
   wrote r e h =
-      subst (λ (l : List Step). Writes l s.args.output.now output' 0 r)
-      (same_half same (λ u. u) c.keep_all.ensures h.P s.args.x h.bodies s.args.first.now h.ts h.is.reads)
-      (subst (λ (r : Wrote). Writes (lines_of h same) s.args.output.now output' 0 r) e
-      (subst (λ (x : ℤ). HalfOf s.args.first.now x (0 ∷ []) s.args.demanded.body s.args.demanded.constraint h.N h.P h.bodies h.ts
-      → Writes (half h.P x same h.bodies [] h.ts) s.args.output.now output' 0 c.write_half-wrote.result) (to_z-of_z s.fits.x)
+      subst (λ (l : List Step). Writes l c.args.output.now output' 0 r)
+      (same_half same (λ u. u) c.keep_all.ensures h.P c.args.x h.bodies c.args.first.now h.ts h.is.reads)
+      (subst (λ (r : Wrote). Writes (lines_of h same) c.args.output.now output' 0 r) e
+      (subst (λ (x : ℤ). HalfOf c.args.first.now x (0 ∷ []) c.args.demanded.body c.args.demanded.constraint h.N h.P h.bodies h.ts
+      → Writes (half h.P x same h.bodies [] h.ts) c.args.output.now output' 0 c.write_half-wrote.result) (to_z-of_z c.fits.x)
       (c.write_half-wrote.ensures h.N h.P h.bodies h.ts) h.is))
 
 -- the second half's literal
 other : (c : After-complement_of) → to_z w32 (of_z w32 c.complement_of.result) ≡ complement c.args.x
-other c = let k = c.complement_of in to_z-of_z (sfits_of {z = k.result} k.type_inv) ∙ (k.ensures ∙ ap complement (to_z-of_z c.ranges.x))
+other c = let k = c.complement_of in to_z-of_z {w = w32} (sfits_of {z = k.result} k.type_inv) ∙ (k.ensures ∙ ap complement (to_z-of_z c.ranges.x))
 
 pub write_second-requires : goal.write_second-requires
 write_second-requires c = let d = (goal.at.write_second-requires c).After-complement_of in
     let a = (s (goal.at.write_second-requires c).After-write_half-wrote).args in
-    let p = (s (goal.at.write_second-requires c).After-write_half-wrote).pre in record { at = (wrote (goal.at.write_second-requires c).After-write_half-wrote _ d.in-At.is p.1.1.0).2; literal = rw (other d, variable-complement a.x) p.0; new = p.1.0; half = subst (λ (y : ℤ). HalfText a.second.now y a.shared.now a.forbidden) (sym (other d)) p.1.1.1 }
+    let p = (s (goal.at.write_second-requires c).After-write_half-wrote).requires in record { at = (wrote (goal.at.write_second-requires c).After-write_half-wrote _ d.in-At.is p.1.1.0).2; literal = rw (other d, variable-complement a.x) p.0; new = p.1.0; half = subst (λ (y : ℤ). HalfText a.second.now y a.shared.now a.forbidden) (sym (other d)) p.1.1.1 }
 
 pub returns-in-At : goal.returns-in-At
 returns-in-At c = λ h k.
     let d = (goal.at.returns-in-At c).After-complement_of in
     let w = (goal.at.returns-in-At c).After-write_half-wrote in
-    let a = (s w).args in
+    let a = w.args in
     let u = c.write_second in
     then-written (lines_of h (λ u. u)) (lines_of k (λ u. get_or a.new.now u 0) ++ closing) a.output.now (output' w) u.new.output 0 _ u.result (wrote w _ d.in-At.is h)
     (subst (λ (y : ℤ). (k : HalfText a.second.now y a.shared.now a.forbidden)
@@ -72,5 +70,5 @@ returns-in-At c = λ h k.
 pub returns-in-Over : goal.returns-in-Over
 returns-in-Over c = λ h k.
     let w = (goal.at.returns-in-Over c).After-write_half-wrote in
-    let a = (s w).args in
+    let a = w.args in
     over-more (lines_of h (λ u. u)) (lines_of k (λ u. get_or a.new.now u 0) ++ closing) a.output.now (output' w) (output' w) 0 (wrote w _ c.in-Over.is h)

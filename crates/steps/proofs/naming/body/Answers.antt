@@ -18,7 +18,10 @@ use Rattle.steps.proofs.Kept.{kept_more}
 use Rattle.steps.proofs.Letters.{first, copied, some_number, first-low, first-high, others-literals, introduced, unknown, body-tracks}
 use borrow.Author.Rules.{rules}
 use Rattle.steps.proofs.naming.body.Goals as goal
-use Rattle.steps.proofs.naming.body.Goals.{After-variable_of-name, After-is_marked, After-name_body, Start}
+use Rattle.steps.proofs.naming.body.Goals.{After-variable_of-name, After-is_marked, After-name_body}
+use Rattle.steps.proofs.naming.body.Lts.View as view
+use Rattle.steps.proofs.naming.body.Reads as reads
+use Rattle.steps.proofs.naming.body.Tie as tie
 
 pub slice_bounds-all_marked-count : goal.slice_bounds-all_marked-count
 slice_bounds-all_marked-count c = some_number Body refl c.requires.line
@@ -26,7 +29,7 @@ slice_bounds-all_marked-count c = some_number Body refl c.requires.line
 pub returns-then-not-all_marked : goal.returns-then-not-all_marked
 returns-then-not-all_marked c =
     λ N ws p z stored T K.
-    let s = c.before in
+    let s = c.before.before.before.before.before.before.before.before.before in
     rw (introduced z T Body _ s.requires.line refl refl (sym c.all_marked.ensures ∙ c.if-not-all_marked.true) refl) refl
 
 pub slice_copy_out-variable_of : goal.slice_copy_out-variable_of
@@ -37,13 +40,13 @@ name c = rw (back _ c.variable_of-arg-1.given) at c.variable_of-name.ensures
 
 -- question 27
 named : (c : After-is_marked) → let a = c.args in c.is_marked.result ≡ marked a.known.now (variable (first a.numbers.now))
-named c = rw (name c.before) at c.is_marked.ensures
+named c = rw (name (view.up-Else-not-all_marked tie.the-claims reads.Pre reads.Post tie.handed_clauses c.before.before.before.before)) at c.is_marked.ensures
 
 pub returns-then-is_marked : goal.returns-then-is_marked
 returns-then-is_marked c =
     λ N ws p z stored T K.
     let k = c in
-    let s = k.before in
+    let s = k.before.before.before.before.before.before.before.before.before in
     rw (introduced z T Body _ s.requires.line refl refl (sym k.all_marked.ensures ∙ k.if-not-all_marked.false) (sym (named (goal.at.returns-then-is_marked c).After-is_marked) ∙ c.if-is_marked.true)) refl
 
 pub slice_bounds-name_body-count : goal.slice_bounds-name_body-count
@@ -51,7 +54,7 @@ slice_bounds-name_body-count c = some_number Body refl c.requires.line
 
 pub name_body-requires : goal.name_body-requires
 name_body-requires c = let v = (goal.at.name_body-requires c).Else-not-all_marked in
-    let s = v.before in
+    let s = v.before.before.before.before.before.before.before.before.before.before.before in
     let l = s.requires.line in record { program = s.requires.program; index = s.requires.index; name = (
           rw (name v) (first-low Body refl l),
           rw (name v) (first-high Body refl l),
@@ -59,17 +62,15 @@ name_body-requires c = let v = (goal.at.name_body-requires c).Else-not-all_marke
         ) }
 
 module _ (c : After-name_body) where
-  abbrev start : Start
-  start = c.before
 
   abbrev numbers : List ℤ
-  numbers = start.args.numbers.now
+  numbers = c.args.numbers.now
 
   part : take (length numbers - 1) (drop 1 c.copy.new.destination) ≡ drop 1 numbers
-  part = copied numbers _ _ (some_number Body refl start.pre.1.1.1) c.copy.ensures
+  part = copied numbers _ _ (some_number Body refl c.requires.line) c.copy.ensures
 
-  module _ (N : ℕ) (ws : List InputRule) (p : HoldsRules start.args.table.now start.args.rules ws) (z : State)
-      (T : Tracks N ws start.args.known.now start.args.names.now start.args.bodies.now z.introduced z.named) where
+  module _ (N : ℕ) (ws : List InputRule) (p : HoldsRules c.args.table.now c.args.rules ws) (z : State)
+      (T : Tracks N ws c.args.known.now c.args.names.now c.args.bodies.now z.introduced z.named) where
     -- question 28
     answer : c.name_body.result ≡ is_unnamed_body (expand ws) z (drop 1 numbers)
     answer = c.name_body.ensures.answer N ws p _ z T ∙ ap (is_unnamed_body (expand ws) z) part
@@ -77,7 +78,7 @@ module _ (c : After-name_body) where
     entered : c.name_body.result ≡ true → is_known N z (variable (first numbers)) ≡ false
         → Kept c.name_body.new.names c.name_body.new.bodies (name_of (record { name = variable (first numbers); body = ascending (drop 1 numbers) } ∷ z.named)) ws
     entered e f =
-        let v = name c.before in
+        let v = name (view.up-Else-not-all_marked tie.the-claims reads.Pre reads.Post tie.handed_clauses c.before.before.before.before.before.before.before.before.before.before.before.before) in
         subst (λ (t : List ℤ). Kept c.name_body.new.names c.name_body.new.bodies (name_of (record { name = variable (first numbers); body = ascending t } ∷ z.named)) ws) part
         (subst (λ (n : ℕ). is_known N z n ≡ false → Kept c.name_body.new.names c.name_body.new.bodies (name_of (record { name = n; body = ascending (take (length numbers - 1) (drop 1 c.copy.new.destination)) } ∷ z.named)) ws) v
         (c.name_body.ensures.named N ws p e _ z T) f)
@@ -88,11 +89,11 @@ returns-then-not-name_body c =
     let b = (goal.at.returns-then-not-name_body c).After-name_body in
     let m = c in
     let k = c in
-    let s = k.before in
+    let s = k.before.before.before.before.before.before.before.before.before in
     rw (introduced z T Body _ s.requires.line refl refl (sym k.all_marked.ensures ∙ k.if-not-all_marked.false) (sym (named (goal.at.returns-then-not-name_body c).After-variable_of-name) ∙ m.if-is_marked.false), sym (answer b N ws p z T) ∙ c.if-not-name_body.true) refl
 
 pub define-requires : goal.define-requires
-define-requires c = let s = c.before in
+define-requires c = let s = c.before.before.before.before.before.before.before.before.before.before.before.before.before.before.before.before.before.before.before.before.before.before.before.before.before.before.before.before.before.before.before in
     let l = s.requires.line in record { store = s.requires.store; line = (l.literals, some_number Body refl l, l.few) }
 
 pub returns : goal.returns
@@ -103,7 +104,7 @@ returns c =
     let b = (goal.at.returns c).After-name_body in
     let m = c in
     let k = c in
-    let s = k.before in
+    let s = k.before.before.before.before.before.before.before.before.before in
     let f = sym (named (goal.at.returns c).After-variable_of-name) ∙ m.if-is_marked.false in
     let u = e.if-not-name_body.false in
     let q = sym (answer b N ws p z T) ∙ u in

@@ -8,7 +8,7 @@ use Rattle.text.specs.declared.Letter.TheVariants.{Support}
 use Rattle.steps.proofs.Letters.{first, some_number, first-high, others-literals, no-atom, supported, supported-by}
 use borrow.Author.Rules.{rules}
 use Rattle.steps.proofs.supports.is_supported.Goals as goal
-use Rattle.steps.proofs.supports.is_supported.Goals.{After-variable_of, After-variable_of-then-is_covered, Start}
+use Rattle.steps.proofs.supports.is_supported.Goals.{After-variable_of, After-variable_of-then-is_covered}
 
 pub bounds-numbers-0 : goal.bounds-numbers-0
 bounds-numbers-0 c = some_number Support refl c.requires.line
@@ -24,23 +24,21 @@ returns-then-atoms-variable_of c =
 
 -- the index covers the program
 module _ (c : After-variable_of-then-is_covered) where
-  abbrev s : Start
-  s = c.before
 
-  again : c.variable_of-then-is_covered.result ≡ variable (first s.args.numbers.now)
+  again : c.variable_of-then-is_covered.result ≡ variable (first c.args.numbers.now)
   again = rw (back _ c.h-1.given) at c.variable_of-then-is_covered.ensures
 
 pub slice_bounds-are_just_names-count : goal.slice_bounds-are_just_names-count
-slice_bounds-are_just_names-count c = some_number Support refl (s c).requires.line
+slice_bounds-are_just_names-count c = some_number Support refl c.requires.line
 
 pub slice_bounds-are_just_names-start : goal.slice_bounds-are_just_names-start
-slice_bounds-are_just_names-start c = search (rules, some_number Support refl (s c).requires.line)
+slice_bounds-are_just_names-start c = search (rules, some_number Support refl c.requires.line)
 
 pub are_just_names-requires : goal.are_just_names-requires
 are_just_names-requires c = let v = (goal.at.are_just_names-requires c).After-variable_of-then-is_covered in
     let t = c in
-    let p = (s v).requires in
-    let l = (s v).args.numbers.now in
+    let p = v.requires in
+    let l = v.args.numbers.now in
     let o = others-literals Support refl p.1.1 in record { program = (p.0.0.1.holds.sound, p.0.1); index = (p.1.0, sym t.is_covered.ensures ∙ t.if-is_covered.true); line = rw (again v, tail_of 1 l) (first-high Support refl p.1.1, omega (arith, length-drop 1 l, p.1.1.few), o.once) }
 
 pub returns-then-is_covered : goal.returns-then-is_covered
@@ -48,7 +46,7 @@ returns-then-is_covered c =
     λ ws p known z T.
     let v = (goal.at.returns-then-is_covered c).After-variable_of-then-is_covered in
     let k = c in
-    supported-by z T (s v).args.numbers.now (s v).requires.line (omega (arith, k.if-atoms-variable_of.false, head (goal.at.returns-then-is_covered c).After-variable_of)) (again v)
+    supported-by z T v.args.numbers.now v.requires.line (omega (arith, k.if-atoms-variable_of.false, head (goal.at.returns-then-is_covered c).After-variable_of)) (again v)
     (c.are_just_names.ensures ws p.holds _ _ T.kept)
 
 pub slice_bounds-marks_of-count : goal.slice_bounds-marks_of-count

@@ -6,7 +6,7 @@ use Rattle.nogoods.proofs.Literals.{literals-tail}
 use Rattle.nogoods.proofs.Defined.{name-and-literals}
 use Rattle.steps.proofs.Kept.{kept-one, Joined, joined}
 use Rattle.steps.proofs.supports.join.Goals as goal
-use Rattle.steps.proofs.supports.join.Goals.{After-sort, Start}
+use Rattle.steps.proofs.supports.join.Goals.{After-sort}
 
 pub complement_all-requires : goal.complement_all-requires
 complement_all-requires c =
@@ -16,20 +16,18 @@ complement_all-requires c =
 
 -- the numbers as they are added
 module _ (c : After-sort) where
-  abbrev s : Start
-  s = c.before
 
-  added : Joined s.args.numbers.now c.sort.new.words.words.0
+  added : Joined c.args.numbers.now c.sort.new.words.words
   added =
       let k = c.complement_all in
-      let p = s.pre.1 in
-      joined s.args.numbers.now k.new.words.0 c.sort.new.words.words.0 p.0 p.1 k.ensures c.sort.ensures
+      let p = c.requires.line in
+      joined c.args.numbers.now k.new.words c.sort.new.words.words p.0 p.1 k.ensures c.sort.ensures
 
 pub append-requires : goal.append-requires
-append-requires c = let o = (goal.at.append-requires c).After-sort-arg-1 in record { held = (s o).requires.store.0; origin = (s o).requires.store.1; literals = ((added o).literals, omega (arith, (added o).size, (s o).requires.line.2)) }
+append-requires c = let o = (goal.at.append-requires c).After-complement_all in record { held = o.requires.store.0; origin = o.requires.store.1; literals = ((added o).literals, omega (arith, (added o).size, o.requires.line.2)) }
 
 pub returns : goal.returns
 returns c =
     let a = c in
-    let o = (goal.at.returns c).After-sort-arg-1 in
-    λ b H. kept-one b (s o).args.origin _ _ _ a.append.result c.fitted.ensures (added o).is (a.append.ensures b H)
+    let o = (goal.at.returns c).After-complement_all in
+    λ b H. kept-one b o.args.origin _ _ _ a.append.result c.fitted.ensures (added o).is (a.append.ensures b H)

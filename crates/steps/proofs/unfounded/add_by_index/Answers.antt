@@ -9,29 +9,27 @@ use Rattle.names.specs.declared.queries.Query.TheVariants.{External}
 use Rattle.steps.specs.Held.{Above, LoopNogood}
 use borrow.Author.Rules.{rules}
 use Rattle.steps.proofs.unfounded.add_by_index.Goals as goal
-use Rattle.steps.proofs.unfounded.add_by_index.Goals.{After-look_up-found, Start}
+use Rattle.steps.proofs.unfounded.add_by_index.Goals.{After-look_up-found}
 
 pub look_up-found-requires : goal.look_up-found-requires
 look_up-found-requires c = let p = c.requires in record { state = p.0; index = p.1.0; set = p.1.1.0; row = refl }
 
 -- what was found
 module _ (c : After-look_up-found) where
-  abbrev s : Start
-  s = c.before
 
   abbrev h : ℤ
-  h = get_or s.args.numbers.now 0 (pos 0)
+  h = get_or c.args.numbers.now 0 (pos 0)
 
   abbrev asked : List InputRule → (List ℤ → ℕ) → List ℕ
-  asked ws called = asked_names External s.args.inside.now called (expand ws)
+  asked ws called = asked_names External c.args.inside.now called (expand ws)
 
-  gives : (ws : List InputRule) (called : List ℤ → ℕ) → Above s.args.table.now s.args.rules s.args.names.now s.args.bodies.now h ws called
+  gives : (ws : List InputRule) (called : List ℤ → ℕ) → Above c.args.table.now c.args.rules c.args.names.now c.args.bodies.now h ws called
       → LoopNogood (asked ws called) h c.look_up-found.new.row.0 c.look_up-found.result
   gives = c.look_up-found.ensures
 
 pub add_found-requires : goal.add_found-requires
 add_found-requires c = let k = (goal.at.add_found-requires c).After-look_up-found in
-    let p = (s k).requires in
+    let p = k.requires in
     let t = p.0 in record { found = (asked k t.0 t.1, h k, gives k t.0 t.1 t.2); store = p.1.1.1 }
 
 pub returns : goal.returns

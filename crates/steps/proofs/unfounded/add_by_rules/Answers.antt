@@ -8,24 +8,22 @@ use Rattle.names.specs.declared.queries.Query.TheVariants.{External}
 use Rattle.steps.specs.Held.{Above, LoopNogood}
 use borrow.Author.Rules.{rules}
 use Rattle.steps.proofs.unfounded.add_by_rules.Goals as goal
-use Rattle.steps.proofs.unfounded.add_by_rules.Goals.{After-scan-found, Start}
+use Rattle.steps.proofs.unfounded.add_by_rules.Goals.{After-scan-found}
 
 -- what was found
 module _ (c : After-scan-found) where
-  abbrev s : Start
-  s = c.before
 
   abbrev asked : List InputRule → (List ℤ → ℕ) → List ℕ
-  asked ws called = asked_names External s.args.inside.now called (expand ws)
+  asked ws called = asked_names External c.args.inside.now called (expand ws)
 
-  gives : (ws : List InputRule) (called : List ℤ → ℕ) → Above s.args.table.now s.args.rules s.args.names.now s.args.bodies.now s.args.h ws called
-      → LoopNogood (asked ws called) s.args.h c.scan-found.new.row.0 c.scan-found.result
-  gives = rw (to_z-of_z s.fits.h) at c.scan-found.ensures
+  gives : (ws : List InputRule) (called : List ℤ → ℕ) → Above c.args.table.now c.args.rules c.args.names.now c.args.bodies.now c.args.h ws called
+      → LoopNogood (asked ws called) c.args.h c.scan-found.new.row.0 c.scan-found.result
+  gives = rw (to_z-of_z c.fits.h) at c.scan-found.ensures
 
 pub add_found-requires : goal.add_found-requires
 add_found-requires c = let k = (goal.at.add_found-requires c).After-scan-found in
-    let p = (s k).requires in
-    let t = p.0.0 in record { found = (asked k t.0 t.1, (s k).args.h, gives k t.0 t.1 t.2); store = p.1 }
+    let p = k.requires in
+    let t = p.0.0 in record { found = (asked k t.0 t.1, k.args.h, gives k t.0 t.1 t.2); store = p.1 }
 
 pub returns : goal.returns
-returns c = let k = (goal.at.returns c).After-scan-found in λ ws called A b K. c.add_found.ensures (asked k ws called) (s k).args.h (gives k ws called A) b K
+returns c = let k = (goal.at.returns c).After-scan-found in λ ws called A b K. c.add_found.ensures (asked k ws called) k.args.h (gives k ws called A) b K

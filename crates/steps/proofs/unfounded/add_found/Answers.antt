@@ -14,32 +14,30 @@ use Rattle.steps.specs.Held.{LoopNogood}
 use Rattle.steps.proofs.Kept.{kept-one}
 use Rattle.steps.proofs.Gathering.{gathered-literals}
 use Rattle.steps.proofs.unfounded.add_found.Goals as goal
-use Rattle.steps.proofs.unfounded.add_found.Goals.{In-Names-2, Start}
+use Rattle.steps.proofs.unfounded.add_found.Goals.{In-Names}
 
 -- the nogood in the row
-module _ (c : In-Names-2) where
-  abbrev s : Start
-  s = c.before
+module _ (c : In-Names) where
 
   abbrev row : List ℤ
-  row = s.args.row.now
+  row = c.args.row.now
 
   abbrev n : ℕ
   n = c.in-Names.n
 
-  gives : (l : List ℕ) (h : ℤ) → LoopNogood l h row s.args.found → LoopNogood l h row (Names n)
+  gives : (l : List ℕ) (h : ℤ) → LoopNogood l h row c.args.found → LoopNogood l h row (Names n)
   gives l h L = subst (LoopNogood l h row) c.in-Names.is L
 
   -- as it is known before
-  held : (let p = s.pre.0 in LoopNogood p.0 p.1 row (Names n))
-  held = let p = s.pre.0 in gives p.0 p.1 p.2
+  held : (let p = c.requires.found in LoopNogood p.0 p.1 row (Names n))
+  held = let p = c.requires.found in gives p.0 p.1 p.2
 
   size : length (take n row) ≡ n
   size = length-take-le n row held.3
 
 pub append-requires : goal.append-requires
-append-requires c = let f = (goal.at.append-requires c).In-Names-1 in
-    let p = (s f).requires in
+append-requires c = let f = (goal.at.append-requires c).In-Names in
+    let p = f.requires in
     let g = held f in record { held = p.1.0; origin = p.1.1; literals = (
           subst Literals (sym g.1) (gathered-literals (listed p.0.0) p.0.1 largest 1 (omega arith) (omega arith)),
           omega (arith, size f, g.0),
@@ -53,10 +51,10 @@ returns-in-Unnamed c =
 pub returns-in-Names : goal.returns-in-Names
 returns-in-Names c =
     let a = c in
-    let f = (goal.at.returns-in-Names c).In-Names-1 in
+    let f = (goal.at.returns-in-Names c).In-Names in
     λ l h L b K.
     let g = gives f l h L in
-    inr (g.2, kept-one b (s f).args.origin _ _ _ a.append.result c.fitted.ensures g.1 (a.append.ensures b K))
+    inr (g.2, kept-one b f.args.origin _ _ _ a.append.result c.fitted.ensures g.1 (a.append.ensures b K))
 
 pub slice_bounds-append-end : goal.slice_bounds-append-end
-slice_bounds-append-end c = sym (size (goal.at.slice_bounds-append-end c).In-Names-1)
+slice_bounds-append-end c = sym (size (goal.at.slice_bounds-append-end c).In-Names)

@@ -11,24 +11,22 @@ use Rattle.words.specs.Literals.{variable}
 use Rattle.marks.specs.Marks.{marked}
 use Rattle.steps.proofs.Gathering.{gathered-on, gathered-all}
 use Rattle.steps.proofs.unfounded.gather.Goals as goal
-use Rattle.steps.proofs.unfounded.gather.Goals.{After-larger-end, Start}
+use Rattle.steps.proofs.unfounded.gather.Goals.{After-larger-end}
 
 -- where the loop ends
 module _ (c : After-larger-end) where
-  abbrev s : Start
-  s = c.before
 
-  first : c.variable_of.result ≡ variable s.args.h
-  first = rw (to_z-of_z s.fits.h) at c.variable_of.ensures
+  first : c.variable_of.result ≡ variable c.args.h
+  first = rw (to_z-of_z c.fits.h) at c.variable_of.ensures
 
-  end_is : c.larger-end.result ≡ max c.extent.result (variable s.args.h + 1)
+  end_is : c.larger-end.result ≡ max c.extent.result (variable c.args.h + 1)
   end_is = rw first at c.larger-end.ensures
 
   within : c.larger-end.result ≤ entries
-  within = omega (arith, end_is, s.pre.1, c.extent.ensures.within, s.pre.0.1)
+  within = omega (arith, end_is, c.requires.first, c.extent.ensures.within, c.requires.rows.1)
 
   -- no name is marked from there on, and h stands before
-  past : (u : ℕ) → c.larger-end.result ≤ u → (marked s.args.found.now u ≡ false) × (¬ (u ≡ variable s.args.h))
+  past : (u : ℕ) → c.larger-end.result ≤ u → (marked c.args.found.now u ≡ false) × (¬ (u ≡ variable c.args.h))
   past u k = (ap (λ (n : ℕ). eqb n 1) (c.extent.ensures.blank u (omega (arith, end_is))), λ p. omega (arith, end_is))
 
 pub overflow_add-variable_of : goal.overflow_add-variable_of
@@ -43,7 +41,7 @@ loop-v-init c = (omega arith, omega (arith, end_is c), omega arith, refl, refl)
 pub gather_one-count-requires : goal.gather_one-count-requires
 gather_one-count-requires c = let t = c in
     let l = t.loop-v in
-    let e = (goal.at.gather_one-count-requires c).After-larger-end in record { place = (l.invariant.0, omega (arith, t.loop-v-test.true, within e), l.invariant.2, omega (arith, l.invariant.3, (s e).requires.rows.0)) }
+    let e = (goal.at.gather_one-count-requires c).After-larger-end in record { place = (l.invariant.0, omega (arith, t.loop-v-test.true, within e), l.invariant.2, omega (arith, l.invariant.3, e.requires.rows.0)) }
 
 pub loop-v-preserved : goal.loop-v-preserved
 loop-v-preserved c =
@@ -55,11 +53,11 @@ loop-v-preserved c =
       omega (arith, t.loop-v-test.true),
       omega (arith, g.ensures.within),
       g.auto.row ∙ l.invariant.3,
-      gathered-on (marked (s e).args.found.now) (to_z w32 (of_z w32 (s e).args.h)) l.v l.invariant.0 l.invariant.4 g.ensures.words,
+      gathered-on (marked e.args.found.now) (to_z w32 (of_z w32 e.args.h)) l.v l.invariant.0 l.invariant.4 g.ensures.words,
     )
 
 pub returns : goal.returns
 returns c = let l = c.loop-v in
     let e = (goal.at.returns c).After-larger-end in
-    let h = (s e).args.h in record { within = omega (arith, l.invariant.1, l.invariant.2, within e); words = gathered-all (marked (s e).args.found.now) h l.v largest (to_z-of_z (s e).ranges.h) l.invariant.0 (omega (arith, l.invariant.1, within e))
+    let h = e.args.h in record { within = omega (arith, l.invariant.1, l.invariant.2, within e); words = gathered-all (marked e.args.found.now) h l.v largest (to_z-of_z {w = w32} e.ranges.h) l.invariant.0 (omega (arith, l.invariant.1, within e))
           (λ u k. past e u (omega (arith, c.loop-v-test.false))) l.invariant.4 }

@@ -21,12 +21,12 @@ other s e f p = f (p ∙ sym (rw (to_z-of_z s.ranges.h) at e))
 pub returns-then-v-variable_of : goal.returns-then-v-variable_of
 returns-then-v-variable_of c = let s = c in
     let a = s.args in
-    let e = c.if-v-variable_of.true ∙ c.variable_of.ensures in record { within = omega (arith, s.requires); words = put_word a.row.now _ a.count (omega (arith, s.requires)) (to_z-of_z s.ranges.h) (gather-first (marked a.found.now) a.h a.v (rw (to_z-of_z s.ranges.h) at e)) }
+    let e = c.if-v-variable_of.true ∙ c.variable_of.ensures in record { within = omega (arith, s.requires.place); words = put_word a.row.now _ a.count (omega (arith, s.requires.place)) (to_z-of_z s.ranges.h) (gather-first (marked a.found.now) a.h a.v (rw (to_z-of_z s.ranges.h) at e)) }
 
 pub complement_of-requires : goal.complement_of-requires
 complement_of-requires c =
     let s = c in
-    rw (to_z_pos w32 {n = s.args.v} (omega (arith, s.requires))) s.requires.1
+    rw (to_z_pos w32 {n = s.args.v} (omega (arith, s.requires.place))) s.requires.place.1
 
 pub returns-then-is_marked : goal.returns-then-is_marked
 returns-then-is_marked c = let k = c.complement_of in
@@ -34,10 +34,10 @@ returns-then-is_marked c = let k = c.complement_of in
     let s = (goal.at.returns-then-is_marked c).Start in
     let a = s.args in
     let e = other s d.variable_of.ensures d.if-v-variable_of.false in
-    let x : to_z w32 (of_z w32 k.result) ≡ complement (pos a.v) = to_z-of_z (sfits_of {z = k.result} k.type_inv) ∙ k.ensures ∙ ap complement (to_z_pos w32 {n = a.v} (omega (arith, s.requires))) in record { within = omega (arith, s.requires); words = put_word a.row.now _ a.count (omega (arith, s.requires)) x (gather-name (marked a.found.now) a.h a.v e (sym d.is_marked.ensures ∙ d.if-is_marked.true)) }
+    let x : to_z w32 (of_z w32 k.result) ≡ complement (pos a.v) = to_z-of_z {w = w32} (sfits_of {z = k.result} k.type_inv) ∙ k.ensures ∙ ap complement (to_z_pos w32 {n = a.v} (omega (arith, s.requires.place))) in record { within = omega (arith, s.requires.place); words = put_word a.row.now _ a.count (omega (arith, s.requires.place)) x (gather-name (marked a.found.now) a.h a.v e (sym d.is_marked.ensures ∙ d.if-is_marked.true)) }
 
 pub returns : goal.returns
 returns c = let s = (goal.at.returns c).Start in
     let a = s.args in
     let e = other s c.variable_of.ensures c.if-v-variable_of.false in
-    let q = sym c.is_marked.ensures ∙ c.if-is_marked.false in record { within = omega (arith, s.requires); words = rw (gather_none (marked a.found.now) a.h a.v e q) (sym (append-nil (take a.count a.row.now))) }
+    let q = sym c.is_marked.ensures ∙ c.if-is_marked.false in record { within = omega (arith, s.requires.place); words = rw (gather_none (marked a.found.now) a.h a.v e q) (sym (append-nil (take a.count a.row.now))) }

@@ -21,7 +21,7 @@ use Rattle.steps.proofs.Gathering.{put-others, put-size}
 use Rattle.steps.proofs.LoopSteps.{row-nogood}
 use borrow.Author.Rules.{rules}
 use Rattle.steps.proofs.unfounded.look_up.Goals as goal
-use Rattle.steps.proofs.unfounded.look_up.Goals.{In-Names-2, After-external_names-found, Start}
+use Rattle.steps.proofs.unfounded.look_up.Goals.{In-Names, Start}
 
 pub external_names-found-requires : goal.external_names-found-requires
 external_names-found-requires c = let p = c.requires in
@@ -29,15 +29,13 @@ external_names-found-requires c = let p = c.requires in
     let l = p.1.1.0.1.literals in record { program = (A.holds.sound, omega (arith, A.kept.rules, rules-held A.holds)); index = p.1.0; set = (p.1.1.0.0, λ x i. (l.low x i, l.high x i)); row = search (rules, p.1.1.1) }
 
 -- the names in the row after its first word
-module _ (c : In-Names-2) where
-  abbrev e : After-external_names-found
-  e = c.before
+module _ (c : In-Names) where
 
   abbrev s : Start
-  s = e.before
+  s = c.before.before.before.before.before.before.before.before.before.before
 
   abbrev row : List ℤ
-  row = e.external_names-found.new.row.0
+  row = c.external_names-found.new.row.0
 
   abbrev n : ℕ
   n = c.in-Names.n
@@ -46,39 +44,39 @@ module _ (c : In-Names-2) where
   put = put_mid 1 (length s.args.row.now - 1) s.args.row.now row
 
   some : 1 ≤ length s.args.row.now
-  some = omega (arith, s.pre.1.1.1)
+  some = omega (arith, s.requires.row)
 
   others : drop 1 put ≡ row
   others = put-others s.args.row.now row some
 
   long : length put ≡ most_held + 2
-  long = put-size s.args.row.now row some ∙ search (rules, e.external_names-found.kept.1.1.1.1.1.1.0, s.pre.1.1.1)
+  long = put-size s.args.row.now row some ∙ search (rules, c.external_names-found.kept.1.1.1.1.1.1.0, s.requires.row)
 
   module _ (ws : List InputRule) (called : List ℤ → ℕ) (A : Above s.args.table.now s.args.rules s.args.names.now s.args.bodies.now (get_or s.args.numbers.now 0 (pos 0)) ws called) where
     externals : Externals (asked_names External s.args.inside.now called (expand ws)) row (Names n)
     externals =
         subst (Externals (asked_names External s.args.inside.now called (expand ws)) row) c.in-Names.is
-        (e.external_names-found.ensures ws A.holds s.args.bodies.now called A.kept)
+        (c.external_names-found.ensures ws A.holds s.args.bodies.now called A.kept)
 
   -- as it is known before
-  held : (let p = s.pre.0 in Externals (asked_names External s.args.inside.now p.1 (expand p.0)) row (Names n))
-  held = let p = s.pre.0 in externals p.0 p.1 p.2
+  held : (let p = s.requires.state in Externals (asked_names External s.args.inside.now p.1 (expand p.0)) row (Names n))
+  held = let p = s.requires.state in externals p.0 p.1 p.2
 
 pub bounds-numbers-0 : goal.bounds-numbers-0
-bounds-numbers-0 c = some_number Loop refl (s (goal.at.bounds-numbers-0 c).In-Names-2).pre.1.1.0.1
+bounds-numbers-0 c = some_number Loop refl (s (goal.at.bounds-numbers-0 c).In-Names).requires.set.1
 
 pub complete-requires : goal.complete-requires
-complete-requires c = let f = (goal.at.complete-requires c).In-Names-2 in
+complete-requires c = let f = (goal.at.complete-requires c).In-Names in
     let E = held f in record { row = (long f, E.0); names = rw (others f) (λ x i. (E.2 x i).2) }
 
 pub overflow_add-result : goal.overflow_add-result
-overflow_add-result c = let E = held (goal.at.overflow_add-result c).In-Names-2 in record { fits = omega (arith, E.0) }
+overflow_add-result c = let E = held (goal.at.overflow_add-result c).In-Names in record { fits = omega (arith, E.0) }
 
 pub returns-in-Names : goal.returns-in-Names
 returns-in-Names c =
     λ ws called A.
     let k = c in
-    let f = (goal.at.returns-in-Names c).In-Names-2 in
+    let f = (goal.at.returns-in-Names c).In-Names in
     let line = (s f).requires.set.1 in
     let h = get_or (s f).args.numbers.now 0 (pos 0) in
     let E = externals f ws called A in

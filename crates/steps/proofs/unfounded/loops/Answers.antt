@@ -16,23 +16,24 @@ use Rattle.steps.proofs.Letters.{cited}
 use Rattle.steps.proofs.LoopSteps.{members, names-above, loop-atoms, loop-not, loop-ends}
 use borrow.Author.Rules.{rules}
 use Rattle.steps.proofs.unfounded.loops.Goals as goal
-use Rattle.steps.proofs.unfounded.loops.Goals.{Else-atoms-largest_variable, Start, After-is_loop}
+use Rattle.steps.proofs.unfounded.loops.Goals.{Else-atoms-largest_variable, After-is_loop}
+use Rattle.steps.proofs.unfounded.loops.Lts.View as view
+use Rattle.steps.proofs.unfounded.loops.Reads as reads
+use Rattle.steps.proofs.unfounded.loops.Tie as tie
 
 -- what the first two tests leave
 module _ (c : Else-atoms-largest_variable) where
-  abbrev s : Start
-  s = c.before
 
   abbrev U : List ℤ
-  U = s.args.numbers.now
+  U = c.args.numbers.now
 
   line : PassedLine Loop U
-  line = s.pre.1.1.1.1
+  line = c.requires.line
 
-  known : all (λ x. marked s.args.known.now (variable x)) U ≡ true
-  known = let d = c.before in sym d.all_marked.ensures ∙ d.if-not-all_marked.false
+  known : all (λ x. marked c.args.known.now (variable x)) U ≡ true
+  known = let d = c in sym d.all_marked.ensures ∙ d.if-not-all_marked.false
 
-  low : top U ≤ s.args.atoms
+  low : top U ≤ c.args.atoms
   low = omega (arith, c.if-atoms-largest_variable.false, c.largest_variable.ensures)
 
 pub returns-then-not-all_marked : goal.returns-then-not-all_marked
@@ -49,23 +50,23 @@ returns-then-atoms-largest_variable c =
     (omega (arith, c.if-atoms-largest_variable.true, c.largest_variable.ensures))
 
 pub is_loop-requires : goal.is_loop-requires
-is_loop-requires c = let p = (s c).requires in record { program = (p.0.2.holds.sound, p.1.1.0); index = p.1.0; numbers = members (U c) (line c) }
+is_loop-requires c = let p = c.requires in record { program = (p.0.2.holds.sound, p.1.1.0); index = p.1.0; numbers = members (U c) (line c) }
 
 -- question 56, of the rules that the table holds
 looped : (c : After-is_loop)
-    → (let e = c.before in is_loop (expand (rules_at (s e).args.rules (s e).args.table.now)) (U e) ≡ c.is_Loop.result)
+    → (let e = (view.up-Else-atoms-largest_variable tie.the-claims reads.Pre reads.Post (view.up-After-largest_variable tie.the-claims reads.Pre reads.Post c.before.before.before)) in is_loop (expand (rules_at e.args.rules e.args.table.now)) (U e) ≡ c.is_Loop.result)
 looped c = sym c.is_Loop.ensures
 
 pub returns-then-not-is_loop : goal.returns-then-not-is_loop
 returns-then-not-is_loop c =
     let e = (goal.at.returns-then-not-is_loop c).Else-atoms-largest_variable in
     λ ws p z b tracks K.
-    loop-not z tracks (s e).args.origin _ b _ _ (U e) (line e) (known e) (low e) (rw (← p.holds.are) (looped (goal.at.returns-then-not-is_loop c).After-is_loop ∙ c.if-not-is_loop.true))
+    loop-not z tracks e.args.origin _ b _ _ (U e) (line e) (known e) (low e) (rw (← p.holds.are) (looped (goal.at.returns-then-not-is_loop c).After-is_loop ∙ c.if-not-is_loop.true))
 
 pub add_nogood-requires : goal.add_nogood-requires
 add_nogood-requires c = let m = c in
     let e = (goal.at.add_nogood-requires c).Else-atoms-largest_variable in
-    let p = (s e).requires in
+    let p = e.requires in
     let t = p.0 in record { state = (t.0, name_of t.1.named, names-above t.1 t.3 t.2 (U e) (line e) (low e)); index = p.1.0; set = (m.marks_of-inside.ensures, line e); store = p.1.1.1.0 }
 
 pub returns : goal.returns
@@ -75,6 +76,6 @@ returns c =
     let a = c in
     let d = (goal.at.returns c).Else-atoms-largest_variable in
     λ ws p z b tracks K.
-    loop-ends z tracks (s d).args.origin _ b _ _ m.marks_of-inside.result (U d) (line d) (known d) (low d)
+    loop-ends z tracks d.args.origin _ b _ _ m.marks_of-inside.result (U d) (line d) (known d) (low d)
     (rw (← p.holds.are) (looped (goal.at.returns c).After-is_loop ∙ a.if-not-is_loop.false)) m.marks_of-inside.ensures p.high K g.result
     (g.ensures ws (name_of z.named) (names-above z tracks p (U d) (line d) (low d)) b K.keeps)

@@ -1,3 +1,4 @@
+use mir.Syntax.{w32}
 use mathlib.Core.Path.{sym, ap, ◌∙◌}
 use mathlib.Core.List.{List}
 use Prim.Native.Nat.{ℕ}
@@ -14,19 +15,17 @@ use Rattle.steps.specs.Held.{Above, gathered}
 use Rattle.steps.proofs.Gathering.{gathered-same}
 use borrow.Author.Rules.{rules}
 use Rattle.steps.proofs.unfounded.scan.Goals as goal
-use Rattle.steps.proofs.unfounded.scan.Goals.{After-mark_names, Start}
+use Rattle.steps.proofs.unfounded.scan.Goals.{After-mark_names}
 
 -- the names that are marked
 module _ (c : After-mark_names) where
-  abbrev s : Start
-  s = c.before
 
   abbrev marks : List ℕ
   marks = c.mark_names.new.found.0
 
-  module _ (ws : List InputRule) (called : List ℤ → ℕ) (A : Above s.args.table.now s.args.rules s.args.names.now s.args.bodies.now s.args.h ws called) where
+  module _ (ws : List InputRule) (called : List ℤ → ℕ) (A : Above c.args.table.now c.args.rules c.args.names.now c.args.bodies.now c.args.h ws called) where
     abbrev asked : List ℕ
-    asked = asked_names External s.args.inside.now called (expand ws)
+    asked = asked_names External c.args.inside.now called (expand ws)
 
     found : MarksNames marks asked
     found = c.mark_names.ensures ws A.holds called A.kept
@@ -41,11 +40,11 @@ returns c =
     let k = c in
     let n = (goal.at.returns c).After-mark_names in
     let m = marks n in
-    let h = (s n).args.h in
+    let h = n.args.h in
     let none = sym k.is_marked.ensures ∙ k.if-is_marked.false in
     let F = names-all (found n ws called A) none in (
       g.ensures.within,
-      g.ensures.words ∙ ap (λ x. gathered (marked m) x largest 1) (to_z-of_z (s n).ranges.h) ∙ gathered-same (marked m) h (listed (asked n ws called A)) largest 1 (λ u i. F.has u (omega arith)),
+      g.ensures.words ∙ ap (λ x. gathered (marked m) x largest 1) (to_z-of_z {w = w32} n.ranges.h) ∙ gathered-same (marked m) h (listed (asked n ws called A)) largest 1 (λ u i. F.has u (omega arith)),
       sym (F.has 0 (omega arith)) ∙ none,
-      omega (arith, g.ensures.within, g.auto.row, (s n).requires.row.0),
+      omega (arith, g.ensures.within, g.auto.row, n.requires.row.0),
     )

@@ -32,13 +32,13 @@ bounds-pairs-left c = there c
 
 -- the weight of the pair
 weight : (c : After-variable_of-weight)
-    → (let d = c.before in
+    → (let d = c in
     c.variable_of-weight.result ≡ variable (get_or d.args.pairs.now (2 * (d.loop-left.left - 1) + 1) (pos 0)))
 weight c = rw (back _ c.variable_of-arg-1.given) at c.variable_of-weight.ensures
 
 sums : (c : At-loop-left) → SumsUpTo c.args.bound (take c.loop-left.count c.loop-left.sums)
 sums c =
-    let s = c.before in
+    let s = c in
     subst (SumsUpTo s.args.bound) (sym c.loop-left.invariant.is) (over-up-to s.requires.sums.0 _)
 
 pub add_literal-count-requires : goal.add_literal-count-requires

@@ -8,7 +8,7 @@ use Rattle.totalizer.proofs.levels.add_weight.Goals.{In-loop-i, After-after_if-j
 -- there is a place for one more
 room : (c : In-loop-i) → (c.loop-i.k ≤ c.args.bound) × (c.loop-i.k < length c.loop-i.to)
 room c =
-    let s = c.before in
+    let s = c in
     place s.requires.sums.0 s.requires.room c.loop-i.invariant c.loop-i-test.true
 
 pub loop-i-init : goal.loop-i-init
@@ -53,14 +53,14 @@ overflow_add-j c =
 
 -- one turn
 on : (c : After-after_if-j)
-    → (let d = c.before in
+    → (let d = c in
     let l = d.loop-i in
     let a = d.args in
     Standing a.bound a.weight a.sums.now a.to.now (set l.to l.k c.smaller-x.result) c.after_if-i.result c.after_if-j.result (l.k + 1)
     × (l.i + l.j < c.after_if-i.result + c.after_if-j.result))
 on c =
-    let d = c.before in
-    let s = d.before in
+    let d = c in
+    let s = d.before.before.before.before in
     stepped s.requires.sums.0 s.requires.room d.loop-i.invariant d.loop-i-test.true
     c.sum_at-u.ensures
     c.raised_at-v.ensures

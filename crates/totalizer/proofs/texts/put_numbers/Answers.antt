@@ -19,7 +19,7 @@ pub put_number-end-requires : goal.put_number-end-requires
 put_number-end-requires c =
     let l = c.loop-i in
     let a = c in
-    omega (arith, l.invariant.1.1, l.invariant.0, a.requires, c.loop-i-test.true)
+    omega (arith, l.invariant.1.1, l.invariant.0, a.requires.room, c.loop-i-test.true)
 
 pub loop-i-preserved : goal.loop-i-preserved
 loop-i-preserved c =

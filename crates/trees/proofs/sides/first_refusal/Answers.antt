@@ -12,7 +12,7 @@ use Rattle.trees.specs.Sides.{Standing}
 use Rattle.trees.proofs.Constraints.{small-atom, demand-program, same-program}
 use borrow.Author.Rules.{rules}
 use Rattle.trees.proofs.sides.first_refusal.Goals as goal
-use Rattle.trees.proofs.sides.first_refusal.Goals.{After-demand_atom, Start}
+use Rattle.trees.proofs.sides.first_refusal.Goals.{After-demand_atom}
 
 pub demand_atom-requires : goal.demand_atom-requires
 demand_atom-requires c =
@@ -22,26 +22,24 @@ demand_atom-requires c =
 
 -- the program with the constraint
 module _ (c : After-demand_atom) where
-  abbrev s : Start
-  s = c.before
 
-  module _ {ws : List InputRule} (S : Standing 1 s.args.place s.args.table.now ws) where
-    whole : Program c.demand_atom.new.table (s.args.place.rules + 1) s.args.place.atoms (demanding_as_written ws (pos s.args.v))
-    whole = demand-program S (pos s.args.v) s.pre.1.0 (omega arith) refl c.demand_atom.ensures
+  module _ {ws : List InputRule} (S : Standing 1 c.args.place c.args.table.now ws) where
+    whole : Program c.demand_atom.new.table (c.args.place.rules + 1) c.args.place.atoms (demanding_as_written ws (pos c.args.v))
+    whole = demand-program S (pos c.args.v) c.requires.atom (omega arith) refl c.demand_atom.ensures
 
-  same : take s.args.place.used c.demand_atom.new.table ≡ take s.args.place.used s.args.table.now
-  same = same-program s.pre.0.1 (pos s.args.v) s.pre.1.0 (omega arith) refl c.demand_atom.ensures
+  same : take c.args.place.used c.demand_atom.new.table ≡ take c.args.place.used c.args.table.now
+  same = same-program c.requires.place.1 (pos c.args.v) c.requires.atom (omega arith) refl c.demand_atom.ensures
 
 pub is_accepted-requires : goal.is_accepted-requires
-is_accepted-requires c = let d = (goal.at.is_accepted-requires c).After-demand_atom-arg-1 in
-    let q = (s d).requires in record { program = ((demanding_as_written q.0.0 (pos (s d).args.v), whole d q.0.1), omega (arith, q.0.1.rules)); empty = q.1.1 }
+is_accepted-requires c = let d = (goal.at.is_accepted-requires c).Start in
+    let q = d.requires in record { program = ((demanding_as_written q.0.0 (pos d.args.v), whole d q.0.1), omega (arith, q.0.1.rules)); empty = q.1.1 }
 
 pub returns-then-not-is_accepted : goal.returns-then-not-is_accepted
-returns-then-not-is_accepted c = let d = (goal.at.returns-then-not-is_accepted c).After-demand_atom-arg-1 in
+returns-then-not-is_accepted c = let d = (goal.at.returns-then-not-is_accepted c).Start in
     let a = c.is_accepted in
-    let x = (s d).args in record { empty = a.ensures.empty; program = same d; number = λ ws S. sym (ap (λ (b : Bool). cond b x.two x.one) (sym (a.ensures.accepted (demanding_as_written ws (pos x.v)) (whole d S)) ∙ c.if-not-is_accepted.true)) }
+    let x = d.args in record { empty = a.ensures.empty; program = same d; number = λ ws S. sym (ap (λ (b : Bool). cond b x.two x.one) (sym (a.ensures.accepted (demanding_as_written ws (pos x.v)) (whole d S)) ∙ c.if-not-is_accepted.true)) }
 
 pub returns : goal.returns
-returns c = let d = (goal.at.returns c).After-demand_atom-arg-1 in
+returns c = let d = (goal.at.returns c).Start in
     let a = c.is_accepted in
-    let x = (s d).args in record { empty = a.ensures.empty; program = same d; number = λ ws S. sym (ap (λ (b : Bool). cond b x.two x.one) (sym (a.ensures.accepted (demanding_as_written ws (pos x.v)) (whole d S)) ∙ c.if-not-is_accepted.false)) }
+    let x = d.args in record { empty = a.ensures.empty; program = same d; number = λ ws S. sym (ap (λ (b : Bool). cond b x.two x.one) (sym (a.ensures.accepted (demanding_as_written ws (pos x.v)) (whole d S)) ∙ c.if-not-is_accepted.false)) }

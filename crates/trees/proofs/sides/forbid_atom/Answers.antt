@@ -14,5 +14,5 @@ pub returns : goal.returns
 returns c =
     let l = c.literal_of in
     let a = c.args in
-    let literal : to_z w32 (of_z w32 l.result) ≡ pos a.v = to_z-of_z (sfits_of {z = l.result} l.type_inv) ∙ l.ensures in
+    let literal : to_z w32 (of_z w32 l.result) ≡ pos a.v = to_z-of_z {w = w32} (sfits_of {z = l.result} l.type_inv) ∙ l.ensures in
     c.put_demand.ensures ∙ ap (λ (z : ℤ). (take a.used a.table.now ++ demand_words z) ++ replicate (length a.table.now - a.used - 5) (pos 0)) literal

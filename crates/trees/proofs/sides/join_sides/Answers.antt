@@ -25,7 +25,7 @@ module _ (s : Start) where
 
   text-is : s.args.one.size ≡ length text
   text-is =
-      sym (length-take-le s.args.one.size s.args.first.now (joinable-first s.args.one s.args.other s.args.first.now s.args.second.now s.pre.1.1.0))
+      sym (length-take-le s.args.one.size s.args.first.now (joinable-first s.args.one s.args.other s.args.first.now s.args.second.now s.requires.texts))
 
   -- both joined, by what the other side came to
   abbrev joined : List InputRule → Sided → Side
@@ -35,24 +35,24 @@ module _ (s : Start) where
 
   module _ (two : Pending) (e : s.args.other ≡ Text two) where
     joinable : Joinable s.args.one (Text two) s.args.first.now s.args.second.now
-    joinable = subst (λ (w : Sided). Joinable s.args.one w s.args.first.now s.args.second.now) e s.pre.1.1.0
+    joinable = subst (λ (w : Sided). Joinable s.args.one w s.args.first.now s.args.second.now) e s.requires.texts
 
 pub slice_bounds-merge_texts-end-in-Text : goal.slice_bounds-merge_texts-end-in-Text
 slice_bounds-merge_texts-end-in-Text c =
-    let g = c.other-in-Text-1.given in sym (length-take-le g.0.0.size c.args.second.now (joinable c.before g.0.0 g.1).1)
+    let g = c.other-in-Text-1.given in sym (length-take-le g.0.0.size c.args.second.now (joinable c.before.before.before.before.before.before.before.before g.0.0 g.1).1)
 
 pub merge_texts-requires : goal.merge_texts-requires
-merge_texts-requires c = let s = c.before in
+merge_texts-requires c = let s = c.before.before.before.before.before.before.before.before.before.before.before in
     let g = c.other-in-Text-1.given in let all = (s.requires.place, (s.requires.atom, ((joinable s g.0.0 g.1).2, s.requires.1.1.1))) in record { place = all.0; atom = all.1.0; counted = all.1.1.0; empty = all.1.1.1.0; blank = all.1.1.1.1 }
 
 pub returns-in-Refused : goal.returns-in-Refused
-returns-in-Refused c = let s = c.before in
+returns-in-Refused c = let s = c.before.before.before.before.before.before.before.before.before.before.before.before in
     let r = c.first_refusal in
     let g = c.other-1.given in record { empty = r.ensures.empty; program = r.ensures.program; side = λ ws S.
               ap (joined s ws) g.1
               ∙ (other-refused (store-size s) s.args.place.limit ws s.args.v (text s) s.args.one.refusal g.0.0 ∙ ap fails (sym (r.ensures.number ws S))); taken = subst (λ (w : Sided). AddsTo s.args.one w (Refused r.result)) (sym g.1) tt }
 
 pub returns-in-Text : goal.returns-in-Text
-returns-in-Text c = let s = c.before in
+returns-in-Text c = let s = c.before.before.before.before.before.before.before.before.before.before.before.before.before.before.before.before in
     let m = c.merge_texts in
     let g = c.other-in-Text-1.given in record { empty = m.ensures.empty; program = m.ensures.program; side = λ ws S. ap (joined s ws) g.1 ∙ m.ensures.side ws S; taken = subst (λ (w : Sided). AddsTo s.args.one w m.result) (sym g.1) m.ensures.taken }

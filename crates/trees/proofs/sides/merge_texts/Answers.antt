@@ -22,50 +22,48 @@ use Rattle.trees.proofs.Constraints.{within, length-cleared, front-cleared, stan
 use Rattle.trees.proofs.Outcomes.{over-buffer, not-halves, text-size, over-limit, text-pending}
 use borrow.Author.Rules.{rules}
 use Rattle.trees.proofs.sides.merge_texts.Goals as goal
-use Rattle.trees.proofs.sides.merge_texts.Goals.{After-zero_all, Start, After-write}
+use Rattle.trees.proofs.sides.merge_texts.Goals.{After-zero_all, After-write}
 
 -- the table without constraints of the sides
 module _ (c : After-zero_all) where
-  abbrev s : Start
-  s = c.before
 
   abbrev used : ℕ
-  used = s.args.place.used
+  used = c.args.place.used
 
   abbrev table : List ℤ
-  table = s.args.table.now
+  table = c.args.table.now
 
   abbrev now-table : List ℤ
-  now-table = put_mid used (length table - used) table c.zero_all.new.t.0
+  now-table = put_mid used (length table - used) table c.zero_all.new.t
 
   clear : now-table ≡ cleared used table
-  clear = tail-filled used table (pos 0) c.zero_all.new.t.0 (within s.pre.0.1) c.zero_all.ensures
+  clear = tail-filled used table (pos 0) c.zero_all.new.t (within c.requires.place.1) c.zero_all.ensures
 
   front : take used now-table ≡ take used table
-  front = ap (take used) clear ∙ front-cleared used table (within s.pre.0.1)
+  front = ap (take used) clear ∙ front-cleared used table (within c.requires.place.1)
 
-  long : length s.args.output.now ≡ longest
-  long = ap length s.pre.1.1.1.1 ∙ length-replicate {A = ℕ} longest 0
+  long : length c.args.output.now ≡ longest
+  long = ap length c.requires.blank ∙ length-replicate {A = ℕ} longest 0
 
-  module _ {ws : List InputRule} (S : Standing 1 s.args.place table ws) where
-    program : Program now-table s.args.place.rules s.args.place.atoms ws
-    program = subst (λ (t : List ℤ). Program t s.args.place.rules s.args.place.atoms ws) (sym clear) S.program
+  module _ {ws : List InputRule} (S : Standing 1 c.args.place table ws) where
+    program : Program now-table c.args.place.rules c.args.place.atoms ws
+    program = subst (λ (t : List ℤ). Program t c.args.place.rules c.args.place.atoms ws) (sym clear) S.program
 
-    standing : Standing 1 s.args.place now-table ws
+    standing : Standing 1 c.args.place now-table ws
     standing = standing-same S front (ap length clear ∙ length-cleared used table (within S))
 
-    atom : is_atom (atoms ws) s.args.v ≡ true
-    atom = subst (λ (N : ℕ). is_atom N s.args.v ≡ true) S.program.top s.pre.1.0
+    atom : is_atom (atoms ws) c.args.v ≡ true
+    atom = subst (λ (N : ℕ). is_atom N c.args.v ≡ true) S.program.top c.requires.atom
 
 pub write-requires : goal.write-requires
-write-requires c = let d = (goal.at.write-requires c).After-zero_all-arg-1 in
-    let S = (s d).requires.place.1 in
-    let P = program d S in record { program = (((s d).requires.place.0, P), omega (arith, S.rules)); short = omega (arith, ap (λ (rs : List InputRule). length (program_words rs)) P.holds.are, S.used, S.room); empty = ((s d).requires.empty, (zeros 0 {n = longest} (s d).requires.blank).0) }
+write-requires c = let d = (goal.at.write-requires c).Start in
+    let S = d.requires.place.1 in
+    let P = program d S in record { program = ((d.requires.place.0, P), omega (arith, S.rules)); short = omega (arith, ap (λ (rs : List InputRule). length (program_words rs)) P.holds.are, S.used, S.room); empty = (d.requires.empty, (zeros 0 {n = longest} d.requires.blank).0) }
 
 -- what 57 and 58 left
 module _ (c : After-write) where
   abbrev z : After-zero_all
-  z = c.before
+  z = c.before.before.before.before.before.before.before.before.before.before
 
   abbrev store' : List ℤ
   store' = c.write.new.store
@@ -73,7 +71,7 @@ module _ (c : After-write) where
   abbrev output' : List ℕ
   output' = c.write.new.output.0
 
-  same_store : length store' ≡ length (s z).args.store.now
+  same_store : length store' ≡ length z.args.store.now
   same_store = c.write.auto.store
 
   same-output : length output' ≡ longest
@@ -87,7 +85,7 @@ returns-then-number-eq58 c = let w = (goal.at.returns-then-number-eq58 c).After-
 
 pub first_refusal-requires : goal.first_refusal-requires
 first_refusal-requires c = let w = (goal.at.first_refusal-requires c).After-write in
-    let q = (s (z w)).pre in record { place = (q.0.0, standing (z w) q.0.1); atom = q.1.0; empty = (zeros (pos 0) {n = length (s (z w)).args.store.now} w.write.ensures.empty).0 }
+    let q = (s (z w)).requires in record { place = (q.0.0, standing (z w) q.0.1); atom = q.1.0; empty = (zeros (pos 0) {n = length (s (z w)).args.store.now} w.write.ensures.empty).0 }
 
 pub returns-then-place-size : goal.returns-then-place-size
 returns-then-place-size c = let w = (goal.at.returns-then-place-size c).After-write in
@@ -108,7 +106,7 @@ returns-else-number-eq58 c = let w = (goal.at.returns-else-number-eq58 c).After-
 pub returns-else-place-size : goal.returns-else-place-size
 returns-else-place-size c = let w = (goal.at.returns-else-place-size c).After-write in
     let x = (s (z w)).args in
-    let q = (s (z w)).pre.0 in
+    let q = (s (z w)).requires.place in
     let g = c.size-1.given in record { empty = w.write.ensures.empty; program = front (z w); side = λ ws S.
               text-pending (length x.store.now) x.place.limit ws x.v x.first.now x.second.now (output' w) x.one.refusal x.two.refusal (atom (z w) S) (same-output w)
               g.0.0 g.1 (w.write.ensures.written ws (program (z w) S)) (omega (arith, c.if-place-size.false))

@@ -20,17 +20,17 @@ module _ (s : Start) where
   text = take n s.args.texts.now
 
   size : length text ≡ n
-  size = length-take-le n s.args.texts.now (first-length s.args.texts.now s.args.lengths.now s.pre.0.0 s.pre.0.1)
+  size = length-take-le n s.args.texts.now (first-length s.args.texts.now s.args.lengths.now s.requires.ends.0 s.requires.ends.1)
 
 pub slice_bounds-put_bytes-end : goal.slice_bounds-put_bytes-end
-slice_bounds-put_bytes-end c = sym (size c.before)
+slice_bounds-put_bytes-end c = sym (size c.before.before.before.before.before.before.before)
 
 pub put_bytes-requires : goal.put_bytes-requires
-put_bytes-requires c = let h : n c.before ≤ longest = search rules in omega (arith, size c.before, h)
+put_bytes-requires c = let h : n c.before.before.before.before.before.before.before ≤ longest = search rules in omega (arith, size c.before.before.before.before.before.before.before, h)
 
 pub returns : goal.returns
 returns c =
-    let s = c.before in
+    let s = c.before.before.before.before.before.before.before.before.before.before in
     let h : n s ≤ longest = search rules in
     let p = c.put_bytes in (
       refl,

@@ -9,7 +9,7 @@ use Rattle.drupe.proofs.Texts.{steps-exact}
 use Rattle.trimming.proofs.Turns.{try-start, try-on, try-end, try-reads}
 use borrow.Author.Rules.{rules}
 use Rattle.trimming.proofs.trials.pass.Goals as goal
-use Rattle.trimming.proofs.trials.pass.Goals.{In-loop-at, At-loop-at, Start}
+use Rattle.trimming.proofs.trials.pass.Goals.{In-loop-at}
 
 pub loop-at-init : goal.loop-at-init
 loop-at-init c =
@@ -27,27 +27,23 @@ loop-at-init c =
 
 -- a turn
 module _ (c : In-loop-at) where
-  abbrev l : At-loop-at
-  l = c.before
 
-  abbrev s : Start
-  s = c.before
 
-  some : 0 < l.loop-at.at
+  some : 0 < c.loop-at.at
   some = c.loop-at-test.true
 
-  inside : (l.loop-at.at ≤ l.loop-at.left) × (l.loop-at.left ≤ length l.loop-at.text)
-  inside = let I = l.loop-at.inv in (I.ahead, omega (arith, I.within, I.same_text, s.pre.1.0))
+  inside : (c.loop-at.at ≤ c.loop-at.left) × (c.loop-at.left ≤ length c.loop-at.text)
+  inside = let I = c.loop-at.invariant in (I.ahead, omega (arith, I.within, I.same_text, c.requires.within))
 
 pub line_start-start-requires : goal.line_start-start-requires
-line_start-start-requires c = let d = (goal.at.line_start-start-requires c).At-loop-at in record { inside = (some d, omega (arith, (inside d).0, (inside d).1)); classes = (s d).requires.classes }
+line_start-start-requires c = let d = (goal.at.line_start-start-requires c).At-loop-at in record { inside = (some d, omega (arith, (inside d).0, (inside d).1)); classes = d.requires.classes }
 
 pub try_without-left-requires : goal.try_without-left-requires
 try_without-left-requires c = let b = c in
     let d = (goal.at.try_without-left-requires c).At-loop-at in
-    let I = (l d).loop.invariant in
-    let q = (s d).requires in
-    let h = b.line_start-start.ensures.before in record { bounds = ((omega (arith, h), (inside d).0), (inside d).1); room = (omega (arith, I.same_text, q.0.0), I.same-trial ∙ q.0.1); program = q.1.1.0; empty = (zeros (pos 0) {n = length (s d).args.store.now} I.zeros).0 }
+    let I = d.loop.invariant in
+    let q = d.requires in
+    let h = b.line_start-start.ensures.before in record { bounds = ((omega (arith, h), (inside d).0), (inside d).1); room = (omega (arith, I.same_text, q.0.0), I.same-trial ∙ q.0.1); program = q.1.1.0; empty = (zeros (pos 0) {n = length d.args.store.now} I.zeros).0 }
 
 pub loop-at-smaller : goal.loop-at-smaller
 loop-at-smaller c = c.line_start-start.ensures.before
@@ -57,8 +53,8 @@ loop-at-preserved c =
     let t = c in
     let b = c in
     let d = (goal.at.loop-at-preserved c).At-loop-at in
-    let I = (l d).loop.invariant in
-    let a = (s d).args in
+    let I = d.loop.invariant in
+    let a = d.args in
     let k = t.try_without-left.auto in
     let e = t.try_without-left.ensures in
     record {
@@ -70,7 +66,7 @@ loop-at-preserved c =
       within = omega (arith, e.0.1, I.within);
       trying = λ ws ts p r.
           let x = (steps-exact longest (take a.len a.text.now) ts).0 r in
-          try-on (length a.store.now) ws ts x.2 (rw (← x.0) x.1) (l d).loop.text t.try_without-left.new.text (l d).loop.at (l d).loop.left
+          try-on (length a.store.now) ws ts x.2 (rw (← x.0) x.1) d.loop.text t.try_without-left.new.text d.loop.at d.loop.left
           b.line_start-start.result t.try_without-left.result (some d) (inside d) b.line_start-start.ensures.line (rw I.same_store at (e.1.1 ws p)) (I.trying ws ts p r);
     }
 

@@ -16,7 +16,7 @@ use Rattle.trimming.specs.Passing.{Reads}
 use Rattle.trimming.proofs.Turns.{Repeating, reads-start, reads_now, reads_end, reads_on}
 use borrow.Author.Rules.{rules}
 use Rattle.trimming.proofs.trials.passes.Goals as goal
-use Rattle.trimming.proofs.trials.passes.Goals.{After-pass-left, At-loop-len, Start}
+use Rattle.trimming.proofs.trials.passes.Goals.{After-pass-left, Start}
 
 pub loop-len-init : goal.loop-len-init
 loop-len-init c =
@@ -33,32 +33,30 @@ loop-len-init c =
 
 -- a pass
 module _ (c : After-pass-left) where
-  abbrev l : At-loop-len
-  l = c.before
 
   abbrev s : Start
-  s = l.before
+  s = c.before.before.before.before.before
 
   abbrev text' : List ℕ
   text' = c.pass-left.new.text
 
-  most : c.pass-left.result ≤ l.loop-len.len
+  most : c.pass-left.result ≤ c.loop-len.len
   most = c.pass-left.ensures.within
 
   same_text : length text' ≡ length s.args.text.now
-  same_text = c.pass-left.auto.text ∙ l.loop-len.inv.same_text
+  same_text = c.pass-left.auto.text ∙ c.loop-len.invariant.same_text
 
   inside : c.pass-left.result ≤ length text'
-  inside = let I = l.loop-len.inv in omega (arith, most, I.within, I.same_text, same_text)
+  inside = let I = c.loop-len.invariant in omega (arith, most, I.within, I.same_text, same_text)
 
   module _ (ws : List InputRule) (ts : List Step) (p : Program s.args.table.now s.args.rules s.args.atoms ws) (r : steps_of s.args.text.now ≡ steps ts) where
-    abbrev R : Repeating (length s.args.store.now) ws ts l.loop-len.text l.loop-len.len
-    R = l.loop-len.inv.repeating ws ts p r
+    abbrev R : Repeating (length s.args.store.now) ws ts c.loop-len.text c.loop-len.len
+    R = c.loop-len.invariant.repeating ws ts p r
 
     after : Reads text' c.pass-left.result (pass (accepted (length s.args.store.now) ws) [] R.steps)
     after =
-        rw l.loop-len.inv.same_store at
-        (c.pass-left.ensures.left ws R.steps p (reads_now (length s.args.store.now) ws ts s.args.text.now r l.loop-len.text l.loop-len.len R))
+        rw c.loop-len.invariant.same_store at
+        (c.pass-left.ensures.left ws R.steps p (reads_now (length s.args.store.now) ws ts s.args.text.now r c.loop-len.text c.loop-len.len R))
 
 pub pass-left-requires : goal.pass-left-requires
 unfolding byte_classes
@@ -69,8 +67,8 @@ pass-left-requires c = let k = c in
 pub returns-then-left-len : goal.returns-then-left-len
 returns-then-left-len c = let d = (goal.at.returns-then-left-len c).After-pass-left in
     let a = (s d).args in
-    let I = (l d).loop.invariant in record { within = omega (arith, inside d, same_text d); empty = d.pass-left.ensures.empty ∙ ap (λ (n : ℕ). replicate n (pos 0)) I.same_store; trimmed = λ ws ts p r.
-            reads_end (length a.store.now) ws ts a.text.now r (l d).loop.text (l d).loop.len (R d ws ts p r) I.within (text' d) d.pass-left.result (inside d) (after d ws ts p r) c.if-left-len.true }
+    let I = d.loop.invariant in record { within = omega (arith, inside d, same_text d); empty = d.pass-left.ensures.empty ∙ ap (λ (n : ℕ). replicate n (pos 0)) I.same_store; trimmed = λ ws ts p r.
+            reads_end (length a.store.now) ws ts a.text.now r d.loop.text d.loop.len (R d ws ts p r) I.within (text' d) d.pass-left.result (inside d) (after d ws ts p r) c.if-left-len.true }
 
 pub loop-len-smaller : goal.loop-len-smaller
 loop-len-smaller c = let d = (goal.at.loop-len-smaller c).After-pass-left in omega (arith, most d, c.if-left-len.false)
@@ -79,7 +77,7 @@ pub loop-len-preserved : goal.loop-len-preserved
 loop-len-preserved c =
     let d = (goal.at.loop-len-preserved c).After-pass-left in
     let a = (s d).args in
-    let I = (l d).loop.invariant in
+    let I = d.loop.invariant in
     let k = d.pass-left.auto in
     record {
       same_text = same_text d;
@@ -88,7 +86,7 @@ loop-len-preserved c =
       room = k.1.1.0 ∙ I.room;
       within = inside d;
       repeating = λ ws ts p r.
-          reads_on (length a.store.now) ws ts a.text.now r (l d).loop.text (l d).loop.len (R d ws ts p r) I.within (text' d) d.pass-left.result (inside d) (after d ws ts p r) c.if-left-len.false;
+          reads_on (length a.store.now) ws ts a.text.now r d.loop.text d.loop.len (R d ws ts p r) I.within (text' d) d.pass-left.result (inside d) (after d ws ts p r) c.if-left-len.false;
     }
 
 pub slice_bounds-pass-end : goal.slice_bounds-pass-end

@@ -11,7 +11,7 @@ use Rattle.trimming.proofs.trials.try_without.Goals.{After-write_without-n, Star
 -- the text without the bytes, in the buffer
 module _ (w : After-write_without-n) where
   abbrev s : Start
-  s = w.before
+  s = w.before.before.before.before.before
 
   abbrev buffer : List ℕ
   buffer = w.write_without-n.new.trial
@@ -26,22 +26,22 @@ module _ (w : After-write_without-n) where
   most = w.write_without-n.ensures.bounds.1
 
   size : length (take n buffer) ≡ n
-  size = length-take-le n buffer (omega (arith, most, w.write_without-n.kept.0, s.pre.0.1, s.pre.1.0.0, s.pre.1.0.1))
+  size = length-take-le n buffer (omega (arith, most, w.write_without-n.kept.0, s.requires.bounds.1, s.requires.room.0, s.requires.room.1))
 
 pub slice_bounds-is_accepted-end-2 : goal.slice_bounds-is_accepted-end-2
-slice_bounds-is_accepted-end-2 c = sym (size (goal.at.slice_bounds-is_accepted-end-2 c).After-write_without-arg-1)
+slice_bounds-is_accepted-end-2 c = sym (size (goal.at.slice_bounds-is_accepted-end-2 c).Start)
 
 pub slice_bounds-put_bytes-end-then-is_accepted : goal.slice_bounds-put_bytes-end-then-is_accepted
-slice_bounds-put_bytes-end-then-is_accepted c = sym (size (goal.at.slice_bounds-put_bytes-end-then-is_accepted c).After-slice_known-2-1)
+slice_bounds-put_bytes-end-then-is_accepted c = sym (size (goal.at.slice_bounds-put_bytes-end-then-is_accepted c).Start)
 
 pub put_bytes-requires : goal.put_bytes-requires
 put_bytes-requires c =
-    let w = (goal.at.put_bytes-requires c).After-slice_known-2-1 in
+    let w = (goal.at.put_bytes-requires c).Start in
     omega (arith, size w, most w, (s w).requires.bounds.1, (s w).requires.room.0)
 
 pub returns-then-is_accepted : goal.returns-then-is_accepted
 returns-then-is_accepted c = let q = c in
-    let w = (goal.at.returns-then-is_accepted c).After-slice_known-2-1 in
+    let w = (goal.at.returns-then-is_accepted c).Start in
     let a = (s w).args in
     let f = front-taken (take (n w) (buffer w)) a.text.now _ _ c.put_bytes.ensures (omega (arith, size w, most w, (s w).requires.bounds.1)) in record { bounds = (omega (arith, f.0, size w, least w), omega (arith, f.0, size w, most w)); empty = q.is_accepted.ensures.empty; tried = λ ws p.
             f.1 ∙ goes-out (length a.store.now) ws a.text.now a.start a.end a.len w.write_without-n.ensures.written
@@ -49,7 +49,7 @@ returns-then-is_accepted c = let q = c in
 
 pub returns : goal.returns
 returns c = let q = c in
-    let w = (goal.at.returns c).After-write_without-arg-1 in
+    let w = (goal.at.returns c).Start in
     let a = (s w).args in
     let b = (s w).requires.bounds in record { bounds = (omega (arith, b.0.0, b.0.1), omega arith); empty = q.is_accepted.ensures.empty; tried = λ ws p.
             stays-in (length a.store.now) ws a.text.now a.start a.end a.len w.write_without-n.ensures.written
