@@ -160,8 +160,10 @@ def stops(text, P, place, goal):
     env = {"c": P.by[norm(place)]}
     def up(k, n):
         for _ in range(n):
-            parent = e["places"][k][1] if k is not None else None
-            k = P.by.get(norm(parent)) if parent else None
+            parent = e["places"][k][1]
+            j = P.by.get(norm(parent)) if parent else None
+            if j is None: return k
+            k = j
         return k
     name = lambda k: named(e, k)[1]
     lets = []
@@ -169,6 +171,10 @@ def stops(text, P, place, goal):
         if m.group(2) in env and m.group(1) != "c":
             k = up(env[m.group(2)], m.group(3).count("before"))
             if k is not None: env[m.group(1)] = k; lets.append(m.group(1))
+    def wanted(v):
+        """The place that the lemmas ask that a variable is handed to."""
+        ks = {named(e, HELPERS[h])[0] for h in re.findall(r"(?<![A-Za-z0-9_'.-])([A-Za-z0-9_'₀-₉-]+) " + re.escape(v) + r"(?![A-Za-z0-9_'.-])", text) if h in HELPERS}
+        return ks.pop() if len(ks) == 1 else None
     def bare(v, s):
         return re.search(r"(?<![A-Za-z0-9_'.-])" + re.escape(v) + r"(?![A-Za-z0-9_'-]|\.)", s) or re.search(r"(?<![A-Za-z0-9_'.-])" + re.escape(v) + r"(\.before)+(?![A-Za-z0-9_'.-])", s)
     def let(m):
@@ -177,6 +183,8 @@ def stops(text, P, place, goal):
         rest = text[m.end():]
         used = re.sub(r"let [A-Za-z0-9_]+ = [A-Za-z0-9_]+((?:\.before)+) in", "", rest)
         if re.search(r"(?<![A-Za-z0-9_'.-])" + re.escape(v) + r"(?![A-Za-z0-9_'.-])", used):
+            k = wanted(v)
+            if k is not None and named(e, P.by[norm(place)])[0] != k: return f"let {v} = (goal.at.{goal} c).{name(k)} in"
             return f"let {v} = (goal.at.{goal} c).{name(env[v])} in" if env[v] != P.by[norm(place)] else f"let {v} = c in"
         return f"let {v} = c in"
     out = re.sub(r"let ([A-Za-z0-9_]+) = ([A-Za-z0-9_]+)((?:\.before)+) in", let, text)
@@ -193,7 +201,11 @@ def stops(text, P, place, goal):
         if w not in env: return m.group(0)
         k = up(env[w], m.group(2).count("before"))
         return m.group(0) if k is None else f"(goal.at.{goal} c).{name(k)}"
-    return re.sub(r"(?<![A-Za-z0-9_'.-])([A-Za-z0-9_]+)((?:\.before)+)(?![A-Za-z0-9_'-]|\.[A-Za-z0-9_])", end, out)
+    out = re.sub(r"(?<![A-Za-z0-9_'.-])([A-Za-z0-9_]+)((?:\.before)+)(?![A-Za-z0-9_'-]|\.[A-Za-z0-9_])", end, out)
+    def asks(m):
+        k = HELPERS.get(m.group(1))
+        return m.group(0) if k is None else f"{m.group(1)} (goal.at.{goal} c).{name(k)}"
+    return re.sub(r"(?<![A-Za-z0-9_'.-])([A-Za-z0-9_'₀-₉-]+) \(goal\.at\." + re.escape(goal) + r" c\)\.[A-Za-z0-9_-]+", asks, out)
 
 def helpers(text):
     """In a lemma over a place: names for earlier places of which only fields are read are the place itself."""
@@ -230,8 +242,10 @@ def passed(text, P, place):
     env = {"c": P.by[norm(place)]}
     def up(k, n):
         for _ in range(n):
-            parent = e["places"][k][1] if k is not None else None
-            k = P.by.get(norm(parent)) if parent else None
+            parent = e["places"][k][1]
+            j = P.by.get(norm(parent)) if parent else None
+            if j is None: return k
+            k = j
         return k
     def at(k):
         k2, n = named(e, k)
@@ -281,7 +295,7 @@ def rewrite(text, P, place, goal=None):
         if p[4]: maps[new] = dict((x, y) for x, y in p[4])
         if e["arms"][k]: arms.append(e["arms"][k])
     # arms: steps of a match that are one step now
-    for m in list(re.finditer(r"let ([A-Za-z0-9_]+) = ([A-Za-z0-9_.-]*?)\.([A-Za-z0-9_-]+)\.given\.0 in\s*", text)):
+    for m in reversed(list(re.finditer(r"let ([A-Za-z0-9_]+) = ([A-Za-z0-9_.-]*?)\.([A-Za-z0-9_-]+)\.given\.0 in\s*", text))):
         v, front, step = m.group(1), m.group(2), m.group(3)
         for name, n, fields in arms:
             got = [(f, path[2:]) for f, s, path in fields if norm(s) == norm(step) and path[:2] == ["given", "0"] and len(path) > 2]

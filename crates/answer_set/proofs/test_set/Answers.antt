@@ -48,17 +48,17 @@ mark_least-requires c = let g = c in
 
 pub judge-requires : goal.judge-requires
 judge-requires c = let d = c in
-    let a = d.args in record { program = (sound (goal.at.judge-requires c).After-is_readable, rw d.largest_atom-atoms.ensures (atoms-small a.rules a.table.now (sound-rules _ _ (sound (goal.at.judge-requires c).After-is_readable)))) }
+    let a = d.args in record { program = (sound (goal.at.judge-requires c).Else-not-is_readable, rw d.largest_atom-atoms.ensures (atoms-small a.rules a.table.now (sound-rules _ _ (sound (goal.at.judge-requires c).Else-not-is_readable)))) }
 
 pub returns : goal.returns
 returns c =
     let k = c in
     let m = c in
     let g = c in
-    let d = (goal.at.returns c).After-largest_atom-atoms in
+    let d = (goal.at.returns c).After-ascends_within in
     let z = c in
     let a = z.args in
-    let s = sound (goal.at.returns c).After-is_readable in
+    let s = sound (goal.at.returns c).Else-not-is_readable in
     let w = sym (told d) ∙ g.if-not-ascends_within.false in
     let h = atoms-small a.rules a.table.now (sound-rules _ _ s) in
     let e : marked m.mark_all.new.marks.0 ≡ listed a.set.now = ap marked m.mark_all.ensures ∙ marks-listed (atoms (rules_at a.rules a.table.now)) entries a.set.now w (omega arith) in

@@ -44,13 +44,13 @@ returns-then-not-is_good c = λ ws p w.
     (of-atoms a.pairs.now p.top (sym c.is_good.ensures.good.0 ∙ c.if-not-is_good.true))
 
 pub judge_set-requires : goal.judge_set-requires
-judge_set-requires c = let d = (goal.at.judge_set-requires c).After-all_weights in
+judge_set-requires c = let d = (goal.at.judge_set-requires c).Else-not-all_weights in
     let p = d.requires in
     let g = c.is_good.ensures.good in record { program = p.0; short = p.1.0; pairs = (weighed d, sym g.0 ∙ c.if-not-is_good.false); sorted = g.1; set = p.1.1.1.0; empty = p.1.1.1.1 }
 
 pub returns : goal.returns
 returns c = λ ws p w.
-    let d = (goal.at.returns c).After-all_weights in
+    let d = (goal.at.returns c).Else-not-all_weights in
     let a = d.args in
     c.judge_set.ensures ws p w
     ∙ good-costs (length a.table.now) (length a.store.now) ws a.set.now a.pairs.now a.proof.now (weighed d)

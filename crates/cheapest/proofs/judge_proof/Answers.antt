@@ -44,14 +44,14 @@ accepts-requires c = let d = (goal.at.accepts-requires c).Start in
 
 pub returns-then-accepts : goal.returns-then-accepts
 returns-then-accepts c = λ ws p w.
-    let d = (goal.at.returns-then-accepts c).Start in
+    let d = (goal.at.returns-then-accepts c).After-write_restriction in
     let a = d.args in
     proof-accepted (length a.table.now) (length a.store.now) ws (paired a.pairs.now) a.cost a.proof.now
     (c.accepts.ensures ws p (paired a.pairs.now) a.cost (words d)) c.if-accepts.true w
 
 pub returns : goal.returns
 returns c = λ ws p w.
-    let d = (goal.at.returns c).Start in
+    let d = (goal.at.returns c).After-write_restriction in
     let a = d.args in
     let s : length c.accepts.new.store.0 ≡ length a.store.now = search rules in
     c.refuse.ensures ∙ same-nothing 63 (refl {a = length a.table.now}) s

@@ -29,7 +29,7 @@ module _ (c : Else-wide-gt-LARGEST) where
 
 pub slice_bounds-contains-end-2 : goal.slice_bounds-contains-end-2
 slice_bounds-contains-end-2 c =
-    let s = c.before.before.before in
+    let s = c in
     sym (length-take-le s.args.n s.args.row.now (omega (arith, s.requires.0.within, s.requires.0.long)))
 
 -- what the call tells
@@ -39,11 +39,11 @@ tells c = sym (rw (word c.before.before) at c.contains.ensures)
 
 pub returns-then-contains : goal.returns-then-contains
 returns-then-contains c = let b = (goal.at.returns-then-contains c).After-contains in
-    let s = b.before.before.before.before in record { row = (s.requires.0, (s.requires.2, λ h. if-true (has-decides (pos s.args.name) (take s.args.n s.args.row.now)) (tells b ∙ c.if-contains.true))); same = ((λ x i. i), λ x i. inl i) }
+    let s = c in record { row = (s.requires.0, (s.requires.2, λ h. if-true (has-decides (pos s.args.name) (take s.args.n s.args.row.now)) (tells b ∙ c.if-contains.true))); same = ((λ x i. i), λ x i. inl i) }
 
 pub returns : goal.returns
 returns c = let b = (goal.at.returns c).After-contains in
-    let e = (goal.at.returns c).After-wide in
-    let s = e.before.before in
+    let e = (goal.at.returns c).Else-wide-gt-LARGEST in
+    let s = c in
     let a = s.args in
     let new = tells b ∙ c.if-contains.false in record { row = (note-row a.row.now a.n a.name _ s.requires.0 s.requires.1 s.requires.2 (high e) (word e) new, note-in a.row.now a.n a.name _ s.requires.0 s.requires.1 s.requires.2 (high e) (word e) new); same = (note-keeps a.row.now a.n a.name _ s.requires.0 s.requires.1 s.requires.2 (high e) (word e) new, note-cases a.row.now a.n a.name _ s.requires.0 s.requires.1 s.requires.2 (high e) (word e) new) }

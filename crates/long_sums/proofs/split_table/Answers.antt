@@ -13,7 +13,7 @@ pub returns-then-group : goal.returns-then-group
 returns-then-group c = let s = c in c.refuse.ensures ∙ (rw (bad-size s.args.group c.if-group.true))
 
 pub write_program-written-requires : goal.write_program-written-requires
-write_program-written-requires c = let s = c.before.before.before.before in
+write_program-written-requires c = let s = c in
     let p = s.requires in record { rules = (p.held, p.few); atoms = (p.atom, p.low); group = good-size s.args.group c.if-group.false }
 
 pub finish-requires : goal.finish-requires
@@ -21,7 +21,7 @@ finish-requires c = let w = c.write_program-written.ensures in λ h. omega (arit
 
 pub returns : goal.returns
 returns c =
-    let s = c.before.before.before.before.before.before.before.before.before.before.before.before.before in
+    let s = c in
     let w = c.write_program-written in
     let p = s.requires in
     let rs = split_program (sorted_groups (s.args.group - 1)) (rules_at s.args.rules s.args.table.now) in

@@ -57,16 +57,16 @@ module _ (c : After-run) where
 
 pub slice_bounds-propagate-end : goal.slice_bounds-propagate-end
 slice_bounds-propagate-end c =
-    let s = c.before.before.before.before.before.before.before.before.before.before.before.before.before in
+    let s = c in
     sym (length-take-le s.args.used s.args.store.now s.requires.held.1.holds.fits)
 
 pub propagate-requires : goal.propagate-requires
-propagate-requires c = let r = (goal.at.propagate-requires c).After-start_of-at in
+propagate-requires c = let r = (goal.at.propagate-requires c).After-run in
     let p = (s r).requires.held in
     let K = searched r p.0 p.1 in let all = ((p.0, used-words _ _ p.0 p.1.holds), (subst (λ (n : ℕ). Marked n (take (s r).args.used (s r).args.store.now) (found r)) K.size (marked K), c.assign-end.ensures.size)) in record { encoded = all.0; index = all.1.0; size = all.1.1.0; start = all.1.1.1 }
 
 pub returns : goal.returns
-returns c = let r = (goal.at.returns c).After-start_of-at in
+returns c = let r = (goal.at.returns c).After-run in
     let a = c.assign-end in
     let e = a.ensures.literals in record { refuted = λ stored K. answer _ stored (used-words (s r).args.store.now (s r).args.used stored K.holds) (s r).args.literals.now (s r).requires.literals _
           (λ z. (e z).0) (λ z. (e z).1) c.propagate.result c.propagate.ensures.decided; held = searched r; free = c.propagate.ensures.free }

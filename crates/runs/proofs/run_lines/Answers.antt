@@ -125,13 +125,13 @@ loop-number-preserved c =
     (i.0, i.1, (onward c).0, same_known t, same_names t, same-bodies t, same_numbers t, same-sorted t, t.turn_at.ensures.free, same_index t)
 
 pub through-requires : goal.through-requires
-through-requires c = same_known (goal.at.through-requires c).At-loop-number
+through-requires c = same_known (goal.at.through-requires c).After-turn_at
 
 pub through-requires : goal.through-requires
-through-requires c = same_names (goal.at.through-requires c).At-loop-number
+through-requires c = same_names (goal.at.through-requires c).After-turn_at
 
 pub through-requires : goal.through-requires
-through-requires c = same-bodies (goal.at.through-requires c).At-loop-number
+through-requires c = same-bodies (goal.at.through-requires c).After-turn_at
 
 pub through-requires : goal.through-requires
-through-requires c = same_index (goal.at.through-requires c).At-loop-number
+through-requires c = same_index (goal.at.through-requires c).After-turn_at

@@ -29,11 +29,11 @@ module _ (c : In-Line) where
   abbrev sorted : List ℤ
   sorted = c.step_at-answer.new.sorted.0
 
-  there : (let g = c.answer-in-Line-1.given.0 in line_at start.args.proof.now start.args.at ≡ line g.0 (take g.1.0 numbers) g.1.1.0)
+  there : (line_at start.args.proof.now start.args.at ≡ line c.in-Line.letter (take c.in-Line.count numbers) c.in-Line.next)
   there = into-told c.step_at-answer.ensures c.in-Line.is
 
   -- its numbers are within the rows
-  room : (let g = c.answer-in-Line-1.given.0 in (g.1.0 ≤ length numbers) × (g.1.0 ≤ length sorted))
+  room : ((c.in-Line.count ≤ length numbers) × (c.in-Line.count ≤ length sorted))
   room =
       let u = into-room c.step_at-answer.ensures c.in-Line.is in
       let k = c.step_at-answer.kept in

@@ -13,11 +13,11 @@ line s e = subst (λ x. PassedLine x s.args.line.now) e s.requires.line
 
 pub addition-requires : goal.addition-requires
 addition-requires c = let t = c in
-    let s = t.before.before.before.before.before.before.before in let all = (s.requires.store, (line s t.in-Addition.is, s.requires.1.1.1.1.1)) in record { store = all.0; line = all.1.0; sorted = all.1.1.0; free = all.1.1.1 }
+    let s = (goal.at.addition-requires c).Start in let all = (s.requires.store, (line s t.in-Addition.is, s.requires.1.1.1.1.1)) in record { store = all.0; line = all.1.0; sorted = all.1.1.0; free = all.1.1.1 }
 
 pub deletion-requires : goal.deletion-requires
 deletion-requires c = let t = c in
-    let s = t.before.before.before.before.before.before.before in record { store = s.requires.store.0; line = line s t.in-Deletion.is; sorted = s.requires.sorted }
+    let s = (goal.at.deletion-requires c).Start in record { store = s.requires.store.0; line = line s t.in-Deletion.is; sorted = s.requires.sorted }
 
 pub extension-requires : goal.extension-requires
 extension-requires c = let t = c in
@@ -30,15 +30,15 @@ step_of_body-requires c = let m = c in
 
 pub step_of_heads-requires : goal.step_of_heads-requires
 step_of_heads-requires c = let m = c in
-    let s = m.before.before.before.before.before.before in record { letter = of_two _ Loop Support m.in-Loop.keys5; state = s.requires.state; index = s.requires.index; relevant = s.requires.relevant; store = s.requires.store; line = s.requires.line }
+    let s = c in record { letter = of_two _ Loop Support m.in-Loop.keys5; state = s.requires.state; index = s.requires.index; relevant = s.requires.relevant; store = s.requires.store; line = s.requires.line }
 
 pub returns-in-Addition : goal.returns-in-Addition
 returns-in-Addition c = let t = c in
-    let s = t.before.before.before.before.before.before.before in record { stepped = λ ws p z b tracks K. rw t.in-Addition.is (c.addition.ensures.stepped s.args.atoms ws s.args.names.now s.args.bodies.now z b tracks K); free = c.addition.ensures.free }
+    let s = c in record { stepped = λ ws p z b tracks K. rw t.in-Addition.is (c.addition.ensures.stepped s.args.atoms ws s.args.names.now s.args.bodies.now z b tracks K); free = c.addition.ensures.free }
 
 pub returns-in-Deletion : goal.returns-in-Deletion
 returns-in-Deletion c = let t = c in
-    let s = t.before.before.before.before.before.before.before in record { stepped = λ ws p z b tracks K. rw t.in-Deletion.is (c.deletion.ensures s.args.atoms s.args.origin ws s.args.names.now s.args.bodies.now z b tracks K); free = s.requires.free }
+    let s = c in record { stepped = λ ws p z b tracks K. rw t.in-Deletion.is (c.deletion.ensures s.args.atoms s.args.origin ws s.args.names.now s.args.bodies.now z b tracks K); free = s.requires.free }
 
 pub returns-in-Extension : goal.returns-in-Extension
 returns-in-Extension c = let t = c in

@@ -21,7 +21,7 @@ body-requires c = let t = c in
 
 pub completion-requires : goal.completion-requires
 completion-requires c = let m = (goal.at.completion-requires c).Start in
-    let s = m.before.before.before.before.before in record { program = s.requires.program; index = s.requires.index; store = s.requires.store; line = line s (other m) }
+    let s = (goal.at.completion-requires c).Start in record { program = s.requires.program; index = s.requires.index; store = s.requires.store; line = line s (other m) }
 
 pub returns-in-Body : goal.returns-in-Body
 returns-in-Body c =

@@ -18,7 +18,7 @@ other m = second m.requires.letter (0 ∷ 1 ∷ 2 ∷ 3 ∷ 4 ∷ 6 ∷ []) tt m
 
 pub loops-requires : goal.loops-requires
 loops-requires c = let t = c in
-    let s = t.before.before.before.before.before.before.before in record { state = s.requires.state; index = s.requires.index; relevant = s.requires.relevant; store = s.requires.store; line = line s t.in-Loop.is }
+    let s = (goal.at.loops-requires c).Start in record { state = s.requires.state; index = s.requires.index; relevant = s.requires.relevant; store = s.requires.store; line = line s t.in-Loop.is }
 
 pub support-requires : goal.support-requires
 support-requires c = let m = (goal.at.support-requires c).In_default in

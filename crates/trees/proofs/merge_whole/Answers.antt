@@ -28,7 +28,7 @@ slice_bounds-copy-end-3 c = sym (length-take-le _ _ c.words_used-used.ensures.us
 pub copy-requires : goal.copy-requires
 copy-requires c =
     let u = c.words_used-used in
-    let s = c.before.before.before.before.before.before.before.before in
+    let s = c in
     room_for u.result s.args.table.now 65565 u.ensures.used.1 (omega (arith, u.ensures.used.0, s.requires.short))
 
 -- the program in the wider table

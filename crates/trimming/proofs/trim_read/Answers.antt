@@ -106,13 +106,13 @@ slice_bounds-check_proof-end-2 c =
     sym (ap length (front_kept (n d) (length (text' d) - n d) (text' d) (within d) (behind z)) ∙ length-take-le (n d) (text' d) (within d))
 
 pub check_proof-requires : goal.check_proof-requires
-check_proof-requires c = let d = done (goal.at.check_proof-requires c).After-passes-n in
+check_proof-requires c = let d = done (goal.at.check_proof-requires c).After-zero_bytes in
     let q = (a d).requires.program in record { program = (q.0, omega (arith, q.1)); empty = (zeros (pos 0) {n = length (store₁ (first (e d)))} d.passes-n.ensures.empty).0 }
 
 pub returns : goal.returns
 returns c =
     let k = c in
-    let z = (goal.at.returns c).After-passes-n in
+    let z = (goal.at.returns c).After-zero_bytes in
     let d = done z in
     let x = (a d).args in
     let t = length x.table.now in

@@ -37,7 +37,7 @@ pub heads_of-requires : goal.heads_of-requires
 heads_of-requires c = rw (tail_of _ _) (shape_of _ (start (goal.at.heads_of-requires c).After-get-work).sound)
 
 pub returns-then-is_ready : goal.returns-then-is_ready
-returns-then-is_ready c = let g = (goal.at.returns-then-is_ready c).Then-is_ready in
+returns-then-is_ready c = let g = (goal.at.returns-then-is_ready c).After-give_rule in
     let d = (goal.at.returns-then-is_ready c).After-get-work in record { upper_bound = c.wake_all.ensures; given = given-one (start d).among (told g).marks }
 
 pub returns : goal.returns

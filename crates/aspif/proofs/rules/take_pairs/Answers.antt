@@ -49,8 +49,8 @@ module _ (c : After-sort_body) where
   of-body = rw copied at c.sort_body.ensures.sorted
 
 pub add_weighed-requires : goal.add_weighed-requires
-add_weighed-requires c = let d = (goal.at.add_weighed-requires c).After-sort_heads-good in
-    let s = d.before.before.before.before.before.before.before.before.before.before in
+add_weighed-requires c = let d = (goal.at.add_weighed-requires c).After-sort_body in
+    let s = c in
     let k = s.args.kind in
     let l = literals-long (row d) k (h d) (b d) (fits d) (hs d) (ls d) (of-heads d).1 (of-body d).1 in
     let n = row-long (row d) k (h d) (b d) (fits d) (hs d) (ls d) (of-heads d).1 (of-body d).1 in
@@ -60,7 +60,7 @@ add_weighed-requires c = let d = (goal.at.add_weighed-requires c).After-sort_hea
 pub returns-then-good : goal.returns-then-good
 returns-then-good c =
     let e = c in
-    let d = (goal.at.returns-then-good c).After-sort_heads-good in
+    let d = (goal.at.returns-then-good c).After-sort_body in
     let k = d.args.kind in
     let p = sym (of-heads d).0 ∙ e.if-good.true in
     let q = sym (of-body d).0 ∙ e.if-sort_body.true in

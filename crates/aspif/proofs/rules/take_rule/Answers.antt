@@ -9,8 +9,7 @@ use Rattle.aspif.proofs.rules.take_rule.Goals.{In-Shaped, In-Weighed}
 
 -- the shape of the line, and its counts
 module _ (c : In-Shaped) where
-  shape : (let a = c.args in let g = c.kind-1.given.0 in
-      shape_within a.most a.row.now a.count ≡ Shaped g.0 g.1.0 g.1.1.0)
+  shape : (let a = c.args in shape_within a.most a.row.now a.count ≡ Shaped c.in-Shaped.kind c.in-Shaped.heads c.in-Shaped.body)
   shape = sym c.rule_shape.ensures ∙ c.in-Shaped.is
 
   counted : (let a = c.args in Counted a.most a.row.now a.count (Shaped c.in-Shaped.kind c.in-Shaped.heads c.in-Shaped.body))
@@ -18,8 +17,7 @@ module _ (c : In-Shaped) where
 
 -- and of one with a weight body
 module _ (c : In-Weighed) where
-  shape₂ : (let a = c.args in let g = c.kind-in-Weighed-1.given.0 in
-      shape_within a.most a.row.now a.count ≡ Weighed g.0 g.1.0 g.1.1.0)
+  shape₂ : (let a = c.args in shape_within a.most a.row.now a.count ≡ Weighed c.in-Weighed.kind c.in-Weighed.heads c.in-Weighed.body)
   shape₂ = sym c.rule_shape.ensures ∙ c.in-Weighed.is
 
   counted₂ : (let a = c.args in Counted a.most a.row.now a.count (Weighed c.in-Weighed.kind c.in-Weighed.heads c.in-Weighed.body))

@@ -9,7 +9,7 @@ use Rattle.cheapest.proofs.Words.{good-told}
 use Rattle.cheapest.proofs.lists.is_good.Goals as goal
 
 pub returns : goal.returns
-returns c = let s = c.before.before.before.before.before.before.before.before in
+returns c = let s = c in
     let ps = s.args.pairs.now in
     let e = c.copy_literals.ensures in
     let few : length (paired ps) ≤ most_weighted = omega (arith, literals-many ps (length s.args.row.now) s.requires.0, length-map (paired ps) (λ k. k.literal), s.requires.1) in

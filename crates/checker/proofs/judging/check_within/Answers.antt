@@ -39,7 +39,7 @@ returns-then-limit-proof c = λ ws p w.
 
 pub conclude-requires : goal.conclude-requires
 conclude-requires c =
-    let q = (goal.at.conclude-requires c).Else-limit-proof in
+    let q = (goal.at.conclude-requires c).After-run_long-run in
     let p = q.requires.program.0 in
     let r = ran-through (store' q) (came q p.0) _ _ (ran q p.0 p.1) c.in-Through.is in
     (r.1, r.3)
@@ -54,7 +54,7 @@ returns-in-Stopped c = λ ws p w.
 
 pub returns-in-Through : goal.returns-in-Through
 returns-in-Through c = λ ws p w.
-    let q = (goal.at.returns-in-Through c).Else-limit-proof in
+    let q = (goal.at.returns-in-Through c).After-run_long-run in
     let same : length (store' q) ≡ length q.args.store.now = search rules in
     let t = ran-through (store' q) (came q ws) _ _ (ran q ws p) c.in-Through.is in
     judged-through _ _ ws _ _ _ _ _ t.0 t.1 t.2 (course-live _ _ _ _ _ t.2) (c.conclude.ensures t.1 t.3) p.top (sym (rules-held p.holds)) w t.3 same

@@ -36,7 +36,7 @@ pub slice_bounds-emit_node-end-4 : goal.slice_bounds-emit_node-end-4
 slice_bounds-emit_node-end-4 c = sym (length-take-le _ _ c.emit_part-side.ensures.within.1)
 
 pub emit_node-place-requires : goal.emit_node-place-requires
-emit_node-place-requires c = let s = c.before.before.before.before.before.before.before.before.before.before.before.before.before.before.before.before.before.before.before.before.before.before.before.before.before.before.before.before in
+emit_node-place-requires c = let s = c in
     let d = (goal.at.emit_node-place-requires c).Start in
     let e = d.emit_part-side.ensures in
     let b = s.requires.pairs.1 in
@@ -51,8 +51,8 @@ emit_node-place-requires c = let s = c.before.before.before.before.before.before
         ) }
 
 pub returns : goal.returns
-returns c = let s = c.before.before.before.before.before.before.before.before.before.before.before.before.before.before.before.before.before.before.before.before.before.before.before.before.before.before.before.before.before.before.before in
+returns c = let s = c in
     let a = s.args in
-    let d = (goal.at.returns c).Start in
+    let d = (goal.at.returns c).After-emit_part-side in
     let e = d.emit_part-side.ensures in
     let n = counted d in record { rules = turn-emits a.node.first (after a.node) (pairs_within a.from a.to a.pairs.now) (a.bound ∷ []) s.requires.node.2 e.1.0 refl n e.0 c.emit_node-place.ensures; atom = omega (arith, n) }

@@ -11,7 +11,7 @@ emit_part-side-requires c = let s = c in
     let r = s.requires.room in record { place = s.requires.node.0; pairs = s.requires.pairs; part = s.requires.part; room = (r.0, r.1, r.2, r.4); atoms = omega (arith, s.requires.node.3) }
 
 pub emit_prefix-requires : goal.emit_prefix-requires
-emit_prefix-requires c = let s = c.before.before.before.before.before.before.before.before.before.before.before.before.before.before.before.before.before.before.before.before.before.before.before.before.before.before.before.before.before.before.before.before in
+emit_prefix-requires c = let s = c in
     let y = c.emit_part-side in
     let e = y.ensures in
     let r = s.requires.room in
@@ -24,7 +24,7 @@ emit_prefix-requires c = let s = c.before.before.before.before.before.before.bef
               ); atoms = (omega (arith, s.requires.node.3), omega (arith, s.requires.node.3, e.1.1.0, n, few-group s.args.bound s.args.from s.args.to s.args.pairs.now, b)) }
 
 pub returns : goal.returns
-returns c = let s = c.before.before.before.before.before.before.before.before.before.before.before.before.before.before.before.before.before.before.before.before.before.before.before.before.before.before.before.before.before.before.before.before.before.before.before.before.before.before.before.before.before.before.before.before.before in
+returns c = let s = c in
     let a = s.args in
     let ws = a.pairs.now in
     let y = c.emit_part-side in

@@ -9,10 +9,10 @@ use borrow.Author.Rules.{rules}
 use Rattle.joins.proofs.chains.emit_part.Goals as goal
 
 pub slice_bounds-levels_of-end : goal.slice_bounds-levels_of-end
-slice_bounds-levels_of-end c = let s = c.before.before.before.before.before.before in sym (length-take-le _ s.args.pairs.now (omega (arith, s.requires.part)))
+slice_bounds-levels_of-end c = let s = c in sym (length-take-le _ s.args.pairs.now (omega (arith, s.requires.part)))
 
 pub levels_of-count-requires : goal.levels_of-count-requires
-levels_of-count-requires c = let s = c.before.before.before.before.before.before.before.before.before.before.before.before in
+levels_of-count-requires c = let s = c in
     let a = s.args in
     let ws = a.pairs.now in
     let e = s.requires.pairs.0 in record { pairs = (weights-take a.from ws e, weights-within a.from a.to ws e, rw tail_of (weights-drop a.to ws e), s.requires.pairs.1); room = s.requires.room }
@@ -21,7 +21,7 @@ pub slice_bounds-emit_group-end-2 : goal.slice_bounds-emit_group-end-2
 slice_bounds-emit_group-end-2 c = sym (length-take-le _ _ c.levels_of-count.ensures.within)
 
 pub emit_group-place-requires : goal.emit_group-place-requires
-emit_group-place-requires c = let s = c.before.before.before.before.before.before.before.before.before.before.before.before.before.before.before.before.before.before.before.before.before.before.before.before in
+emit_group-place-requires c = let s = c in
     let a = s.args in
     let ws = a.pairs.now in
     let long = length-take (2 * a.to - 2 * a.from) (drop (2 * a.from) ws) in

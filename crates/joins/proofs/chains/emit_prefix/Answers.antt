@@ -18,13 +18,13 @@ pub slice_bounds-emit_node-end-2 : goal.slice_bounds-emit_node-end-2
 slice_bounds-emit_node-end-2 c = sym (length-take-le _ _ c.prefix_levels-n.ensures.within)
 
 pub slice_bounds-emit_node-end-4 : goal.slice_bounds-emit_node-end-4
-slice_bounds-emit_node-end-4 c = let s = c.before.before.before.before.before.before.before.before.before.before.before.before.before.before.before.before.before.before.before.before.before.before.before.before in sym (length-take-le s.args.node.count s.args.left.now s.requires.within.0)
+slice_bounds-emit_node-end-4 c = let s = c in sym (length-take-le s.args.node.count s.args.left.now s.requires.within.0)
 
 pub slice_bounds-emit_node-end-5 : goal.slice_bounds-emit_node-end-5
-slice_bounds-emit_node-end-5 c = let s = c.before.before.before.before.before.before.before.before.before.before.before.before.before.before.before.before.before.before.before.before.before.before.before.before.before in sym (length-take-le s.args.side.count s.args.right.now s.requires.within.1)
+slice_bounds-emit_node-end-5 c = let s = c in sym (length-take-le s.args.side.count s.args.right.now s.requires.within.1)
 
 pub emit_node-place-requires : goal.emit_node-place-requires
-emit_node-place-requires c = let s = c.before.before.before.before.before.before.before.before.before.before.before.before.before.before.before.before.before.before.before.before.before.before.before.before.before in
+emit_node-place-requires c = let s = c in
     let p = s.requires.1.1.1 in
     let n = c.prefix_levels-n.ensures in record { place = s.requires.place; levels = p.1.0; atoms = (
           omega (arith, p.1.1, length-take-le s.args.node.count s.args.left.now p.0.0),
@@ -37,11 +37,11 @@ slice_bounds-copy_sums-end-2 c = sym (length-take-le _ _ c.prefix_levels-n.ensur
 
 pub copy_sums-requires : goal.copy_sums-requires
 copy_sums-requires c =
-    let s = c.before.before.before.before.before.before.before.before.before.before.before.before.before.before.before.before.before.before.before.before.before.before.before.before.before.before.before.before.before.before in
+    let s = c in
     omega (arith, ap length c.prefix_levels-n.ensures.levels, few-prefix s.args.bound s.args.to s.args.pairs.now, s.requires.room.3)
 
 pub returns : goal.returns
-returns c = let s = c.before.before.before.before.before.before.before.before.before.before.before.before.before.before.before.before.before.before.before.before.before.before.before.before.before.before.before.before.before.before.before.before.before in
+returns c = let s = c in
     let y = c.prefix_levels-n in
     let n = y.ensures in
     let front = take y.result y.new.levels.0 in

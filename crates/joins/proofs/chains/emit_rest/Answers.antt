@@ -141,7 +141,7 @@ loop-from-preserved c =
     }
 
 pub emit_last-requires : goal.emit_last-requires
-emit_last-requires c = let d = (goal.at.emit_last-requires c).Start in
+emit_last-requires c = let d = (goal.at.emit_last-requires c).At-loop-from in
     let C = stands d in
     let p = (start d).requires.pairs in
     let g = (start d).requires.group in
@@ -150,7 +150,7 @@ emit_last-requires c = let d = (goal.at.emit_last-requires c).Start in
 
 pub returns : goal.returns
 returns c =
-    let d = (goal.at.returns c).Start in
+    let d = (goal.at.returns c).At-loop-from in
     let p = (start d).requires.pairs in
     let y = c.emit_last in
     λ before q e. chained-last p.0 (d.loop-from.invariant.linked before q (begun d before q e)) (start d).requires.group.0 p.1 c.loop-from-test.false p.3 y.result y.ensures.rules y.ensures.atom

@@ -6,11 +6,11 @@ use Rattle.joins.proofs.Linked.{weights-take, weights-drop}
 use Rattle.joins.proofs.chains.prefix_levels.Goals as goal
 
 pub slice_bounds-levels_of-end-2 : goal.slice_bounds-levels_of-end-2
-slice_bounds-levels_of-end-2 c = let s = c.before.before.before.before.before.before in sym (length-take-le _ s.args.pairs.now s.requires.pairs.2)
+slice_bounds-levels_of-end-2 c = let s = c in sym (length-take-le _ s.args.pairs.now s.requires.pairs.2)
 
 pub levels_of-requires : goal.levels_of-requires
 unfolding all_weights
-levels_of-requires c = let s = c.before.before.before.before.before.before.before.before.before.before.before in
+levels_of-requires c = let s = c in
     let ws = s.args.pairs.now in
     let p = s.requires.pairs in record { pairs = (refl, weights-take s.args.to ws p.0, rw tail_of (weights-drop s.args.to ws p.0), p.1); room = s.requires.room }
 

@@ -21,14 +21,14 @@ begin-requires c = let s = c in (s.requires.0, size s.requires.1)
 pub loop-a-init : goal.loop-a-init
 loop-a-init c =
     let p = c in
-    let s = p.before.before.before.before.before in
+    let s = c in
     (rw s.requires.2 (reaching-start _ _ (rw s.requires.1 at p.begin.ensures)), c.next_open-a.ensures)
 
 pub advance-a-requires : goal.advance-a-requires
 advance-a-requires c =
     let t = c in
     let l = t.loop-a in
-    let s = t.before.before.before.before.before.before.before.before.before.before.before.before in
+    let s = c in
     (s.requires.0, omega (arith, t.loop-a-test.true, s.requires.0), l.invariant.0.long)
 
 -- the place is open

@@ -16,7 +16,7 @@ use Rattle.names.proofs.by_name.put_name.Goals as goal
 pub returns-then-is_free : goal.returns-then-is_free
 returns-then-is_free c =
     let l = c.loop-left in
-    let s = c.before.before.before.before.before in
+    let s = c in
     let word = to_z_pos w16 {n = s.args.name} (omega (arith, s.requires.3)) in
     rw word (subst (λ b. PutName s.args.first b (set l.bodies (width * entries + l.place) (pos s.args.name))) l.invariant.1
     (put-name l.bodies l.place s.args.name l.invariant.2 l.invariant.0 s.requires.2 s.args.first (elim l.invariant.3 [ inl p ↦ inl p.1 | inr t ↦ inr t ])))

@@ -31,18 +31,18 @@ module _ (c : Else-not-is_weighted) where
 pub slice_bounds-is_body-end : goal.slice_bounds-is_body-end
 slice_bounds-is_body-end c =
     let d = c in
-    let s = d.before.before.before.before in
+    let s = c in
     sym (length-take-le _ _ (omega (arith, told-few _ s.args.row.now s.args.name d.in-Body.is s.requires.row.1.1, s.requires.row.0)))
 
 pub is_body-requires : goal.is_body-requires
 is_body-requires c =
-    let w = weighs (goal.at.is_body-requires c).After-is_weighted in
+    let w = weighs (goal.at.is_body-requires c).Else-not-is_weighted in
     rw (c.bound_of.ensures, c.body_of.ensures) (w.bound, w.light, w.distinct)
 
 pub returns-in-Body : goal.returns-in-Body
 returns-in-Body c =
     let b = c in
-    let d = (goal.at.returns-in-Body c).After-is_weighted in
+    let d = (goal.at.returns-in-Body c).Else-not-is_weighted in
     λ bodies called C t above e.
     rw (weight-bodies _ (weighted d))
     ((rw (b.bound_of.ensures, b.body_of.ensures) at c.is_body.ensures)

@@ -75,7 +75,7 @@ next_rule-i-requires c = record { here = (at (goal.at.next_rule-i-requires c).In
 
 pub loop-k-preserved : goal.loop-k-preserved
 loop-k-preserved c =
-    let m = (goal.at.loop-k-preserved c).In-loop-k in
+    let m = (goal.at.loop-k-preserved c).After-mark_asked in
     let d = (goal.at.loop-k-preserved c).In-loop-k in
     let l = d.loop-k in
     rw c.next_rule-i.ensures.next.0 (
@@ -86,7 +86,7 @@ loop-k-preserved c =
 
 pub returns-then-is_marked : goal.returns-then-is_marked
 returns-then-is_marked c =
-    let m = (goal.at.returns-then-is_marked c).In-loop-k in
+    let m = (goal.at.returns-then-is_marked c).After-mark_asked in
     let d = (goal.at.returns-then-is_marked c).In-loop-k in
     λ ws H. rw (← H.are) (λ called K.
     zero-found (found-more (left d called (d.loop-k.invariant.2 called K)) (told m called K)) (sym c.is_marked.ensures ∙ c.if-is_marked.true))

@@ -15,10 +15,10 @@ room : (c : In-loop-from) → end_at c.loop-from.store c.loop-from.from ≤ leng
 room c = closing-room c.loop-from.invariant c.requires c.loop-from-test.true
 
 pub end_at-end-requires : goal.end_at-end-requires
-end_at-end-requires c = room (goal.at.end_at-end-requires c).At-loop-from
+end_at-end-requires c = room (goal.at.end_at-end-requires c).In-loop-from
 
 pub keep-to-requires : goal.keep-to-requires
-keep-to-requires c = let i = (goal.at.keep-to-requires c).At-loop-from in (i.loop-from.invariant.low, room i)
+keep-to-requires c = let i = (goal.at.keep-to-requires c).In-loop-from in (i.loop-from.invariant.low, room i)
 
 pub loop-from-smaller : goal.loop-from-smaller
 loop-from-smaller c =

@@ -27,10 +27,10 @@ module _ (c : After-read_numbers) where
 
 pub returns-in-One : goal.returns-in-One
 returns-in-One c =
-    let d = (goal.at.returns-in-One c).Start in
+    let d = (goal.at.returns-in-One c).After-read_numbers in
     rw c.in-One.is (c.take_rule.ensures (ws d) (c.put_kind.ensures ∙ ap with_kind (row_is d)))
 
 pub returns-in-Two : goal.returns-in-Two
 returns-in-Two c =
-    let d = (goal.at.returns-in-Two c).Start in
+    let d = (goal.at.returns-in-Two c).After-read_numbers in
     rw c.in-Two.is (c.take_rule-in-Two.ensures (ws d) (tail_of 1 (row d) ∙ row_is d))

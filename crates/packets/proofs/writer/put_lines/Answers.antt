@@ -45,7 +45,7 @@ module _ (c : In-Line) where
   abbrev numbers : List ℤ
   numbers = b.step_at-answer.new.numbers
 
-  there : (let g = c.answer-1.given.0 in line_at a.args.text.now l.loop-letter.position ≡ line g.0 (take g.1.0 numbers) g.1.1.0)
+  there : (line_at a.args.text.now l.loop-letter.position ≡ line c.in-Line.letter (take c.in-Line.count numbers) c.in-Line.next)
   there = into-told b.step_at-answer.ensures c.in-Line.is
 
   -- its numbers are within the row

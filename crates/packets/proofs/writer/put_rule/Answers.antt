@@ -31,13 +31,13 @@ module _ (c : After-rule_size-size) where
 
 pub put_all-requires : goal.put_all-requires
 put_all-requires c =
-    let b = c.before.before.before.before.before.before in
-    (omega arith, rw (words_are (goal.at.put_all-requires c).In-Two) (omega (arith, rule-few Two (rule_at b.args.rule.now) (rule-formed b.args.rule.now b.requires.0), b.requires.1.1)))
+    let b = c in
+    (omega arith, rw (words_are (goal.at.put_all-requires c).After-rule_size-size) (omega (arith, rule-few Two (rule_at b.args.rule.now) (rule-formed b.args.rule.now b.requires.0), b.requires.1.1)))
 
 pub returns-in-One : goal.returns-in-One
 returns-in-One c = let all = rw c.in-One.is c.put_old_rule.ensures in record { put = all.0; upper_bound = all.1 }
 
 pub returns-in-Two : goal.returns-in-Two
-returns-in-Two c = let b = c.before.before.before.before.before.before.before.before.before in
+returns-in-Two c = let b = c in
     let f = rule-few Two (rule_at b.args.rule.now) (rule-formed b.args.rule.now b.requires.0) in
-    let p = rw (words_are (goal.at.returns-in-Two c).In-Two) at c.put_all.ensures in let all = rw c.in-Two.is (p.0, omega (arith, p.1, f)) in record { put = all.0; upper_bound = all.1 }
+    let p = rw (words_are (goal.at.returns-in-Two c).After-rule_size-size) at c.put_all.ensures in let all = rw c.in-Two.is (p.0, omega (arith, p.1, f)) in record { put = all.0; upper_bound = all.1 }

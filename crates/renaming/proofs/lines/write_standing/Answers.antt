@@ -21,7 +21,7 @@ gone c = c.is_gone.ensures
 
 pub returns-then-is_gone : goal.returns-then-is_gone
 returns-then-is_gone c =
-    let s = c.before.before.before.before.before.before in
+    let s = c in
     let a = s.args in
     rw (stands-not a.x (λ v. get_or a.new.now v 0) a.shared.now a.has_body a.has-constraint a.name a.letter a.numbers.now (sym (gone (goal.at.returns-then-is_gone c).After-is_gone) ∙ c.if-is_gone.true))
     (none_written a.output.now a.at s.requires.at)
@@ -48,22 +48,22 @@ module _ (c : After-is_addition) where
   lacking = c.names_added.ensures ∙ ap (λ (x : ℤ). names_added x c.args.letter c.args.numbers.now) (to_z-of_z c.fits.x)
 
 pub write_addition-requires : goal.write_addition-requires
-write_addition-requires c = let k = (goal.at.write_addition-requires c).After-rename in
+write_addition-requires c = let k = (goal.at.write_addition-requires c).After-is_addition in
     let s = start k in record { at = s.requires.at; numbers = inside k; literal = rw (to_z-of_z s.fits.x) s.requires.literal }
 
 pub returns-then-is_addition : goal.returns-then-is_addition
 returns-then-is_addition c =
-    let k = (goal.at.returns-then-is_addition c).After-rename in
+    let k = (goal.at.returns-then-is_addition c).After-is_addition in
     let a = k.args in
     rw (stands-widened a.x (new k) a.shared.now a.has_body a.has-constraint a.name a.letter a.numbers.now (stays k) (sym k.is_addition.ensures ∙ c.if-is_addition.true))
     (rw (to_z-of_z {w = w32} k.ranges.x, line-is k) at c.write_addition.ensures)
 
 pub write_line-requires : goal.write_line-requires
-write_line-requires c = let k = (goal.at.write_line-requires c).After-rename in record { at = k.requires.at; numbers = inside k }
+write_line-requires c = let k = (goal.at.write_line-requires c).After-is_addition in record { at = k.requires.at; numbers = inside k }
 
 pub returns : goal.returns
 returns c =
-    let k = (goal.at.returns c).After-rename in
+    let k = (goal.at.returns c).After-is_addition in
     let a = k.args in
     rw (stands-line a.x (new k) a.shared.now a.has_body a.has-constraint a.name a.letter a.numbers.now (stays k) (sym k.is_addition.ensures ∙ c.if-is_addition.false)
     (c.letter_of.ensures ∙ ap (λ (t : Bool). cond (t && not a.has_body) Extension a.letter) (lacking k)))

@@ -24,7 +24,7 @@ module _ (c : In-Line) where
   abbrev numbers : List ℤ
   numbers = c.step_at-answer.new.numbers
 
-  there : (let g = c.answer-1.given.0 in line_at start.args.second.now start.args.at ≡ line g.0 (take g.1.0 numbers) g.1.1.0)
+  there : (line_at start.args.second.now start.args.at ≡ line c.in-Line.letter (take c.in-Line.count numbers) c.in-Line.next)
   there = into-told c.step_at-answer.ensures c.in-Line.is
 
   -- its numbers are within the row

@@ -21,13 +21,13 @@ run_half-run-requires c = let p = c.requires in
 
 pub ends_empty-accepted-requires : goal.ends_empty-accepted-requires
 ends_empty-accepted-requires c =
-    let s = c.before.before.before.before.before.before.before.before.before.before.before.before.before.before.before.before.before.before.before.before in
+    let s = c in
     let p = s.requires.program.0 in
     let h : length s.args.text.now ≤ longest = search rules in
     (course s.args.atoms (expand p.0) (length s.args.store.now) s.args.text.now, (c.run_half-run.ensures longest h p.0 p.1).0)
 
 pub returns : goal.returns
 returns c = let q = c in
-    let s = c.before.before.before.before.before.before.before.before.before.before.before.before.before.before.before.before.before.before.before.before.before.before.before.before in
+    let s = c in
     let h : length s.args.text.now ≤ longest = search rules in
     let same : length q.run_half-run.new.store.0 ≡ length s.args.store.now = search rules in record { empty = c.zero_all.ensures ∙ ap (λ (n : ℕ). replicate n (pos 0)) same; checked = λ ws p. let R = q.run_half-run.ensures longest h ws p in record { answer = c.ends_empty-accepted.ensures longest _ (expand ws) _ _ R.0; ended = R.1 } }

@@ -38,12 +38,12 @@ pub returns-then-not-accept_halves : goal.returns-then-not-accept_halves
 returns-then-not-accept_halves c = let d = (goal.at.returns-then-not-accept_halves c).After-accept_halves in record { empty = d.accept_halves.ensures.empty; written = λ ws p. inl (refl, sym (checked d ws p).answer ∙ c.if-not-accept_halves.true) }
 
 pub write_merged-wrote-requires : goal.write_merged-wrote-requires
-write_merged-wrote-requires c = let d = (goal.at.write_merged-wrote-requires c).Start in
+write_merged-wrote-requires c = let d = (goal.at.write_merged-wrote-requires c).After-accept_halves in
     let p = d.requires in record { halves = held d (c.if-not-accept_halves.false) p.0.0.0 p.0.0.1; index = p.1.1.0 }
 
 pub returns : goal.returns
 unfolding held halves-kept
-returns c = let d = (goal.at.returns c).Start in
+returns c = let d = (goal.at.returns c).After-accept_halves in
     let a = d.args in
     let yes = c.if-not-accept_halves.false in
     let w = c.write_merged-wrote in

@@ -26,18 +26,18 @@ returns-then-not-all_marked c = let s = c in record { stepped = λ N ws names bo
 
 pub returns-then-not-refutes : goal.returns-then-not-refutes
 returns-then-not-refutes c = let k = c in
-    let s = k.before.before.before.before in record { stepped = λ N ws names bodies z b T K.
+    let s = c in record { stepped = λ N ws names bodies z b T K.
           rw (cited z T Addition _ s.requires.line refl (sym k.all_marked.ensures ∙ k.if-not-all_marked.false), refutes-live K s.args.numbers.now (c.refutes.ensures.refuted b K.keeps) (c.if-not-refutes.true)) refl; free = c.refutes.ensures.free }
 
 pub append-requires : goal.append-requires
-append-requires c = let s = c.before.before.before.before.before.before.before.before.before.before.before.before.before in
+append-requires c = let s = c in
     let l = s.requires.line in
     let k = s.requires.store.0 in record { held = (k.0, c.refutes.ensures.held k.0 k.1); origin = s.requires.store.1; literals = rw (s.requires.sorted, length-ascending) (literals-ascending _ l.literals, omega (arith, l.few)) }
 
 pub returns : goal.returns
 returns c = let m = c in
     let k = c in
-    let s = k.before.before.before.before in record { stepped = λ N ws names bodies z b T K. rw (cited z T Addition _ s.requires.line refl (sym k.all_marked.ensures ∙ k.if-not-all_marked.false), refutes-live K s.args.numbers.now (m.refutes.ensures.refuted b K.keeps) (m.if-not-refutes.false)) (
+    let s = c in record { stepped = λ N ws names bodies z b T K. rw (cited z T Addition _ s.requires.line refl (sym k.all_marked.ensures ∙ k.if-not-all_marked.false), refutes-live K s.args.numbers.now (m.refutes.ensures.refuted b K.keeps) (m.if-not-refutes.false)) (
         kept_more K s.args.origin _ _ _ _ c.fitted.result
             (kept-one b s.args.origin _ _ _ c.append.result c.fitted.ensures s.requires.sorted (c.append.ensures b (m.refutes.ensures.held b K.keeps))),
         T,

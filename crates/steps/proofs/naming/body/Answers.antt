@@ -29,7 +29,7 @@ slice_bounds-all_marked-count c = some_number Body refl c.requires.line
 pub returns-then-not-all_marked : goal.returns-then-not-all_marked
 returns-then-not-all_marked c =
     λ N ws p z stored T K.
-    let s = c.before.before.before.before.before.before.before.before.before in
+    let s = c in
     rw (introduced z T Body _ s.requires.line refl refl (sym c.all_marked.ensures ∙ c.if-not-all_marked.true) refl) refl
 
 pub slice_copy_out-variable_of : goal.slice_copy_out-variable_of
@@ -46,15 +46,15 @@ pub returns-then-is_marked : goal.returns-then-is_marked
 returns-then-is_marked c =
     λ N ws p z stored T K.
     let k = c in
-    let s = k.before.before.before.before.before.before.before.before.before in
+    let s = c in
     rw (introduced z T Body _ s.requires.line refl refl (sym k.all_marked.ensures ∙ k.if-not-all_marked.false) (sym (named (goal.at.returns-then-is_marked c).After-is_marked) ∙ c.if-is_marked.true)) refl
 
 pub slice_bounds-name_body-count : goal.slice_bounds-name_body-count
 slice_bounds-name_body-count c = some_number Body refl c.requires.line
 
 pub name_body-requires : goal.name_body-requires
-name_body-requires c = let v = (goal.at.name_body-requires c).Else-not-all_marked in
-    let s = v.before.before.before.before.before.before.before.before.before.before.before in
+name_body-requires c = let v = (goal.at.name_body-requires c).After-variable_of-name in
+    let s = c in
     let l = s.requires.line in record { program = s.requires.program; index = s.requires.index; name = (
           rw (name v) (first-low Body refl l),
           rw (name v) (first-high Body refl l),
@@ -89,11 +89,11 @@ returns-then-not-name_body c =
     let b = (goal.at.returns-then-not-name_body c).After-name_body in
     let m = c in
     let k = c in
-    let s = k.before.before.before.before.before.before.before.before.before in
-    rw (introduced z T Body _ s.requires.line refl refl (sym k.all_marked.ensures ∙ k.if-not-all_marked.false) (sym (named (goal.at.returns-then-not-name_body c).After-variable_of-name) ∙ m.if-is_marked.false), sym (answer b N ws p z T) ∙ c.if-not-name_body.true) refl
+    let s = c in
+    rw (introduced z T Body _ s.requires.line refl refl (sym k.all_marked.ensures ∙ k.if-not-all_marked.false) (sym (named (goal.at.returns-then-not-name_body c).After-is_marked) ∙ m.if-is_marked.false), sym (answer b N ws p z T) ∙ c.if-not-name_body.true) refl
 
 pub define-requires : goal.define-requires
-define-requires c = let s = c.before.before.before.before.before.before.before.before.before.before.before.before.before.before.before.before.before.before.before.before.before.before.before.before.before.before.before.before.before.before.before in
+define-requires c = let s = c in
     let l = s.requires.line in record { store = s.requires.store; line = (l.literals, some_number Body refl l, l.few) }
 
 pub returns : goal.returns
@@ -104,8 +104,8 @@ returns c =
     let b = (goal.at.returns c).After-name_body in
     let m = c in
     let k = c in
-    let s = k.before.before.before.before.before.before.before.before.before in
-    let f = sym (named (goal.at.returns c).After-variable_of-name) ∙ m.if-is_marked.false in
+    let s = c in
+    let f = sym (named (goal.at.returns c).After-is_marked) ∙ m.if-is_marked.false in
     let u = e.if-not-name_body.false in
     let q = sym (answer b N ws p z T) ∙ u in
     rw (introduced z T Body _ s.requires.line refl refl (sym k.all_marked.ensures ∙ k.if-not-all_marked.false) f, q)

@@ -40,13 +40,13 @@ pub returns-then-not-is_unnamed : goal.returns-then-not-is_unnamed
 returns-then-not-is_unnamed c = record { answer = λ N ws p known z T. sym (c.if-not-is_unnamed.true) ∙ answer (goal.at.returns-then-not-is_unnamed c).After-is_unnamed N ws p known z T; named = λ N ws p e. absurd (true≢false (sym e)) }
 
 pub enter-requires : goal.enter-requires
-enter-requires c = let u = (goal.at.enter-requires c).After-sort in
+enter-requires c = let u = (goal.at.enter-requires c).After-is_unnamed in
     let q = (s u).requires in record { program = q.0; index = q.1.0; body = (q.1.1.0, q.1.1.1, subst (λ (t : List ℤ). top t ≤ largest) (sym u.sort.ensures) (sorted-low (s u).args.body.now q.1.1.2)) }
 
 pub returns : goal.returns
 returns c = let e = c in
     let m = c in
-    let u = (goal.at.returns c).After-sort in
+    let u = (goal.at.returns c).After-is_unnamed in
     let q = (s u).requires.name in
     let yes = m.if-not-is_unnamed.false in record { answer = λ N ws p known z T. sym yes ∙ answer u N ws p known z T; named = λ N ws p f known z T new.
           let none = no_name z T (s u).args.body.now (sym (answer u N ws p known z T) ∙ yes) in

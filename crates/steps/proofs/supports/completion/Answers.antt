@@ -22,7 +22,7 @@ use Rattle.steps.proofs.supports.completion.Tie as tie
 pub returns-then-not-all_marked : goal.returns-then-not-all_marked
 returns-then-not-all_marked c =
     λ N ws p z b T K.
-    let s = c.before.before.before.before.before.before.before in
+    let s = c in
     rw (cited z T Completion _ s.requires.line refl (sym c.all_marked.ensures ∙ c.if-not-all_marked.true)) refl
 
 pub slice_copy_out-variable_of : goal.slice_copy_out-variable_of
@@ -36,7 +36,7 @@ name c = rw (back _ c.variable_of-arg-1.given) at c.variable_of-name.ensures
 
 pub is_completed-requires : goal.is_completed-requires
 is_completed-requires c = let v = (goal.at.is_completed-requires c).Else-not-all_marked in
-    let s = v.before.before.before.before.before.before.before.before.before in
+    let s = c in
     let l = s.requires.line in record { program = s.requires.program; index = s.requires.index; name = rw (name v) (first-low Completion refl l, first-high Completion refl l) }
 
 -- question 29
@@ -45,18 +45,18 @@ answer : (c : After-is_completed) (N : ℕ) (ws : List InputRule) (z : State) �
     → c.is_completed.result ≡ is_completion (expand ws) z (first a.numbers.now) (drop 1 a.numbers.now)
 answer c N ws z p T =
     let v = (view.up-Else-not-all_marked tie.the-claims reads.Pre reads.Post (view.up-After-all_marked tie.the-claims reads.Pre reads.Post c.before.before.before.before.before.before)) in
-    let s = v.before.before.before.before.before.before.before.before.before in
+    let s = c.before.before.before.before.before.before.before.before.before.before.before in
     completed z T _ s.requires.line (rw (name v) at (c.is_completed.ensures ws p _ T.kept))
 
 pub returns-then-not-is_completed : goal.returns-then-not-is_completed
 returns-then-not-is_completed c =
     λ N ws p z b T K.
     let k = c in
-    let s = k.before.before.before.before.before.before.before in
+    let s = c in
     rw (cited z T Completion _ s.requires.line refl (sym k.all_marked.ensures ∙ k.if-not-all_marked.false), sym (answer (goal.at.returns-then-not-is_completed c).After-is_completed N ws z p T) ∙ c.if-not-is_completed.true) refl
 
 pub join-requires : goal.join-requires
-join-requires c = let s = c.before.before.before.before.before.before.before.before.before.before.before.before.before.before.before.before in
+join-requires c = let s = c in
     let l = s.requires.line in record { store = s.requires.store; line = (l.literals, some_number Completion refl l, l.few) }
 
 pub returns : goal.returns
@@ -64,6 +64,6 @@ returns c =
     λ N ws p z b T K.
     let m = c in
     let k = c in
-    let s = k.before.before.before.before.before.before.before in
+    let s = c in
     rw (cited z T Completion _ s.requires.line refl (sym k.all_marked.ensures ∙ k.if-not-all_marked.false), sym (answer (goal.at.returns c).After-is_completed N ws z p T) ∙ m.if-not-is_completed.false)
     (kept_more K s.args.origin _ _ _ _ c.join.result (c.join.ensures b K.keeps), T)

@@ -29,5 +29,5 @@ append-requires c = let o = (goal.at.append-requires c).After-complement_all in 
 pub returns : goal.returns
 returns c =
     let a = c in
-    let o = (goal.at.returns c).After-complement_all in
+    let o = (goal.at.returns c).After-sort in
     λ b H. kept-one b o.args.origin _ _ _ a.append.result c.fitted.ensures (added o).is (a.append.ensures b H)

@@ -7,14 +7,14 @@ use Rattle.totalizer.proofs.Merging.{few-sums, further-up-to}
 use Rattle.totalizer.proofs.levels.add_literal.Goals as goal
 
 pub slice_bounds-add_weight-end-2 : goal.slice_bounds-add_weight-end-2
-slice_bounds-add_weight-end-2 c = let s = c.before.before.before in sym (length-take-le _ _ s.requires.room.0)
+slice_bounds-add_weight-end-2 c = let s = c in sym (length-take-le _ _ s.requires.room.0)
 
 pub slice_bounds-copy_sums-end-2 : goal.slice_bounds-copy_sums-end-2
 slice_bounds-copy_sums-end-2 c = sym (length-take-le _ _ c.add_weight-count.ensures.within)
 
 pub copy_sums-requires : goal.copy_sums-requires
 copy_sums-requires c =
-    let s = c.before.before.before.before.before.before.before.before.before in
+    let s = c in
     let y = c.add_weight-count in
     let w = y.ensures in
     let e = length-take-le y.result y.new.to.0 w.0 in
@@ -22,7 +22,7 @@ copy_sums-requires c =
     omega (arith, e, ap length w.1, f, s.requires.room.1)
 
 pub returns : goal.returns
-returns c = let s = c.before.before.before.before.before.before.before.before.before.before.before.before in
+returns c = let s = c in
     let y = c.add_weight-count in
     let w = y.ensures in
     let front = take y.result y.new.to.0 in

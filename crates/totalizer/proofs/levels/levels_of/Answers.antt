@@ -19,7 +19,7 @@ pub slice_bounds-useful_levels-end-4 : goal.slice_bounds-useful_levels-end-4
 slice_bounds-useful_levels-end-4 c = sym (length-take-le _ _ c.sums_of_both-m.ensures.within)
 
 pub useful_levels-requires : goal.useful_levels-requires
-useful_levels-requires c = let s = c.before.before.before.before.before.before.before.before.before.before.before.before.before.before.before.before.before.before.before.before.before in
+useful_levels-requires c = let s = c in
     let b = s.args.bound in
     let p = s.requires in
     let f = c.sums_of-n in
@@ -28,7 +28,7 @@ useful_levels-requires c = let s = c.before.before.before.before.before.before.b
 
 pub returns : goal.returns
 unfolding levels_for
-returns c = let s = c.before.before.before.before.before.before.before.before.before.before.before.before.before.before.before.before.before.before.before.before.before.before.before.before in
+returns c = let s = c in
     let r = c.useful_levels.ensures in
     let f = c.sums_of-n in
     let g = c.sums_of_both-m in record { within = r.0; levels = r.1 ∙ ap₂ (λ others us. useful s.args.bound others us) g.ensures.sums f.ensures.sums }

@@ -35,11 +35,11 @@ is_accepted-requires c = let d = (goal.at.is_accepted-requires c).Start in
     let q = d.requires in record { program = ((demanding_as_written q.0.0 (pos d.args.v), whole d q.0.1), omega (arith, q.0.1.rules)); empty = q.1.1 }
 
 pub returns-then-not-is_accepted : goal.returns-then-not-is_accepted
-returns-then-not-is_accepted c = let d = (goal.at.returns-then-not-is_accepted c).Start in
+returns-then-not-is_accepted c = let d = (goal.at.returns-then-not-is_accepted c).After-demand_atom in
     let a = c.is_accepted in
     let x = d.args in record { empty = a.ensures.empty; program = same d; number = λ ws S. sym (ap (λ (b : Bool). cond b x.two x.one) (sym (a.ensures.accepted (demanding_as_written ws (pos x.v)) (whole d S)) ∙ c.if-not-is_accepted.true)) }
 
 pub returns : goal.returns
-returns c = let d = (goal.at.returns c).Start in
+returns c = let d = (goal.at.returns c).After-demand_atom in
     let a = c.is_accepted in
     let x = d.args in record { empty = a.ensures.empty; program = same d; number = λ ws S. sym (ap (λ (b : Bool). cond b x.two x.one) (sym (a.ensures.accepted (demanding_as_written ws (pos x.v)) (whole d S)) ∙ c.if-not-is_accepted.false)) }

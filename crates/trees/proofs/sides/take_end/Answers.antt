@@ -23,14 +23,14 @@ module _ (s : Start) where
   size = length-take-le n s.args.texts.now (first-length s.args.texts.now s.args.lengths.now s.requires.ends.0 s.requires.ends.1)
 
 pub slice_bounds-put_bytes-end : goal.slice_bounds-put_bytes-end
-slice_bounds-put_bytes-end c = sym (size c.before.before.before.before.before.before.before)
+slice_bounds-put_bytes-end c = sym (size (goal.at.slice_bounds-put_bytes-end c).Start)
 
 pub put_bytes-requires : goal.put_bytes-requires
-put_bytes-requires c = let h : n c.before.before.before.before.before.before.before ≤ longest = search rules in omega (arith, size c.before.before.before.before.before.before.before, h)
+put_bytes-requires c = let h : n (goal.at.put_bytes-requires c).Start ≤ longest = search rules in omega (arith, size (goal.at.put_bytes-requires c).Start, h)
 
 pub returns : goal.returns
 returns c =
-    let s = c.before.before.before.before.before.before.before.before.before.before in
+    let s = (goal.at.returns c).Start in
     let h : n s ≤ longest = search rules in
     let p = c.put_bytes in (
       refl,

@@ -40,7 +40,7 @@ line_start-start-requires c = let d = (goal.at.line_start-start-requires c).At-l
 
 pub try_without-left-requires : goal.try_without-left-requires
 try_without-left-requires c = let b = c in
-    let d = (goal.at.try_without-left-requires c).At-loop-at in
+    let d = (goal.at.try_without-left-requires c).In-loop-at in
     let I = d.loop.invariant in
     let q = d.requires in
     let h = b.line_start-start.ensures.before in record { bounds = ((omega (arith, h), (inside d).0), (inside d).1); room = (omega (arith, I.same_text, q.0.0), I.same-trial ∙ q.0.1); program = q.1.1.0; empty = (zeros (pos 0) {n = length d.args.store.now} I.zeros).0 }
@@ -52,7 +52,7 @@ pub loop-at-preserved : goal.loop-at-preserved
 loop-at-preserved c =
     let t = c in
     let b = c in
-    let d = (goal.at.loop-at-preserved c).At-loop-at in
+    let d = (goal.at.loop-at-preserved c).In-loop-at in
     let I = d.loop.invariant in
     let a = d.args in
     let k = t.try_without-left.auto in

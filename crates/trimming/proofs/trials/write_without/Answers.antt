@@ -14,17 +14,17 @@ module _ (s : Start) where
   front-size = let b = s.requires.bounds in length-take-le _ _ (omega (arith, b.0.0, b.0.1, b.1))
 
 pub slice_bounds-put_bytes-end : goal.slice_bounds-put_bytes-end
-slice_bounds-put_bytes-end c = sym (front-size c.before.before.before.before)
+slice_bounds-put_bytes-end c = sym (front-size (goal.at.slice_bounds-put_bytes-end c).Start)
 
 pub put_bytes-front-requires : goal.put_bytes-front-requires
 put_bytes-front-requires c =
-    let s = c.before.before.before.before in
+    let s = (goal.at.put_bytes-front-requires c).Start in
     omega (arith, front-size s, s.requires.bounds.0.0, s.requires.bounds.0.1, s.requires.bounds.1, s.requires.room.0)
 
 pub put_bytes-requires : goal.put_bytes-requires
 put_bytes-requires c =
     let p = c in
-    let s = p.before.before.before.before.before in
+    let s = (goal.at.put_bytes-requires c).Start in
     let a = s.args in
     let b = s.requires.bounds in
     let d : a.len - a.end ≤ length (drop a.end a.text.now) = omega (arith, length-drop a.end a.text.now, b.1) in
@@ -34,7 +34,7 @@ put_bytes-requires c =
 pub returns : goal.returns
 returns c = let q = c in
     let p = c in
-    let s = p.before.before.before.before.before in
+    let s = c in
     let a = s.args in
     let b = s.requires.bounds in
     let n = without-size a.text.now a.start a.end a.len b.0.0 b.0.1 b.1 in
