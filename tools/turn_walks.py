@@ -220,6 +220,7 @@ def helpers(text):
         rest = text[m.end():]
         used = re.sub(r"let [A-Za-z0-9_]+ = [A-Za-z0-9_]+((?:\.before)+) in", "", rest)
         if re.search(r"(?<![A-Za-z0-9_'.-])" + re.escape(v) + r"(?![A-Za-z0-9_'.-])", used): return m.group(0)
+        if re.search(r"(?<![A-Za-z0-9_'.-])" + re.escape(v) + r"(\.before)+(?![A-Za-z0-9_'-]|\.[A-Za-z0-9_])", rest): return m.group(0)
         return f"let {v} = c in"
     text = re.sub(r"let ([A-Za-z0-9_]+) = c((?:\.before)+) in", let, text)
     return text
@@ -251,9 +252,14 @@ def passed(text, P, place):
         k2, n = named(e, k)
         steps = depth(P, here) - depth(P, k2)
         if steps == 0: return "c"
-        raw = "c" + ".before" * (steps + (1 if e["typed"][here] else 0))
+        k3, levels, groups = here, 0, set()
+        while k3 is not None and k3 != k2:
+            if e["arms"][k3]: levels += 1; groups.add(e["arms"][k3][0])
+            parent = e["places"][k3][1]
+            k3 = P.by.get(norm(parent)) if parent else None
+        raw = "⟪c⟫" + "⟪b⟫" * (steps - levels + len(groups) + (1 if e["typed"][here] else 0))
         if not e["typed"][k2]: return raw
-        more = " ".join([f"goal.the-invariant-{l[0][1]} goal.the-decreases-{l[0][1]}" for l in e["loops"]] + (["tie.handed_clauses"] if any(e["clauses"]) else []))
+        more = " ".join([f"goal.the-invariant-{l[0][1]} goal.the-decreases-{l[0][1]}" for l in e["loops"]] + (["tie.handed_clauses"] if any(e["clauses"]) or e.get("pre") or e["asked"] else []))
         return f"(view.up-{n} tie.the-claims reads.Pre reads.Post {more}{' ' if more else ''}{raw})"
     for m in re.finditer(r"let ([A-Za-z0-9_]+) = ([A-Za-z0-9_]+)((?:\.before)+) in", text):
         if m.group(2) in env and m.group(1) != "c":
@@ -262,6 +268,8 @@ def passed(text, P, place):
     def let(m):
         v, w = m.group(1), m.group(2)
         if v not in env or w not in env or v == "c": return m.group(0)
+        used = re.sub(r"let [A-Za-z0-9_]+ = [A-Za-z0-9_]+((?:\.before)+) in", "", text[m.end():])
+        if not re.search(r"(?<![A-Za-z0-9_'.-])" + re.escape(v) + r"(?![A-Za-z0-9_'.-])", used): return f"let {v} = ⟪c⟫ in"
         return f"let {v} = {at(env[v])} in"
     text = re.sub(r"let ([A-Za-z0-9_]+) = ([A-Za-z0-9_]+)((?:\.before)+) in", let, text)
     def end(m):
@@ -269,7 +277,8 @@ def passed(text, P, place):
         if w not in env: return m.group(0)
         k = up(env[w], m.group(2).count("before"))
         return m.group(0) if k is None else at(k)
-    return re.sub(r"(?<![A-Za-z0-9_'.-])([A-Za-z0-9_]+)((?:\.before)+)(?![A-Za-z0-9_'-]|\.[A-Za-z0-9_])", end, text)
+    text = re.sub(r"(?<![A-Za-z0-9_'.-])([A-Za-z0-9_]+)((?:\.before)+)(?![A-Za-z0-9_'-]|\.[A-Za-z0-9_])", end, text)
+    return text.replace("⟪c⟫", "c").replace("⟪b⟫", ".before")
 
 def rewrite(text, P, place, goal=None):
     """What a declaration at a place cites, in today's names."""
@@ -277,7 +286,7 @@ def rewrite(text, P, place, goal=None):
     text = re.sub(r"(\.(?:if\d+|loop\d*-test|loop-test\d*))\.taken", r"\1.true", text)
     text = re.sub(r"(\.(?:if\d+|loop\d*-test|loop-test\d*))\.left", r"\1.false", text)
     text = re.sub(r"\.pre(?![A-Za-z0-9_'-])", ".requires", text)
-    text = text.replace(".is_Signed", ".is_signed")
+    text = text.replace(".is_Signed", ".is_signed").replace(".well-formed", ".well_formed")
     text = re.sub(r"(\.loop\d*)\.inv(?![A-Za-z0-9_'-])", r"\1.invariant", text)
     text = re.sub(r"\.(ranges|args)\.([a-z0-9]+(?:-[a-z0-9]+)+)", lambda m: f".{m.group(1)}.{m.group(2).replace('-', '_')}", text)
     if goal is None: text = helpers(text)
@@ -414,6 +423,16 @@ def record_of(body, labels_):
             parts = parts[: n - 1] + ["(" + ", ".join(parts[n - 1:]) + ")"]
         if len(parts) == n:
             return head + (" " if head and not head.endswith(("\n", " ")) else "") + "record { " + "; ".join(f"{a} = {b}" for a, b in zip(labels_, parts)) + " }"
+    m = re.match(r"((?:rw|simp|subst) .*?)\((?=[^()]*[(,])", expr, re.S)
+    if expr.startswith(("rw ", "simp ")) and expr.endswith(")"):
+        d, k = 0, len(expr) - 1
+        while k >= 0:
+            if expr[k] in ")]}": d += 1
+            if expr[k] in "([{": d -= 1
+            if d == 0: break
+            k -= 1
+        inner = record_of(expr[k:], labels_)
+        if inner.startswith("record {"): return head + (" " if head and not head.endswith(("\n", " ")) else "") + expr[:k] + "(" + inner + ")"
     proj = lambda i: ".0" if i == 0 and n > 1 else ".1" * i + (".0" if i < n - 1 else "")
     return head + (" " if head else "") + f"let all = {expr} in record {{ " + "; ".join(f"{a} = all{proj(i)}" for i, a in enumerate(labels_)) + " }"
 

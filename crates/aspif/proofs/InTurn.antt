@@ -43,7 +43,7 @@ module _ (most size : ℕ) where
   back {s} {line} {rs} (Claims.adds {n = n} {r = r} e t) (suc turns) h =
       let b = takes s rs r n e in
       lines-on most size turns s line rs ∙ ap (onward (λ n. lines_within most size turns (drop n s) (line + 1)) rs line) e
-      ∙ back t turns (omega (arith, length-drop n s, b))
+      ∙ back {s = drop n s} t turns (omega (arith, length-drop n s, b))
 
 pub line-by-line : LineByLine
 unfolding read_lines

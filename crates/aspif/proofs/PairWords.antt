@@ -92,6 +92,7 @@ arranged-light ps h x m =
 
 -- the weight of a literal that stands once
 weight-own : (l : List Weighted) → distinct (literals l) ≡ true → (x : Weighted) → x ∈ l → weight_in l x.literal ≡ x.weight
+weight-own [] d x m = elim m [ ]
 weight-own (p ∷ l) d x (Memᴰ.head e) = rw (e, is_true (same-decides p.literal p.literal) refl)
 weight-own (p ∷ l) d x (Memᴰ.tail m) =
     let o = if-true (once-decides p.literal (literals l)) d in

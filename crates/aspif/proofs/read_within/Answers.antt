@@ -9,6 +9,9 @@ use Rattle.aspif.proofs.Programs.{read-long, read-other, read-refused, read_done
 use borrow.Author.Rules.{rules}
 use Rattle.aspif.proofs.read_within.Goals as goal
 use Rattle.aspif.proofs.read_within.Goals.{Else-not-starts_with, In-Program}
+use Rattle.aspif.proofs.read_within.Lts.View as view
+use Rattle.aspif.proofs.read_within.Reads as reads
+use Rattle.aspif.proofs.read_within.Tie as tie
 
 -- past question 2
 begins : (c : Else-not-starts_with) → (let a = c.args in starts_with header a.text.now ≡ true)
@@ -18,11 +21,11 @@ begins c = sym c.starts_with.ensures ∙ c.if-not-starts_with.false
 done : (c : In-Program)
     → (let d = c in
     let a = d.args in
-    Done a.most a.text.now a.table.now d.if-text-gt-LONGEST.false (begins d.before.before.before) d.read_lines-read.ensures c.in-Program.atoms c.in-Program.rules c.in-Program.used)
+    Done a.most a.text.now a.table.now d.if-text-gt-LONGEST.false (begins (view.up-Else-not-starts_with tie.the-claims reads.Pre reads.Post tie.handed_clauses c.before.before.before.before.before.before)) d.read_lines-read.ensures c.in-Program.atoms c.in-Program.rules c.in-Program.used)
 done c =
     let d = c in
     let a = d.args in
-    read_done a.most a.text.now a.table.now d.if-text-gt-LONGEST.false (begins d.before.before.before) d.read_lines-read.ensures c.in-Program.is
+    read_done a.most a.text.now a.table.now d.if-text-gt-LONGEST.false (begins (view.up-Else-not-starts_with tie.the-claims reads.Pre reads.Post tie.handed_clauses c.before.before.before.before.before.before)) d.read_lines-read.ensures c.in-Program.is
 
 pub returns-then-text-gt-LONGEST : goal.returns-then-text-gt-LONGEST
 returns-then-text-gt-LONGEST c =
@@ -41,7 +44,7 @@ read_lines-read-requires c = record { header_in_bounds = front_long header c.arg
 
 pub offset_bounds-table-used : goal.offset_bounds-table-used
 offset_bounds-table-used c =
-    record { fits = omega (arith, (done (goal.at.offset_bounds-table-used c).In-Program).fits, c.read_lines-read.auto.table, c.well-formed.1.0) }
+    record { fits = omega (arith, (done (goal.at.offset_bounds-table-used c).In-Program).fits, c.read_lines-read.auto.table, c.well_formed.1.0) }
 
 pub slice_bounds-zero_all-count : goal.slice_bounds-zero_all-count
 slice_bounds-zero_all-count c =

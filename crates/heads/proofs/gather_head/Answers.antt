@@ -52,7 +52,7 @@ module _ (c : In-loop-p) where
 -- its rule
 module _ (c : After-word_of-k) where
   abbrev i : In-loop-p
-  i = (view.up-In-loop-p tie.the-claims reads.Pre reads.Post goal.the-invariant-loop-p goal.the-decreases-loop-p c.before.before)
+  i = (view.up-In-loop-p tie.the-claims reads.Pre reads.Post goal.the-invariant-loop-p goal.the-decreases-loop-p tie.handed_clauses c.before.before)
 
   abbrev k : ℕ
   k = c.word_of-k.result
@@ -78,7 +78,7 @@ module _ (c : After-word_of-k) where
 -- and where it starts
 module _ (c : After-word_of-at) where
   abbrev o : After-word_of-k
-  o = (view.up-After-word_of-k tie.the-claims reads.Pre reads.Post goal.the-invariant-loop-p goal.the-decreases-loop-p c.before.before)
+  o = (view.up-After-word_of-k tie.the-claims reads.Pre reads.Post goal.the-invariant-loop-p goal.the-decreases-loop-p tie.handed_clauses c.before.before)
 
   starts : c.word_of-at.result ≡ start_of (k o) (t (i o))
   starts = c.word_of-at.ensures ∙ (s (i o)).requires.index.0.entered.starts (k o) (headed o).0
@@ -99,7 +99,7 @@ gather_rule-count-requires c =
 -- what the call gathers
 module _ (c : After-gather_rule-count) where
   abbrev w : After-word_of-at
-  w = (view.up-After-word_of-at tie.the-claims reads.Pre reads.Post goal.the-invariant-loop-p goal.the-decreases-loop-p c.before.before.before.before.before)
+  w = (view.up-After-word_of-at tie.the-claims reads.Pre reads.Post goal.the-invariant-loop-p goal.the-decreases-loop-p tie.handed_clauses c.before.before.before.before.before)
 
   abbrev d : In-loop-p
   d = i (o w)

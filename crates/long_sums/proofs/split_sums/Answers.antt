@@ -10,11 +10,11 @@ use Rattle.long_sums.proofs.split_sums.Goals.{In-Read}
 -- what was read, and what it leaves in the table
 told : (c : In-Read)
     → (let r = c in
-    let s = r.before.before.before.before in
+    let s = c in
     LongRead (read_text_within most_literals (length s.args.table.now) s.args.text.now) c.in-Read.rules c.in-Read.atoms r.read_within-read.new.table)
 told c =
     let r = c in
-    let s = r.before.before.before.before in
+    let s = c in
     let l = r.read_within-read.ensures in
     long-read (length s.args.table.now) s.args.text.now _ refl (sym l.answer ∙ c.in-Read.is) r.read_within-read.new.table l.table r.read_within-read.auto.table
 

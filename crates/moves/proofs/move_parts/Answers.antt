@@ -23,7 +23,7 @@ read s = parts_read s.args.from s.args.count s.args.words.now s.args.steps s.arg
 -- a pair was read
 module _ (c : In-Taken) where
   abbrev s : Start
-  s = c.before.before.before.before.before.before.before.before
+  s = c.before.before.before.before.before.before
 
   abbrev n : ℕ
   n = c.decreases.given.0.0
@@ -43,7 +43,7 @@ returns-then-not-fits c = let d = (goal.at.returns-then-not-fits c).In-Taken in 
 -- the other version can hold it
 module _ (c : Else-not-fits) where
   abbrev d : In-Taken
-  d = (view.up-In-Taken tie.the-claims reads.Pre reads.Post c.before.before)
+  d = (view.up-In-Taken tie.the-claims reads.Pre reads.Post tie.handed_clauses c.before.before)
 
   abbrev a : Start
   a = s d

@@ -50,13 +50,13 @@ slice_bounds-move_rule-count c = room c
 
 pub move_rule-moved-requires : goal.move_rule-moved-requires
 move_rule-moved-requires c = let d = (goal.at.move_rule-moved-requires c).In-loop-i in
-    let m = d.loop-i.invariant in let all = rw (tail_of (4 * i d) (bytes d), later d)
-    ((omega (arith, length-drop (4 * i d) (bytes d), d.requires.0), omega (arith, moving-room m (some_left d))), ((moving-first m (some_left d)).passing, moving-worded m (some_left d))) in record { room = all.0; sound = all.1.0; words = all.1.1 }
+    let m = d.loop-i.invariant in rw (tail_of (4 * i d) (bytes d), later d)
+    (record { room = (omega (arith, length-drop (4 * i d) (bytes d), d.requires.0), omega (arith, moving-room m (some_left d))); sound = (moving-first m (some_left d)).passing; words = moving-worded m (some_left d) })
 
 -- the rule there is moved
 module _ (c : After-move_rule-moved) where
   abbrev d : In-loop-i
-  d = (view.up-In-loop-i tie.the-claims reads.Pre reads.Post goal.the-invariant-loop-i goal.the-decreases-loop-i c.before.before.before.before)
+  d = (view.up-In-loop-i tie.the-claims reads.Pre reads.Post goal.the-invariant-loop-i goal.the-decreases-loop-i tie.handed_clauses c.before.before.before.before)
 
   told : RuleMovedAs d.args.from d.args.to (drop (i d) (ws d)) d.loop-i.output c.move_rule-moved.new.output d.loop-i.end c.move_rule-moved.result
   told = rw (tail_of (4 * i d) (bytes d), later d) at c.move_rule-moved.ensures

@@ -36,9 +36,9 @@ pub returns-in-Clashing : goal.returns-in-Clashing
 returns-in-Clashing c = let k = c in record { decided = (told (goal.at.returns-in-Clashing c).After-replay _ k.in-Clashing.is).0; free = c.release.ensures ∙ ap (λ (n : ℕ). replicate n 0) c.release-arg-1.given.0.1 }
 
 -- none
-grew : (c : In-Open) → let o = c in let s = o.before.before.before in
+grew : (c : In-Open) → let o = c in let s = c in
     Grows s.args.nogoods.now s.args.assignment.now o.replay.new.assignment.0
-grew c = told (view.up-After-replay tie.the-claims reads.Pre reads.Post tie.handed_clauses c.before.before.before) _ c.in-Open.is
+grew c = told (view.up-After-replay tie.the-claims reads.Pre reads.Post tie.handed_clauses c.before.before) _ c.in-Open.is
 
 pub exhaust-requires : goal.exhaust-requires
 exhaust-requires c = let s = c in record { encoded = s.requires.encoded; size = (grew (goal.at.exhaust-requires c).In-Open).size ∙ s.requires.size }

@@ -110,9 +110,9 @@ returns-in-Fails c =
     λ limit h Q q. rw (same t q) (going-fails _ _ _ _ (G t) (store' t) (index' t) (known' t) (names' t) (bodies' t) (search rules) _ c.in-Fails.is (turned t) limit h)
 
 onward : (c : In-Goes)
-    → (let t = (view.up-After-turn_at tie.the-claims reads.Pre reads.Post goal.the-invariant-loop-number goal.the-decreases-loop-number tie.handed_clauses (view.up-At-loop-number tie.the-claims reads.Pre reads.Post goal.the-invariant-loop-number goal.the-decreases-loop-number tie.handed_clauses c.before.before.before.before.before.before.before.before.before.before.before.before.before.before.before.before.before.before.before.before.before.before.before.before.before)) in Going (start t).args.atoms (ws t) (length (start t).args.store.now) (start t).args.proof.now (store' t) (index' t) (known' t) (names' t) (bodies' t) c.in-Goes.used c.in-Goes.next (t.loop.state.steps + 1) × (t.loop.state.at < c.in-Goes.next))
+    → (let t = (view.up-After-turn_at tie.the-claims reads.Pre reads.Post goal.the-invariant-loop-number goal.the-decreases-loop-number tie.handed_clauses c.before.before.before.before.before.before.before.before.before.before.before.before) in Going (start t).args.atoms (ws t) (length (start t).args.store.now) (start t).args.proof.now (store' t) (index' t) (known' t) (names' t) (bodies' t) c.in-Goes.used c.in-Goes.next (t.loop.state.steps + 1) × (t.loop.state.at < c.in-Goes.next))
 onward c =
-    let t = (view.up-After-turn_at tie.the-claims reads.Pre reads.Post goal.the-invariant-loop-number goal.the-decreases-loop-number tie.handed_clauses (view.up-At-loop-number tie.the-claims reads.Pre reads.Post goal.the-invariant-loop-number goal.the-decreases-loop-number tie.handed_clauses c.before.before.before.before.before.before.before.before.before.before.before.before.before.before.before.before.before.before.before.before.before.before.before.before.before)) in
+    let t = (view.up-After-turn_at tie.the-claims reads.Pre reads.Post goal.the-invariant-loop-number goal.the-decreases-loop-number tie.handed_clauses c.before.before.before.before.before.before.before.before.before.before.before.before) in
     going_on _ _ _ _ (G t) (store' t) (index' t) (known' t) (names' t) (bodies' t) (search rules) _ _ c.in-Goes.is (turned t)
 
 pub loop-number-smaller : goal.loop-number-smaller

@@ -21,7 +21,7 @@ use Rattle.runs.proofs.turn_at.Goals.{In-Line, Start, After-step_at-answer}
 module _ (c : In-Line) where
 
   abbrev start : Start
-  start = c.before.before.before.before.before.before.before.before.before.before.before.before.before.before.before
+  start = c.before.before.before.before.before.before.before.before.before.before.before.before.before
 
   abbrev numbers : List ℤ
   numbers = c.step_at-answer.new.numbers

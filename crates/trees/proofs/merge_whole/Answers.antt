@@ -86,7 +86,7 @@ module _ (c : After-merge_side) where
 -- it is a text
 module _ (c : In-Text) where
   abbrev side : After-merge_side
-  side = (view.up-After-merge_side tie.the-claims reads.Pre reads.Post tie.handed_clauses c.before.before.before.before.before.before.before)
+  side = (view.up-After-merge_side tie.the-claims reads.Pre reads.Post tie.handed_clauses c.before.before.before.before.before)
 
   abbrev n : ℕ
   n = c.in-Text.pending.size

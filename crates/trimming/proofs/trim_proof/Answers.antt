@@ -13,7 +13,7 @@ use Rattle.trimming.proofs.trim_proof.Goals.{In-Read, Start}
 module _ (c : In-Read) where
 
   abbrev start : Start
-  start = c.before.before.before.before.before.before.before.before.before.before.before.before
+  start = c.before.before.before.before.before.before.before.before.before.before
 
   abbrev read : ProgramRead start.args.program.now start.args.table.now c.read_program-read.new.table.0 c.read_program-read.result
   read = c.read_program-read.ensures

@@ -35,8 +35,8 @@ module _ (c : In-loop-left) where
   whole : broken_from M 1 (rules_at c.args.rules t) ≡ cond (is_broken M (rule_at (drop i t))) (breaks c.loop-left.number) (broken_from M (c.loop-left.number + 1) (rules_at (c.loop-left.left - 1) (drop (i + size_at (drop i t)) t)))
   whole = c.loop-left.invariant.2 ∙ ap (broken_from M c.loop-left.number) at.rules
 
-tells : (c : After-is_broken) → (let d = (view.up-In-loop-left tie.the-claims reads.Pre reads.Post goal.the-invariant-loop-left goal.the-decreases-loop-left tie.handed_clauses (view.up-At-loop-left tie.the-claims reads.Pre reads.Post goal.the-invariant-loop-left goal.the-decreases-loop-left tie.handed_clauses c.before.before.before.before)) in is_broken (M d) (rule_at (drop (i d) (t d))) ≡ c.is_broken.result)
-tells c = let d = (view.up-In-loop-left tie.the-claims reads.Pre reads.Post goal.the-invariant-loop-left goal.the-decreases-loop-left tie.handed_clauses (view.up-At-loop-left tie.the-claims reads.Pre reads.Post goal.the-invariant-loop-left goal.the-decreases-loop-left tie.handed_clauses c.before.before.before.before)) in sym (rw (tail_of (i d) (t d)) at c.is_broken.ensures)
+tells : (c : After-is_broken) → (let d = (view.up-In-loop-left tie.the-claims reads.Pre reads.Post goal.the-invariant-loop-left goal.the-decreases-loop-left tie.handed_clauses c.before.before.before) in is_broken (M d) (rule_at (drop (i d) (t d))) ≡ c.is_broken.result)
+tells c = let d = (view.up-In-loop-left tie.the-claims reads.Pre reads.Post goal.the-invariant-loop-left goal.the-decreases-loop-left tie.handed_clauses c.before.before.before) in sym (rw (tail_of (i d) (t d)) at c.is_broken.ensures)
 
 pub loop-left-init : goal.loop-left-init
 loop-left-init c = (record { within = omega arith; sound = sound-rules _ _ c.requires }, omega arith, refl)

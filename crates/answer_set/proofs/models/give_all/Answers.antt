@@ -32,10 +32,10 @@ module _ (c : In-loop-left) where
   at = at-rule c.loop-left-test.true c.loop-left.invariant.0
 
 told : (c : After-give_rule)
-    → (let d = (view.up-In-loop-left tie.the-claims reads.Pre reads.Post goal.the-invariant-loop-left goal.the-decreases-loop-left tie.handed_clauses (view.up-At-loop-left tie.the-claims reads.Pre reads.Post goal.the-invariant-loop-left goal.the-decreases-loop-left tie.handed_clauses c.before.before.before.before.before)) in
+    → (let d = (view.up-In-loop-left tie.the-claims reads.Pre reads.Post goal.the-invariant-loop-left goal.the-decreases-loop-left tie.handed_clauses c.before.before.before.before) in
     let m = d.loop-left.marks in
     Marking (give_rule (marked d.args.inside.now) (rule_at (drop (i d) (t d))) m) m c.give_rule.new.marks.0 c.give_rule.result)
-told c = let d = (view.up-In-loop-left tie.the-claims reads.Pre reads.Post goal.the-invariant-loop-left goal.the-decreases-loop-left tie.handed_clauses (view.up-At-loop-left tie.the-claims reads.Pre reads.Post goal.the-invariant-loop-left goal.the-decreases-loop-left tie.handed_clauses c.before.before.before.before.before)) in rw (tail_of (i d) (t d)) at c.give_rule.ensures
+told c = let d = (view.up-In-loop-left tie.the-claims reads.Pre reads.Post goal.the-invariant-loop-left goal.the-decreases-loop-left tie.handed_clauses c.before.before.before.before) in rw (tail_of (i d) (t d)) at c.give_rule.ensures
 
 pub loop-left-init : goal.loop-left-init
 loop-left-init c = (record { within = omega arith; sound = c.requires }, refl, refl, λ e. refl)

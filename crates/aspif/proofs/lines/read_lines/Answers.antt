@@ -19,8 +19,8 @@ taken c =
 
 -- what a rule added leaves
 onward : (c : In-Adds)
-    → (let d = (view.up-After-read_rule-turn tie.the-claims reads.Pre reads.Post goal.the-invariant-loop-k goal.the-decreases-loop-k (view.up-At-loop-k tie.the-claims reads.Pre reads.Post goal.the-invariant-loop-k goal.the-decreases-loop-k c.before.before.before.before.before.before.before.before)) in Onward d.loop-k.invariant (taken d) c.in-Adds.next c.in-Adds.words c.in-Adds.top)
-onward c = let d = (view.up-After-read_rule-turn tie.the-claims reads.Pre reads.Post goal.the-invariant-loop-k goal.the-decreases-loop-k (view.up-At-loop-k tie.the-claims reads.Pre reads.Post goal.the-invariant-loop-k goal.the-decreases-loop-k c.before.before.before.before.before.before.before.before)) in lines-added d.loop-k.invariant (taken d) c.in-Adds.is
+    → (let d = (view.up-After-read_rule-turn tie.the-claims reads.Pre reads.Post goal.the-invariant-loop-k goal.the-decreases-loop-k tie.handed_clauses c.before.before.before) in Onward d.loop-k.invariant (taken d) c.in-Adds.next c.in-Adds.words c.in-Adds.top)
+onward c = let d = (view.up-After-read_rule-turn tie.the-claims reads.Pre reads.Post goal.the-invariant-loop-k goal.the-decreases-loop-k tie.handed_clauses c.before.before.before) in lines-added d.loop-k.invariant (taken d) c.in-Adds.is
 
 pub loop-k-init : goal.loop-k-init
 loop-k-init c =

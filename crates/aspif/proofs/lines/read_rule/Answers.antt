@@ -24,12 +24,12 @@ found c = numbered c.read_line-read.ensures c.in-Numbers.is
 inside : (c : Else-outside) → any_outside (found (view.up-In-Numbers tie.the-claims reads.Pre reads.Post c.before.before)).list ≡ false
 inside c = sym (found (view.up-In-Numbers tie.the-claims reads.Pre reads.Post c.before.before)).large ∙ c.if-outside.false
 
-row : (c : Else-outside) → (let d = (view.up-In-Numbers tie.the-claims reads.Pre reads.Post (view.up-In-Numbers tie.the-claims reads.Pre reads.Post c.before.before)) in d.read_line-read.new.row ≡ row_of (found d).list)
+row : (c : Else-outside) → (let d = (view.up-In-Numbers tie.the-claims reads.Pre reads.Post c.before.before) in d.read_line-read.new.row ≡ row_of (found d).list)
 row c = let f = found (view.up-In-Numbers tie.the-claims reads.Pre reads.Post c.before.before) in f.row ∙ ap (λ zs. row_of zs) (capped-all f.list (inside c))
 
-last : (c : After-is_last) → (let d = (view.up-In-Numbers tie.the-claims reads.Pre reads.Post (view.up-In-Numbers tie.the-claims reads.Pre reads.Post c.before.before.before.before)) in is_last (found d).list ≡ c.is_last.result)
+last : (c : After-is_last) → (let d = (view.up-In-Numbers tie.the-claims reads.Pre reads.Post c.before.before.before.before) in is_last (found d).list ≡ c.is_last.result)
 last c =
-    let d = (view.up-In-Numbers tie.the-claims reads.Pre reads.Post (view.up-In-Numbers tie.the-claims reads.Pre reads.Post c.before.before.before.before)) in
+    let d = (view.up-In-Numbers tie.the-claims reads.Pre reads.Post c.before.before.before.before) in
     let f = found d in
     sym (c.is_last.ensures ∙ row_last f.list _ _ f.long (row (view.up-Else-outside tie.the-claims reads.Pre reads.Post c.before.before.before)))
 

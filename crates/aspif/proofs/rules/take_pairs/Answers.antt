@@ -42,7 +42,7 @@ module _ (c : After-sort_body) where
   of-heads : (c.sort_heads-good.result ≡ heads_good (row_heads row h)) × (hs ≡ ascending (row_heads row h))
   of-heads = rw eh at c.sort_heads-good.ensures.sorted
 
-  copied : c.copy_literals.new.row.0 ≡ literals (paired (row_pairs row h b))
+  copied : c.copy_literals.new.row ≡ literals (paired (row_pairs row h b))
   copied = rw eb at c.copy_literals.ensures
 
   of-body : (c.sort_body.result ≡ body_good (literals (paired (row_pairs row h b)))) × (ls ≡ ascending (literals (paired (row_pairs row h b))))
@@ -55,7 +55,7 @@ add_weighed-requires c = let d = (goal.at.add_weighed-requires c).After-sort_bod
     let l = literals-long (row d) k (h d) (b d) (fits d) (hs d) (ls d) (of-heads d).1 (of-body d).1 in
     let n = row-long (row d) k (h d) (b d) (fits d) (hs d) (ls d) (of-heads d).1 (of-body d).1 in
     let g = ranged-kept (row d) k (h d) (b d) (fits d) (hs d) (ls d) (of-heads d).1 (of-body d).1 s.requires.weights in
-    let p = s.requires.sizes in let all = rw (eh d) ((p.0, omega (arith, l, p), omega (arith, l, n, p)), g) in record { sizes = all.0; weights = all.1 }
+    let p = s.requires.sizes in rw (eh d) (record { sizes = (p.0, omega (arith, l, p), omega (arith, l, n, p)); weights = g })
 
 pub returns-then-good : goal.returns-then-good
 returns-then-good c =

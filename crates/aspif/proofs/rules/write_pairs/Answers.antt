@@ -14,24 +14,6 @@ use Rattle.weights.specs.Weights.{paired}
 use Rattle.aspif.specs.Reading.{weight_in}
 use Rattle.aspif.proofs.Pairs.{pairs-more}
 use Rattle.aspif.proofs.rules.write_pairs.Goals as goal
-use Rattle.aspif.proofs.rules.write_pairs.Goals.{After-weight_in-weight}
-
-module _ (c : After-weight_in-weight) where
-  abbrev ls : List ℤ
-  ls = c.args.literals.now
-
-  abbrev i : ℕ
-  i = c.loop-i.i
-
-  -- the literal at i and its weight
-  literal : to_z w32 (of_z w32 (get_or ls i (pos 0))) ≡ get_or ls i (pos 0)
-  literal = back (get_or ls i (pos 0)) c.free-1.given
-
-  weight : (let ws = c.args.pairs.now in
-      to_z w32 (of_z w32 c.weight_in-weight.result) ≡ pos (weight_in (paired ws) (get_or ls i (pos 0))))
-  weight =
-      let w = c.weight_in-weight in
-      to_z-of_z {w = w32} (sfits_of {z = w.result} w.type_inv) ∙ rw literal at w.ensures
 
 pub bounds-free-i-in-loop-i : goal.bounds-free-i-in-loop-i
 bounds-free-i-in-loop-i c =
@@ -44,7 +26,12 @@ loop-i-preserved c =
     let s = c in
     let l = c.loop-i in
     let t = c.loop-i-test.true in
-    let m = pairs-more s.args.pairs.now (ls (goal.at.loop-i-preserved c).After-weight_in-weight) s.args.free.now (i (goal.at.loop-i-preserved c).After-weight_in-weight) t s.requires.sizes.1 (literal (goal.at.loop-i-preserved c).After-weight_in-weight) (weight (goal.at.loop-i-preserved c).After-weight_in-weight) in
+    let ls = c.args.literals.now in
+    let w = c.weight_in-weight in
+    let literal : to_z w32 (of_z w32 (get_or ls l.i (pos 0))) ≡ get_or ls l.i (pos 0) = back (get_or ls l.i (pos 0)) c.free-1.given in
+    let weight : to_z w32 (of_z w32 w.result) ≡ pos (weight_in (paired s.args.pairs.now) (get_or ls l.i (pos 0))) =
+    to_z-of_z {w = w32} (sfits_of {z = w.result} w.type_inv) ∙ rw literal at w.ensures in
+    let m = pairs-more s.args.pairs.now ls s.args.free.now l.i t s.requires.sizes.1 literal weight in
     (omega (arith, t), simp length-set l.invariant.1, rw l.invariant.2 m)
 
 pub returns : goal.returns

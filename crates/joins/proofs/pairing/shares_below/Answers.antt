@@ -11,7 +11,7 @@ returns-then-need-eq0 c = let s = c in rw (le-ltb 0 s.args.need (omega (arith, c
 pub overflow_add-result : goal.overflow_add-result
 overflow_add-result c =
     let s = c in
-    record { fits = omega (arith, c.below_of.ensures, below-within s.args.need s.args.ts.now, s.well-formed.0) }
+    record { fits = omega (arith, c.below_of.ensures, below-within s.args.need s.args.ts.now, s.well_formed.0) }
 
 pub returns : goal.returns
 unfolding below

@@ -75,7 +75,7 @@ mark_body-requires c =
 module _ (c : After-mark_body) where
 
   abbrev d : In-loop-p
-  d = (view.up-After-body_of tie.the-claims reads.Pre reads.Post goal.the-invariant-loop-p goal.the-decreases-loop-p c.before.before.before)
+  d = (view.up-After-body_of tie.the-claims reads.Pre reads.Post goal.the-invariant-loop-p goal.the-decreases-loop-p tie.handed_clauses c.before.before.before)
 
   body : c.body_of.result.now ≡ body_words_at (words_from (k d) (t d))
   body = c.body_of.ensures ∙ ap body_words_at c.words_of-words.ensures

@@ -53,7 +53,7 @@ returns-then-n-eq0 c =
 -- a rule with a head that has a place
 module _ (c : After-is_weighted) where
   abbrev g : After-gather-n
-  g = (view.up-After-gather-n tie.the-claims reads.Pre reads.Post c.before.before.before.before)
+  g = (view.up-After-gather-n tie.the-claims reads.Pre reads.Post tie.handed_clauses c.before.before.before.before)
 
   weighted : is_weighted (ws g) ≡ c.is_weighted.result
   weighted = sym c.is_weighted.ensures

@@ -51,8 +51,8 @@ slice_bounds-mark_rule-end-in-loop-left-2 c = sym c.loop-left.invariant.3.long
 
 pub mark_rule-requires : goal.mark_rule-requires
 mark_rule-requires c = let d = (goal.at.mark_rule-requires c).In-loop-left in
-    let a = d.args in let all = rw (tail_of (i d) (t d), tail_of d.loop-left.at a.relevant.now)
-    (((here d).here.1, (relevant d).0), (d.loop-left.invariant.3.long, d.requires.places)) in record { rule = all.0; sizes = all.1 }
+    let a = d.args in rw (tail_of (i d) (t d), tail_of d.loop-left.at a.relevant.now)
+    (record { rule = ((here d).here.1, (relevant d).0); sizes = (d.loop-left.invariant.3.long, d.requires.places) })
 
 pub next_rule-i-requires : goal.next_rule-i-requires
 next_rule-i-requires c = record { here = (here (goal.at.next_rule-i-requires c).In-loop-left).here }

@@ -23,7 +23,7 @@ put_body-requires c =
 wrote : (c : After-put_body) → (let a = c.args in Written a.bodies.now c.put_body.new.bodies a.name a.body.now)
 wrote c =
     let b = c in
-    let s = b.before in
+    let s = c in
     let a = s.args in
     let count = to_z_pos w16 {n = length a.body.now + 1} (omega (arith, s.requires.2)) in
     let e = rw count at c.put_body.ensures in
@@ -34,7 +34,7 @@ index : (c : After-put_body) → (k : ℕ)
     → get_or c.put_body.new.bodies (width * entries + k) (pos 0) ≡ get_or c.args.bodies.now (width * entries + k) (pos 0)
 index c k =
     let b = c in
-    let s = b.before in
+    let s = c in
     let a = s.args in
     let count = to_z_pos w16 {n = length a.body.now + 1} (omega (arith, s.requires.2)) in
     let e = rw count at c.put_body.ensures in

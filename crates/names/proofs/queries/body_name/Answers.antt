@@ -40,9 +40,9 @@ module _ (c : In-loop-k) where
 
 -- what the call tells of the rule
 tells : (c : After-has_body)
-    → (let d = (view.up-In-loop-k tie.the-claims reads.Pre reads.Post goal.the-invariant-loop-k goal.the-decreases-loop-k tie.handed_clauses (view.up-At-loop-k tie.the-claims reads.Pre reads.Post goal.the-invariant-loop-k goal.the-decreases-loop-k tie.handed_clauses c.before.before.before.before)) in any (with d.args.body.now) (expand_rule (rule_at (drop (i d) (t d)))) ≡ c.has_body.result)
+    → (let d = (view.up-In-loop-k tie.the-claims reads.Pre reads.Post goal.the-invariant-loop-k goal.the-decreases-loop-k tie.handed_clauses c.before.before.before) in any (with d.args.body.now) (expand_rule (rule_at (drop (i d) (t d)))) ≡ c.has_body.result)
 tells c =
-    let d = (view.up-In-loop-k tie.the-claims reads.Pre reads.Post goal.the-invariant-loop-k goal.the-decreases-loop-k tie.handed_clauses (view.up-At-loop-k tie.the-claims reads.Pre reads.Post goal.the-invariant-loop-k goal.the-decreases-loop-k tie.handed_clauses c.before.before.before.before)) in
+    let d = (view.up-In-loop-k tie.the-claims reads.Pre reads.Post goal.the-invariant-loop-k goal.the-decreases-loop-k tie.handed_clauses c.before.before.before) in
     any-bodies (rule_at (drop (i d) (t d))) (same_list d.args.body.now) ∙ sym (rw (tail_of (i d) (t d)) at c.has_body.ensures)
 
 pub loop-k-init : goal.loop-k-init

@@ -31,13 +31,13 @@ module _ (c : In-loop-k) where
 
 -- what the call tells of the rule
 tells : (c : After-completes) (called : List ℤ → ℕ)
-    → (let d = (view.up-In-loop-k tie.the-claims reads.Pre reads.Post goal.the-invariant-loop-k goal.the-decreases-loop-k tie.handed_clauses (view.up-At-loop-k tie.the-claims reads.Pre reads.Post goal.the-invariant-loop-k goal.the-decreases-loop-k tie.handed_clauses c.before.before.before.before.before.before)) in
+    → (let d = (view.up-In-loop-k tie.the-claims reads.Pre reads.Post goal.the-invariant-loop-k goal.the-decreases-loop-k tie.handed_clauses c.before.before.before.before.before) in
     let a = d.args in
     Kept a.names.now a.bodies.now called (rules_at a.rules (t d))
     → any (completing called a.heads.now a.name) (expand_rule (rule_at (drop (i d) (t d)))) ≡ c.completes.result)
 tells c called K =
-    let d = (view.up-In-loop-k tie.the-claims reads.Pre reads.Post goal.the-invariant-loop-k goal.the-decreases-loop-k tie.handed_clauses (view.up-At-loop-k tie.the-claims reads.Pre reads.Post goal.the-invariant-loop-k goal.the-decreases-loop-k tie.handed_clauses c.before.before.before.before.before.before)) in
-    let b = (view.up-After-body_of-recorded tie.the-claims reads.Pre reads.Post goal.the-invariant-loop-k goal.the-decreases-loop-k tie.handed_clauses c.before.before.before.before.before.before.before.before.before.before.before) in
+    let d = (view.up-In-loop-k tie.the-claims reads.Pre reads.Post goal.the-invariant-loop-k goal.the-decreases-loop-k tie.handed_clauses c.before.before.before.before.before) in
+    let b = c in
     sym (rw (tail_of (i d) (t d)) at (c.completes.ensures d.args.bodies.now called (rw (tail_of (i d) (t d)) (λ w. K.by_name ((at d).weighted w))) b.body_of-recorded.ensures d.requires.name.0
     (rw (tail_of (i d) (t d)) ((at d).kept called K.by_rule))))
 
@@ -51,7 +51,7 @@ offset_bounds-table-i c = let w = c.loop-k.invariant.0.cursor.within in search r
 
 pub completes-requires : goal.completes-requires
 completes-requires c = let d = (goal.at.completes-requires c).In-loop-k in
-    let b = c in let all = rw (tail_of (i d) (t d)) ((at d).sound, (b.body_of-recorded.auto.row, (d.args.bodies.now, b.body_of-recorded.ensures))) in record { rule = all.0; row = all.1 }
+    let b = c in rw (tail_of (i d) (t d)) (record { rule = (at d).sound; row = (b.body_of-recorded.auto.row, (d.args.bodies.now, b.body_of-recorded.ensures)) })
 
 pub returns-then-completes : goal.returns-then-completes
 returns-then-completes c =

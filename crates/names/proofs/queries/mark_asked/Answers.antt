@@ -26,7 +26,7 @@ module _ (c : After-is_weighted) where
   weighted = sym c.is_weighted.ensures
 
   asked : (let a = c.args in asks_heads a.query a.inside.now (heads_at a.words.now) ≡ true)
-  asked = heads (view.up-After-asks_heads tie.the-claims reads.Pre reads.Post c.before.before.before) ∙ c.if-not-asks_heads.false
+  asked = heads (view.up-After-asks_heads tie.the-claims reads.Pre reads.Post tie.handed_clauses c.before.before.before) ∙ c.if-not-asks_heads.false
 
 pub mark_bodies-requires : goal.mark_bodies-requires
 mark_bodies-requires c =
@@ -46,7 +46,7 @@ returns-then-is_weighted c =
 -- a plain rule
 module _ (c : After-any_inside) where
   plain : is_weighted c.args.words.now ≡ false
-  plain = let d = c in weighted d.before ∙ d.if-is_weighted.false
+  plain = let d = c in weighted (view.up-After-is_weighted tie.the-claims reads.Pre reads.Post tie.handed_clauses c.before.before.before.before) ∙ d.if-is_weighted.false
 
   inside : (let a = c.args in
       any (is_inside a.inside.now) (body_words_at a.words.now) ≡ c.any_inside.result)

@@ -43,13 +43,13 @@ left d called f = rw ((at d).splits, asked-more (rule_at (drop (i d) (t d))) (re
 
 -- what the call marks
 told : (c : After-mark_asked) (called : List ℤ → ℕ)
-    → (let d = (view.up-In-loop-k tie.the-claims reads.Pre reads.Post goal.the-invariant-loop-k goal.the-decreases-loop-k tie.handed_clauses (view.up-At-loop-k tie.the-claims reads.Pre reads.Post goal.the-invariant-loop-k goal.the-decreases-loop-k tie.handed_clauses c.before.before.before.before.before.before)) in
+    → (let d = (view.up-In-loop-k tie.the-claims reads.Pre reads.Post goal.the-invariant-loop-k goal.the-decreases-loop-k tie.handed_clauses c.before.before.before.before.before) in
     let a = d.args in
     Kept a.names.now a.bodies.now called (rules_at a.rules (t d))
     → AlsoMarks d.loop-k.found c.mark_asked.new.found.0
     (asked_names a.query a.inside.now called (expand_rule (rule_at (drop (i d) (t d))))))
 told c called K =
-    let d = (view.up-In-loop-k tie.the-claims reads.Pre reads.Post goal.the-invariant-loop-k goal.the-decreases-loop-k tie.handed_clauses (view.up-At-loop-k tie.the-claims reads.Pre reads.Post goal.the-invariant-loop-k goal.the-decreases-loop-k tie.handed_clauses c.before.before.before.before.before.before)) in
+    let d = (view.up-In-loop-k tie.the-claims reads.Pre reads.Post goal.the-invariant-loop-k goal.the-decreases-loop-k tie.handed_clauses c.before.before.before.before.before) in
     rw (tail_of (i d) (t d)) at (c.mark_asked.ensures called (rw (tail_of (i d) (t d)) (λ w. K.by_name ((at d).weighted w))) (rw (tail_of (i d) (t d)) ((at d).kept called K.by_rule)))
 
 -- as many marks as there are entries
@@ -68,7 +68,7 @@ pub bounds-names-k : goal.bounds-names-k
 bounds-names-k c = omega (arith, (s (goal.at.bounds-names-k c).In-loop-k).requires.program.1, c.loop-k-test.true)
 
 pub mark_asked-requires : goal.mark_asked-requires
-mark_asked-requires c = let d = (goal.at.mark_asked-requires c).In-loop-k in let all = rw (tail_of (i d) (t d)) ((at d).sound, d.loop-k.invariant.1) in record { rule = all.0; found = all.1 }
+mark_asked-requires c = let d = (goal.at.mark_asked-requires c).In-loop-k in rw (tail_of (i d) (t d)) (record { rule = (at d).sound; found = d.loop-k.invariant.1 })
 
 pub next_rule-i-requires : goal.next_rule-i-requires
 next_rule-i-requires c = record { here = (at (goal.at.next_rule-i-requires c).In-loop-k).here }

@@ -15,7 +15,7 @@ returns-then-is_weighted c = let p = weighted (goal.at.returns-then-is_weighted 
 -- what the calls tell of a plain rule
 module _ (c : After-is_same_list) where
   plain : is_weighted c.args.words.now ≡ false
-  plain = let d = c in weighted d.before ∙ d.if-is_weighted.false
+  plain = let d = c in weighted c.before.before.before ∙ d.if-is_weighted.false
 
   tells : (let a = c.args in same_list a.body.now (body_words_at a.words.now) ≡ c.is_same_list.result)
   tells = sym (rw c.body_of.ensures at c.is_same_list.ensures)

@@ -38,7 +38,7 @@ delete_near-requires c =
 -- no nogood in front has the literals
 module _ (c : In-Nowhere) where
   abbrev w : After-walk-spot
-  w = c.before.before
+  w = c.before
 
   none : (stored : List Stored) (K : Keeps (s (d w)).args.store.now (s (d w)).args.index.now (s (d w)).args.used stored)
       → Spotted (covered (d w) stored K).scale (covered (d w) stored K).covers.front (s (d w)).args.literals.now (d w).cover.last.1.1.0 Nowhere

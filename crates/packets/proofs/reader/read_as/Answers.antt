@@ -53,7 +53,7 @@ count_at-steps-requires c = omega (arith, (known (goal.at.count_at-steps-require
 -- the words end within the packet, and the parts are those of the packet
 module _ (c : After-count_at-steps) where
   abbrev p : List ℕ
-  p = packet (view.up-Else-not-lengths_fit tie.the-claims reads.Pre reads.Post c.before.before.before)
+  p = packet (view.up-Else-not-lengths_fit tie.the-claims reads.Pre reads.Post tie.handed_clauses c.before.before.before)
 
   abbrev n : ℕ
   n = c.count_at-count.result
@@ -63,7 +63,7 @@ module _ (c : After-count_at-steps) where
   parts = (take (13 + 4 * n - 13) (drop 13 p), take (length p - (13 + 4 * n)) (drop (13 + 4 * n) p))
 
   room : 13 + 4 * n ≤ length p
-  room = omega (arith, c.count_at-count.ensures.0, (known (view.up-Else-not-lengths_fit tie.the-claims reads.Pre reads.Post c.before.before.before)).1.0)
+  room = omega (arith, c.count_at-count.ensures.0, (known (view.up-Else-not-lengths_fit tie.the-claims reads.Pre reads.Post tie.handed_clauses c.before.before.before)).1.0)
 
   words-there : parts.0 ≡ word_part p
   words-there = part-is (4 * n) 13 p ∙ ap (λ (w : ℕ). take (4 * w) (drop 13 p)) c.count_at-count.ensures.0
@@ -75,7 +75,7 @@ module _ (c : After-count_at-steps) where
   comes-to =
       let v = c.args.version in
       let m = sym c.is_marked.ensures ∙ c.if-not-is_marked.false in
-      parts-left v p m (fit (view.up-Else-not-lengths_fit tie.the-claims reads.Pre reads.Post c.before.before.before)) _ _ _ _ c.count_at-count.ensures.0 words-there c.count_at-steps.ensures.0 steps-there
+      parts-left v p m (fit (view.up-Else-not-lengths_fit tie.the-claims reads.Pre reads.Post tie.handed_clauses c.before.before.before)) _ _ _ _ c.count_at-count.ensures.0 words-there c.count_at-steps.ensures.0 steps-there
 
 pub slice_bounds-read_parts-count-2 : goal.slice_bounds-read_parts-count-2
 slice_bounds-read_parts-count-2 c = room (goal.at.slice_bounds-read_parts-count-2 c).After-count_at-steps

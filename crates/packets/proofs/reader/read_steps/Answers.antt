@@ -30,7 +30,7 @@ overflow_add-i c =
 
 pub read_step-read-requires : goal.read_step-read-requires
 read_step-read-requires c = let l = c.loop-left in
-    let a = c in let all = rw (tail_of l.i a.args.bytes.now) ((going-size l.invariant c.loop-left-test.true, l.invariant.short), a.requires.classes_value) in record { bytes_nonzero = all.0; classes_value = all.1 }
+    let a = c in rw (tail_of l.i a.args.bytes.now) (record { bytes_nonzero = (going-size l.invariant c.loop-left-test.true, l.invariant.short); classes_value = a.requires.classes_value })
 
 -- what is told of the step
 module _ (c : After-read_step-read) where

@@ -34,7 +34,7 @@ here c = c.before.before.before.before
 -- the line that was read
 module _ (c : In-Line) where
   abbrev b : After-step_at-answer
-  b = (view.up-After-step_at-answer tie.the-claims reads.Pre reads.Post goal.the-invariant-loop-letter goal.the-decreases-loop-letter tie.handed_clauses c.before.before.before.before.before.before)
+  b = (view.up-After-step_at-answer tie.the-claims reads.Pre reads.Post goal.the-invariant-loop-letter goal.the-decreases-loop-letter tie.handed_clauses c.before.before.before.before)
 
   abbrev l : At-loop-letter
   l = here b

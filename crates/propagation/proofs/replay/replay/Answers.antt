@@ -104,7 +104,7 @@ returns-in-Conflicting c =
 -- the variable that it assigned
 module _ (c : In-Assigned) where
   abbrev o : After-derive_at-given
-  o = (view.up-After-derive_at-given tie.the-claims reads.Pre reads.Post goal.the-invariant-loop-k goal.the-decreases-loop-k tie.handed_clauses c.before.before.before.before)
+  o = (view.up-After-derive_at-given tie.the-claims reads.Pre reads.Post goal.the-invariant-loop-k goal.the-decreases-loop-k tie.handed_clauses c.before.before)
 
   abbrev v : ℕ
   v = c.in-Assigned.v

@@ -24,7 +24,7 @@ told c x e = rw e at c.look_at-look.ensures
 -- the one free literal
 unit : (c : In-Unit) → let s = c in
     Looked s.args.assignment.now s.args.literals.now (Unit c.in-Unit.j)
-unit c = told c.before.before.before _ c.in-Unit.is
+unit c = told c.before _ c.in-Unit.is
 
 abbrev one : In-Unit → ℤ
 one c = get_or c.args.literals.now c.in-Unit.j (pos 0)

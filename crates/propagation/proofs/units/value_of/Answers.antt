@@ -35,7 +35,7 @@ opposite : (c : Else-found-wanted)
     ≡ (get_or c.args.assignment.now c.variable_of-v.result 0 ≡ 3 - c.entry_of-wanted.result)
 opposite c =
     let s = c in
-    rw (variable-complement s.args.word, entry-complement s.args.word s.requires.within.0, v-is c.before.before.before.before.before, wanted-is (view.up-After-entry_of-wanted tie.the-claims reads.Pre reads.Post c.before.before))
+    rw (variable-complement s.args.word, entry-complement s.args.word s.requires.within.0, v-is c.before.before.before.before.before, wanted-is (view.up-After-entry_of-wanted tie.the-claims reads.Pre reads.Post tie.handed_clauses c.before.before))
 
 pub returns-then-found-wanted-2 : goal.returns-then-found-wanted-2
 returns-then-found-wanted-2 c = rw (opposite (goal.at.returns-then-found-wanted-2 c).Else-found-wanted) c.if-found-wanted-2.true

@@ -25,7 +25,7 @@ use Rattle.renaming.proofs.lines.write_half.Tie as tie
 module _ (c : After-write_at) where
 
   abbrev start : Start
-  start = (view.up-At-loop-next tie.the-claims reads.Pre reads.Post goal.the-invariant-loop-next goal.the-decreases-loop-next c.before.before.before.before.before.before)
+  start = (view.up-At-loop-next tie.the-claims reads.Pre reads.Post goal.the-invariant-loop-next goal.the-decreases-loop-next tie.handed_clauses c.before.before.before.before.before.before)
 
   abbrev new : ℕ → ℕ
   new v = get_or start.args.new.now v 0
@@ -75,11 +75,11 @@ returns-in-Over c =
     (walk-over a.text.now _ (new t) a.shared.now a.has_body a.has-constraint a.output.now a.at t.loop.invariant.0 t.loop.invariant.1 (output' t) c.in-Over.is t.write_at.ensures ts H.reads))
 
 onward : (c : In-Goes)
-    → (let t = (view.up-After-write_at tie.the-claims reads.Pre reads.Post goal.the-invariant-loop-next goal.the-decreases-loop-next (view.up-At-loop-next tie.the-claims reads.Pre reads.Post goal.the-invariant-loop-next goal.the-decreases-loop-next c.before.before.before.before.before.before.before.before.before.before.before.before.before)) in let a = (start t).args in
+    → (let t = (view.up-After-write_at tie.the-claims reads.Pre reads.Post goal.the-invariant-loop-next goal.the-decreases-loop-next tie.handed_clauses c.before.before.before.before.before.before) in let a = (start t).args in
     Walks a.text.now (to_z w32 (of_z w32 a.x)) (new t) a.shared.now a.has_body a.has-constraint a.output.now a.at (output' t) c.in-Goes.next c.in-Goes.n c.in-Goes.e
     × ((c.in-Goes.e ≤ longest) × ((t.loop.position < c.in-Goes.next) × (c.in-Goes.next ≤ length a.text.now))))
 onward c =
-    let t = (view.up-After-write_at tie.the-claims reads.Pre reads.Post goal.the-invariant-loop-next goal.the-decreases-loop-next (view.up-At-loop-next tie.the-claims reads.Pre reads.Post goal.the-invariant-loop-next goal.the-decreases-loop-next c.before.before.before.before.before.before.before.before.before.before.before.before.before)) in
+    let t = (view.up-After-write_at tie.the-claims reads.Pre reads.Post goal.the-invariant-loop-next goal.the-decreases-loop-next tie.handed_clauses c.before.before.before.before.before.before) in
     let a = (start t).args in
     walk-on a.text.now _ (new t) a.shared.now a.has_body a.has-constraint a.output.now a.at t.loop.invariant.0 t.loop.invariant.1 (output' t) _ _ _ c.in-Goes.is t.write_at.ensures
 

@@ -86,8 +86,8 @@ returns-in-Over c =
 
 -- a turn that goes on
 within : (c : In-Goes)
-    → (let t = (view.up-After-rename_at tie.the-claims reads.Pre reads.Post goal.the-invariant-loop-next goal.the-decreases-loop-next tie.handed_clauses (view.up-At-loop-next tie.the-claims reads.Pre reads.Post goal.the-invariant-loop-next goal.the-decreases-loop-next tie.handed_clauses c.before.before.before.before.before.before.before.before.before.before.before.before.before.before.before.before)) in (t.loop.at < c.in-Goes.next) × (c.in-Goes.next ≤ length (start t).args.second.now) × (c.in-Goes.c ≤ entries))
-within c = let t = (view.up-After-rename_at tie.the-claims reads.Pre reads.Post goal.the-invariant-loop-next goal.the-decreases-loop-next tie.handed_clauses (view.up-At-loop-next tie.the-claims reads.Pre reads.Post goal.the-invariant-loop-next goal.the-decreases-loop-next tie.handed_clauses c.before.before.before.before.before.before.before.before.before.before.before.before.before.before.before.before)) in subst (TurnBounds t.loop.at (length (start t).args.second.now)) c.in-Goes.is t.rename_at.ensures.within
+    → (let t = (view.up-After-rename_at tie.the-claims reads.Pre reads.Post goal.the-invariant-loop-next goal.the-decreases-loop-next tie.handed_clauses c.before.before.before.before.before.before.before.before) in (t.loop.at < c.in-Goes.next) × (c.in-Goes.next ≤ length (start t).args.second.now) × (c.in-Goes.c ≤ entries))
+within c = let t = (view.up-After-rename_at tie.the-claims reads.Pre reads.Post goal.the-invariant-loop-next goal.the-decreases-loop-next tie.handed_clauses c.before.before.before.before.before.before.before.before) in subst (TurnBounds t.loop.at (length (start t).args.second.now)) c.in-Goes.is t.rename_at.ensures.within
 
 pub loop-next-smaller : goal.loop-next-smaller
 loop-next-smaller c = let o = within c in omega (arith, o.0, o.1)

@@ -19,7 +19,7 @@ use Rattle.renaming.proofs.renames.rename_at.Goals.{In-Line, Start}
 module _ (c : In-Line) where
 
   abbrev start : Start
-  start = c.before.before.before.before.before.before.before.before.before.before.before.before.before.before.before.before
+  start = c.before.before.before.before.before.before.before.before.before.before.before.before.before.before
 
   abbrev numbers : List ℤ
   numbers = c.step_at-answer.new.numbers

@@ -21,7 +21,7 @@ line s e = subst (λ x. PassedLine x s.args.numbers.now) e s.requires.line
 -- `b`
 module _ (c : In-Body) where
   abbrev s : Start
-  s = c.before.before.before.before.before.before.before.before.before
+  s = c.before.before.before.before.before.before.before.before
 
   body-line : PassedLine Body s.args.numbers.now
   body-line = line s c.in-Body.is
@@ -29,7 +29,7 @@ module _ (c : In-Body) where
   some : 1 ≤ length s.args.numbers.now
   some = some_number Body refl body-line
 
-name : (c : After-variable_of-n) → c.variable_of-n.result ≡ variable (first (s (view.up-In-Body tie.the-claims reads.Pre reads.Post c.before.before.before)).args.numbers.now)
+name : (c : After-variable_of-n) → c.variable_of-n.result ≡ variable (first (s (view.up-In-Body tie.the-claims reads.Pre reads.Post tie.handed_clauses c.before.before.before)).args.numbers.now)
 name c = rw (back _ c.variable_of-arg-1.given) at c.variable_of-n.ensures
 
 pub rename_body-requires : goal.rename_body-requires
@@ -40,12 +40,12 @@ rename_body-requires c = let v = (goal.at.rename_body-requires c).After-variable
 -- `e`
 module _ (c : In-Extension) where
   abbrev s-e : Start
-  s-e = c.before.before.before.before.before.before.before.before.before
+  s-e = c.before.before.before.before.before.before.before.before
 
   extension-line : PassedLine Extension s-e.args.numbers.now
   extension-line = line s-e c.in-Extension.is
 
-name-e : (c : After-variable_of) → c.variable_of.result ≡ variable (first (s-e (view.up-In-Extension tie.the-claims reads.Pre reads.Post c.before.before.before)).args.numbers.now)
+name-e : (c : After-variable_of) → c.variable_of.result ≡ variable (first (s-e (view.up-In-Extension tie.the-claims reads.Pre reads.Post tie.handed_clauses c.before.before.before)).args.numbers.now)
 name-e c = rw (back _ c.variable_of-arg-in-Extension-1.given) at c.variable_of.ensures
 
 pub rename_other-requires : goal.rename_other-requires

@@ -78,7 +78,7 @@ added_of-forbidden-requires c = let s = c in let h = s.requires.halves in record
 -- what the program has of both constraints
 module _ (c : After-added_of-forbidden) where
   abbrev d : After-rename_all
-  d = (view.up-After-rename_all tie.the-claims reads.Pre reads.Post c.before.before.before.before.before.before.before)
+  d = (view.up-After-rename_all tie.the-claims reads.Pre reads.Post tie.handed_clauses c.before.before.before.before.before.before.before)
 
   new-names : (h : Held (s d)) → NewNames (s d).args.atoms (steps_in (s d).args.first.now) (steps_in (s d).args.second.now) (new d) (shared d)
   new-names h = renamed d true (c.if-not-rename_all.false) h

@@ -44,8 +44,8 @@ answer : (c : After-is_completed) (N : ℕ) (ws : List InputRule) (z : State) �
     HoldsRules a.table.now a.rules ws → Tracks N ws a.known.now a.names.now a.bodies.now z.introduced z.named
     → c.is_completed.result ≡ is_completion (expand ws) z (first a.numbers.now) (drop 1 a.numbers.now)
 answer c N ws z p T =
-    let v = (view.up-Else-not-all_marked tie.the-claims reads.Pre reads.Post (view.up-After-all_marked tie.the-claims reads.Pre reads.Post c.before.before.before.before.before.before)) in
-    let s = c.before.before.before.before.before.before.before.before.before.before.before in
+    let v = (view.up-Else-not-all_marked tie.the-claims reads.Pre reads.Post tie.handed_clauses c.before.before.before.before.before) in
+    let s = c in
     completed z T _ s.requires.line (rw (name v) at (c.is_completed.ensures ws p _ T.kept))
 
 pub returns-then-not-is_completed : goal.returns-then-not-is_completed

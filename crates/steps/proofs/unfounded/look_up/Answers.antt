@@ -32,7 +32,7 @@ external_names-found-requires c = let p = c.requires in
 module _ (c : In-Names) where
 
   abbrev s : Start
-  s = c.before.before.before.before.before.before.before.before.before.before
+  s = c.before.before.before.before.before.before.before.before
 
   abbrev row : List ℤ
   row = c.external_names-found.new.row.0

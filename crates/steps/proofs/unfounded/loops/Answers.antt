@@ -54,7 +54,7 @@ is_loop-requires c = let p = c.requires in record { program = (p.0.2.holds.sound
 
 -- question 56, of the rules that the table holds
 looped : (c : After-is_loop)
-    → (let e = (view.up-Else-atoms-largest_variable tie.the-claims reads.Pre reads.Post (view.up-After-largest_variable tie.the-claims reads.Pre reads.Post c.before.before.before)) in is_loop (expand (rules_at e.args.rules e.args.table.now)) (U e) ≡ c.is_Loop.result)
+    → (let e = (view.up-Else-atoms-largest_variable tie.the-claims reads.Pre reads.Post tie.handed_clauses c.before.before) in is_loop (expand (rules_at e.args.rules e.args.table.now)) (U e) ≡ c.is_Loop.result)
 looped c = sym c.is_Loop.ensures
 
 pub returns-then-not-is_loop : goal.returns-then-not-is_loop

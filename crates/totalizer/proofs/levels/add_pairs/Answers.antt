@@ -19,13 +19,13 @@ there : (c : In-loop-left) → 2 * (c.loop-left.left - 1) + 1 < length c.args.pa
 there c = omega (arith, c.loop-left.invariant.few, c.loop-left-test.true)
 
 pub overflow_mul-left : goal.overflow_mul-left
-overflow_mul-left c = record { fits = omega (arith, there c, c.well-formed.0) }
+overflow_mul-left c = record { fits = omega (arith, there c, c.well_formed.0) }
 
 pub overflow_add-left : goal.overflow_add-left
-overflow_add-left c = record { fits = omega (arith, there c, c.well-formed.0) }
+overflow_add-left c = record { fits = omega (arith, there c, c.well_formed.0) }
 
 pub offset_bounds-pairs-left : goal.offset_bounds-pairs-left
-offset_bounds-pairs-left c = record { fits = omega (arith, there c, c.well-formed.0) }
+offset_bounds-pairs-left c = record { fits = omega (arith, there c, c.well_formed.0) }
 
 pub bounds-pairs-left : goal.bounds-pairs-left
 bounds-pairs-left c = there c

@@ -60,7 +60,7 @@ on : (c : After-after_if-j)
     × (l.i + l.j < c.after_if-i.result + c.after_if-j.result))
 on c =
     let d = c in
-    let s = d.before.before.before.before in
+    let s = c in
     stepped s.requires.sums.0 s.requires.room d.loop-i.invariant d.loop-i-test.true
     c.sum_at-u.ensures
     c.raised_at-v.ensures

@@ -7,4 +7,4 @@ pub returns : goal.returns
 unfolding number_bytes
 returns c = let a = c in
     let d = c.put_digits.ensures in
-    let p = c.put_bytes-from.ensures in record { written = put_on p d; within = omega (arith, decimal-short a.args.n a.well-formed.1.1.0.1, p.ends, d.ends) }
+    let p = c.put_bytes-from.ensures in record { written = put_on p d; within = omega (arith, decimal-short a.args.n a.well_formed.1.1.0.1, p.ends, d.ends) }
