@@ -1,7 +1,4 @@
--- Laws of proof lines, of the rows that a line is read into, and of a reader that is lent.
+-- Laws of proof lines, of their texts, and of the rows that a line is read into.
 pub mod Lines
 pub mod Texts
 pub mod Rows
-pub mod Lent
-pub mod LentRows
-pub mod LentNext

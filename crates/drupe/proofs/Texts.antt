@@ -25,7 +25,6 @@ use Rattle.text.proofs.Decimals.{rest, line_bytes, line_read, rest-spaced}
 use Rattle.text.proofs.Spelling.{Byte, byte-of, class-letter, line-spelled}
 use Rattle.text.specs.declared.Letter.{Letter}
 use Rattle.text.specs.declared.Class.{Class}
-use Rattle.text.specs.declared.Class.TheVariants as Class
 use Rattle.drupe.specs.Lines.{line_refusal, LineAt, end, line, refused_or, of_numbers, is_space, after_letter, after_first, line_from, line_at}
 use Rattle.drupe.specs.Lines as Lines
 use Rattle.drupe.specs.Texts.{Step, step_text, text_of, StepsRead, steps, refused, after, steps_at, steps_within, LinePasses, Spelled, ReadBack, StepsExact, Stops, RefusedExact, SameWithin}

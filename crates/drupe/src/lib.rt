@@ -1,6 +1,7 @@
 // The proof-line reader: document 01, 'The proof's seven letters' and questions 21 to 25.
 // The claim of `read_line` is `ProofLineRead` in specs/Lines.antt, that of `read_into` is `ReadInto` in specs/Rows.antt.
 #![tactic(auto)]
+
 pub mod reader;
 pub mod writing;
 

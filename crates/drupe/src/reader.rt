@@ -1,6 +1,5 @@
 // The reader of proof lines as a struct that holds the text and a position in it: document 01, 'Where each language form
-// belongs'. The work is `read_into`'s; a function that takes, makes or lends the struct is proved by a walk. All that read
-// proof lines do so by `next` or `step_at`.
+// belongs'. The work is `read_into`'s. All that read proof lines do so by `next` or `step_at`.
 ghost use Rattle.std.specs.Prelude.{◌≡◌, length};
 ghost use Rattle.words.specs.Limits.{most_numbers};
 ghost use Rattle.text.specs.Classes.{byte_classes};
@@ -51,7 +50,7 @@ pub fn next<'s, 'a>(
     answer
 }
 
-// The step at a position of a text: its callers need no walk.
+// The step at a position of a text: its callers need no reader.
 pub fn step_at(
     text: &[u8],
     position: usize,

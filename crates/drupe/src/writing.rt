@@ -28,7 +28,7 @@ fn put_numbers(output: &mut [u8], at: usize, numbers: &[i32]) -> usize
 pub fn write_step(letter: Letter, numbers: &[i32], output: &mut [u8], at: usize) -> usize
     requires room { at + (22 * most_numbers + 4) ≤ farthest }
     requires few { length numbers.now ≤ most_numbers }
-    ensures written { Put (step_text (record { letter = letter; numbers = numbers.entry.now })) output.old
+    ensures written { Put (step_text (record { letter = letter; numbers = numbers.now })) output.old
         output.new at result }
     ensures within { result ≤ at + (22 * most_numbers + 4) }
 {

@@ -10,4 +10,4 @@ pub returns : goal.returns
 returns c = let a = c.args in
     let end = c.put_bytes.ensures in
     let numbers = c.put_numbers-end.ensures in
-    let letter = put_one (byte_of a.letter) (rw c.byte_of.ensures at c.put.ensures) in record { written = step-put a.letter a.numbers.now (put_on letter (put_on numbers.0 end)); within = omega (arith, numbers.1, end.ends) }
+    let letter = put_one (byte_of a.letter) (rw c.byte_of.ensures at c.put.ensures) in record { written = step-put a.letter a.numbers.now (put_on letter (put_on numbers.written end)); within = omega (arith, numbers.within, end.ends) }
