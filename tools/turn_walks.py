@@ -140,6 +140,13 @@ def named(entry, k):
         if up is None: return k, n
         k = up
 
+def nth(steps, n):
+    """Which of n things the projections lead to, where the last stands in front of nothing, and what is left of them."""
+    k = 0
+    while k < len(steps) and steps[k] == "1": k += 1
+    if k < n and k < len(steps) and steps[k] == "0": return k, steps[k + 1:]
+    return None, steps
+
 class Places:
     def __init__(self, entry):
         self.entry = entry
@@ -331,7 +338,7 @@ def rewrite(text, P, place, goal=None):
                 k, left = index_of(rest[1:], len(clauses[n]))
                 if k is not None: return ".".join([parts[0], "ensures", clauses[n][k]] + left)
             if rest[0] in ("new", "last") and callee.get(n):
-                k, left = index_of(rest[1:], len(callee[n]), True)
+                k, left = nth(rest[1:], len(callee[n]))
                 if k is not None: return ".".join([parts[0], "new", callee[n][k]] + left)
             if rest[0] == "auto" and callee.get(n) and re.fullmatch(r"(1\.)*0(\..*)?", ".".join(rest[1:])):
                 steps = rest[1:]; k = 0
@@ -341,7 +348,7 @@ def rewrite(text, P, place, goal=None):
         while i < len(parts):
             w = parts[i]
             plain = w[:-4] if w.endswith("_lem") else w
-            n = labels_.get(norm(plain))
+            n = labels_.get(norm(plain)) or labels_.get(norm(plain[:1].lower() + plain[1:]))
             nxt = parts[i + 1] if i + 1 < len(parts) else None
             if n is not None and re.fullmatch(re.escape(norm(plain)) + r"(-in-loop-.*|-in-.*|-then-.*|-else-.*)?-\d+", norm(n)) and nxt not in ("given", "result", "ensures", "new", "type-inv", "type_inv", "auto"):
                 n = None
@@ -353,7 +360,7 @@ def rewrite(text, P, place, goal=None):
                 if k is not None:
                     out += ["ensures", clauses[n][k]] + left; i = len(parts)
             elif nxt in ("new", "last") and callee.get(n):
-                k, left = index_of(parts[i + 1:], len(callee[n]), True)
+                k, left = nth(parts[i + 1:], len(callee[n]))
                 if k is not None:
                     out += ["new", callee[n][k]] + left; i = len(parts)
             elif nxt == "auto" and callee.get(n) and re.fullmatch(r"(1\.)*0(\..*)?", ".".join(parts[i + 1:])):
@@ -436,6 +443,23 @@ def record_of(body, labels_):
     proj = lambda i: ".0" if i == 0 and n > 1 else ".1" * i + (".0" if i < n - 1 else "")
     return head + (" " if head else "") + f"let all = {expr} in record {{ " + "; ".join(f"{a} = all{proj(i)}" for i, a in enumerate(labels_)) + " }"
 
+def without(text, v):
+    """Where a name for the place itself is gone: `(v X).f` is `X.f`."""
+    pat = re.compile(r"\(" + re.escape(v) + r" ")
+    at = 0
+    while True:
+        m = pat.search(text, at)
+        if not m: return text
+        d, k = 1, m.end()
+        while d and k < len(text):
+            if text[k] in "([{": d += 1
+            if text[k] in ")]}": d -= 1
+            k += 1
+        arg = text[m.end():k - 1].strip()
+        if text[k:k + 1] == "." and len(top_args(arg)) == 1:
+            text = text[:m.start()] + arg + text[k:]
+        at = m.start() + 1
+
 def turn(path, entry, crate, fn):
     with open(path) as f: text = f.read()
     bs = blocks(text)
@@ -495,6 +519,17 @@ def turn(path, entry, crate, fn):
         body_i = re.sub(r"to_z w\d+ (l\.[A-Za-z0-9_.]+)", r"\1", body_i)
         sep = "\n    " if "\n" in body_i else " "
         invariants.append("\n".join(comments + [f"abbrev pub {goal} : goal.{goal}", f"{goal} l ={sep}{body_i}"]))
+    # what the invariants name of the file's own
+    front, seen = [], set()
+    def need_of(body):
+        for n, i in defs.items():
+            if n not in seen and i not in done and i != spec and "tie." not in bs[i] and re.search(r"(?<![A-Za-z0-9_'.-])" + re.escape(n) + r"(?![A-Za-z0-9_'-])", body):
+                seen.add(n); need_of(bs[i]); front.append(i)
+    for b in invariants: need_of(b)
+    front = list(dict.fromkeys(front))
+    done |= set(front)
+    fronts = [re.sub(r"(?m)^abbrev (?!pub )", "abbrev pub ", re.sub(r"(?m)^(?=[A-Za-z0-9_'-]+ :)(?!pub |abbrev )", "pub ", bs[i])) for i in front]
+    invariants = fronts + invariants
     # which goal each argument answers
     by_old = {norm(o): k for k, (o, n) in enumerate(needs)}
     rest_args = [unparen(a) for a in args[n_inv:]]
@@ -574,7 +609,8 @@ def turn(path, entry, crate, fn):
     for k, b in extra:
         place = entry["asked_at"][k][0]
         labels_ = entry["asked"].get(needs[k][0])
-        b = sub_tokens(b, {a: n for a, n in refs.items() if n != needs[k][1]}, before=r"(?<=[ (])")
+        cut = b.index(" =") + 2
+        b = b[:cut] + sub_tokens(b[cut:], refs)
         if labels_:
             new = needs[k][1]
             m = re.search(r"(?m)^" + re.escape(new) + r"((?: [^\s=]+)*) =", b)
@@ -582,7 +618,7 @@ def turn(path, entry, crate, fn):
         out.append(rewrite(b, P, place if norm(place) in P.by else None, needs[k][1]))
     text_out = "\n\n".join(out)
     text_out = flatten(text_out)
-    for v in GONE: text_out = re.sub(r"\(" + v + r" ([A-Za-z0-9_.]+)\)\.", r"\1.", text_out)
+    for v in GONE: text_out = without(text_out, v)
     GONE.clear()
     text_out = text_out.replace(".type-inv", ".type_inv")
     if "{w = w32}" in text_out and not re.search(r"use mir\.Syntax\.\{[^}]*w32", text_out): text_out = re.sub(r"(?m)^use ", "use mir.Syntax.{w32}\nuse ", text_out, count=1)
@@ -594,7 +630,7 @@ def turn(path, entry, crate, fn):
         if new is None: note.append(f"no place {w}"); return m.group(0)
         if new not in used_places: used_places.append(new)
         return new
-    text_out = re.sub(r"tie\.(?!the-claims)([A-Za-z][A-Za-z0-9_-]*)", place_name, text_out)
+    text_out = re.sub(r"tie\.(?!the-claims|handed_clauses)([A-Za-z][A-Za-z0-9_-]*)", place_name, text_out)
     if inv_names:
         alt = "|".join(map(re.escape, inv_names))
         for pl in used_places:
@@ -612,6 +648,8 @@ def turn(path, entry, crate, fn):
     if "goal." in rest_text:
         lead, rest_body = leading(rest_text)
         more = [f"use Rattle.{crate}.proofs.{fn_path}.Goals.{{{', '.join(used_places)}}}"] if used_places else []
+        mine = [n for n in sorted(seen) if cited(n, rest_text)]
+        if mine: more.append(f"use Rattle.{crate}.proofs.{fn_path}.Invariants.{{{', '.join(mine)}}}")
         if "view.up-" in rest_text: more += [f"use Rattle.{crate}.proofs.{fn_path}.Lts.View as view", f"use Rattle.{crate}.proofs.{fn_path}.Reads as reads", f"use Rattle.{crate}.proofs.{fn_path}.Tie as tie"]
         with open(os.path.join(folder, "Answers.antt"), "w") as f:
             f.write((lead + "\n" if lead else "") + "\n".join(used(rest_text) + rules + [f"use Rattle.{crate}.proofs.{fn_path}.Goals as goal"] + more) + "\n\n" + rest_body + "\n")

@@ -6,7 +6,7 @@ use Rattle.words.specs.Limits.{entries}
 use Rattle.aspif.specs.Rules.{atoms}
 use Rattle.words.specs.Lists.{ascends}
 use Rattle.aspif.specs.Tables.{rules_at, sound_table}
-use Rattle.marks.specs.Marks.{listed, marked}
+use Rattle.marks.specs.marks-1.{listed, marked}
 use Rattle.aspif.proofs.Cursors.{sound-rules, atoms-small}
 use Rattle.marks.proofs.Sets.{marks-listed}
 use Rattle.answer_set.proofs.Tested.{refused-41, refused-42, refused-43, tested}
@@ -61,5 +61,5 @@ returns c =
     let s = sound (goal.at.returns c).Else-not-is_readable in
     let w = sym (told d) ∙ g.if-not-ascends_within.false in
     let h = atoms-small a.rules a.table.now (sound-rules _ _ s) in
-    let e : marked m.mark_all.new.marks.0 ≡ listed a.set.now = ap marked m.mark_all.ensures ∙ marks-listed (atoms (rules_at a.rules a.table.now)) entries a.set.now w (omega arith) in
-    tested a.table.now a.rules a.set.now a.marks.now k.mark_least.new.marks.0 s w (sym z.marks-1.given ∙ m.if-marks-ne-ENTRIES.false) e d.largest_atom-atoms.ensures k.mark_least.ensures c.judge.ensures
+    let e : marked m.mark_all.new.marks ≡ listed a.set.now = ap marked m.mark_all.ensures ∙ marks-listed (atoms (rules_at a.rules a.table.now)) entries a.set.now w (omega arith) in
+    tested a.table.now a.rules a.set.now a.marks.now k.mark_least.new.marks s w (sym z.marks-1.given ∙ m.if-marks-ne-ENTRIES.false) e d.largest_atom-atoms.ensures k.mark_least.ensures c.judge.ensures

@@ -26,7 +26,7 @@ module _ (c : After-widen) where
   costs = c.args.costs.now
 
   abbrev row : List ℤ
-  row = c.widen.new.row.0
+  row = c.widen.new.row
 
   are : row ≡ costs ++ drop (length costs) (replicate 24 (pos 0))
   are = c.widen.ensures

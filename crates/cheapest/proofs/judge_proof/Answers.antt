@@ -53,7 +53,7 @@ pub returns : goal.returns
 returns c = λ ws p w.
     let d = (goal.at.returns c).After-write_restriction in
     let a = d.args in
-    let s : length c.accepts.new.store.0 ≡ length a.store.now = search rules in
+    let s : length c.accepts.new.store ≡ length a.store.now = search rules in
     c.refuse.ensures ∙ same-nothing 63 (refl {a = length a.table.now}) s
     ∙ proof-refused (length a.table.now) (length a.store.now) ws (paired a.pairs.now) a.cost a.proof.now
     (c.accepts.ensures ws p (paired a.pairs.now) a.cost (words d)) c.if-accepts.false

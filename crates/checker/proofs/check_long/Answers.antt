@@ -20,7 +20,7 @@ use Rattle.checker.proofs.check_long.Goals.{In-Read}
 module _ (c : In-Read) where
 
 
-  abbrev read : ProgramRead c.args.program.now c.args.table.now c.read_program-read.new.table.0 c.read_program-read.result
+  abbrev read : ProgramRead c.args.program.now c.args.table.now c.read_program-read.new.table c.read_program-read.result
   read = c.read_program-read.ensures
 
   found : ReadProgram (length c.args.table.now) (length c.args.store.now) c.args.program.now c.args.proof.now read.answer read.table c.in-Read.atoms c.in-Read.rules
@@ -43,7 +43,7 @@ returns-in-Read c =
     let d = (goal.at.returns-in-Read c).In-Read in
     let a : length d.read-program.new.1.0 ≡ length d.args.table.now = search rules in
     let b : length d.zero_all.new.t ≡ length d.args.store.now = search rules in
-    let m : length c.check_within-verdict.new.index.0 ≡ length d.args.memory.now = search rules in
+    let m : length c.check_within-verdict.new.index ≡ length d.args.memory.now = search rules in
     let p = found d in
     let h = held _ _ _ _ (read d).answer (read d).table p a in
     record {

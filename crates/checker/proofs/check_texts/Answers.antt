@@ -14,7 +14,7 @@ use Rattle.checker.proofs.check_texts.Goals.{In-Read}
 module _ (c : In-Read) where
 
 
-  abbrev read : ProgramRead c.args.program.now c.args.table.now c.read_program-read.new.table.0 c.read_program-read.result
+  abbrev read : ProgramRead c.args.program.now c.args.table.now c.read_program-read.new.table c.read_program-read.result
   read = c.read_program-read.ensures
 
   found : ReadProgram (length c.args.table.now) (length c.args.store.now) c.args.program.now c.args.proof.now read.answer read.table c.in-Read.atoms c.in-Read.rules

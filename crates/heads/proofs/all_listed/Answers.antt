@@ -16,13 +16,10 @@ use Rattle.heads.proofs.Walks.{walk_from, walk-on, next-less}
 use borrow.Author.Rules.{rules}
 use Rattle.heads.proofs.all_listed.Goals as goal
 use Rattle.heads.proofs.all_listed.Goals.{In-loop-p, After-word_of-k, Else-j-listed}
+use Rattle.heads.proofs.all_listed.Invariants.{Named}
 use Rattle.heads.proofs.all_listed.Lts.View as view
 use Rattle.heads.proofs.all_listed.Reads as reads
 use Rattle.heads.proofs.all_listed.Tie as tie
-
--- a hit number is the name of such a rule's body
-abbrev Named : List ℤ → ℕ → List ℕ → ℕ → List ℤ → List ℕ → Type 0
-Named t rules names v ns hits = (j : ℕ) → get_or hits j 0 ≡ 1 → (k : ℕ) × HasHead t rules v k × (get_or names k 0 ≡ variable (get_or ns j (pos 0)))
 
 -- one more hit
 hit-keeps : (names : List ℕ) (ns : List ℤ) (hits : List ℕ) (j : ℕ) → j < length hits → (k : ℕ) → Hit names ns hits k → Hit names ns (set hits j 1) k
@@ -100,14 +97,14 @@ module _ (c : Else-j-listed) where
   abbrev w : After-word_of-k
   w = (view.up-After-word_of-k tie.the-claims reads.Pre reads.Post goal.the-invariant-loop-p goal.the-decreases-loop-p tie.handed_clauses c.before.before.before.before.before)
 
-  low : c.place_of-j.result < length (s (i w)).args.listed.now
+  low : c.place_of-j.result < length (i w).args.listed.now
   low = omega (arith, c.if-j-listed.false, c.place_of-j.ensures.place)
 
-  named : variable (get_or (s (i w)).args.listed.now c.place_of-j.result (pos 0)) ≡ get_or (s (i w)).args.names.now w.word_of-k.result 0
+  named : variable (get_or (i w).args.listed.now c.place_of-j.result (pos 0)) ≡ get_or (i w).args.names.now w.word_of-k.result 0
   named = c.place_of-j.ensures.here low ∙ c.wide.ensures.same
 
   inside : c.place_of-j.result < length (i w).loop.hits
-  inside = omega (arith, low, (s (i w)).requires.line.1, (i w).loop.invariant.0)
+  inside = omega (arith, low, (i w).requires.line.1, (i w).loop.invariant.0)
 
 pub loop-p-smaller : goal.loop-p-smaller
 loop-p-smaller c =

@@ -13,7 +13,7 @@ pub all_listed-requires : goal.all_listed-requires
 all_listed-requires c = let p = c.requires in record { index = (p.1.0.0 p.1.0.1, p.0.0, p.0.1); line = (p.1.1.0, p.1.1.1, refl) }
 
 -- as many are listed as there is room for hits
-room : (c : After-all_listed) → length c.args.listed.now ≤ length c.all_listed.new.hits.0
+room : (c : After-all_listed) → length c.args.listed.now ≤ length c.all_listed.new.hits
 room c = omega (arith, c.all_listed.auto.hits, c.requires.line.1)
 
 pub returns-then-all_listed : goal.returns-then-all_listed
@@ -22,7 +22,7 @@ returns-then-all_listed c =
     let l = (goal.at.returns-then-all_listed c).After-all_listed in
     let s = c in
     let a = s.args in
-    let hits = l.all_listed.new.hits.0 in
+    let hits = l.all_listed.new.hits in
     let L = subst (Listed a.table.now a.rules a.names.now a.v a.listed.now hits) b.if-all_listed.true l.all_listed.ensures in
     λ ws H. rw (← H.are) (λ bodies called K.
     c.all_hit.ensures ∙ just-hit a.table.now a.rules s.requires.program.0 (s.requires.index.0 s.requires.index.1).plain K a.v a.listed.now hits (room l) s.requires.line.2 L)
@@ -32,7 +32,7 @@ returns c =
     let l = c in
     let s = c in
     let a = s.args in
-    let hits = l.all_listed.new.hits.0 in
+    let hits = l.all_listed.new.hits in
     let L = subst (Listed a.table.now a.rules a.names.now a.v a.listed.now hits) c.if-all_listed.false l.all_listed.ensures in
     λ ws H. rw (← H.are) (λ bodies called K.
     not-just a.table.now a.rules s.requires.program.0 (s.requires.index.0 s.requires.index.1).plain K a.v a.listed.now hits L)

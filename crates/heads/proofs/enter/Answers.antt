@@ -4,7 +4,7 @@ use native.Mathlib.Omega.{arith}
 use lib.ListN.{take}
 use Rattle.aspif.proofs.Readable.{rules-count}
 use Rattle.heads.specs.Heads.{Covers, hint_of}
-use Rattle.heads.proofs.Bodies.{covers-few, found-few, kept-front}
+use Rattle.heads.proofs.bodies-1.{covers-few, found-few, kept-front}
 use borrow.Author.Rules.{rules}
 use Rattle.heads.proofs.enter.Goals as goal
 use Rattle.heads.proofs.enter.Goals.{Then-is_covered}
@@ -40,7 +40,7 @@ returns-then-is_covered c =
     let few = covers-few (covers d) in
     λ ws H. rw (← H.are) (λ called K u f. record {
       rules = omega (arith, K.rules, g.auto.names, h.auto.names);
-      by_rule = kept-front g.new.names.0 h.new.names a.rules (hint_of a.name) _ _ _ n (omega (arith, few)) h.ensures
+      by_rule = kept-front g.new.names h.new.names a.rules (hint_of a.name) _ _ _ n (omega (arith, few)) h.ensures
           (g.ensures called (ap (λ m. take m a.names.now) (sym n) ∙ K.by_rule));
       by_name = λ w. absurd (true≢false (sym (covers d).plain ∙ w));
     })

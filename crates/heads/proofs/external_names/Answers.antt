@@ -22,12 +22,12 @@ returns-then-count-gt-LARGEST c =
     none_named a.table.now a.rules s.requires.program.0 (s.requires.index.0 s.requires.index.1).plain K a.inside.now g.gather_all-count.ensures c.if-count-gt-LARGEST.true)
 
 -- the words that are gathered
-room : (c : Else-count-gt-LARGEST) → (let g = c.gather_all-count in g.result ≤ length g.new.row.0)
+room : (c : Else-count-gt-LARGEST) → (let g = c.gather_all-count in g.result ≤ length g.new.row)
 room c = let R = (c.gather_all-count.ensures.collected c.if-count-gt-LARGEST.false).is in omega (arith, R.long, R.within)
 
 size : (c : Else-count-gt-LARGEST)
-    → (let g = c.gather_all-count in length (take g.result g.new.row.0) ≡ g.result)
-size c = let g = c.gather_all-count in length-take-le g.result g.new.row.0 (room c)
+    → (let g = c.gather_all-count in length (take g.result g.new.row) ≡ g.result)
+size c = let g = c.gather_all-count in length-take-le g.result g.new.row (room c)
 
 pub returns : goal.returns
 returns c =
@@ -37,7 +37,7 @@ returns c =
     let s = c in
     let a = s.args in
     let r = g.gather_all-count.result in
-    let row = g.gather_all-count.new.row.0 in
+    let row = g.gather_all-count.new.row in
     let n : length o.new.words ≡ r = ap length o.ensures ∙ length-ascending (take r row) ∙ size e in
     λ ws H. rw (← H.are) (λ bodies called K.
     all_told a.table.now a.rules s.requires.program.0 (s.requires.index.0 s.requires.index.1).plain K a.inside.now (o.new.words ++ drop r row) g.gather_all-count.ensures e.if-count-gt-LARGEST.false

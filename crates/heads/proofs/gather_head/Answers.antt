@@ -81,7 +81,7 @@ module _ (c : After-word_of-at) where
   o = (view.up-After-word_of-k tie.the-claims reads.Pre reads.Post goal.the-invariant-loop-p goal.the-decreases-loop-p tie.handed_clauses c.before.before)
 
   starts : c.word_of-at.result ≡ start_of (k o) (t (i o))
-  starts = c.word_of-at.ensures ∙ (s (i o)).requires.index.0.entered.starts (k o) (headed o).0
+  starts = c.word_of-at.ensures ∙ (i o).requires.index.0.entered.starts (k o) (headed o).0
 
   within : c.word_of-at.result ≤ length (t (i o))
   within = omega (arith, starts, (here o).0)

@@ -71,7 +71,7 @@ tells : (c : After-is_same_list)
     → (let d = i (view.up-After-word_of-at tie.the-claims reads.Pre reads.Post goal.the-invariant-loop-p goal.the-decreases-loop-p tie.handed_clauses c.before.before.before.before) in same_list d.args.body.now (body_words_at (words_from (k d) (t d))) ≡ c.is_same_list.result)
 tells c =
     let w = (view.up-After-word_of-at tie.the-claims reads.Pre reads.Post goal.the-invariant-loop-p goal.the-decreases-loop-p tie.handed_clauses c.before.before.before.before) in
-    sym (c.is_same_list.ensures ∙ ap (same_list (s (i w)).args.body.now) (c.body_of.ensures ∙ ap body_words_at (tail_of w.word_of-at.result (t (i w)) ∙ words-at w)))
+    sym (c.is_same_list.ensures ∙ ap (same_list (i w).args.body.now) (c.body_of.ensures ∙ ap body_words_at (tail_of w.word_of-at.result (t (i w)) ∙ words-at w)))
 
 pub returns-then-is_same_list : goal.returns-then-is_same_list
 returns-then-is_same_list c =

@@ -37,10 +37,10 @@ module _ (c : After-word_of-k) where
 -- and where it starts
 module _ (c : After-word_of-at) where
   starts : c.word_of-at.result ≡ start_of (k (view.up-After-word_of-k tie.the-claims reads.Pre reads.Post tie.handed_clauses c.before.before)) (t (view.up-After-word_of-k tie.the-claims reads.Pre reads.Post tie.handed_clauses c.before.before))
-  starts = c.word_of-at.ensures ∙ (s (view.up-After-word_of-k tie.the-claims reads.Pre reads.Post tie.handed_clauses c.before.before)).requires.index.0.entered.starts (k (view.up-After-word_of-k tie.the-claims reads.Pre reads.Post tie.handed_clauses c.before.before)) (rule (view.up-After-word_of-k tie.the-claims reads.Pre reads.Post tie.handed_clauses c.before.before))
+  starts = c.word_of-at.ensures ∙ (view.up-After-word_of-k tie.the-claims reads.Pre reads.Post tie.handed_clauses c.before.before).requires.index.0.entered.starts (k (view.up-After-word_of-k tie.the-claims reads.Pre reads.Post tie.handed_clauses c.before.before)) (rule (view.up-After-word_of-k tie.the-claims reads.Pre reads.Post tie.handed_clauses c.before.before))
 
   within : c.word_of-at.result ≤ length (t (view.up-After-word_of-k tie.the-claims reads.Pre reads.Post tie.handed_clauses c.before.before))
-  within = omega (arith, starts, (rule-here (t (view.up-After-word_of-k tie.the-claims reads.Pre reads.Post tie.handed_clauses c.before.before)) (s (view.up-After-word_of-k tie.the-claims reads.Pre reads.Post tie.handed_clauses c.before.before)).args.rules (s (view.up-After-word_of-k tie.the-claims reads.Pre reads.Post tie.handed_clauses c.before.before)).requires.index.1 (k (view.up-After-word_of-k tie.the-claims reads.Pre reads.Post tie.handed_clauses c.before.before)) (rule (view.up-After-word_of-k tie.the-claims reads.Pre reads.Post tie.handed_clauses c.before.before))).0)
+  within = omega (arith, starts, (rule-here (t (view.up-After-word_of-k tie.the-claims reads.Pre reads.Post tie.handed_clauses c.before.before)) (view.up-After-word_of-k tie.the-claims reads.Pre reads.Post tie.handed_clauses c.before.before).args.rules (view.up-After-word_of-k tie.the-claims reads.Pre reads.Post tie.handed_clauses c.before.before).requires.index.1 (k (view.up-After-word_of-k tie.the-claims reads.Pre reads.Post tie.handed_clauses c.before.before)) (rule (view.up-After-word_of-k tie.the-claims reads.Pre reads.Post tie.handed_clauses c.before.before))).0)
 
 pub returns : goal.returns
 returns c =

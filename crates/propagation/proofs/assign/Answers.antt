@@ -59,7 +59,7 @@ loop-i-preserved c =
     let x = word k in
     let single : ¬ Assigns l.assignment (complement x) = λ a. alone s.args.literals.now s.requires.literals l.i k.loop-i-test.true (v.3 _ a) in
     let hx : variable x < length l.assignment = omega (arith, v.1, s.requires.literals.high x (inside k)) in
-    let is : t.make_true-v.new.assignment.0 ≡ set l.assignment (variable x) (entry x) =
+    let is : t.make_true-v.new.assignment ≡ set l.assignment (variable x) (entry x) =
     rw (back x t.make_true-arg-1.given) at t.make_true-v.ensures.assigned in (
       omega arith,
       rw is (length-set l.assignment (variable x) (entry x) ∙ v.1),

@@ -14,8 +14,8 @@ use Rattle.derivation.proofs.Closure.{refuted-decides}
 use Rattle.nogoods.specs.Store.{Stored, live}
 use Rattle.nogoods.specs.Keeps.{Literals}
 use Rattle.nogoods.specs.Records.{Encodes}
-use Rattle.nogoods.specs.Index.{Keeps, Marked}
-use Rattle.propagation.specs.Propagate.{Assigns, Ends}
+use Rattle.nogoods.specs.index-1.{Keeps, Marked}
+use Rattle.propagation.specs.propagate.{Assigns, Ends}
 use Rattle.nogoods.proofs.Live.{live-from}
 use Rattle.nogoods.proofs.Recorded.{used-words}
 use Rattle.nogoods.proofs.Indexing.{keeps-part, marked}
@@ -44,16 +44,16 @@ module _ (c : After-run) where
   s = k.before.before.before
 
   abbrev index : List ℕ
-  index = k.cover.new.index.0
+  index = k.cover.new.index
 
   abbrev at : ℕ
   at = c.start_of-at.result
 
   abbrev found : List ℕ
-  found = put_mid at (length index - at) index c.run.new.cells.0
+  found = put_mid at (length index - at) index c.run.new.cells
 
   searched : (stored : List Stored) → Keeps s.args.store.now s.args.index.now s.args.used stored → Keeps s.args.store.now found s.args.used stored
-  searched stored K = keeps-part at index c.run.new.cells.0 c.start_of-at.ensures.upper_bound c.run.auto.cells c.start_of-at.ensures.value (k.cover.ensures stored K)
+  searched stored K = keeps-part at index c.run.new.cells c.start_of-at.ensures.upper_bound c.run.auto.cells c.start_of-at.ensures.value (k.cover.ensures stored K)
 
 pub slice_bounds-propagate-end : goal.slice_bounds-propagate-end
 slice_bounds-propagate-end c =

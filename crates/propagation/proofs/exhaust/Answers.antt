@@ -12,7 +12,7 @@ use Rattle.propagation.proofs.exhaust.Goals.{After-settle-swept, After-zero_byte
 
 -- what the sweeps gave
 told : (c : After-settle-swept) (x : Swept) → c.settle-swept.result ≡ x → let s = c in
-    Settles s.args.nogoods.now (entries + 1) s.args.assignment.now c.settle-swept.new.assignment.0 x
+    Settles s.args.nogoods.now (entries + 1) s.args.assignment.now c.settle-swept.new.assignment x
 told c x e = rw e at c.settle-swept.ensures
 
 -- all are free afterwards

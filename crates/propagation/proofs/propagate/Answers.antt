@@ -22,7 +22,7 @@ ends-before s m m' g false (n, h, a) = (n, grows-on g h, a)
 
 -- what the replay gave
 told : (c : After-replay) (x : Replayed) → c.replay.result ≡ x → let s = c in
-    Replays s.args.nogoods.now s.args.assignment.now c.replay.new.assignment.0 x
+    Replays s.args.nogoods.now s.args.assignment.now c.replay.new.assignment x
 told c x e = rw e at c.replay.ensures
 
 -- a conflict
@@ -37,7 +37,7 @@ returns-in-Clashing c = let k = c in record { decided = (told (goal.at.returns-i
 
 -- none
 grew : (c : In-Open) → let o = c in let s = c in
-    Grows s.args.nogoods.now s.args.assignment.now o.replay.new.assignment.0
+    Grows s.args.nogoods.now s.args.assignment.now o.replay.new.assignment
 grew c = told (view.up-After-replay tie.the-claims reads.Pre reads.Post tie.handed_clauses c.before.before) _ c.in-Open.is
 
 pub exhaust-requires : goal.exhaust-requires

@@ -38,7 +38,7 @@ end_at-i-requires c = (read (goal.at.end_at-i-requires c).In-loop-i).room
 
 -- what the nogood gave
 told : (c : After-derive_at-given) (x : Derived) → c.derive_at-given.result ≡ x
-    → let l = c.loop-i in DerivesAt (words c.before.before) l.i l.assignment c.derive_at-given.new.assignment.0 x
+    → let l = c.loop-i in DerivesAt (words c.before.before) l.i l.assignment c.derive_at-given.new.assignment x
 told c x e = rw e at c.derive_at-given.ensures
 
 pub returns-in-Conflicting : goal.returns-in-Conflicting

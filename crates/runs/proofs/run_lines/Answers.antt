@@ -6,7 +6,7 @@ use lib.IntN.{ℤ, pos}
 use lib.ListN.{length, length-replicate}
 use Rattle.aspif.specs.Rules.{InputRule}
 use Rattle.words.specs.Limits.{most_numbers}
-use Rattle.text.specs.Classes.{byte_classes}
+use Rattle.text.specs.classes-1.{byte_classes}
 use Rattle.drupe.specs.Lines.{line_at}
 use Rattle.steps.specs.Held.{Program}
 use Rattle.runs.specs.Held.{LineLeaves}
@@ -14,7 +14,7 @@ use Rattle.steps.proofs.Tracking.{same-rules, rules-held, start-tracks}
 use Rattle.runs.proofs.Courses.{Going, going_start, going-ends, going-fails, going_on}
 use borrow.Author.Rules.{rules}
 use Rattle.runs.proofs.run_lines.Goals as goal
-use Rattle.runs.proofs.run_lines.Goals.{After-turn_at, Start, In-Goes}
+use Rattle.runs.proofs.run_lines.Goals.{After-turn_at, In-Goes}
 use Rattle.runs.proofs.run_lines.Lts.View as view
 use Rattle.runs.proofs.run_lines.Reads as reads
 use Rattle.runs.proofs.run_lines.Tie as tie
@@ -22,7 +22,7 @@ use Rattle.runs.proofs.run_lines.Tie as tie
 -- where the loop stands, and what the turn there left
 module _ (c : After-turn_at) where
 
-  abbrev start : Start
+  abbrev start : tie.start-state invariant-loop decreases-loop
   start = (view.up-At-loop-number tie.the-claims reads.Pre reads.Post goal.the-invariant-loop-number goal.the-decreases-loop-number tie.handed_clauses c.before.before.before.before.before.before.before.before.before.before.before.before)
 
   abbrev ws : List InputRule

@@ -27,7 +27,7 @@ module _ (c : In-Line) where
   numbers = c.step_at-answer.new.numbers
 
   abbrev sorted : List ℤ
-  sorted = c.step_at-answer.new.sorted.0
+  sorted = c.step_at-answer.new.sorted
 
   there : (line_at start.args.proof.now start.args.at ≡ line c.in-Line.letter (take c.in-Line.count numbers) c.in-Line.next)
   there = into-told c.step_at-answer.ensures c.in-Line.is

@@ -37,7 +37,7 @@ returns c = λ ws text p w l e.
     let d = (goal.at.returns c).After-check_proof-verdict in
     let x = d.args in
     let t : length d.check_proof-verdict.new.table ≡ length x.table.now = search rules in
-    let s : length d.check_proof-verdict.new.store.0 ≡ length x.store.now = search rules in
+    let s : length d.check_proof-verdict.new.store ≡ length x.store.now = search rules in
     c.refuse.ensures ∙ same-nothing 59 t s (refl {a = length x.output.now})
     ∙ found-otherwise (length x.table.now) (length x.store.now) (length x.output.now) ws text (came d ws text)
     (rw (text_in text (length x.output.now - x.n) l e) at (d.check_proof-verdict.ensures ws p w)) (sym f.is_inconsistent.ensures ∙ f.if-is_inconsistent.false)

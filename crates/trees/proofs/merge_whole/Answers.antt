@@ -70,7 +70,7 @@ module _ (c : After-merge_side) where
   store' = c.merge_side.new.store
 
   abbrev whole : List ℕ
-  whole = c.merge_side.new.output.0
+  whole = c.merge_side.new.output
 
   same_store : length store' ≡ s
   same_store = c.merge_side.auto.store

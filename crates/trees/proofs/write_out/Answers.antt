@@ -23,7 +23,7 @@ module _ (c : After-check_proof-verdict) where
   same-table : length c.check_proof-verdict.new.table ≡ t
   same-table = c.check_proof-verdict.auto.table
 
-  same_store : length c.check_proof-verdict.new.store.0 ≡ s
+  same_store : length c.check_proof-verdict.new.store ≡ s
   same_store = c.check_proof-verdict.auto.store
 
 pub returns-then-not-is_inconsistent : goal.returns-then-not-is_inconsistent

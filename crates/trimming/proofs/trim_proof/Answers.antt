@@ -15,7 +15,7 @@ module _ (c : In-Read) where
   abbrev start : Start
   start = c.before.before.before.before.before.before.before.before.before.before
 
-  abbrev read : ProgramRead start.args.program.now start.args.table.now c.read_program-read.new.table.0 c.read_program-read.result
+  abbrev read : ProgramRead start.args.program.now start.args.table.now c.read_program-read.new.table c.read_program-read.result
   read = c.read_program-read.ensures
 
   found : ReadProgram (length start.args.table.now) (length start.args.store.now) start.args.program.now start.args.text.now read.answer read.table c.in-Read.atoms c.in-Read.rules

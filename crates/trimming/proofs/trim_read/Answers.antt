@@ -32,7 +32,7 @@ module _ (c : After-is_accepted) where
   size = length c.args.store.now
 
   abbrev store₁ : List ℤ
-  store₁ = c.is_accepted.new.store.0
+  store₁ = c.is_accepted.new.store
 
   same₁ : length store₁ ≡ size
   same₁ = c.is_accepted.auto.store
@@ -77,7 +77,7 @@ module _ (c : After-passes-n) where
   text' = c.passes-n.new.text
 
   abbrev store₂ : List ℤ
-  store₂ = c.passes-n.new.store.0
+  store₂ = c.passes-n.new.store
 
   same₂ : length store₂ ≡ size (first e)
   same₂ = c.passes-n.auto.store ∙ same₁ (first e)
@@ -118,7 +118,7 @@ returns c =
     let t = length x.table.now in
     let m = size (first (e d)) in
     λ ws p w.
-    ap (λ (l : List ℕ). record { answer = Trimmed (n d); text = l; table = k.check_proof.new.table; store = k.check_proof.new.store.0 }) (behind z)
+    ap (λ (l : List ℕ). record { answer = Trimmed (n d); text = l; table = k.check_proof.new.table; store = k.check_proof.new.store }) (behind z)
     ∙ written t m x.text.now ws (is-good (e d) ws p) (text' d) (n d) (within d) (same_text d)
     (λ ts q. subst (λ (i : ℕ). Reads (text' d) (n d) (trimmed_steps i ws ts)) (same₁ (first (e d))) (d.passes-n.ensures.trimmed ws ts p q))
     (k.check_proof.ensures ws p w ∙ ap (λ (i : ℕ). judged_reading longest t i (take (n d) (text'' z)) (program ws)) (same₂ d)

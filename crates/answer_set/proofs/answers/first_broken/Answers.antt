@@ -54,7 +54,7 @@ pub next_rule-i-requires : goal.next_rule-i-requires
 next_rule-i-requires c = record { here = (at (goal.at.next_rule-i-requires c).In-loop-left).here }
 
 pub overflow_add-number : goal.overflow_add-number
-overflow_add-number c = let l = c.loop-left in let f = few-rules _ _ (s (goal.at.overflow_add-number c).In-loop-left).requires in record { fits = omega (arith, l.invariant.1) }
+overflow_add-number c = let l = c.loop-left in let f = few-rules _ _ (goal.at.overflow_add-number c).In-loop-left.requires in record { fits = omega (arith, l.invariant.1) }
 
 pub loop-left-smaller : goal.loop-left-smaller
 loop-left-smaller c = omega arith

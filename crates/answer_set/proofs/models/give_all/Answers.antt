@@ -9,7 +9,7 @@ use lib.ListN.{drop}
 use Rattle.aspif.specs.Rules.{InputRule}
 use Rattle.words.proofs.Parts.{tail_of}
 use Rattle.aspif.specs.Tables.{rule_at}
-use Rattle.marks.specs.Marks.{marked, Marking}
+use Rattle.marks.specs.marks-1.{marked, Marking}
 use Rattle.answer_set.specs.SetTest.{give_rule, round}
 use Rattle.aspif.proofs.Cursors.{AtRule, at-rule, no-rules}
 use borrow.Author.Rules.{rules}
@@ -34,7 +34,7 @@ module _ (c : In-loop-left) where
 told : (c : After-give_rule)
     → (let d = (view.up-In-loop-left tie.the-claims reads.Pre reads.Post goal.the-invariant-loop-left goal.the-decreases-loop-left tie.handed_clauses c.before.before.before.before) in
     let m = d.loop-left.marks in
-    Marking (give_rule (marked d.args.inside.now) (rule_at (drop (i d) (t d))) m) m c.give_rule.new.marks.0 c.give_rule.result)
+    Marking (give_rule (marked d.args.inside.now) (rule_at (drop (i d) (t d))) m) m c.give_rule.new.marks c.give_rule.result)
 told c = let d = (view.up-In-loop-left tie.the-claims reads.Pre reads.Post goal.the-invariant-loop-left goal.the-decreases-loop-left tie.handed_clauses c.before.before.before.before) in rw (tail_of (i d) (t d)) at c.give_rule.ensures
 
 pub loop-left-init : goal.loop-left-init

@@ -7,7 +7,7 @@ use mathlib.Core.List.{List}
 use mathlib.Core.Logic.{⊎_elim}
 use Prim.Native.Nat.{ℕ, ◌-◌}
 use Rattle.words.proofs.Words.{back}
-use Rattle.marks.specs.Marks.{marked, Marking}
+use Rattle.marks.specs.marks-1.{marked, Marking}
 use Rattle.answer_set.specs.SetTest.{give_head}
 use Rattle.answer_set.proofs.Marking.{heads-on, heads-end}
 use Rattle.answer_set.proofs.models.give_heads.Goals as goal
@@ -20,7 +20,7 @@ module _ (c : After-give_head) where
   head = get_or c.args.heads.now c.loop-i.i (pos 0)
 
   abbrev after : List ℕ
-  after = c.give_head.new.marks.0
+  after = c.give_head.new.marks
 
   told : (let m = c.loop-i.marks in Marking (give_head (marked c.args.inside.now) c.args.kind head m) m after c.give_head.result)
   told = rw (back head c.give_head-arg-1.given) at c.give_head.ensures

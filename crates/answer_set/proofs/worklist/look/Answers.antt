@@ -4,7 +4,7 @@ use lib.ListN.{drop, get_or}
 use Rattle.words.proofs.Parts.{tail_of}
 use Rattle.aspif.specs.Tables.{rule_at}
 use Rattle.aspif.proofs.Cursors.{shape_of}
-use Rattle.marks.specs.Marks.{marked, Marking}
+use Rattle.marks.specs.marks-1.{marked, Marking}
 use Rattle.answer_set.specs.SetTest.{give_rule}
 use Rattle.answer_set.specs.Private.{RuleStart, nothing}
 use Rattle.answer_set.proofs.Giving.{given-one}
@@ -19,7 +19,7 @@ start c = let s = c in s.requires.rule_starts (s.args.entry % 1025)
 -- and what giving it tells
 told : (c : After-give_rule)
     → (let a = c.args in
-    Marking (give_rule (marked a.inside.now) (rule_at (drop (get_or a.starts.now (a.entry % 1025) 0) a.table.now)) a.marks.now) a.marks.now c.give_rule.new.marks.0 c.give_rule.result)
+    Marking (give_rule (marked a.inside.now) (rule_at (drop (get_or a.starts.now (a.entry % 1025) 0) a.table.now)) a.marks.now) a.marks.now c.give_rule.new.marks c.give_rule.result)
 told c =
     let a = c.args in
     rw (tail_of (get_or a.starts.now (a.entry % 1025) 0) a.table.now) at c.give_rule.ensures

@@ -1,5 +1,5 @@
 use Rattle.aspif.proofs.Cursors.{sound-rules}
-use Rattle.marks.specs.Marks.{marked}
+use Rattle.marks.specs.marks-1.{marked}
 use Rattle.answer_set.proofs.Giving.{least-given}
 use borrow.Author.Rules.{rules}
 use Rattle.answer_set.proofs.worklist.mark_least.Goals as goal

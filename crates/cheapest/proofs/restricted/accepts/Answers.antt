@@ -19,8 +19,8 @@ module _ (c : After-append_rule) where
 
   whole : {ws : List InputRule} → Program c.args.table.now c.args.rules c.args.atoms ws
       → {ks : List Cost} {C : ℕ} → Restricts c.args.atoms ks C c.args.rule.now
-      → Program c.append_rule.new.wide.0 (c.args.rules + 1) c.args.atoms (restricted ws ks C)
-      × (c.append_rule.new.wide.0 ≡ table_words (length c.append_rule.new.wide.0) (restricted ws ks C))
+      → Program c.append_rule.new.wide (c.args.rules + 1) c.args.atoms (restricted ws ks C)
+      × (c.append_rule.new.wide ≡ table_words (length c.append_rule.new.wide) (restricted ws ks C))
   whole p R = let k = c.append_rule.ensures in restricted-program R p k.0 k.1
 
 pub append_rule-requires : goal.append_rule-requires

@@ -20,7 +20,7 @@ abbrev group_of : Start → List ℕ
 group_of s = group_levels s.args.bound s.args.from s.args.to s.args.pairs.now
 
 counted : (c : After-emit_part-side) → c.emit_part-side.result.count ≡ length (group_of c.before.before.before.before.before.before.before.before.before.before.before.before.before.before.before)
-counted c = let y = c.emit_part-side in let e = y.ensures in count-is y.new.levels.0 e.1.1.1 e.1.0
+counted c = let y = c.emit_part-side in let e = y.ensures in count-is y.new.levels e.1.1.1 e.1.0
 
 -- the next atoms are in reach
 atoms : (c : After-emit_part-side) → after c.args.node + c.emit_part-side.result.count + 4096 ≤ farthest

@@ -44,7 +44,7 @@ pub returns : goal.returns
 returns c = let s = c in
     let y = c.prefix_levels-n in
     let n = y.ensures in
-    let front = take y.result y.new.levels.0 in
+    let front = take y.result y.new.levels in
     let back = drop (length front) s.args.left.now in
     let e : c.copy_sums.new.destination ≡ front ++ back = c.copy_sums.ensures in
-    let k : length front ≡ y.result = length-take-le y.result y.new.levels.0 n.1 in record { rules = rw n.0 at c.emit_node-place.ensures; levels = ap (take y.result) e ∙ take_at front back y.result k ∙ n.0; within = (refl, omega (arith, ap length e, k, length-append front back)) }
+    let k : length front ≡ y.result = length-take-le y.result y.new.levels n.1 in record { rules = rw n.0 at c.emit_node-place.ensures; levels = ap (take y.result) e ∙ take_at front back y.result k ∙ n.0; within = (refl, omega (arith, ap length e, k, length-append front back)) }

@@ -37,16 +37,16 @@ pub slice_bounds-emit_ordered-end : goal.slice_bounds-emit_ordered-end
 slice_bounds-emit_ordered-end c =
     let o = c in
     let s = c in
-    front-there _ s.args.sorted.now o.order.new.to.0 (few (goal.at.slice_bounds-emit_ordered-end c).After-body_of-body) o.order.auto.to
+    front-there _ s.args.sorted.now o.order.new.to (few (goal.at.slice_bounds-emit_ordered-end c).After-body_of-body) o.order.auto.to
 
 pub slice_bounds-emit_ordered-end-2 : goal.slice_bounds-emit_ordered-end-2
 slice_bounds-emit_ordered-end-2 c =
     let o = c in
     let s = c in
-    sym (length-take-le _ _ (front-there _ s.args.sorted.now o.order.new.to.0 (few (goal.at.slice_bounds-emit_ordered-end-2 c).After-body_of-body) o.order.auto.to))
+    sym (length-take-le _ _ (front-there _ s.args.sorted.now o.order.new.to (few (goal.at.slice_bounds-emit_ordered-end-2 c).After-body_of-body) o.order.auto.to))
 
 pub emit_ordered-requires : goal.emit_ordered-requires
 emit_ordered-requires c = let o = c in
     let y = (goal.at.emit_ordered-requires c).After-body_of-body in
     let s = c in
-    let n = o.order.auto.to in record { rule = s.requires.rule; place = s.requires.place; group = s.requires.group; pairs = rw (front-back _ s.args.sorted.now o.order.new.to.0 (few y) n) (o.order.ensures.weights, n ∙ length-take-le _ s.args.sorted.now (few y) ∙ ap length y.body_of-body.ensures, o.order.ensures.groups ∙ ap (λ (l : List ℤ). sorted_groups (s.args.group - 1) (paired l)) y.body_of-body.ensures) }
+    let n = o.order.auto.to in record { rule = s.requires.rule; place = s.requires.place; group = s.requires.group; pairs = rw (front-back _ s.args.sorted.now o.order.new.to (few y) n) (o.order.ensures.weights, n ∙ length-take-le _ s.args.sorted.now (few y) ∙ ap length y.body_of-body.ensures, o.order.ensures.groups ∙ ap (λ (l : List ℤ). sorted_groups (s.args.group - 1) (paired l)) y.body_of-body.ensures) }

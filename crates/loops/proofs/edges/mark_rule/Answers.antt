@@ -11,7 +11,7 @@ use Rattle.aspif.specs.Rules.{bodies_of}
 use Rattle.aspif.specs.Tables.{is_weighted, heads_at, body_at}
 use Rattle.heads.proofs.Starts.{heads-few}
 use Rattle.loops.specs.Relevance.{RelevantPairs}
-use Rattle.loops.specs.Edges.{is_at, Gathered}
+use Rattle.loops.specs.edges-1.{is_at, Gathered}
 use Rattle.loops.proofs.EdgeMarks.{more-none}
 use Rattle.loops.proofs.HeadPlaces.{gathered_none}
 use Rattle.loops.proofs.Expanded.{plain_more, weight-more}
@@ -33,7 +33,7 @@ module _ (c : After-gather-n) where
   ws = c.args.words.now
 
   abbrev row : List ℕ
-  row = c.gather-n.new.row.0
+  row = c.gather-n.new.row
 
   abbrev n : ℕ
   n = c.gather-n.result
@@ -71,7 +71,7 @@ returns-then-is_weighted c =
     let m = c in
     let b = c in
     let w = (goal.at.returns-then-is_weighted c).After-is_weighted in
-    weight-more (s (g w)).args.places.now (ws (g w)) (take (n (g w)) (row (g w))) b.body_of.ensures (here (g w)).has (s (g w)).args.relevant.now m.mark_pairs.ensures
+    weight-more (g w).args.places.now (ws (g w)) (take (n (g w)) (row (g w))) b.body_of.ensures (here (g w)).has (g w).args.relevant.now m.mark_pairs.ensures
     (weighted w ∙ b.if-is_weighted.true) (relevant w)
 
 pub mark_body-requires : goal.mark_body-requires
@@ -84,7 +84,7 @@ returns c =
     let m = c in
     let b = c in
     let w = (goal.at.returns c).After-is_weighted in
-    plain_more (s (g w)).args.places.now (ws (g w)) (take (n (g w)) (row (g w))) b.body_of-2.ensures (here (g w)).has m.mark_body.ensures (weighted w ∙ b.if-is_weighted.false)
+    plain_more (g w).args.places.now (ws (g w)) (take (n (g w)) (row (g w))) b.body_of-2.ensures (here (g w)).has m.mark_body.ensures (weighted w ∙ b.if-is_weighted.false)
 
 pub slice_bounds-row-end : goal.slice_bounds-row-end
 slice_bounds-row-end c = within (g (goal.at.slice_bounds-row-end c).After-is_weighted)

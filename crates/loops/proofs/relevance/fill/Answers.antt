@@ -65,11 +65,11 @@ loop-left-preserved c =
     let d = (goal.at.loop-left-preserved c).In-loop-left in
     let f = c.fill_rule in
     let taken = d.loop-left-test.true in
-    let n : length f.new.entries.0 ≡ length (relevant d) - at d =
+    let n : length f.new.entries ≡ length (relevant d) - at d =
     f.auto.entries ∙ ap length (tail_of (at d) (relevant d)) ∙ length-drop (at d) (relevant d) in
     rw c.next_rule-i.ensures.next.0 (
-      entering-more (entering d) taken f.new.entries.0 n (rw (tail_of (i d) (t d)) at f.ensures),
-      after-length (entering d) taken f.new.entries.0 n ∙ d.loop-left.invariant.1,
+      entering-more (entering d) taken f.new.entries n (rw (tail_of (i d) (t d)) at f.ensures),
+      after-length (entering d) taken f.new.entries n ∙ d.loop-left.invariant.1,
     )
 
 pub returns : goal.returns

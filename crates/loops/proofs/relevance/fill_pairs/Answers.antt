@@ -9,16 +9,12 @@ use lib.ListN.{length, get_or, length-set}
 use mir.Syntax.{w32}
 use mir.Val.{to_z, of_z}
 use Rattle.words.proofs.Words.{back}
-use Rattle.weights.specs.Weights.{Weighted, paired}
 use Rattle.loops.specs.Relevance.{is_relevant}
 use Rattle.loops.proofs.Filling.{Filled, filled_none, filled-all, filled-room, filled_in, filled_more}
 use borrow.Author.Rules.{rules}
 use Rattle.loops.proofs.relevance.fill_pairs.Goals as goal
 use Rattle.loops.proofs.relevance.fill_pairs.Goals.{In-loop-i}
-
--- the entry of a pair
-abbrev entry : ℕ → List ℤ → Weighted → ℕ
-entry bound pairs x = cond (is_relevant bound (paired pairs) x.literal) 1 0
+use Rattle.loops.proofs.relevance.fill_pairs.Invariants.{entry}
 
 pub loop-i-init : goal.loop-i-init
 loop-i-init c = (filled_none _ _ c.requires.2, refl)
@@ -46,7 +42,7 @@ module _ (c : In-loop-i) where
 
 pub is_relevant-requires : goal.is_relevant-requires
 is_relevant-requires c =
-    let p = (s (goal.at.is_relevant-requires c).In-loop-i).requires in (p.0, p.1, rw (literal (goal.at.is_relevant-requires c).In-loop-i, weight (goal.at.is_relevant-requires c).In-loop-i) (filled_in _ _ (filled (goal.at.is_relevant-requires c).In-loop-i) (in-loop (goal.at.is_relevant-requires c).In-loop-i)))
+    let p = (goal.at.is_relevant-requires c).In-loop-i.requires in (p.0, p.1, rw (literal (goal.at.is_relevant-requires c).In-loop-i, weight (goal.at.is_relevant-requires c).In-loop-i) (filled_in _ _ (filled (goal.at.is_relevant-requires c).In-loop-i) (in-loop (goal.at.is_relevant-requires c).In-loop-i)))
 
 pub bounds-entries-n : goal.bounds-entries-n
 bounds-entries-n c = let d = (goal.at.bounds-entries-n c).In-loop-i in filled-room _ _ (filled d) (in-loop d)

@@ -1,5 +1,4 @@
 use mathlib.Core.Path.{◌≡◌, sym, refl, ◌∙◌}
-use mathlib.Core.Bool.{Bool}
 use mathlib.Core.List.{List}
 use Prim.Native.Nat.{ℕ, ◌-◌}
 use native.Mathlib.Omega.{arith}
@@ -8,20 +7,17 @@ use lib.ListN.{drop}
 use Rattle.words.specs.Lists.{any}
 use Rattle.words.specs.Literals.{same_list}
 use Rattle.words.proofs.Parts.{tail_of}
-use Rattle.aspif.specs.Rules.{Rule, expand_rule}
+use Rattle.aspif.specs.Rules.{expand_rule}
 use Rattle.aspif.specs.Tables.{rule_at}
 use Rattle.names.proofs.Asked.{any-bodies}
 use Rattle.names.proofs.ByRule.{course-start, no-plain-rules, Turn, turn, one_passes, none_passes}
 use borrow.Author.Rules.{rules}
 use Rattle.names.proofs.queries.body_name.Goals as goal
 use Rattle.names.proofs.queries.body_name.Goals.{In-loop-k, After-has_body}
+use Rattle.names.proofs.queries.body_name.Invariants.{with}
 use Rattle.names.proofs.queries.body_name.Lts.View as view
 use Rattle.names.proofs.queries.body_name.Reads as reads
 use Rattle.names.proofs.queries.body_name.Tie as tie
-
--- the plain rules with the body
-abbrev with : List ℤ → Rule → Bool
-with body r = same_list body r.body
 
 -- the words from i on, and the rule there
 module _ (c : In-loop-k) where
@@ -83,7 +79,7 @@ returns c =
     λ ws H. rw (← H.are) (λ called K. rw (l.invariant.1, no-plain-rules l.invariant.0 c.loop-k-test.false))
 
 pub bounds-names-k : goal.bounds-names-k
-bounds-names-k c = omega (arith, c.loop-k-test.true, (s (goal.at.bounds-names-k c).In-loop-k).requires.program.1)
+bounds-names-k c = omega (arith, c.loop-k-test.true, (goal.at.bounds-names-k c).In-loop-k.requires.program.1)
 
 pub loop-k-smaller : goal.loop-k-smaller
 loop-k-smaller c = omega arith

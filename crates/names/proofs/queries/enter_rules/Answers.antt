@@ -1,23 +1,17 @@
 use mathlib.Core.Path.{◌≡◌, sym, refl, ◌∙◌}
-use mathlib.Core.Bool.{cond}
 use mathlib.Core.List.{List}
 use Prim.Native.Nat.{ℕ, ◌-◌, ◌<◌}
 use native.Mathlib.Omega.{arith}
 use lib.IntN.{ℤ}
 use lib.ListN.{length, drop, length-set}
-use Rattle.words.specs.Literals.{same_list}
 use Rattle.words.proofs.Parts.{tail_of}
-use Rattle.aspif.specs.Rules.{InputRule}
 use Rattle.aspif.specs.Tables.{rule_at, rules_at}
 use Rattle.names.specs.Queries.{entry}
 use Rattle.names.proofs.ByRule.{ByRule, course-start, course-set, Turn, turn, entered_on, entered_all}
 use borrow.Author.Rules.{rules}
 use Rattle.names.proofs.queries.enter_rules.Goals as goal
 use Rattle.names.proofs.queries.enter_rules.Goals.{In-loop-k, After-name_for}
-
--- what is to be kept of a rule
-abbrev new : List ℤ → ℕ → (List ℤ → ℕ) → InputRule → ℕ
-new body name called r = entry (λ L. cond (same_list body L) name (called L)) r.body
+use Rattle.names.proofs.queries.enter_rules.Invariants.{new}
 
 -- the words from i on, and the rule there
 module _ (c : In-loop-k) where

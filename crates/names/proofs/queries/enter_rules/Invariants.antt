@@ -1,11 +1,19 @@
 use mathlib.Core.Path.{◌≡◌}
+use mathlib.Core.Bool.{cond}
 use mathlib.Core.List.{List, ◌++◌, map}
 use Prim.Native.Nat.{ℕ, ◌-◌}
 use lib.IntN.{ℤ}
 use lib.ListN.{length, take}
+use Rattle.words.specs.Literals.{same_list}
+use Rattle.aspif.specs.Rules.{InputRule}
 use Rattle.aspif.specs.Tables.{rules_at}
+use Rattle.names.specs.Queries.{entry}
 use Rattle.names.proofs.ByRule.{ByRule, Course, rest}
 use Rattle.names.proofs.queries.enter_rules.Given as goal
+
+-- what is to be kept of a rule
+abbrev pub new : List ℤ → ℕ → (List ℤ → ℕ) → InputRule → ℕ
+new body name called r = entry (λ L. cond (same_list body L) name (called L)) r.body
 
 abbrev pub invariant-loop-k : goal.invariant-loop-k
 invariant-loop-k l =

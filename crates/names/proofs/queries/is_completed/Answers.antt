@@ -79,7 +79,7 @@ pub body_of-recorded-requires : goal.body_of-recorded-requires
 body_of-recorded-requires c = (c.requires.name.1, omega arith)
 
 pub bounds-names-k : goal.bounds-names-k
-bounds-names-k c = omega (arith, (s (goal.at.bounds-names-k c).In-loop-k).requires.program.1, c.loop-k-test.true)
+bounds-names-k c = omega (arith, (goal.at.bounds-names-k c).In-loop-k.requires.program.1, c.loop-k-test.true)
 
 pub loop-k-smaller : goal.loop-k-smaller
 loop-k-smaller c = omega arith

@@ -46,7 +46,7 @@ told : (c : After-mark_asked) (called : List ℤ → ℕ)
     → (let d = (view.up-In-loop-k tie.the-claims reads.Pre reads.Post goal.the-invariant-loop-k goal.the-decreases-loop-k tie.handed_clauses c.before.before.before.before.before) in
     let a = d.args in
     Kept a.names.now a.bodies.now called (rules_at a.rules (t d))
-    → AlsoMarks d.loop-k.found c.mark_asked.new.found.0
+    → AlsoMarks d.loop-k.found c.mark_asked.new.found
     (asked_names a.query a.inside.now called (expand_rule (rule_at (drop (i d) (t d))))))
 told c called K =
     let d = (view.up-In-loop-k tie.the-claims reads.Pre reads.Post goal.the-invariant-loop-k goal.the-decreases-loop-k tie.handed_clauses c.before.before.before.before.before) in
@@ -65,7 +65,7 @@ pub offset_bounds-table-i : goal.offset_bounds-table-i
 offset_bounds-table-i c = let w = c.loop-k.invariant.0.cursor.within in search rules
 
 pub bounds-names-k : goal.bounds-names-k
-bounds-names-k c = omega (arith, (s (goal.at.bounds-names-k c).In-loop-k).requires.program.1, c.loop-k-test.true)
+bounds-names-k c = omega (arith, (goal.at.bounds-names-k c).In-loop-k.requires.program.1, c.loop-k-test.true)
 
 pub mark_asked-requires : goal.mark_asked-requires
 mark_asked-requires c = let d = (goal.at.mark_asked-requires c).In-loop-k in rw (tail_of (i d) (t d)) (record { rule = (at d).sound; found = d.loop-k.invariant.1 })

@@ -5,7 +5,7 @@ use Prim.Native.Nat.{ℕ, ◌-◌, ◌≤◌}
 use native.Mathlib.Omega.{arith}
 use lib.ListN.{length, get_or}
 use Rattle.nogoods.specs.Store.{Stored}
-use Rattle.nogoods.specs.Index.{Keeps, scale_of, covered_at, reach}
+use Rattle.nogoods.specs.index-1.{Keeps, scale_of, covered_at, reach}
 use Rattle.nogoods.specs.Records.{end_at}
 use Rattle.nogoods.proofs.Indexing.{roomy, keeps-small, keeps-room, keeps-next}
 use Rattle.nogoods.proofs.chains.cover.Goals as goal
@@ -68,9 +68,9 @@ module _ (c : After-enter) where
 
 pub loop-r-preserved : goal.loop-r-preserved
 loop-r-preserved c =
-    let v = (l (i (goal.at.loop-r-preserved c).After-enter)).loop.invariant in (
+    let v = (i (goal.at.loop-r-preserved c).After-enter).loop.invariant in (
       c.enter.auto.index ∙ v.0,
-      c.end_at-end.ensures ∙ (next (goal.at.loop-r-preserved c).After-enter (s (i (goal.at.loop-r-preserved c).After-enter)).requires.0 (keeps (i (goal.at.loop-r-preserved c).After-enter))).1,
+      c.end_at-end.ensures ∙ (next (goal.at.loop-r-preserved c).After-enter (i (goal.at.loop-r-preserved c).After-enter).requires.0 (keeps (i (goal.at.loop-r-preserved c).After-enter))).1,
       λ stored K. (next (goal.at.loop-r-preserved c).After-enter stored (v.2 stored K)).0,
     )
 

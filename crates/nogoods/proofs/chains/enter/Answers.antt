@@ -4,7 +4,7 @@ use mathlib.Core.List.{List}
 use Prim.Native.Nat.{ℕ, ◌-◌, ◌≤◌}
 use native.Mathlib.Omega.{arith}
 use lib.ListN.{length, get_or, set, length-set}
-use Rattle.nogoods.specs.Index.{proved_cells, covered_at, key_of, linked_in}
+use Rattle.nogoods.specs.index-1.{proved_cells, covered_at, key_of, linked_in}
 use Rattle.nogoods.specs.Records.{nogood_at}
 use Rattle.nogoods.proofs.Indexing.{same-part}
 use Rattle.nogoods.proofs.chains.enter.Goals as goal
@@ -38,4 +38,4 @@ slice_bounds-enter-count c = long (goal.at.slice_bounds-enter-count c).After-lin
 pub returns : goal.returns
 returns c j h =
     let k = (goal.at.returns c).After-link in
-    same-part (proved_cells k.args.m) (w k) c.enter.new.cells.0 (long k) c.enter.auto.cells j h ∙ ap (λ (l : List ℕ). get_or l j 0) (written k)
+    same-part (proved_cells k.args.m) (w k) c.enter.new.cells (long k) c.enter.auto.cells j h ∙ ap (λ (l : List ℕ). get_or l j 0) (written k)

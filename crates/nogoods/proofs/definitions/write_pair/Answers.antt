@@ -13,7 +13,7 @@ returns c =
     let k = r.complement_of in
     let s = c in
     let a = s.args in
-    let sorted : r.sort.new.words.words ≡ pair a.name a.literal =
+    let sorted : r.sort.new.words ≡ pair a.name a.literal =
     r.sort.ensures
     ∙ rw (to_z-of_z s.ranges.name, to_z-of_z {w = w32} (sfits_of {z = k.result} k.type_inv), k.ensures, to_z-of_z s.ranges.literal) in
     subst (λ l. WrittenFront (stored_words (record_of a.origin l)) a.free.now c.write.new.free) sorted c.write.ensures

@@ -37,8 +37,8 @@ module _ (c : After-live_at-n) where
   abbrev dead : Bool
   dead = dead_at c.args.store.now c.loop-i.i
 
-  one : (c.Live-at.result ≡ cond dead 0 1) × (c.Live-at.result ≤ 1)
-  one = (c.Live-at.ensures, omega (arith, c.Live-at.ensures, few dead))
+  one : (c.live_at-n.result ≡ cond dead 0 1) × (c.live_at-n.result ≤ 1)
+  one = (c.live_at-n.ensures, omega (arith, c.live_at-n.ensures, few dead))
 
 pub overflow_add-n : goal.overflow_add-n
 overflow_add-n c = let k = room (goal.at.overflow_add-n c).In-loop-i in let o = one c in let v = c.loop-i.invariant.0 in search rules

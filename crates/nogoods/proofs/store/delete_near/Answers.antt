@@ -3,8 +3,8 @@ use mathlib.Core.Path.{◌≡◌, sym, ap, ◌∙◌}
 use mathlib.Core.List.{List}
 use Prim.Native.Nat.{ℕ, ◌≤◌, ◌<◌}
 use native.Mathlib.Omega.{arith}
-use Rattle.nogoods.specs.Store.{Stored}
-use Rattle.nogoods.specs.Index.{Keeps, Unlinked, key_of, reach}
+use Rattle.nogoods.specs.store-1.{Stored}
+use Rattle.nogoods.specs.index-1.{Keeps, Unlinked, key_of, reach}
 use Rattle.nogoods.proofs.Stored.{hit, hit-room, hit-killed}
 use Rattle.nogoods.proofs.Indexing.{start-room, near-found, near-start, near-over, keeps-near, keeps-part, roomy}
 use Rattle.nogoods.proofs.store.delete_near.Goals as goal
@@ -54,6 +54,6 @@ returns c stored K t =
     let o = (goal.at.returns c).After-scale_of-m in
     let e = scaled o K in
     let H = hit 0 _ o.args.literals.now stored (near-found _ K _ _ t) in
-    keeps-part a.result u.unlink.new.index f.new.cells.0 a.ensures.upper_bound f.auto.cells a.ensures.value
+    keeps-part a.result u.unlink.new.index f.new.cells a.ensures.upper_bound f.auto.cells a.ensures.value
     (keeps-near _ K _ _ t k.new.store u.unlink.new.index _ (u.key_of.ensures.value ∙ ap (λ (j : ℕ). key_of j o.args.literals.now) (sym e))
     (unlinked-at e u.unlink.ensures) (rw k.ensures (hit-killed K.holds H)))

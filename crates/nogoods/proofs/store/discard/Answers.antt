@@ -1,10 +1,10 @@
 -- What is kept is kept by covering; then one in front is dead, or one behind.
 use mathlib.Core.Path.{◌≡◌}
 use mathlib.Core.List.{List}
-use Rattle.nogoods.specs.Store.{Stored}
-use Rattle.nogoods.specs.Index.{Keeps, Spotted}
-use Rattle.nogoods.specs.declared.chains.Spot.{Spot}
-use Rattle.nogoods.specs.declared.chains.Spot.TheVariants.{Nowhere}
+use Rattle.nogoods.specs.store-1.{Stored}
+use Rattle.nogoods.specs.index-1.{Keeps, Spotted}
+use Rattle.nogoods.specs.declared.chains.spot-1.{Spot}
+use Rattle.nogoods.specs.declared.chains.spot-1.TheVariants.{Nowhere}
 use Rattle.nogoods.proofs.Indexing.{spotted, skips, covers-far}
 use Rattle.nogoods.proofs.store.discard.Goals as goal
 use Rattle.nogoods.proofs.store.discard.Goals.{After-cover, After-walk-spot, In-Nowhere}
@@ -13,7 +13,7 @@ use Rattle.nogoods.proofs.store.discard.Goals.{After-cover, After-walk-spot, In-
 module _ (c : After-cover) where
 
   covered : (stored : List Stored) → Keeps c.args.store.now c.args.index.now c.args.used stored
-      → Keeps c.args.store.now c.cover.new.index.0 c.args.used stored
+      → Keeps c.args.store.now c.cover.new.index c.args.used stored
   covered = c.cover.ensures
 
 pub walk-spot-requires : goal.walk-spot-requires
@@ -24,14 +24,14 @@ module _ (c : After-walk-spot) where
   abbrev d : After-cover
   d = c.before.before.before.before.before.before
 
-  said : (t : Spot) → c.walk-spot.result ≡ t → (stored : List Stored) (K : Keeps d.args.store.now d.cover.new.index.0 d.args.used stored)
-      → Spotted K.scale K.covers.front d.args.literals.now d.cover.new.index.0 t
-  said t e stored K = spotted K.scale K.covers.front d.args.literals.now d.cover.new.index.0 c.walk-spot.result t e (c.walk-spot.ensures stored K)
+  said : (t : Spot) → c.walk-spot.result ≡ t → (stored : List Stored) (K : Keeps d.args.store.now d.cover.new.index d.args.used stored)
+      → Spotted K.scale K.covers.front d.args.literals.now d.cover.new.index t
+  said t e stored K = spotted K.scale K.covers.front d.args.literals.now d.cover.new.index c.walk-spot.result t e (c.walk-spot.ensures stored K)
 
 pub delete_near-requires : goal.delete_near-requires
 delete_near-requires c =
     let w = (goal.at.delete_near-requires c).After-walk-spot in
-    let p = (s (d w)).requires in
+    let p = (d w).requires in
     let K = covered (d w) p.0 p.1 in
     (p.0, K, said w _ c.in-Here.is p.0 K)
 
@@ -40,14 +40,14 @@ module _ (c : In-Nowhere) where
   abbrev w : After-walk-spot
   w = c.before
 
-  none : (stored : List Stored) (K : Keeps (s (d w)).args.store.now (s (d w)).args.index.now (s (d w)).args.used stored)
-      → Spotted (covered (d w) stored K).scale (covered (d w) stored K).covers.front (s (d w)).args.literals.now (d w).cover.last.1.1.0 Nowhere
+  none : (stored : List Stored) (K : Keeps (d w).args.store.now (d w).args.index.now (d w).args.used stored)
+      → Spotted (covered (d w) stored K).scale (covered (d w) stored K).covers.front (d w).args.literals.now (d w).cover.last.1.1.0 Nowhere
   none stored K = said w _ c.in-Nowhere.is stored (covered (d w) stored K)
 
 pub delete_far-requires : goal.delete_far-requires
 delete_far-requires c =
     let e = (goal.at.delete_far-requires c).In-Nowhere in
-    let p = (s (d (w e))).requires in
+    let p = (d (w e)).requires in
     let K = covered (d (w e)) p.0 p.1 in
     (p.0, K.holds, skips _ K _ c.covered-from.ensures (none e p.0 p.1))
 

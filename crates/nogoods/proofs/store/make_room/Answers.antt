@@ -1,5 +1,5 @@
 -- All is kept; or the index is blank, the search has its own cells, and the store is closed up.
-use Rattle.nogoods.specs.Index.{BlankIndex}
+use Rattle.nogoods.specs.index-1.{BlankIndex}
 use Rattle.nogoods.proofs.Stored.{kept-all, kept-live}
 use Rattle.nogoods.proofs.Indexing.{keeps-blank, keeps-part}
 use native.Mathlib.Omega.{arith}
@@ -14,7 +14,7 @@ returns c stored K =
     let o = c in
     let k = c in
     let e = c in
-    let blank : BlankIndex k.clear.new.index.index = rw k.clear.auto.index k.clear.ensures in
+    let blank : BlankIndex k.clear.new.index = rw k.clear.auto.index k.clear.ensures in
     rw (kept-live K.holds e.args.size (omega (arith, e.if-size-store.false)))
-    (keeps-part o.start_of-at.result k.clear.new.index.index r.new.cells o.start_of-at.ensures.upper_bound r.auto.cells o.start_of-at.ensures.value
+    (keeps-part o.start_of-at.result k.clear.new.index r.new.cells o.start_of-at.ensures.upper_bound r.auto.cells o.start_of-at.ensures.value
     (keeps-blank (c.close.ensures stored K.holds) blank))

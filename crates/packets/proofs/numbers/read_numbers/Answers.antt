@@ -72,8 +72,8 @@ loop-i-preserved c =
     let n = length row in
     let s = numbers_from k n bytes in
     let h : l.i < n = omega (arith, c.loop-i-test.true, l.invariant.1.1.1) in
-    let q = rw (part-is k l.at bytes, l.invariant.1.0) at c.Signed-of.ensures in
-    let v : to_z w32 (of_z w32 c.Signed-of.result) ≡ get_or s l.i (pos 0) = to_z-of_z {w = w32} (sfits_of {z = c.Signed-of.result} c.Signed-of.type_inv) ∙ (q ∙ sym (number_at k n bytes l.i h)) in
+    let q = rw (part-is k l.at bytes, l.invariant.1.0) at c.signed_of.ensures in
+    let v : to_z w32 (of_z w32 c.signed_of.result) ≡ get_or s l.i (pos 0) = to_z-of_z {w = w32} (sfits_of {z = c.signed_of.result} c.signed_of.type_inv) ∙ (q ∙ sym (number_at k n bytes l.i h)) in
     (omega arith, (omega (arith, l.invariant.1.0, add-one l.i, mul-suc k l.i), (rw (v, l.invariant.1.1.0) (copy_more s row l.i (pos 0) (omega (arith, length-numbers k n bytes)) h), simp length-set l.invariant.1.1.1)))
 
 pub returns : goal.returns

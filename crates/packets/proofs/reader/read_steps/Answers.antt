@@ -35,13 +35,13 @@ read_step-read-requires c = let l = c.loop-left in
 -- what is told of the step
 module _ (c : After-read_step-read) where
   abbrev after : List ℕ
-  after = c.Read-step.new.1.0
+  after = c.read_step-read.new.proof
 
   kept : length after ≡ length c.args.proof.now
-  kept = c.Read-step.auto.1.0 ∙ going-kept c.loop-left.invariant
+  kept = c.read_step-read.auto.proof ∙ going-kept c.loop-left.invariant
 
-  told : StepTold (step_at (drop c.loop-left.i c.args.bytes.now)) c.loop-left.proof after c.loop-left.end c.Read-step.result
-  told = rw (tail_of c.loop-left.i c.args.bytes.now) at c.Read-step.ensures
+  told : StepTold (step_at (drop c.loop-left.i c.args.bytes.now)) c.loop-left.proof after c.loop-left.end c.read_step-read.result
+  told = rw (tail_of c.loop-left.i c.args.bytes.now) at c.read_step-read.ensures
 
 pub returns-in-Refused : goal.returns-in-Refused
 returns-in-Refused c =

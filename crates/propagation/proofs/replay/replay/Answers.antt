@@ -88,7 +88,7 @@ module _ (c : After-derive_at-given) where
   abbrev at : Then-is_start
   at = (view.up-Then-is_start tie.the-claims reads.Pre reads.Post goal.the-invariant-loop-k goal.the-decreases-loop-k tie.handed_clauses c.before.before.before)
 
-  told : (y : Derived) → c.derive_at-given.result ≡ y → DerivesAt (words at) (x at) (l at).loop.assignment c.derive_at-given.new.assignment.0 y
+  told : (y : Derived) → c.derive_at-given.result ≡ y → DerivesAt (words at) (x at) (l at).loop.assignment c.derive_at-given.new.assignment y
   told y e = rw e at c.derive_at-given.ensures
 
 pub returns-in-Conflicting : goal.returns-in-Conflicting
@@ -109,10 +109,10 @@ module _ (c : In-Assigned) where
   abbrev v : ℕ
   v = c.in-Assigned.v
 
-  gives : DerivesAt (words (at o)) (x (at o)) (l (at o)).loop.assignment o.derive_at-given.new.assignment.0 (Assigned v)
+  gives : DerivesAt (words (at o)) (x (at o)) (l (at o)).loop.assignment o.derive_at-given.new.assignment (Assigned v)
   gives = told o _ c.in-Assigned.is
 
-  grown : Grows (words (at o)) (l (at o)).loop.assignment o.derive_at-given.new.assignment.0 × (v < entries)
+  grown : Grows (words (at o)) (l (at o)).loop.assignment o.derive_at-given.new.assignment × (v < entries)
   grown =
       let d = at o in
       let g = derived _ _ (stands d) gives.0 (read d).literals (l d).loop.assignment (size d) _ _ gives.1 in

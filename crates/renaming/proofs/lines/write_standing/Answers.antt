@@ -33,7 +33,7 @@ module _ (c : After-is_addition) where
   new v = get_or c.args.new.now v 0
 
   abbrev line : List ℤ
-  line = c.rename.new.numbers.0
+  line = c.rename.new.numbers
 
   line-is : line ≡ map (renamed new) c.args.numbers.now
   line-is = c.rename.ensures

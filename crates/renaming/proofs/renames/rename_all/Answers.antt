@@ -5,7 +5,7 @@ use native.Mathlib.Omega.{arith}
 use lib.IntN.{ℤ, pos}
 use lib.ListN.{length, length-replicate}
 use Rattle.words.specs.Limits.{entries, most_numbers}
-use Rattle.text.specs.Classes.{byte_classes}
+use Rattle.text.specs.classes-1.{byte_classes}
 use Rattle.steps.specs.Held.{name_of}
 use Rattle.merging.specs.Merge.{named_in}
 use Rattle.renaming.specs.Renames.{TurnBounds}
@@ -27,7 +27,7 @@ module _ (c : After-rename_at) where
   new' = c.rename_at.new.new
 
   abbrev shared' : List ℕ
-  shared' = c.rename_at.new.shared.0
+  shared' = c.rename_at.new.shared
 
   same_new : length new' ≡ entries
   same_new = c.rename_at.auto.new ∙ c.loop-next.invariant.1

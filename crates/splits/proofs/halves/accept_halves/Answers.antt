@@ -45,7 +45,7 @@ module _ (c : After-accepts_with) where
   e = (view.up-Else-not-is_atom tie.the-claims reads.Pre reads.Post tie.handed_clauses c.before.before.before.before.before.before)
 
   -- as many words as were lent
-  same_store : length c.accepts_with.new.store.0 ≡ length e.args.store.now
+  same_store : length c.accepts_with.new.store ≡ length e.args.store.now
   same_store = c.accepts_with.auto.store
 
   same_names : length c.accepts_with.new.names ≡ name_words

@@ -30,4 +30,4 @@ pub returns : goal.returns
 returns c = let q = c in
     let s = c in
     let h : length s.args.text.now ≤ longest = search rules in
-    let same : length q.run_half-run.new.store.0 ≡ length s.args.store.now = search rules in record { empty = c.zero_all.ensures ∙ ap (λ (n : ℕ). replicate n (pos 0)) same; checked = λ ws p. let R = q.run_half-run.ensures longest h ws p in record { answer = c.ends_empty-accepted.ensures longest _ (expand ws) _ _ R.0; ended = R.1 } }
+    let same : length q.run_half-run.new.store ≡ length s.args.store.now = search rules in record { empty = c.zero_all.ensures ∙ ap (λ (n : ℕ). replicate n (pos 0)) same; checked = λ ws p. let R = q.run_half-run.ensures longest h ws p in record { answer = c.ends_empty-accepted.ensures longest _ (expand ws) _ _ R.0; ended = R.1 } }

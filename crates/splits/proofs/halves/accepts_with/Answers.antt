@@ -25,7 +25,7 @@ append_demand-requires c = let p = c.requires in record { rules = p.0.0.1.holds.
 module _ (c : After-append_demand) where
 
   whole : {ws : List InputRule} → Program c.args.table.now c.args.rules c.args.atoms ws
-      → Program c.append_demand.new.wide.0 (c.args.rules + 1) c.args.atoms (demanding_as_written ws (complement c.args.literal))
+      → Program c.append_demand.new.wide (c.args.rules + 1) c.args.atoms (demanding_as_written ws (complement c.args.literal))
   whole p = let k = rw (to_z-of_z c.fits.literal) at c.append_demand.ensures in demanded p c.args.literal c.requires.atom k.0 k.1
 
 pub accepts-requires : goal.accepts-requires

@@ -47,7 +47,7 @@ returns c = let d = (goal.at.returns c).After-accept_halves in
     let a = d.args in
     let yes = c.if-not-accept_halves.false in
     let w = c.write_merged-wrote in
-    let o = w.new.output.0 in record { empty = d.accept_halves.ensures.empty; written = λ ws p.
+    let o = w.new.output in record { empty = d.accept_halves.ensures.empty; written = λ ws p.
           subst (WrittenBy (length a.store.now) ws a.v a.first.now a.second.now o) (sym c.within.ensures)
           (text-written (length a.store.now) ws a.v a.first.now a.second.now (sym (checked d ws p).answer ∙ yes) a.output.now o w.result
           d.requires.empty.1 w.auto.output (w.ensures (held d yes ws p))) }

@@ -52,7 +52,7 @@ module _ (c : After-rename_all) where
   new = c.rename_all.new.new
 
   abbrev shared : List ℕ
-  shared = c.rename_all.new.shared.0
+  shared = c.rename_all.new.shared
 
   renamed : (r : Bool) → c.rename_all.result ≡ r → (h : Held s)
       → RenamedAll s.args.atoms (expand h.ws) s.args.v (steps_in s.args.first.now) (steps_in s.args.second.now) new shared r
@@ -86,10 +86,10 @@ module _ (c : After-added_of-forbidden) where
   literal : to_z w32 (of_z w32 c.complement_of.result) ≡ complement (pos (s d).args.v)
   literal = let k = c.complement_of in to_z-of_z {w = w32} (sfits_of {z = k.result} k.type_inv) ∙ (k.ensures ∙ ap complement (atom-is (s d)))
 
-  demanded : (h : Held (s d)) → AddedTo (expand h.ws) (complement (pos (s d).args.v) ∷ []) c.Added-of.result
+  demanded : (h : Held (s d)) → AddedTo (expand h.ws) (complement (pos (s d).args.v) ∷ []) c.added_of-demanded.result
   demanded h =
-      subst (λ (y : ℤ). AddedTo (expand h.ws) (y ∷ []) c.Added-of.result) literal
-      (c.Added-of.ensures h.ws h.program.holds (name_of (named_in [] (steps_in (s d).args.first.now))) (kept-first h) (called-high h))
+      subst (λ (y : ℤ). AddedTo (expand h.ws) (y ∷ []) c.added_of-demanded.result) literal
+      (c.added_of-demanded.ensures h.ws h.program.holds (name_of (named_in [] (steps_in (s d).args.first.now))) (kept-first h) (called-high h))
 
   forbidden : (h : Held (s d)) → AddedTo (expand h.ws) (pos (s d).args.v ∷ []) c.added_of-forbidden.result
   forbidden h =
@@ -99,14 +99,14 @@ module _ (c : After-added_of-forbidden) where
 pub write_text-requires : goal.write_text-requires
 write_text-requires c = let k = (goal.at.write_text-requires c).After-added_of-forbidden in
     let a = (s (d k)).args in
-    let h = (s (d k)).requires.halves in record { literal = rw (atom-is (s (d k))) (within (s (d k))); new = (new-names k h).within; first = subst (λ (y : ℤ). HalfText a.first.now y (0 ∷ []) k.Added-of.result) (sym (atom-is (s (d k)))) (demanded-half h (demanded k h)); second = subst (λ (y : ℤ). HalfText a.second.now (complement y) (shared (d k)) k.added_of-forbidden.result) (sym (atom-is (s (d k)))) (forbidden-half h (new-names k h) (forbidden k h)) }
+    let h = (s (d k)).requires.halves in record { literal = rw (atom-is (s (d k))) (within (s (d k))); new = (new-names k h).within; first = subst (λ (y : ℤ). HalfText a.first.now y (0 ∷ []) k.added_of-demanded.result) (sym (atom-is (s (d k)))) (demanded-half h (demanded k h)); second = subst (λ (y : ℤ). HalfText a.second.now (complement y) (shared (d k)) k.added_of-forbidden.result) (sym (atom-is (s (d k)))) (forbidden-half h (new-names k h) (forbidden k h)) }
 
 pub returns : goal.returns
 returns c = λ h.
     let k = (goal.at.returns c).After-added_of-forbidden in
     let a = (s (d k)).args in
     let w = c.write_text in
-    merged-lines h (new-names k h) (demanded k h) (forbidden k h) a.output.now w.new.output.0 w.result
-    (subst (λ (y : ℤ). (one : HalfText a.first.now y (0 ∷ []) k.Added-of.result) (two : HalfText a.second.now (complement y) (shared (d k)) k.added_of-forbidden.result)
-    → Writes (lines_of one (λ u. u) ++ (lines_of two (λ u. get_or (new (d k)) u 0) ++ closing)) a.output.now w.new.output.0 0 w.result) (atom-is (s (d k)))
+    merged-lines h (new-names k h) (demanded k h) (forbidden k h) a.output.now w.new.output w.result
+    (subst (λ (y : ℤ). (one : HalfText a.first.now y (0 ∷ []) k.added_of-demanded.result) (two : HalfText a.second.now (complement y) (shared (d k)) k.added_of-forbidden.result)
+    → Writes (lines_of one (λ u. u) ++ (lines_of two (λ u. get_or (new (d k)) u 0) ++ closing)) a.output.now w.new.output 0 w.result) (atom-is (s (d k)))
     w.ensures (demanded-half h (demanded k h)) (forbidden-half h (new-names k h) (forbidden k h)))

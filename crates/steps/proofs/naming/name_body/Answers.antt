@@ -12,7 +12,7 @@ use Rattle.derivation.specs.States.{State}
 use Rattle.derivation.specs.Steps.{is_unnamed_body}
 use Rattle.names.specs.Queries.{HoldsRules, Kept}
 use Rattle.steps.specs.Held.{name_of, Tracks}
-use Rattle.steps.proofs.Names.{unnamed-body}
+use Rattle.steps.proofs.names-1.{unnamed-body}
 use Rattle.steps.proofs.Tracking.{nothing-older}
 use Rattle.steps.proofs.Letters.{no_name, sorted-low}
 use borrow.Author.Rules.{rules}
@@ -50,6 +50,6 @@ returns c = let e = c in
     let q = (s u).requires.name in
     let yes = m.if-not-is_unnamed.false in record { answer = λ N ws p known z T. sym yes ∙ answer u N ws p known z T; named = λ N ws p f known z T new.
           let none = no_name z T (s u).args.body.now (sym (answer u N ws p known z T) ∙ yes) in
-          subst (λ (t : List ℤ). name_of z.named t ≡ 0 → Kept e.enter.new.names e.enter.new.bodies.0 (λ L. cond (same_list t L) (s u).args.name (name_of z.named L)) ws)
+          subst (λ (t : List ℤ). name_of z.named t ≡ 0 → Kept e.enter.new.names e.enter.new.bodies (λ L. cond (same_list t L) (s u).args.name (name_of z.named L)) ws)
           u.sort.ensures
           (λ n. e.enter.ensures ws p (name_of z.named) T.kept n (nothing-older z T (s u).args.name q.0 q.1 new _ none)) none }

@@ -17,11 +17,11 @@ complement_all-requires c =
 -- the numbers as they are added
 module _ (c : After-sort) where
 
-  added : Joined c.args.numbers.now c.sort.new.words.words
+  added : Joined c.args.numbers.now c.sort.new.words
   added =
       let k = c.complement_all in
       let p = c.requires.line in
-      joined c.args.numbers.now k.new.words c.sort.new.words.words p.0 p.1 k.ensures c.sort.ensures
+      joined c.args.numbers.now k.new.words c.sort.new.words p.0 p.1 k.ensures c.sort.ensures
 
 pub append-requires : goal.append-requires
 append-requires c = let o = (goal.at.append-requires c).After-complement_all in record { held = o.requires.store.0; origin = o.requires.store.1; literals = ((added o).literals, omega (arith, (added o).size, o.requires.line.2)) }

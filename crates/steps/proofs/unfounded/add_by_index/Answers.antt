@@ -24,7 +24,7 @@ module _ (c : After-look_up-found) where
   asked ws called = asked_names External c.args.inside.now called (expand ws)
 
   gives : (ws : List InputRule) (called : List ℤ → ℕ) → Above c.args.table.now c.args.rules c.args.names.now c.args.bodies.now h ws called
-      → LoopNogood (asked ws called) h c.look_up-found.new.row.0 c.look_up-found.result
+      → LoopNogood (asked ws called) h c.look_up-found.new.row c.look_up-found.result
   gives = c.look_up-found.ensures
 
 pub add_found-requires : goal.add_found-requires

@@ -13,7 +13,7 @@ use Rattle.aspif.specs.Rules.{InputRule, expand}
 use Rattle.names.specs.Queries.{asked_names}
 use Rattle.names.specs.declared.queries.Query.TheVariants.{External}
 use Rattle.heads.specs.Heads.{Externals}
-use Rattle.heads.specs.declared.Found.TheVariants.{Names}
+use Rattle.heads.specs.declared.found-1.TheVariants.{Names}
 use Rattle.steps.specs.Held.{Above}
 use Rattle.steps.proofs.Tracking.{rules-held}
 use Rattle.steps.proofs.Letters.{some_number, first-low, first-high}
@@ -35,7 +35,7 @@ module _ (c : In-Names) where
   s = c.before.before.before.before.before.before.before.before
 
   abbrev row : List ℤ
-  row = c.external_names-found.new.row.0
+  row = c.external_names-found.new.row
 
   abbrev n : ℕ
   n = c.in-Names.n
@@ -90,5 +90,5 @@ returns-in-Unnamed c =
     let e = c in
     let s = c in
     λ ws called A.
-    subst (Externals (asked_names External s.args.inside.now called (expand ws)) e.external_names-found.new.row.0) c.in-Unnamed.is
+    subst (Externals (asked_names External s.args.inside.now called (expand ws)) e.external_names-found.new.row) c.in-Unnamed.is
     (e.external_names-found.ensures ws A.holds s.args.bodies.now called A.kept)

@@ -21,7 +21,7 @@ use Rattle.steps.proofs.unfounded.scan.Goals.{After-mark_names}
 module _ (c : After-mark_names) where
 
   abbrev marks : List ℕ
-  marks = c.mark_names.new.found.0
+  marks = c.mark_names.new.found
 
   module _ (ws : List InputRule) (called : List ℤ → ℕ) (A : Above c.args.table.now c.args.rules c.args.names.now c.args.bodies.now c.args.h ws called) where
     abbrev asked : List ℕ

@@ -22,7 +22,7 @@ complement_of-requires c = rw (literal c) c.requires.1
 
 pub returns : goal.returns
 returns c =
-    let a = (start (goal.at.returns c).After-literal_of).args in
+    let a = (goal.at.returns c).After-literal_of.args in
     let o = c.complement_of in
     let other : to_z w32 (of_z w32 o.result) ≡ complement (pos a.v) = to_z-of_z {w = w32} (sfits_of {z = o.result} o.type_inv) ∙ (o.ensures ∙ ap complement (literal (goal.at.returns c).After-literal_of)) in
     c.put_demand.ensures ∙ ap (λ (z : ℤ). (take a.used a.table.now ++ demand_words z) ++ replicate (length a.table.now - a.used - 5) (pos 0)) other

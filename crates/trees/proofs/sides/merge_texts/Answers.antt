@@ -69,7 +69,7 @@ module _ (c : After-write) where
   store' = c.write.new.store
 
   abbrev output' : List ℕ
-  output' = c.write.new.output.0
+  output' = c.write.new.output
 
   same_store : length store' ≡ length z.args.store.now
   same_store = c.write.auto.store
@@ -79,24 +79,24 @@ module _ (c : After-write) where
 
 pub returns-then-number-eq58 : goal.returns-then-number-eq58
 returns-then-number-eq58 c = let w = (goal.at.returns-then-number-eq58 c).After-write in
-    let x = (s (z w)).args in record { empty = w.write.ensures.empty; program = front (z w); side = λ ws S.
+    let x = (z w).args in record { empty = w.write.ensures.empty; program = front (z w); side = λ ws S.
               over-buffer (length x.store.now) x.place.limit ws x.v x.first.now x.second.now (output' w) x.one.refusal x.two.refusal (atom (z w) S) (same-output w)
               c.in-Refused.number c.in-Refused.is c.if-number-eq58.true (w.write.ensures.written ws (program (z w) S)); taken = tt }
 
 pub first_refusal-requires : goal.first_refusal-requires
 first_refusal-requires c = let w = (goal.at.first_refusal-requires c).After-write in
-    let q = (s (z w)).requires in record { place = (q.0.0, standing (z w) q.0.1); atom = q.1.0; empty = (zeros (pos 0) {n = length (s (z w)).args.store.now} w.write.ensures.empty).0 }
+    let q = (z w).requires in record { place = (q.0.0, standing (z w) q.0.1); atom = q.1.0; empty = (zeros (pos 0) {n = length (z w).args.store.now} w.write.ensures.empty).0 }
 
 pub returns-then-place-size : goal.returns-then-place-size
 returns-then-place-size c = let w = (goal.at.returns-then-place-size c).After-write in
-    let x = (s (z w)).args in record { empty = w.write.ensures.empty; program = front (z w); side = λ ws S.
+    let x = (z w).args in record { empty = w.write.ensures.empty; program = front (z w); side = λ ws S.
               over-limit (length x.store.now) x.place.limit ws x.v x.first.now x.second.now (output' w) x.one.refusal x.two.refusal (atom (z w) S) (same-output w)
               c.in-Text.size c.in-Text.is (w.write.ensures.written ws (program (z w) S)) c.if-place-size.true; taken = tt }
 
 pub returns-else-number-eq58 : goal.returns-else-number-eq58
 returns-else-number-eq58 c = let w = (goal.at.returns-else-number-eq58 c).After-write in
     let f = c.first_refusal in
-    let x = (s (z w)).args in record { empty = f.ensures.empty ∙ ap (λ (n : ℕ). replicate n (pos 0)) (same_store w); program = f.ensures.program ∙ front (z w); side = λ ws S.
+    let x = (z w).args in record { empty = f.ensures.empty ∙ ap (λ (n : ℕ). replicate n (pos 0)) (same_store w); program = f.ensures.program ∙ front (z w); side = λ ws S.
               not-halves (length x.store.now) x.place.limit ws x.v x.first.now x.second.now (output' w) x.one.refusal x.two.refusal (atom (z w) S) (same-output w)
               c.in-Refused.number c.in-Refused.is c.if-number-eq58.false (w.write.ensures.written ws (program (z w) S))
               ∙ ap fails
@@ -105,8 +105,8 @@ returns-else-number-eq58 c = let w = (goal.at.returns-else-number-eq58 c).After-
 
 pub returns-else-place-size : goal.returns-else-place-size
 returns-else-place-size c = let w = (goal.at.returns-else-place-size c).After-write in
-    let x = (s (z w)).args in
-    let q = (s (z w)).requires.place in
+    let x = (z w).args in
+    let q = (z w).requires.place in
     let g = c.size-1.given in record { empty = w.write.ensures.empty; program = front (z w); side = λ ws S.
               text-pending (length x.store.now) x.place.limit ws x.v x.first.now x.second.now (output' w) x.one.refusal x.two.refusal (atom (z w) S) (same-output w)
               g.0.0 g.1 (w.write.ensures.written ws (program (z w) S)) (omega (arith, c.if-place-size.false))
