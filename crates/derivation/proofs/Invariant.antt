@@ -1,7 +1,7 @@
 -- What holds between steps, for a set M: there is a valuation that agrees with M on the atoms, under which each name of a rule
 -- body means that body and no live nogood holds. Names and live nogoods have known variables only, so a fresh name can be given
 -- any value. Assumes nothing.
-use mathlib.Core.Path.{◌≡◌, refl, transport, transport⁻¹}
+use mathlib.Core.Path.{◌≡◌, refl, transport, transport⁻¹, sym, subst}
 use mathlib.Core.Logic.Iff
 use mathlib.Core.Logic.{◌⊎◌, inl, inr, ◌↔◌}
 use mathlib.Core.Bool.{Bool}
@@ -96,7 +96,7 @@ module _ (N : ℕ) (M : ℕ → Type 0) where
     definition-known g (Memᴰ.head p) y u = first (ascending→ (complement (pos (suc n)) ∷ L) (rw p at u))
       where
         first : y ∈ complement (pos (suc n)) ∷ L → T (is_known N after (variable y))
-        first (Memᴰ.head q) = rw q name-known
+        first (Memᴰ.head q) = subst (λ (t : ℤ). T (is_known N after (variable t))) (sym q) name-known
         first (Memᴰ.tail u) = still (variable y) (known y u)
     definition-known g (Memᴰ.tail m) y u =
         let r = Memᴰ.of_map (λ x. ascending (pos (suc n) ∷ complement x ∷ [])) (ascending L) m in

@@ -66,8 +66,8 @@ module _ (f : ℤ → ℤ → Bool) (U : List ℤ) where
   reached-decides h b =
       found-decides h b (has-decides b (reached f U h)) (λ x m. let k = keep→ (f h) U m in first k.0 k.1) (λ x m t. keep← (f h) m t)
 
-  pub reaches_all : (h : ℤ) → Decides (reaches_all f U h) ((b : ℤ) → b ∈ U → Way f U h b)
-  reaches_all h = all-decides (reached-decides h) U
+  pub reaches_all_lem : (h : ℤ) → Decides (reaches_all f U h) ((b : ℤ) → b ∈ U → Way f U h b)
+  reaches_all_lem h = all-decides (reached-decides h) U
 
 -- Ways and `Reaches`
 
@@ -108,7 +108,7 @@ module _ (P : List Rule) (U : List ℤ) where
   behind-of (more i j t r) = on (behind-of r) i t
 
   pub loop-ways : (h : ℤ) → h ∈ U → Decides (reaches_all (is_edge P) U h && reaches_all back U h) (Loop P U)
-  loop-ways h i = reworded to from (and-decides (reaches_all (is_edge P) U h) (reaches_all back U h))
+  loop-ways h i = reworded to from (and-decides (reaches_all_lem (is_edge P) U h) (reaches_all_lem back U h))
     where
       to : ((b : ℤ) → b ∈ U → Way (is_edge P) U h b) × ((b : ℤ) → b ∈ U → Way back U h b) → Loop P U
       to p a b j k = joined (behind i (p.1 a j)) (ahead i (p.0 b k))

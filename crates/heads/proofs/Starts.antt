@@ -21,7 +21,7 @@ use Rattle.words.proofs.Ascending.{ascends-words}
 use Rattle.words.proofs.Lists.{Decides, reworded, passed, if-true, is_true, or-decides, any-decides, all-decides, and_left, and_right}
 use Rattle.aspif.specs.Rules.{Rule, InputRule, is_plain, all_plain, with_body, expand_rule, expand}
 use Rattle.aspif.specs.Tables.{is_weighted, head_count, head_start, size_at, heads_at, body_words_at, rule_at, rules_at, heads_sound, shape_sound, sound_at, sound_rules}
-use Rattle.aspif.proofs.Cursors.{plain_at, shaped}
+use Rattle.aspif.proofs.Cursors.{plain_at_lem, shaped}
 use Rattle.names.specs.Queries.{Kept}
 use Rattle.heads.specs.Heads.{start_of, words_from, Headed, headed_by, headed_to, headed_at, Place, HasHead}
 use Rattle.names.proofs.Asked.{plain-bodies, plain_entry}
@@ -84,7 +84,7 @@ abbrev pub plain_at : List ℤ → Rule
 plain_at ws = with_body (rule_at ws) (body_words_at ws)
 
 not-weighted : (ws : List ℤ) → is_plain (rule_at ws) ≡ true → is_weighted ws ≡ false
-not-weighted ws p = by (is_weighted ws) (sym (plain_at ws) ∙ p)
+not-weighted ws p = by (is_weighted ws) (sym (plain_at_lem ws) ∙ p)
   where
     by : (t : Bool) → not t ≡ true → t ≡ false
     by true e = sym e

@@ -20,7 +20,7 @@ use Rattle.aspif.specs.Rules.{InputRule, expand}
 use Rattle.marks.specs.Marks.{marked}
 use Rattle.derivation.specs.Loops.{is_edge, reaches_all, is_loop}
 use Rattle.derivation.proofs.Loops as Ways
-use Rattle.derivation.proofs.Loops.{reaches_all}
+use Rattle.derivation.proofs.Loops.{reaches_all_lem}
 use Rattle.loops.specs.Edges.{Members, Placed, Edges}
 use Rattle.loops.specs.Searches.{steps, Noted, Spread, Open, Way, first, on, Searched, Full}
 use Rattle.marks.proofs.Sets.{marked-set, none-marked}
@@ -176,7 +176,7 @@ module _ (U : List ℤ) (e : ℕ → ℕ → Bool) (f : ℤ → ℤ → Bool)
       on (way-from w p.0 p.1 p.2) h (rw (is p.0 j p.1 h, p.2, q) t)
 
   pub all-is : (m : List ℕ) (r : Bool) → Searched e (length U) m → Full (length U) m r → r ≡ reaches_all f U head
-  all-is m r s full = same_test (passed r) (reaches_all f U head) to from
+  all-is m r s full = same_test (passed r) (reaches_all_lem f U head) to from
     where
       to : r ≡ true → (x : ℤ) → x ∈ U → Ways.Way f U head x
       to q x i =

@@ -81,8 +81,8 @@ module _ (N : ℕ) (P : List Rule) (small : plain_atoms P ≤ N) (x : ℤ) (f : 
       | inr m ↦ (known-decides N w (f v)).from (inr (F.known v m))
     ]
 
-    all_known : (L : List ℤ) → AllKnown N z L → AllKnown N w (map (renamed f) L)
-    all_known L a y m =
+    all_known_lem : (L : List ℤ) → AllKnown N z L → AllKnown N w (map (renamed f) L)
+    all_known_lem L a y m =
         let q = Memᴰ.of_map (renamed f) L m in
         rw (← q.2, renamed-variable f q.0) (known-follows (variable q.0) (a q.0 q.1))
 
@@ -152,7 +152,7 @@ module _ (N : ℕ) (P : List Rule) (small : plain_atoms P ≤ N) (x : ℤ) (f : 
             nonzero m = elim (from (pos 0) m) [ inl e ↦ x-nonzero (sym e) | inr u ↦ renamed-nonzero f S.positive-stays L nz u ]
 
             known : AllKnown N w K
-            known k m = elim (from k m) [ inl e ↦ rw e (atom-known N w (variable x) S.split) | inr u ↦ all_known L a k u ]
+            known k m = elim (from k m) [ inl e ↦ rw e (atom-known N w (variable x) S.split) | inr u ↦ all_known_lem L a k u ]
 
             conflict : Conflict w.live K
             conflict = conflict-follows f x S.zero-stays z.live w.live F.live L K (λ y m. there (renamed f y) (Memᴰ.map (renamed f) m)) here c
@@ -212,7 +212,7 @@ module _ (N : ℕ) (P : List Rule) (small : plain_atoms P ≤ N) (x : ℤ) (f : 
           → Bodies P x f base names named named' live' → Goes (define z (pos m) L named) (one c (map (renamed f) (pos m ∷ L)))
       defining-goes c named named' s d e b =
           one-goes _ (define w (pos (f m)) (map (renamed f) L) named') c (map (renamed f) (pos m ∷ L)) (renamed-nonzero f S.positive-stays (pos m ∷ L) nz) s line-once
-          (e ∙ naming-passes (pos (f m)) (map (renamed f) L) _ (all_known L known) (fresh d))
+          (e ∙ naming-passes (pos (f m)) (map (renamed f) L) _ (all_known_lem L known) (fresh d))
           (both-define P x f base names S F m L in-names named named' b)
 
       extension-goes : T (signed (signs_of Extension) (pos m ∷ L)) → ¬ (f m ∈ base.introduced)
@@ -324,15 +324,15 @@ module _ (N : ℕ) (P : List Rule) (small : plain_atoms P ≤ N) (x : ℤ) (f : 
         none : q ≡ demand x → ⊥
         none e = elim (subst (λ (k : Rule). h ∈ k.heads) e u) [ ]
 
-    is_body : (q : Rule) → q ∈ P → T (is_body P q.body)
-    is_body q m = (any-decides (λ k. same_list-decides k.body q.body) P).from (q, m, refl)
+    is_body_lem : (q : Rule) → q ∈ P → T (is_body P q.body)
+    is_body_lem q m = (any-decides (λ k. same_list-decides k.body q.body) P).from (q, m, refl)
 
     name-follows : (n : ℤ) (q : Rule) → q ∈ P → T (is_name z (variable n) q.body) → T (is_name w (variable (renamed f n)) q.body)
     name-follows n q m t =
         let u = (name-decides z (variable n) q.body).to t in
         (name-decides w (variable (renamed f n)) q.body).from (
           record { name = f u.0.name; body = u.0.body },
-          F.bodies.kept u.0 u.1 (subst (λ (l : List ℤ). T (is_body P l)) (sym u.2.1) (is_body q m)),
+          F.bodies.kept u.0 u.1 (subst (λ (l : List ℤ). T (is_body P l)) (sym u.2.1) (is_body_lem q m)),
           (ap f u.2.0 ∙ sym (renamed-variable f n), u.2.1),
         )
 
@@ -354,7 +354,7 @@ module _ (N : ℕ) (P : List Rule) (small : plain_atoms P ≤ N) (x : ℤ) (f : 
         → ((k : ℤ) → k ∈ h → k ∈ map (renamed f) g) → Goes (add z (g ∷ [])) (one c (map (renamed f) zs))
     citing-goes c zs g h nz s t a e from =
         one-goes _ (add w (h ∷ [])) c (map (renamed f) zs) (renamed-nonzero f S.positive-stays zs nz) (signed-renamed f S.positive-stays c zs s)
-        (once-renamed zs (λ y m. known-ours (variable y) (a y m)) t) (e ∙ citing-passes (map (renamed f) zs) _ (all_known zs a))
+        (once-renamed zs (λ y m. known-ours (variable y) (a y m)) t) (e ∙ citing-passes (map (renamed f) zs) _ (all_known_lem zs a))
         (both-add P x f base names F g h (λ k u. inr (from k u)))
 
     completion-goes : (n : ℤ) (hs : List ℤ) → ¬ (pos 0 ∈ n ∷ hs) → T (signed (signs_of Completion) (n ∷ hs)) → T (distinct (n ∷ hs)) → T (is_positive n) → AllKnown N z (n ∷ hs)
@@ -439,7 +439,7 @@ module _ (N : ℕ) (P : List Rule) (small : plain_atoms P ≤ N) (x : ℤ) (f : 
               named y iy q iq e b g =
                   let v = (has_name-decides z q.body).to (all_named q (ours_in iq) e) in
                   let u : Named = v.0 in
-                  let there = F.bodies.kept u v.1 (subst (λ (l : List ℤ). T (is_body P l)) (sym v.2) (is_body q iq)) in
+                  let there = F.bodies.kept u v.1 (subst (λ (l : List ℤ). T (is_body P l)) (sym v.2) (is_body_lem q iq)) in
                   let same : y.name ≡ f u.name = F.bodies.once y (record { name = f u.name; body = u.body }) iy there (b ∙ sym v.2) in
                   let test = (any-decides (λ k. and-decides (itself (is_external U k)) (same_list-decides u.body k.body)) (demanding P x)).from (q, ours_in iq, (e, v.2)) in
                   Memᴰ.cast (g ∙ (ap (λ n. neg_ℤ (pos n)) same ∙ sym (renamed-complement f S.zero-stays (pos u.name))))
@@ -476,7 +476,7 @@ module _ (N : ℕ) (P : List Rule) (small : plain_atoms P ≤ N) (x : ℤ) (f : 
             names-there : (q : Rule) → q ∈ P → T (is_external (h ∷ hs) q) → T (has_name w q.body)
             names-there q m e =
                 let v = (has_name-decides z q.body).to (named q (ours_in m) e) in
-                (has_name-decides w q.body).from (record { name = f v.0.name; body = v.0.body }, F.bodies.kept v.0 v.1 (subst (λ (l : List ℤ). T (is_body P l)) (sym v.2) (is_body q m)), v.2)
+                (has_name-decides w q.body).from (record { name = f v.0.name; body = v.0.body }, F.bodies.kept v.0 v.1 (subst (λ (l : List ℤ). T (is_body P l)) (sym v.2) (is_body_lem q m)), v.2)
 
     -- A step
 

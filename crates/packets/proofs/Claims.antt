@@ -101,14 +101,14 @@ module _ (v : Version) (P : List InputRule) (ts : List Step) (s : Sound v P ts) 
   word-part : word_part packet ≡ bytes_of 4 ws
   word-part = rw (words-stated, after) (take_at (bytes_of 4 ws) (steps_bytes ts) (4 * length ws) (length-bytes 4 ws))
 
-  step_part : step_part packet ≡ steps_bytes ts
-  step_part = rw words-stated (sym (drop-drop (4 * length ws) 13 packet) ∙ rw after (drop_at (bytes_of 4 ws) (steps_bytes ts) (4 * length ws) (length-bytes 4 ws)))
+  step_part_lem : step_part packet ≡ steps_bytes ts
+  step_part_lem = rw words-stated (sym (drop-drop (4 * length ws) 13 packet) ∙ rw after (drop_at (bytes_of 4 ws) (steps_bytes ts) (4 * length ws) (length-bytes 4 ws)))
 
   lengths : lengths_fit packet ≡ true
   unfolding lengths_fit
   lengths =
       let n = packet-length v P ts in
-      rw (step_part, words-stated, steps-stated, le-leb 13 (length packet) (omega arith), le-leb (13 + 4 * length ws) (length packet) (omega arith)) (fills-back ts)
+      rw (step_part_lem, words-stated, steps-stated, le-leb 13 (length packet) (omega arith), le-leb (13 + 4 * length ws) (length packet) (omega arith)) (fills-back ts)
 
   rules-read : rules_in v (numbers_from 4 (word_count packet) (word_part packet)) ≡ some P
   unfolding rules_in
@@ -118,7 +118,7 @@ module _ (v : Version) (P : List InputRule) (ts : List Step) (s : Sound v P ts) 
 
   steps-read : steps_in (step_count packet) (step_part packet) ≡ some ts
   unfolding steps_in
-  steps-read = rw (step_part, steps-stated, steps_back ts s.passes, le-leb (length (text_of ts)) longest s.short)
+  steps-read = rw (step_part_lem, steps-stated, steps_back ts s.passes, le-leb (length (text_of ts)) longest s.short)
 
   pub packet-pair : pair_in v packet ≡ pair P ts
   unfolding pair_in parts_read

@@ -36,7 +36,7 @@ use Rattle.names.specs.declared.queries.Query.TheVariants.{Head}
 use Rattle.names.proofs.Asked.{names_same}
 use Rattle.heads.specs.Heads.{is_just_names}
 use Rattle.steps.specs.Held.{PassedLine, name_of, Tracks}
-use Rattle.steps.proofs.Tracking.{all_known, extended, named}
+use Rattle.steps.proofs.Tracking.{all_known_lem, extended, named}
 use Rattle.steps.proofs.Names.{unnamed-test, completes, supports, supports-by-names}
 
 -- The first number of a line, and the others
@@ -135,7 +135,7 @@ asked-heads h = fun_ext (λ r. ap (λ (b : Bool). has h r.heads && not b) (none 
 module _ {N : ℕ} {ws : List InputRule} {known names : List ℕ} {bodies : List ℤ} (z : State) (tracks : Tracks N ws known names bodies z.introduced z.named) (x : Letter) (zs : List ℤ) (line : PassedLine x zs) where
   -- a line that introduces no name
   pub cited : introduces x ≡ false → {b : Bool} → all (λ y. marked known (variable y)) zs ≡ b → by_letter N (expand ws) z x zs ≡ cond b (own N (expand ws) z x zs) (refused 26)
-  cited none e = by-letter N (expand ws) z x zs line ∙ rw (none, ← all_known z tracks zs line.literals.high, e)
+  cited none e = by-letter N (expand ws) z x zs line ∙ rw (none, ← all_known_lem z tracks zs line.literals.high, e)
 
   -- a line that introduces a name
   module _ (needed : (signs_of x).needed ≡ true) where
@@ -143,7 +143,7 @@ module _ {N : ℕ} {ws : List InputRule} {known names : List ℕ} {bodies : List
         → by_letter N (expand ws) z x zs ≡ cond b (cond c (refused 27) (own N (expand ws) z x zs)) (refused 26)
     introduced one e f =
         by-letter N (expand ws) z x zs line
-        ∙ rw (one, ← all_known z tracks (drop 1 zs) (others-literals x needed line).high, ← tail_of 1 zs, e, ← tracks.knows (variable (first zs)) (first-high x needed line), f)
+        ∙ rw (one, ← all_known_lem z tracks (drop 1 zs) (others-literals x needed line).high, ← tail_of 1 zs, e, ← tracks.knows (variable (first zs)) (first-high x needed line), f)
 
     -- a line that introduces a name and is accepted: the name was unknown
     module _ (new : marked known (variable (first zs)) ≡ false) where

@@ -34,7 +34,7 @@ use Rattle.steps.specs.After.{with_added, stored_after}
 use Rattle.steps.specs.Held.{Program, PassedLine, name_of, Tracks, Above, LoopNogood, LoopAdded, Fitted, HoldsState, Leaves, gathered}
 use Rattle.steps.specs.declared.outcomes.Stepped.{Stepped}
 use Rattle.steps.specs.declared.outcomes.Stepped.TheVariants.{Fails}
-use Rattle.steps.proofs.Names.{all_named, name-found}
+use Rattle.steps.proofs.Names.{all_named_lem, name-found}
 use Rattle.steps.proofs.Letters.{some_number, cited}
 use Rattle.steps.proofs.Loops.{all-atoms, external-by, row-gathered, loop-nogood}
 use Rattle.steps.proofs.Gathering.{gathered-count}
@@ -123,7 +123,7 @@ module _ {N : ℕ} {ws : List InputRule} {known names : List ℕ} {bodies : List
         ap (λ (f : Rule → Bool). map (λ r. name_of z.named r.body) (filter f (expand ws))) (external-by U set (λ x i. (positive U line x i, line.literals.high x i)))
 
     named-is : (U : List ℤ) → PassedLine Loop U → Marks inside (map variable U) → not (listed asked 0) ≡ all_named (expand ws) z U
-    named-is U line set = ap (λ l. not (listed l 0)) (external U line set) ∙ all_named (expand ws) z tracks.proper U
+    named-is U line set = ap (λ l. not (listed l 0)) (external U line set) ∙ all_named_lem (expand ws) z tracks.proper U
 
     loop-named : (U : List ℤ) → PassedLine Loop U → all (λ x. marked known (variable x)) U ≡ true → top U ≤ N
         → is_loop (expand ws) U ≡ true → Marks inside (map variable U)

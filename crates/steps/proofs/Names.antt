@@ -133,8 +133,8 @@ module _ {N : ℕ} (P : List Rule) (z : State) (proper : Proper N z.introduced z
       (λ r. (r.0, r.1, (r.2.0, (r.2.1.0, r.2.1.1.1))))
 
   -- question 32
-  pub all_named : (U : List ℤ) → not (listed (map name_in (filter (is_external U) P)) 0) ≡ all_named P z U
-  all_named U =
+  pub all_named_lem : (U : List ℤ) → not (listed (map name_in (filter (is_external U) P)) 0) ≡ all_named P z U
+  all_named_lem U =
       same_test (not-decides (picked-decides (is_external U) name_in P 0))
       (all-decides (λ r. if-decides (itself (is_external U r)) (has-test z proper r.body)) P)
       (λ f r m t e. f (r, m, (t, e)))

@@ -34,10 +34,10 @@ use Rattle.steps.proofs.Names.{unlisted, name-of, name-found}
 
 -- Question 26
 
-pub all_known : {N : ℕ} {ws : List InputRule} {known names : List ℕ} {bodies : List ℤ} (z : State) → Tracks N ws known names bodies z.introduced z.named
+pub all_known_lem : {N : ℕ} {ws : List InputRule} {known names : List ℕ} {bodies : List ℤ} (z : State) → Tracks N ws known names bodies z.introduced z.named
     → (L : List ℤ) → ((x : ℤ) → x ∈ L → variable x ≤ largest) → all (λ x. marked known (variable x)) L ≡ all_known N z L
-all_known z tracks [] high = refl
-all_known z tracks (x ∷ L) high = ap₂ (λ a b. a && b) (tracks.knows (variable x) (high x (Memᴰ.head refl))) (all_known z tracks L (λ y i. high y (Memᴰ.tail i)))
+all_known_lem z tracks [] high = refl
+all_known_lem z tracks (x ∷ L) high = ap₂ (λ a b. a && b) (tracks.knows (variable x) (high x (Memᴰ.head refl))) (all_known_lem z tracks L (λ y i. high y (Memᴰ.tail i)))
 
 -- The rules in the table
 
