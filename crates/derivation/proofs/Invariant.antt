@@ -103,8 +103,10 @@ module _ (N : ℕ) (M : ℕ → Type 0) where
         pair r.0 (ascending→ L r.1) (ascending→ (pos (suc n) ∷ complement r.0 ∷ []) (rw (← r.2) at u))
       where
         pair : (x : ℤ) → x ∈ L → y ∈ pos (suc n) ∷ complement x ∷ [] → T (is_known N after (variable y))
-        pair x m (Memᴰ.head q) = rw q name-known
-        pair x m (Memᴰ.tail u) = rw (Memᴰ.eq_of_singleton u, variable-complement x) (still (variable x) (known x m))
+        pair x m (Memᴰ.head q) = subst (λ (t : ℤ). T (is_known N after (variable t))) (sym q) name-known
+        pair x m (Memᴰ.tail u) =
+            subst (λ (t : ℤ). T (is_known N after (variable t))) (sym (Memᴰ.eq_of_singleton u))
+            (subst (λ (n : ℕ). T (is_known N after n)) (sym (variable-complement x)) (still (variable x) (known x m)))
 
     -- the bodies named afterwards are those named before and perhaps the new one, if its literals are atoms
     abbrev Names : Type 0
