@@ -331,6 +331,7 @@ def rewrite(text, P, place, goal=None):
     def one(m):
         path = m.group(0)
         parts = path.split(".")
+        if parts[0] in ("Rattle", "mathlib", "lib", "borrow", "native", "mir", "Prim", "denote", "base", "seplogic"): return path
         if parts[0] in aliases and len(parts) > 1:
             n = aliases[parts[0]]
             rest = parts[1:]

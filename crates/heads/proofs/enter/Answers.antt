@@ -4,7 +4,7 @@ use native.Mathlib.Omega.{arith}
 use lib.ListN.{take}
 use Rattle.aspif.proofs.Readable.{rules-count}
 use Rattle.heads.specs.Heads.{Covers, hint_of}
-use Rattle.heads.proofs.bodies-1.{covers-few, found-few, kept-front}
+use Rattle.heads.proofs.Bodies.{covers-few, found-few, kept-front}
 use borrow.Author.Rules.{rules}
 use Rattle.heads.proofs.enter.Goals as goal
 use Rattle.heads.proofs.enter.Goals.{Then-is_covered}

@@ -1,8 +1,7 @@
 -- `moves::measure` meets its contract.
 -- Assumes nothing.
-use borrow.Author.rules-1.{rules}
 use native.Mathlib.Omega.{arith}
-use Rattle.text.specs.classes-1.{byte_classes}
+use Rattle.text.specs.Classes.{byte_classes}
 use Rattle.packets.proofs.Given.{no-rules, no_steps}
 use Rattle.moves.proofs.Answers.{not-told, BothRead, both_read, too_large, words-room, pair-told}
 use borrow.Author.Rules.{rules}

@@ -14,8 +14,8 @@ use Rattle.derivation.proofs.Closure.{refuted-decides}
 use Rattle.nogoods.specs.Store.{Stored, live}
 use Rattle.nogoods.specs.Keeps.{Literals}
 use Rattle.nogoods.specs.Records.{Encodes}
-use Rattle.nogoods.specs.index-1.{Keeps, Marked}
-use Rattle.propagation.specs.propagate.{Assigns, Ends}
+use Rattle.nogoods.specs.Index.{Keeps, Marked}
+use Rattle.propagation.specs.Propagate.{Assigns, Ends}
 use Rattle.nogoods.proofs.Live.{live-from}
 use Rattle.nogoods.proofs.Recorded.{used-words}
 use Rattle.nogoods.proofs.Indexing.{keeps-part, marked}

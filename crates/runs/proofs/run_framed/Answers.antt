@@ -1,4 +1,4 @@
-use Rattle.nogoods.specs.index-1.{lent_cells}
+use Rattle.nogoods.specs.Index.{lent_cells}
 use Rattle.runs.proofs.Lending.{front-size, front-blank}
 use Rattle.runs.proofs.run_framed.Goals as goal
 

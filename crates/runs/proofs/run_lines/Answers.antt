@@ -6,7 +6,7 @@ use lib.IntN.{ℤ, pos}
 use lib.ListN.{length, length-replicate}
 use Rattle.aspif.specs.Rules.{InputRule}
 use Rattle.words.specs.Limits.{most_numbers}
-use Rattle.text.specs.classes-1.{byte_classes}
+use Rattle.text.specs.Classes.{byte_classes}
 use Rattle.drupe.specs.Lines.{line_at}
 use Rattle.steps.specs.Held.{Program}
 use Rattle.runs.specs.Held.{LineLeaves}

@@ -10,7 +10,7 @@ use Rattle.steps.specs.Held.{Program}
 use Rattle.aspif.specs.Reading.{program}
 use Rattle.splits.specs.Service.{merged_steps, leaves_nothing, merged_reading}
 use Rattle.splits.specs.declared.MergeAnswer.TheVariants.{Refused}
-use Rattle.splits.specs.declared.texts.written-1.TheVariants as Written
+use Rattle.splits.specs.declared.texts.Written.TheVariants as Written
 use Rattle.splits.proofs.Answers.{same-nothing, judged-same, not_written, Text, is-written}
 use native.Mathlib.Omega.{arith}
 use borrow.Author.Rules.{rules}

@@ -11,7 +11,7 @@ use Rattle.words.proofs.Lists.{passed}
 use Rattle.words.proofs.Places.{in-at}
 use Rattle.words.proofs.Words.{back}
 use Rattle.derivation.proofs.Questions.{positive-is}
-use Rattle.loops.specs.edges-1.{place_by, is_at}
+use Rattle.loops.specs.Edges.{place_by, is_at}
 use Rattle.loops.proofs.Placing.{placed-low, place-there, place-part}
 use Rattle.loops.proofs.EdgeMarks.{filling-on, filled}
 use Rattle.loops.proofs.Chained.{numbers-left, number-split}

@@ -2,7 +2,7 @@ use mathlib.Core.Bool.{◌&&◌, ◌||◌}
 use Prim.Native.Nat.{◌-◌, ◌≤◌}
 use lib.ListN.{length, drop}
 use Rattle.words.specs.Lists.{any}
-use Rattle.loops.specs.edges-1.{is_place, is_at, edge_at}
+use Rattle.loops.specs.Edges.{is_place, is_at, edge_at}
 use Rattle.loops.proofs.EdgeMarks.{Filling}
 use Rattle.loops.proofs.edges.mark_body.Given as goal
 

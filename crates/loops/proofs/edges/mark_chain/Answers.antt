@@ -11,7 +11,7 @@ use Rattle.aspif.specs.Tables.{body_words_at, shape_sound}
 use Rattle.heads.specs.Heads.{words_from, Headed, headed_to, headed_at, Place, HasHead}
 use Rattle.heads.proofs.Starts.{rule-here, head_of, all_seen}
 use Rattle.heads.proofs.Walks.{walk_from, walk-on, next-less}
-use Rattle.loops.specs.edges-1.{LowPlaces}
+use Rattle.loops.specs.Edges.{LowPlaces}
 use Rattle.loops.proofs.Chained.{Drawn, drawing-start, drawing-on, drawn-keeps, drawn-here, drawing-end}
 use borrow.Author.Rules.{rules}
 use Rattle.loops.proofs.edges.mark_chain.Goals as goal

@@ -4,7 +4,7 @@ use native.Mathlib.Omega.{arith}
 use lib.Dec.{eqb}
 use Rattle.words.proofs.Laws.{any_none}
 use Rattle.words.proofs.Places.{in-at}
-use Rattle.loops.specs.edges-1.{is_place}
+use Rattle.loops.specs.Edges.{is_place}
 use Rattle.loops.proofs.EdgeMarks.{filling-start, filling-on, filling-end, heads-split}
 use Rattle.loops.proofs.edges.mark_heads.Goals as goal
 

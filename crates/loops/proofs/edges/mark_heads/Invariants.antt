@@ -3,7 +3,7 @@ use Prim.Native.Nat.{suc, ◌-◌, ◌≤◌}
 use lib.Dec.{eqb}
 use lib.ListN.{length, drop}
 use Rattle.words.specs.Lists.{any}
-use Rattle.loops.specs.edges-1.{is_place, edge_at}
+use Rattle.loops.specs.Edges.{is_place, edge_at}
 use Rattle.loops.proofs.EdgeMarks.{Filling}
 use Rattle.loops.proofs.edges.mark_heads.Given as goal
 

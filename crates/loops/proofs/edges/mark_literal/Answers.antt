@@ -2,7 +2,7 @@ use mathlib.Core.Path.{◌≡◌, refl}
 use Prim.Native.Nat.{◌≤◌}
 use native.Mathlib.Omega.{arith}
 use mir.Facts.{to_z-of_z}
-use Rattle.loops.specs.edges-1.{place_by}
+use Rattle.loops.specs.Edges.{place_by}
 use Rattle.loops.proofs.EdgeMarks.{more-none, no_place}
 use Rattle.loops.proofs.edges.mark_literal.Goals as goal
 use Rattle.loops.proofs.edges.mark_literal.Goals.{After-place_of-a}

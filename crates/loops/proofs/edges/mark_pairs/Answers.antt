@@ -6,7 +6,7 @@ use lib.ListN.{get_or}
 use Rattle.words.specs.Lists.{any}
 use Rattle.words.proofs.Words.{back}
 use Rattle.weights.proofs.Matching.{pair-none}
-use Rattle.loops.specs.edges-1.{is_place, is_at}
+use Rattle.loops.specs.Edges.{is_place, is_at}
 use Rattle.loops.proofs.EdgeMarks.{filling-start, filling-on, filling-end, pair-split}
 use Rattle.loops.proofs.edges.mark_pairs.Goals as goal
 

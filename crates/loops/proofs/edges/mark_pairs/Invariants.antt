@@ -3,7 +3,7 @@ use Prim.Native.Nat.{◌-◌, ◌≤◌}
 use lib.ListN.{length, drop}
 use Rattle.words.specs.Lists.{any}
 use Rattle.weights.specs.Weights.{paired}
-use Rattle.loops.specs.edges-1.{is_place, is_at, edge_at, any_marked}
+use Rattle.loops.specs.Edges.{is_place, is_at, edge_at, any_marked}
 use Rattle.loops.proofs.EdgeMarks.{Filling}
 use Rattle.loops.proofs.edges.mark_pairs.Given as goal
 

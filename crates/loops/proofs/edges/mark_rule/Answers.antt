@@ -11,7 +11,7 @@ use Rattle.aspif.specs.Rules.{bodies_of}
 use Rattle.aspif.specs.Tables.{is_weighted, heads_at, body_at}
 use Rattle.heads.proofs.Starts.{heads-few}
 use Rattle.loops.specs.Relevance.{RelevantPairs}
-use Rattle.loops.specs.edges-1.{is_at, Gathered}
+use Rattle.loops.specs.Edges.{is_at, Gathered}
 use Rattle.loops.proofs.EdgeMarks.{more-none}
 use Rattle.loops.proofs.HeadPlaces.{gathered_none}
 use Rattle.loops.proofs.Expanded.{plain_more, weight-more}

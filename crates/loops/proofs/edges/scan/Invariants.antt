@@ -4,7 +4,7 @@ use Rattle.words.specs.Lists.{any}
 use Rattle.aspif.specs.Tables.{rules_at}
 use Rattle.aspif.proofs.Cursors.{Cursor}
 use Rattle.loops.specs.Relevance.{Relevant}
-use Rattle.loops.specs.edges-1.{rule_edge}
+use Rattle.loops.specs.Edges.{rule_edge}
 use Rattle.loops.proofs.EdgeMarks.{Filling}
 use Rattle.loops.proofs.edges.scan.Given as goal
 

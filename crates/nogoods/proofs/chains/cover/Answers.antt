@@ -5,7 +5,7 @@ use Prim.Native.Nat.{ℕ, ◌-◌, ◌≤◌}
 use native.Mathlib.Omega.{arith}
 use lib.ListN.{length, get_or}
 use Rattle.nogoods.specs.Store.{Stored}
-use Rattle.nogoods.specs.index-1.{Keeps, scale_of, covered_at, reach}
+use Rattle.nogoods.specs.Index.{Keeps, scale_of, covered_at, reach}
 use Rattle.nogoods.specs.Records.{end_at}
 use Rattle.nogoods.proofs.Indexing.{roomy, keeps-small, keeps-room, keeps-next}
 use Rattle.nogoods.proofs.chains.cover.Goals as goal

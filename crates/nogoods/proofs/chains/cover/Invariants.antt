@@ -3,7 +3,7 @@ use mathlib.Core.List.{List}
 use Prim.Native.Nat.{◌-◌}
 use lib.ListN.{length, get_or}
 use Rattle.nogoods.specs.Store.{Stored}
-use Rattle.nogoods.specs.index-1.{Keeps, covered_at}
+use Rattle.nogoods.specs.Index.{Keeps, covered_at}
 use Rattle.nogoods.proofs.chains.cover.Given as goal
 
 abbrev pub invariant-loop-r : goal.invariant-loop-r

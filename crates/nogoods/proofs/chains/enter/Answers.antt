@@ -4,7 +4,7 @@ use mathlib.Core.List.{List}
 use Prim.Native.Nat.{ℕ, ◌-◌, ◌≤◌}
 use native.Mathlib.Omega.{arith}
 use lib.ListN.{length, get_or, set, length-set}
-use Rattle.nogoods.specs.index-1.{proved_cells, covered_at, key_of, linked_in}
+use Rattle.nogoods.specs.Index.{proved_cells, covered_at, key_of, linked_in}
 use Rattle.nogoods.specs.Records.{nogood_at}
 use Rattle.nogoods.proofs.Indexing.{same-part}
 use Rattle.nogoods.proofs.chains.enter.Goals as goal

@@ -5,8 +5,8 @@ use native.Mathlib.Omega.{arith}
 use lib.IntN.{ℤ}
 use lib.ListN.{length, length-drop}
 use Rattle.words.proofs.Parts.{tail_of}
-use Rattle.nogoods.specs.store-1.{Stored, added_in, words_of, kept_for}
-use Rattle.nogoods.specs.index-1.{Keeps}
+use Rattle.nogoods.specs.Store.{Stored, added_in, words_of, kept_for}
+use Rattle.nogoods.specs.Index.{Keeps}
 use Rattle.nogoods.specs.Definitions.{defined, defined_size}
 use Rattle.nogoods.proofs.Live.{closed-added}
 use Rattle.nogoods.proofs.Stored.{full, added, added-origins}

@@ -5,8 +5,8 @@ use Prim.Native.Nat.{ℕ, ◌≤◌}
 use native.Mathlib.Omega.{arith}
 use lib.IntN.{ℤ}
 use lib.ListN.{length}
-use Rattle.nogoods.specs.store-1.{Stored, added_in, record_of, stored_words, record_size, words_of, kept_for}
-use Rattle.nogoods.specs.index-1.{Keeps}
+use Rattle.nogoods.specs.Store.{Stored, added_in, record_of, stored_words, record_size, words_of, kept_for}
+use Rattle.nogoods.specs.Index.{Keeps}
 use Rattle.nogoods.proofs.Live.{stored-size, closed-added}
 use Rattle.nogoods.proofs.Literals.{added-literals}
 use Rattle.nogoods.proofs.Stored.{full, added, added-origins}

@@ -1,6 +1,6 @@
 use mathlib.Core.Path.{sym, ◌∙◌}
 use mathlib.Core.List.{List}
-use Rattle.nogoods.specs.store-1.{Stored}
+use Rattle.nogoods.specs.Store.{Stored}
 use Rattle.nogoods.specs.Keeps.{Holds}
 use Rattle.nogoods.specs.Finds.{Skips}
 use Rattle.nogoods.proofs.Stored.{Hit, hit, miss, hit-room, hit-killed}

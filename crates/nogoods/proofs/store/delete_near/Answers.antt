@@ -3,8 +3,8 @@ use mathlib.Core.Path.{◌≡◌, sym, ap, ◌∙◌}
 use mathlib.Core.List.{List}
 use Prim.Native.Nat.{ℕ, ◌≤◌, ◌<◌}
 use native.Mathlib.Omega.{arith}
-use Rattle.nogoods.specs.store-1.{Stored}
-use Rattle.nogoods.specs.index-1.{Keeps, Unlinked, key_of, reach}
+use Rattle.nogoods.specs.Store.{Stored}
+use Rattle.nogoods.specs.Index.{Keeps, Unlinked, key_of, reach}
 use Rattle.nogoods.proofs.Stored.{hit, hit-room, hit-killed}
 use Rattle.nogoods.proofs.Indexing.{start-room, near-found, near-start, near-over, keeps-near, keeps-part, roomy}
 use Rattle.nogoods.proofs.store.delete_near.Goals as goal

@@ -1,10 +1,10 @@
 -- What is kept is kept by covering; then one in front is dead, or one behind.
 use mathlib.Core.Path.{◌≡◌}
 use mathlib.Core.List.{List}
-use Rattle.nogoods.specs.store-1.{Stored}
-use Rattle.nogoods.specs.index-1.{Keeps, Spotted}
-use Rattle.nogoods.specs.declared.chains.spot-1.{Spot}
-use Rattle.nogoods.specs.declared.chains.spot-1.TheVariants.{Nowhere}
+use Rattle.nogoods.specs.Store.{Stored}
+use Rattle.nogoods.specs.Index.{Keeps, Spotted}
+use Rattle.nogoods.specs.declared.chains.Spot.{Spot}
+use Rattle.nogoods.specs.declared.chains.Spot.TheVariants.{Nowhere}
 use Rattle.nogoods.proofs.Indexing.{spotted, skips, covers-far}
 use Rattle.nogoods.proofs.store.discard.Goals as goal
 use Rattle.nogoods.proofs.store.discard.Goals.{After-cover, After-walk-spot, In-Nowhere}

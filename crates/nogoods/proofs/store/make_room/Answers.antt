@@ -1,5 +1,5 @@
 -- All is kept; or the index is blank, the search has its own cells, and the store is closed up.
-use Rattle.nogoods.specs.index-1.{BlankIndex}
+use Rattle.nogoods.specs.Index.{BlankIndex}
 use Rattle.nogoods.proofs.Stored.{kept-all, kept-live}
 use Rattle.nogoods.proofs.Indexing.{keeps-blank, keeps-part}
 use native.Mathlib.Omega.{arith}

@@ -5,7 +5,7 @@ use native.Mathlib.Omega.{arith}
 use lib.IntN.{pos}
 use lib.ListN.{length, get_or}
 use lib.Seq.{take-add}
-use Rattle.words.proofs.words-1.{back}
+use Rattle.words.proofs.Words.{back}
 use Rattle.nogoods.proofs.Closing.{moved_none, moved_more}
 use borrow.Author.Rules.{rules}
 use Rattle.nogoods.proofs.store.move_down.Goals as goal

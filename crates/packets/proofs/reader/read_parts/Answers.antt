@@ -1,7 +1,6 @@
 -- `packets::reader::read_parts` meets its contract.
 -- Assumes nothing.
-use borrow.Author.rules-1.{rules}
-use Rattle.text.specs.classes-1.{byte_classes}
+use Rattle.text.specs.Classes.{byte_classes}
 use Rattle.packets.proofs.Given.{read_kept, no-rules, no_steps, both}
 use borrow.Author.Rules.{rules}
 use Rattle.packets.proofs.reader.read_parts.Goals as goal

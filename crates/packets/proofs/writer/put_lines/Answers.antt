@@ -8,7 +8,7 @@ use lib.IntN.{ℤ, pos}
 use lib.ListN.{length, take, length-replicate}
 use lib.Seq.{length-take-le}
 use Rattle.words.specs.Limits.{most_numbers}
-use Rattle.text.specs.classes-1.{byte_classes}
+use Rattle.text.specs.Classes.{byte_classes}
 use Rattle.drupe.specs.Lines.{line, line_at}
 use Rattle.drupe.proofs.Lines.{passed-line}
 use Rattle.drupe.proofs.Rows.{into-told, into-room}

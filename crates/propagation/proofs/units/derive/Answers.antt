@@ -11,8 +11,8 @@ use Rattle.words.specs.Literals.{variable, complement}
 use Rattle.words.proofs.Literals.{variable-complement}
 use Rattle.words.proofs.Words.{back}
 use Rattle.propagation.specs.Propagate.{Looked}
-use Rattle.propagation.specs.declared.units.look-1.{Look}
-use Rattle.propagation.specs.declared.units.look-1.TheVariants.{Unit}
+use Rattle.propagation.specs.declared.units.Look.{Look}
+use Rattle.propagation.specs.declared.units.Look.TheVariants.{Unit}
 use borrow.Author.Rules.{rules, sfits_of}
 use borrow.Author.Rules.{rules}
 use Rattle.propagation.proofs.units.derive.Goals as goal

@@ -8,7 +8,7 @@ use mir.Syntax.{w32}
 use mir.Val.{to_z, of_z}
 use mir.Facts.{to_z-of_z}
 use Rattle.words.specs.Limits.{longest, most_numbers}
-use Rattle.text.specs.classes-1.{byte_classes}
+use Rattle.text.specs.Classes.{byte_classes}
 use Rattle.renaming.specs.Writing.{Writes}
 use Rattle.renaming.specs.Standing.{all_standing}
 use Rattle.renaming.specs.declared.lines.Wrote.TheVariants.{At, Over}

@@ -5,7 +5,7 @@ use native.Mathlib.Omega.{arith}
 use lib.IntN.{ℤ, pos}
 use lib.ListN.{length, length-replicate}
 use Rattle.words.specs.Limits.{entries, most_numbers}
-use Rattle.text.specs.classes-1.{byte_classes}
+use Rattle.text.specs.Classes.{byte_classes}
 use Rattle.steps.specs.Held.{name_of}
 use Rattle.merging.specs.Merge.{named_in}
 use Rattle.renaming.specs.Renames.{TurnBounds}

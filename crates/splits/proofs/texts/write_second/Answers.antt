@@ -7,7 +7,7 @@ use mir.Facts.{to_z-of_z}
 use Rattle.merging.specs.Merge.{half}
 use Rattle.renaming.specs.Standing.{HalfOf}
 use Rattle.renaming.specs.Writing.{Writes}
-use Rattle.renaming.specs.declared.lines.wrote-1.{Wrote}
+use Rattle.renaming.specs.declared.lines.Wrote.{Wrote}
 use Rattle.renaming.proofs.Written.{then-written, over-more}
 use Rattle.splits.specs.Joined.{HalfText, lines_of, closing}
 use Rattle.splits.proofs.texts.write_second.Goals as goal

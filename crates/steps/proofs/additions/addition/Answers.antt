@@ -8,7 +8,7 @@ use lib.IntN.{ℤ}
 use Rattle.text.specs.declared.Letter.TheVariants.{Addition}
 use Rattle.derivation.specs.States.{State}
 use Rattle.derivation.specs.Propagation.{refuted}
-use Rattle.nogoods.specs.store-1.{Stored, live}
+use Rattle.nogoods.specs.Store.{Stored, live}
 use Rattle.steps.specs.Held.{HoldsState}
 use Rattle.nogoods.proofs.Literals.{literals-ascending}
 use Rattle.steps.proofs.Kept.{kept-one, kept_more}

@@ -12,7 +12,7 @@ use Rattle.derivation.specs.States.{State}
 use Rattle.derivation.specs.Steps.{is_unnamed_body}
 use Rattle.names.specs.Queries.{HoldsRules, Kept}
 use Rattle.steps.specs.Held.{name_of, Tracks}
-use Rattle.steps.proofs.names-1.{unnamed-body}
+use Rattle.steps.proofs.Names.{unnamed-body}
 use Rattle.steps.proofs.Tracking.{nothing-older}
 use Rattle.steps.proofs.Letters.{no_name, sorted-low}
 use borrow.Author.Rules.{rules}

@@ -9,7 +9,7 @@ use lib.Seq.{length-take-le}
 use Rattle.words.specs.Limits.{largest}
 use Rattle.marks.specs.Marks.{listed}
 use Rattle.nogoods.specs.Keeps.{Literals}
-use Rattle.heads.specs.declared.found-1.TheVariants.{Names}
+use Rattle.heads.specs.declared.Found.TheVariants.{Names}
 use Rattle.steps.specs.Held.{LoopNogood}
 use Rattle.steps.proofs.Kept.{kept-one}
 use Rattle.steps.proofs.Gathering.{gathered-literals}

@@ -7,8 +7,8 @@ use lib.ListN.{length, get_or}
 use Rattle.words.proofs.Words.{back}
 use Rattle.text.specs.declared.Letter.TheVariants.{Loop}
 use Rattle.aspif.specs.Rules.{InputRule, expand}
-use Rattle.nogoods.specs.store-1.{Stored}
-use Rattle.nogoods.specs.index-1.{Keeps}
+use Rattle.nogoods.specs.Store.{Stored}
+use Rattle.nogoods.specs.Index.{Keeps}
 use Rattle.names.specs.Queries.{asked_names}
 use Rattle.names.specs.declared.queries.Query.TheVariants.{External}
 use Rattle.steps.specs.Held.{Above, LoopAdded}

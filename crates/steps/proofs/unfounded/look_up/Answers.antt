@@ -13,7 +13,7 @@ use Rattle.aspif.specs.Rules.{InputRule, expand}
 use Rattle.names.specs.Queries.{asked_names}
 use Rattle.names.specs.declared.queries.Query.TheVariants.{External}
 use Rattle.heads.specs.Heads.{Externals}
-use Rattle.heads.specs.declared.found-1.TheVariants.{Names}
+use Rattle.heads.specs.declared.Found.TheVariants.{Names}
 use Rattle.steps.specs.Held.{Above}
 use Rattle.steps.proofs.Tracking.{rules-held}
 use Rattle.steps.proofs.Letters.{some_number, first-low, first-high}

@@ -1,7 +1,7 @@
 use mathlib.Core.Path.{sym, subst, ap₂, ◌∙◌}
 use native.Mathlib.Omega.{arith}
 use lib.Seq.{length-take-le}
-use Rattle.sums.specs.levels-1.{useful, levels_for}
+use Rattle.sums.specs.Levels.{useful, levels_for}
 use Rattle.totalizer.specs.Lists.{SumsUpTo}
 use Rattle.totalizer.proofs.Merging.{few-sums}
 use Rattle.totalizer.proofs.Adding.{sums-up-to}
