@@ -41,6 +41,10 @@ def blocks(text):
     if pend: out.append(pend)
     return ["\n".join(b) for b in out]
 
+def word(label):
+    """A clause's name in a record: words of antt's own are written escaped."""
+    return "«" + label + "»" if label in ("record", "data", "open", "ruleset", "module", "use") else label
+
 def decl_name(l):
     m = re.match(r"(?:abbrev |unfoldable |pub )*([^\s:(){}]+)", l)
     if not m: return None
@@ -373,6 +377,18 @@ def rewrite(text, P, place, goal=None):
         return ".".join(out)
     paths = r"(?<![A-Za-z0-9_'.-])[A-Za-z_][A-Za-z0-9_'₀-₉-]*(?:\.[A-Za-z0-9_'-]+)+"
     text = re.sub(paths, one, text)
+    text = re.sub(r"(?<=\))(?:\.[A-Za-z0-9_'-]+)+", one, text)
+    # names for all that a call ensures or that is required
+    for m in list(re.finditer(r"let ([A-Za-z0-9_]+) = ([A-Za-z0-9_]+(?:\.[A-Za-z0-9_'-]+)*)\.(ensures|requires) in", text)):
+        v, last, kind = m.group(1), m.group(2).split(".")[-1], m.group(3)
+        f = clauses.get(last) if kind == "ensures" else (P.entry.get("pre") or {}).get("fields") if "." not in m.group(2) else None
+        if not f: continue
+        def named_clause(x):
+            steps = x.group(1).split(".")[1:]
+            k, left = index_of(steps, len(f))
+            return x.group(0) if k is None else ".".join([v, f[k]] + left)
+        rest = re.sub(r"(?<![A-Za-z0-9_'.-])" + v + r"((?:\.[01])+)", named_clause, text[m.end():])
+        text = text[:m.end()] + rest
     for m in re.finditer(r"let ([A-Za-z0-9_]+) = ([A-Za-z0-9_]+(?:\.[A-Za-z0-9_'-]+)+) in", text):
         last = m.group(2).split(".")[-1]
         if last in clauses or last in callee: aliases[m.group(1)] = last
@@ -389,7 +405,7 @@ def rewrite(text, P, place, goal=None):
         def req(m):
             steps = m.group(1).split(".")[1:]
             k, left = index_of(steps, len(f))
-            return ".requires" + m.group(1) if k is None else ".".join([".requires." + f[k]] + left)
+            return ".requires" + m.group(1) if k is None else ".".join([".requires." + word(f[k])] + left)
         text = re.sub(r"\.requires((?:\.[01])+)", req, text)
     return text
 
@@ -405,7 +421,7 @@ def record_of(body, labels_):
         elif depth == 0: last = m.end()
     head, expr = body[:last], body[last:].strip()
     if n == 1:
-        return head + (" " if head and not head.endswith(("\n", " ")) else "") + "record { " + labels_[0] + " = " + expr + " }"
+        return head + (" " if head and not head.endswith(("\n", " ")) else "") + "record { " + word(labels_[0]) + " = " + expr + " }"
     if expr.startswith("(") and unparen(expr) != expr:
         inner = expr[1:-1].strip()
         if unparen(expr) == unparen(inner) or inner.startswith("("): inner = inner
@@ -430,7 +446,7 @@ def record_of(body, labels_):
         if len(parts) > n:
             parts = parts[: n - 1] + ["(" + ", ".join(parts[n - 1:]) + ")"]
         if len(parts) == n:
-            return head + (" " if head and not head.endswith(("\n", " ")) else "") + "record { " + "; ".join(f"{a} = {b}" for a, b in zip(labels_, parts)) + " }"
+            return head + (" " if head and not head.endswith(("\n", " ")) else "") + "record { " + "; ".join(f"{word(a)} = {b}" for a, b in zip(labels_, parts)) + " }"
     m = re.match(r"((?:rw|simp|subst) .*?)\((?=[^()]*[(,])", expr, re.S)
     if expr.startswith(("rw ", "simp ")) and expr.endswith(")"):
         d, k = 0, len(expr) - 1
@@ -442,7 +458,7 @@ def record_of(body, labels_):
         inner = record_of(expr[k:], labels_)
         if inner.startswith("record {"): return head + (" " if head and not head.endswith(("\n", " ")) else "") + expr[:k] + "(" + inner + ")"
     proj = lambda i: ".0" if i == 0 and n > 1 else ".1" * i + (".0" if i < n - 1 else "")
-    return head + (" " if head else "") + f"let all = {expr} in record {{ " + "; ".join(f"{a} = all{proj(i)}" for i, a in enumerate(labels_)) + " }"
+    return head + (" " if head else "") + f"let all = {expr} in record {{ " + "; ".join(f"{word(a)} = all{proj(i)}" for i, a in enumerate(labels_)) + " }"
 
 def without(text, v):
     """Where a name for the place itself is gone: `(v X).f` is `X.f`."""

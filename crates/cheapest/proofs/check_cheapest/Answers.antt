@@ -25,7 +25,7 @@ module _ (c : In-Read) where
 pub cheapest_read-requires : goal.cheapest_read-requires
 cheapest_read-requires c = let d = (goal.at.cheapest_read-requires c).In-Read in
     let f = found d in
-    let h = held _ _ _ _ (read d).answer (read d).table f (search rules) in record { program = ((f.P, h.0), h.1); short = rw h.0.holds.are (read-shorter _ _ f.P f.read); empty = (zeros (pos 0) {n = length (start d).args.store.now} d.zero-all.ensures).0 }
+    let h = held _ _ _ _ (read d).answer (read d).table f (search rules) in record { program = ((f.P, h.0), h.1); short = rw h.0.holds.are (read-shorter _ _ f.P f.read); empty = (zeros (pos 0) {n = length (start d).args.store.now} d.zero_all.ensures).0 }
 
 pub returns-in-Refused : goal.returns-in-Refused
 returns-in-Refused c =
@@ -37,8 +37,8 @@ pub returns-in-Read : goal.returns-in-Read
 returns-in-Read c =
     let d = (goal.at.returns-in-Read c).In-Read in
     let f = found d in
-    let t : length d.read-program.new.1.0 ≡ length (start d).args.table.now = search rules in
-    let s : length d.zero-all.new.0 ≡ length (start d).args.store.now = search rules in
+    let t : length d.read_program-read.new.table ≡ length (start d).args.table.now = search rules in
+    let s : length d.zero_all.new.t ≡ length (start d).args.store.now = search rules in
     let h = held _ _ _ _ (read d).answer (read d).table f t in
     let a = (start d).args in
     c.cheapest_read.ensures f.P h.0 h.2 ∙ reading-same a.set.now a.costs.now a.proof.now (program f.P) t s

@@ -41,7 +41,7 @@ returns-in-Refused c =
 pub returns-in-Read : goal.returns-in-Read
 returns-in-Read c =
     let d = (goal.at.returns-in-Read c).In-Read in
-    let a : length d.read-program.new.1.0 ≡ length d.args.table.now = search rules in
+    let a : length d.read_program-read.new.table ≡ length d.args.table.now = search rules in
     let b : length d.zero_all.new.t ≡ length d.args.store.now = search rules in
     let m : length c.check_within-verdict.new.index ≡ length d.args.memory.now = search rules in
     let p = found d in

@@ -32,4 +32,4 @@ pub returns : goal.returns
 returns c =
     let d = (goal.at.returns c).After-read_rule-read in
     let p = c.put_rule-end.ensures in
-    record { size = d.read_rule-read.ensures.size; within = d.read_rule-read.ensures.within; put = rw (stands d).1 at p.0; near = p.1 }
+    record { size = d.read_rule-read.ensures.size; within = d.read_rule-read.ensures.within; put = rw (stands d).1 at p.put; near = p.upper_bound }

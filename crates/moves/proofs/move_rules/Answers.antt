@@ -74,7 +74,7 @@ loop-i-smaller c =
     omega (arith, moving-less f.loop-i.invariant (some_left f) (told e), f.loop-i-test.true)
 
 pub loop-i-preserved : goal.loop-i-preserved
-loop-i-preserved c = let e = (goal.at.loop-i-preserved c).After-move_rule-moved in moving-on (d e).loop.invariant (some_left (d e)) (told e)
+loop-i-preserved c = let e = (goal.at.loop-i-preserved c).After-move_rule-moved in moving-on (d e).loop-i.invariant (some_left (d e)) (told e)
 
 pub returns : goal.returns
 returns c =

@@ -20,13 +20,13 @@ module _ (c : After-sweep-swept) where
   told x e = rw e at c.sweep-swept.ensures
 
 pub returns-in-Refuted : goal.returns-in-Refuted
-returns-in-Refuted c = let o = (goal.at.returns-in-Refuted c).After-sweep-swept in clashes-before _ _ _ o.loop.invariant.1 (told o _ c.in-Refuted.is)
+returns-in-Refuted c = let o = (goal.at.returns-in-Refuted c).After-sweep-swept in clashes-before _ _ _ o.loop-left.invariant.1 (told o _ c.in-Refuted.is)
 
 pub returns-in-Same : goal.returns-in-Same
 returns-in-Same c =
     let o = (goal.at.returns-in-Same c).After-sweep-swept in
     let t = told o _ c.in-Same.is in
-    rw t.0 (o.loop.invariant.1, t.1)
+    rw t.0 (o.loop-left.invariant.1, t.1)
 
 pub loop-left-smaller : goal.loop-left-smaller
 loop-left-smaller c = omega (arith, c.loop-left-test.true)
@@ -34,7 +34,7 @@ loop-left-smaller c = omega (arith, c.loop-left-test.true)
 pub loop-left-preserved : goal.loop-left-preserved
 loop-left-preserved c =
     let o = (goal.at.loop-left-preserved c).After-sweep-swept in
-    let v = o.loop.invariant in
+    let v = o.loop-left.invariant in
     let t = told o _ c.in-Changed.is in
     (omega (arith, v.0), grows-on v.1 t.0, omega (arith, t.1, v.2, o.loop-left-test.true))
 

@@ -31,7 +31,7 @@ module _ (c : In-loop-i) where
   read = readable _ _ c.requires.encoded stands
 
 pub derive_at-given-requires : goal.derive_at-given-requires
-derive_at-given-requires c = record { record = read (goal.at.derive_at-given-requires c).In-loop-i; size = c.loop-i.invariant.size }
+derive_at-given-requires c = record { «record» = read (goal.at.derive_at-given-requires c).In-loop-i; size = c.loop-i.invariant.size }
 
 pub end_at-i-requires : goal.end_at-i-requires
 end_at-i-requires c = (read (goal.at.end_at-i-requires c).In-loop-i).room

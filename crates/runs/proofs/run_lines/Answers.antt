@@ -110,7 +110,7 @@ returns-in-Fails c =
     λ limit h Q q. rw (same t q) (going-fails _ _ _ _ (G t) (store' t) (index' t) (known' t) (names' t) (bodies' t) (search rules) _ c.in-Fails.is (turned t) limit h)
 
 onward : (c : In-Goes)
-    → (let t = (view.up-After-turn_at tie.the-claims reads.Pre reads.Post goal.the-invariant-loop-number goal.the-decreases-loop-number tie.handed_clauses c.before.before.before.before.before.before.before.before.before.before.before.before) in Going (start t).args.atoms (ws t) (length (start t).args.store.now) (start t).args.proof.now (store' t) (index' t) (known' t) (names' t) (bodies' t) c.in-Goes.used c.in-Goes.next (t.loop.state.steps + 1) × (t.loop.state.at < c.in-Goes.next))
+    → (let t = (view.up-After-turn_at tie.the-claims reads.Pre reads.Post goal.the-invariant-loop-number goal.the-decreases-loop-number tie.handed_clauses c.before.before.before.before.before.before.before.before.before.before.before.before) in Going (start t).args.atoms (ws t) (length (start t).args.store.now) (start t).args.proof.now (store' t) (index' t) (known' t) (names' t) (bodies' t) c.in-Goes.used c.in-Goes.next (t.loop-number.state.steps + 1) × (t.loop-number.state.at < c.in-Goes.next))
 onward c =
     let t = (view.up-After-turn_at tie.the-claims reads.Pre reads.Post goal.the-invariant-loop-number goal.the-decreases-loop-number tie.handed_clauses c.before.before.before.before.before.before.before.before.before.before.before.before) in
     going_on _ _ _ _ (G t) (store' t) (index' t) (known' t) (names' t) (bodies' t) (search rules) _ _ c.in-Goes.is (turned t)
@@ -121,7 +121,7 @@ loop-number-smaller c = let o = onward c in omega (arith, o.0.within, o.1)
 pub loop-number-preserved : goal.loop-number-preserved
 loop-number-preserved c =
     let t = (goal.at.loop-number-preserved c).After-turn_at in
-    let i = t.loop.invariant in
+    let i = t.loop-number.invariant in
     (i.0, i.1, (onward c).0, same_known t, same_names t, same-bodies t, same_numbers t, same-sorted t, t.turn_at.ensures.free, same_index t)
 
 pub through-requires : goal.through-requires

@@ -64,7 +64,7 @@ slice_bounds-step-end-in-Line-3 c = sym (length-take-le _ _ (room (goal.at.slice
 
 pub step-stepped-requires : goal.step-stepped-requires
 step-stepped-requires c = let d = (goal.at.step-stepped-requires c).In-Line in
-    let s = start d in record { state = s.requires.state; index = s.requires.index; relevant = s.requires.relevant; store = (s.requires.store.0, numbered d); line = good-line _ _ (good d).0 (good d).1; sorted = into-sorted d.step-at.ensures d.in-Line.is; free = s.requires.free }
+    let s = start d in record { state = s.requires.state; index = s.requires.index; relevant = s.requires.relevant; store = (s.requires.store.0, numbered d); line = good-line _ _ (good d).0 (good d).1; sorted = into-sorted d.step_at-answer.ensures d.in-Line.is; free = s.requires.free }
 
 -- where there is no step the assignment is as it was
 free : (c : After-step_at-answer) → c.args.assignment.now ≡ replicate entries 0

@@ -104,7 +104,7 @@ module _ (c : In-Text) where
 
 pub write_out-requires : goal.write_out-requires
 write_out-requires c = let d = (goal.at.write_out-requires c).In-Text in
-    let q = (begun (side d)).requires in record { program = q.0; empty = ((zeros (pos 0) {n = s (side d)} (side d).merge-side.ensures.0).0, q.1.1.1.1); text = omega (arith, size_is d, within d) }
+    let q = (begun (side d)).requires in record { program = q.0; empty = ((zeros (pos 0) {n = s (side d)} (side d).merge_side.ensures.empty).0, q.1.1.1.1); text = omega (arith, size_is d, within d) }
 
 pub returns-in-Refused : goal.returns-in-Refused
 returns-in-Refused c = λ ws p w u T.

@@ -35,7 +35,7 @@ pub returns-in-Read : goal.returns-in-Read
 returns-in-Read c =
     let d = (goal.at.returns-in-Read c).In-Read in
     let f = found d in
-    let t : length d.read-program.new.1.0 ≡ length (start d).args.table.now = search rules in
+    let t : length d.read_program-read.new.table ≡ length (start d).args.table.now = search rules in
     let s : length c.zero_all.new.t ≡ length (start d).args.store.now = search rules in
     let h = held _ _ _ _ (read d).answer (read d).table f t in
     let a = (start d).args in

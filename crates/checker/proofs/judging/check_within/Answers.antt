@@ -35,7 +35,7 @@ pub returns-then-limit-proof : goal.returns-then-limit-proof
 returns-then-limit-proof c = λ ws p w.
     let a = c.args in
     let r = c.refuse.ensures in
-    judged-stopped _ _ ws _ _ (too_long a.limit _ (expand ws) _ a.proof.now (search rules)) r.0 r.1.0 r.1.1
+    judged-stopped _ _ ws _ _ (too_long a.limit _ (expand ws) _ a.proof.now (search rules)) r.verdict r.table r.store
 
 pub conclude-requires : goal.conclude-requires
 conclude-requires c =
@@ -50,7 +50,7 @@ returns-in-Stopped c = λ ws p w.
     let r = c.refuse-in-Stopped.ensures in
     let same : length (store' q) ≡ length q.args.store.now = search rules in
     let o = ran-stopped (store' q) (came q ws) _ (ran q ws p) c.in-Stopped.is in
-    judged-stopped _ _ ws _ _ o r.0 r.1.0 (r.1.1 ∙ ap (λ (k : ℕ). replicate k (pos 0)) same)
+    judged-stopped _ _ ws _ _ o r.verdict r.table (r.store ∙ ap (λ (k : ℕ). replicate k (pos 0)) same)
 
 pub returns-in-Through : goal.returns-in-Through
 returns-in-Through c = λ ws p w.

@@ -20,4 +20,4 @@ returns c = let w = c.write_line.ensures in
     let a = c.args in
     let zeros : List ℤ = replicate lent (pos 0) in
     let long : length zeros ≡ lent = length-replicate lent (pos 0) in
-    let p = line-printed a.program.now a.proof.now zeros zeros long long c.check_texts-verdict.ensures in record { size = w.0 ∙ ap length p; written = w.1.0 ∙ ap (λ (l : List ℕ). sets a.buffer.now 0 l) p; within = w.1.1 }
+    let p = line-printed a.program.now a.proof.now zeros zeros long long c.check_texts-verdict.ensures in record { size = w.size ∙ ap length p; written = w.written ∙ ap (λ (l : List ℕ). sets a.buffer.now 0 l) p; within = w.within }

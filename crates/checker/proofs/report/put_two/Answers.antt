@@ -7,4 +7,4 @@ use Rattle.checker.proofs.report.put_two.Goals as goal
 pub returns : goal.returns
 returns c = let end = c.put_bytes.ensures in
     let second = c.put_number-end.ensures in
-    let first = c.put_number-second.ensures in record { written = put_on first.0 (put_on second.0 end); within = omega (arith, first.1, second.1, end.ends) }
+    let first = c.put_number-second.ensures in record { written = put_on first.written (put_on second.written end); within = omega (arith, first.within, second.within, end.ends) }

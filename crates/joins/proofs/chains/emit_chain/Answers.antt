@@ -1,5 +1,6 @@
 use native.Mathlib.Omega.{arith}
 use Rattle.joins.proofs.Chained.{first-at, from_first}
+use borrow.Author.Rules.{rules}
 use Rattle.joins.proofs.chains.emit_chain.Goals as goal
 
 pub emit_part-first-requires : goal.emit_part-first-requires
@@ -19,4 +20,4 @@ pub returns : goal.returns
 returns c =
     let a = c.args in
     let e = c.emit_part-first.ensures in
-    from_first a.group a.bound a.pairs.now e.1.1.0 c.emit_rest.ensures e.0
+    from_first a.group a.bound a.pairs.now e.within.0 c.emit_rest.ensures e.rules

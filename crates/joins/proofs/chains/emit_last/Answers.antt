@@ -41,12 +41,12 @@ emit_node-place-requires c = let s = c in
     let e = d.emit_part-side.ensures in
     let b = s.requires.pairs.1 in
     let ws = s.args.pairs.now in
-    let h = atoms d in record { place = e.0.bounded; levels = (
+    let h = atoms d in record { place = e.rules.bounded; levels = (
           levels-front b (pairs_from s.args.from ws) (pairs_to s.args.from ws) s.requires.node.2,
-          levels-front b (pairs_to s.args.from ws ++ pairs_from s.args.to ws) (pairs_within s.args.from s.args.to ws) e.1.0,
+          levels-front b (pairs_to s.args.from ws ++ pairs_from s.args.to ws) (pairs_within s.args.from s.args.to ws) e.levels,
         ); atoms = (
           omega (arith, h, length-take-le s.args.node.count s.args.left.now s.requires.node.1),
-          omega (arith, h, ap length e.1.0, counted d),
+          omega (arith, h, ap length e.levels, counted d),
           omega (arith, h),
         ) }
 
@@ -55,4 +55,4 @@ returns c = let s = c in
     let a = s.args in
     let d = (goal.at.returns c).After-emit_part-side in
     let e = d.emit_part-side.ensures in
-    let n = counted d in record { rules = turn-emits a.node.first (after a.node) (pairs_within a.from a.to a.pairs.now) (a.bound ∷ []) s.requires.node.2 e.1.0 refl n e.0 c.emit_node-place.ensures; atom = omega (arith, n) }
+    let n = counted d in record { rules = turn-emits a.node.first (after a.node) (pairs_within a.from a.to a.pairs.now) (a.bound ∷ []) s.requires.node.2 e.levels refl n e.rules c.emit_node-place.ensures; atom = omega (arith, n) }

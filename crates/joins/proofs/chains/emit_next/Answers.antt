@@ -30,4 +30,4 @@ returns c = let s = c in
     let y = c.emit_part-side in
     let e = y.ensures in
     let f = c.emit_prefix.ensures in
-    let n = count-is y.new.levels e.1.1.1 e.1.0 in record { rules = turn-emits a.node.first (after a.node) (pairs_within a.from a.to ws) (prefix_levels a.bound a.to ws) s.requires.node.2 e.1.0 e.1.1.0 n e.0 f.0; levels = f.1.0; within = (omega (arith, f.1.1.0, e.1.1.0, n), f.1.1.1) }
+    let n = count-is y.new.levels e.1.1.1 e.1.0 in record { rules = turn-emits a.node.first (after a.node) (pairs_within a.from a.to ws) (prefix_levels a.bound a.to ws) s.requires.node.2 e.1.0 e.1.1.0 n e.0 f.rules; levels = f.levels; within = (omega (arith, f.within.0, e.1.1.0, n), f.within.1) }

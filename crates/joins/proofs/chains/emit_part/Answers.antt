@@ -30,4 +30,4 @@ emit_group-place-requires c = let s = c in
 
 pub returns : goal.returns
 returns c = let e = c.levels_of-count.ensures in
-    let n = rw tail_of at e.1 in record { rules = rw n at c.emit_group-place.ensures; levels = n; within = (refl, e.0) }
+    let n = rw tail_of at e.levels in record { rules = rw n at c.emit_group-place.ensures; levels = n; within = (refl, e.within) }

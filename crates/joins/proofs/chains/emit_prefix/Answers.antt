@@ -29,7 +29,7 @@ emit_node-place-requires c = let s = c in
     let n = c.prefix_levels-n.ensures in record { place = s.requires.place; levels = p.1.0; atoms = (
           omega (arith, p.1.1, length-take-le s.args.node.count s.args.left.now p.0.0),
           omega (arith, p.1.1, length-take-le s.args.side.count s.args.right.now p.0.1),
-          omega (arith, p.1.1, ap length n.0, few-prefix s.args.bound s.args.to s.args.pairs.now, s.requires.pairs.1),
+          omega (arith, p.1.1, ap length n.levels, few-prefix s.args.bound s.args.to s.args.pairs.now, s.requires.pairs.1),
         ) }
 
 pub slice_bounds-copy_sums-end-2 : goal.slice_bounds-copy_sums-end-2

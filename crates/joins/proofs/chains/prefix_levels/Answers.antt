@@ -15,4 +15,4 @@ levels_of-requires c = let s = c in
     let p = s.requires.pairs in record { pairs = (refl, weights-take s.args.to ws p.0, rw tail_of (weights-drop s.args.to ws p.0), p.1); room = s.requires.room }
 
 pub returns : goal.returns
-returns c = let e = c.levels_of.ensures in record { levels = rw tail_of at e.1; within = e.0 }
+returns c = let e = c.levels_of.ensures in record { levels = rw tail_of at e.levels; within = e.within }

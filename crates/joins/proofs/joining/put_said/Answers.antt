@@ -11,4 +11,4 @@ returns-then-i-eq0 c = let s = c in record { written = rw (said-none s.args.firs
 
 pub returns : goal.returns
 returns c = let s = c in
-    let e = c.put_size.ensures in record { written = rw (said-some s.args.first s.args.i c.if-i-eq0.false, spaced-one) e.0; within = e.1 }
+    let e = c.put_size.ensures in record { written = rw (said-some s.args.first s.args.i c.if-i-eq0.false, spaced-one) e.written; within = e.within }

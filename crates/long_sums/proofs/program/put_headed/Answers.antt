@@ -12,4 +12,4 @@ returns c = let s = c in
     let heads = c.put_head-heads.ensures in
     let count = c.put_bytes-count.ensures in
     let end = c.put_size-end.ensures in
-    let last = c.put_bytes.ensures in record { written = head-put s.args.words.now s.requires.rule s.args.atom (put_on heads.0 (put_on count (put_on end.0 last))); within = omega (arith, heads.1, count.ends, end.1, last.ends) }
+    let last = c.put_bytes.ensures in record { written = head-put s.args.words.now s.requires.rule s.args.atom (put_on heads.written (put_on count (put_on end.written last))); within = omega (arith, heads.within, count.ends, end.within, last.ends) }

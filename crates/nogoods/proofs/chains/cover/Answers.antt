@@ -40,8 +40,8 @@ module _ (c : In-loop-r) where
 pub enter-requires : goal.enter-requires
 enter-requires c = let e = c in
     let i = (goal.at.enter-requires c).In-loop-r in
-    let K = keeps i in record { record = (room i, e.end_at-end.ensures, omega (arith, c.if-m-end.false)); index = (
-        roomy i.loop.index (m i) (now-size i) (omega (arith, e.end_at-end.ensures, c.if-m-end.false)),
+    let K = keeps i in record { «record» = (room i, e.end_at-end.ensures, omega (arith, c.if-m-end.false)); index = (
+        roomy i.loop-r.index (m i) (now-size i) (omega (arith, e.end_at-end.ensures, c.if-m-end.false)),
         λ k b. let t = scaled i K in omega (arith, keeps-small K k (omega (arith, b, t)), t),
       ) }
 
@@ -55,20 +55,20 @@ module _ (c : After-enter) where
   abbrev i : In-loop-r
   i = c.before.before.before.before
 
-  next : (stored : List Stored) → Keeps i.args.store.now i.loop.index i.args.used stored
+  next : (stored : List Stored) → Keeps i.args.store.now i.loop-r.index i.args.used stored
       → Keeps i.args.store.now c.enter.new.index i.args.used stored
-      × (end_at i.args.store.now i.loop.r ≡ get_or c.enter.new.index (covered_at (m i)) 0)
+      × (end_at i.args.store.now i.loop-r.r ≡ get_or c.enter.new.index (covered_at (m i)) 0)
   next stored K =
       let n = c.enter in
       let e = c in
       let t = scaled i K in
-      let b : end_at i.args.store.now i.loop.r ≤ reach K.scale = omega (arith, e.end_at-end.ensures, c.if-m-end.false, t) in
-      let w = keeps-next K i.loop.r (reached i K) i.loop-r-test.true n.new.index n.auto.index b (rw (e.end_at-end.ensures, sym t) at n.ensures) in
+      let b : end_at i.args.store.now i.loop-r.r ≤ reach K.scale = omega (arith, e.end_at-end.ensures, c.if-m-end.false, t) in
+      let w = keeps-next K i.loop-r.r (reached i K) i.loop-r-test.true n.new.index n.auto.index b (rw (e.end_at-end.ensures, sym t) at n.ensures) in
       (w.0, w.1 ∙ ap (λ (k : ℕ). get_or n.new.index (covered_at k) 0) t)
 
 pub loop-r-preserved : goal.loop-r-preserved
 loop-r-preserved c =
-    let v = (i (goal.at.loop-r-preserved c).After-enter).loop.invariant in (
+    let v = (i (goal.at.loop-r-preserved c).After-enter).loop-r.invariant in (
       c.enter.auto.index ∙ v.0,
       c.end_at-end.ensures ∙ (next (goal.at.loop-r-preserved c).After-enter (i (goal.at.loop-r-preserved c).After-enter).requires.0 (keeps (i (goal.at.loop-r-preserved c).After-enter))).1,
       λ stored K. (next (goal.at.loop-r-preserved c).After-enter stored (v.2 stored K)).0,

@@ -34,8 +34,8 @@ pub loop-p-init : goal.loop-p-init
 loop-p-init c stored K =
     let k = c.key_of.ensures in
     let e = c.scale_of-m.ensures.value in
-    let t : c.key_of.result ≡ key_of K.scale _ = k.0 ∙ ap (λ (j : ℕ). key_of j _) (e ∙ sym K.size) in
-    rw t (walk_start K.covers.chains (omega (arith, k.1, t, e, K.size)))
+    let t : c.key_of.result ≡ key_of K.scale _ = k.value ∙ ap (λ (j : ℕ). key_of j _) (e ∙ sym K.size) in
+    rw t (walk_start K.covers.chains (omega (arith, k.upper_bound, t, e, K.size)))
 
 -- the place x
 module _ (c : In-loop-p) where

@@ -41,7 +41,7 @@ module _ (c : In-Nowhere) where
   w = c.before
 
   none : (stored : List Stored) (K : Keeps (d w).args.store.now (d w).args.index.now (d w).args.used stored)
-      → Spotted (covered (d w) stored K).scale (covered (d w) stored K).covers.front (d w).args.literals.now (d w).cover.last.1.1.0 Nowhere
+      → Spotted (covered (d w) stored K).scale (covered (d w) stored K).covers.front (d w).args.literals.now (d w).cover.new.index Nowhere
   none stored K = said w _ c.in-Nowhere.is stored (covered (d w) stored K)
 
 pub delete_far-requires : goal.delete_far-requires

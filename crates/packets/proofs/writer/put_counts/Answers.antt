@@ -9,4 +9,4 @@ pub returns : goal.returns
 returns c = let a = c.args in
     let p = c.put_count-first.ensures in
     let q = c.put_count-second.ensures in
-    let r = c.put_count.ensures in record { put = counts-put (kind_word a.kind) c.kind_number.result a.heads a.body c.kind_number.ensures p.0 q.0 r.0; value = omega (arith, p.1, q.1, r.1) }
+    let r = c.put_count.ensures in record { put = counts-put (kind_word a.kind) c.kind_number.result a.heads a.body c.kind_number.ensures p.put q.put r.put; value = omega (arith, p.value, q.value, r.value) }

@@ -10,5 +10,5 @@ returns c =
     let m = c.put_mark.ensures in
     let p = c.put_count-second.ensures in
     let q = c.put_count.ensures in
-    let e : c.put_count.result ≡ 13 = omega (arith, p.1, q.1) in
-    rw e at (put_on m (put_on p.0 q.0))
+    let e : c.put_count.result ≡ 13 = omega (arith, p.value, q.value) in
+    rw e at (put_on m (put_on p.put q.put))

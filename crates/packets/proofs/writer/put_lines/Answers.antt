@@ -65,10 +65,10 @@ unfolding byte_classes
 step_at-answer-requires c = let i = c.loop-letter.invariant in record { classes_value = refl; rows = (i.1, i.2) }
 
 pub returns-in-End : goal.returns-in-End
-returns-in-End c = let b = (goal.at.returns-in-End c).After-step_at-answer in stepping-end (here b).loop.invariant.0 (into-told b.step_at-answer.ensures c.in-End.is)
+returns-in-End c = let b = (goal.at.returns-in-End c).After-step_at-answer in stepping-end (here b).loop-letter.invariant.0 (into-told b.step_at-answer.ensures c.in-End.is)
 
 pub returns-in-Refused : goal.returns-in-Refused
-returns-in-Refused c = let b = (goal.at.returns-in-Refused c).After-step_at-answer in stepping-refused (here b).loop.invariant.0 _ (into-told b.step_at-answer.ensures c.in-Refused.is)
+returns-in-Refused c = let b = (goal.at.returns-in-Refused c).After-step_at-answer in stepping-refused (here b).loop-letter.invariant.0 _ (into-told b.step_at-answer.ensures c.in-Refused.is)
 
 pub slice_bounds-numbers-end : goal.slice_bounds-numbers-end
 slice_bounds-numbers-end c = (room (goal.at.slice_bounds-numbers-end c).In-Line).1
@@ -79,7 +79,7 @@ slice_bounds-put_step-end c = sym (length-take-le _ _ (room (goal.at.slice_bound
 pub put_step-end-requires : goal.put_step-end-requires
 put_step-end-requires c =
     let d = (goal.at.put_step-end-requires c).In-Line in
-    let S = (l d).loop.invariant.0 in
+    let S = (l d).loop-letter.invariant.0 in
     (rw (length-take-le _ _ (room d).1) (room d).0, omega (arith, S.near, S.within, (a d).requires.0, (a d).requires.1))
 
 pub slice_bounds-numbers-end-in-Line : goal.slice_bounds-numbers-end-in-Line
@@ -91,19 +91,19 @@ slice_bounds-largest_variable-end c = sym (length-take-le _ _ (room (goal.at.sli
 pub overflow_add-steps : goal.overflow_add-steps
 overflow_add-steps c =
     let d = (goal.at.overflow_add-steps c).In-Line in
-    let S = (l d).loop.invariant.0 in
+    let S = (l d).loop-letter.invariant.0 in
     record { fits = omega (arith, S.few, S.within, (a d).requires.0) }
 
 pub loop-letter-smaller : goal.loop-letter-smaller
 loop-letter-smaller c =
     let d = (goal.at.loop-letter-smaller c).In-Line in
-    let u = passed-line (a d).args.text.now (l d).loop.position (there d) in
+    let u = passed-line (a d).args.text.now (l d).loop-letter.position (there d) in
     omega (arith, u.0, u.1)
 
 pub loop-letter-preserved : goal.loop-letter-preserved
 loop-letter-preserved c =
     let d = (goal.at.loop-letter-preserved c).In-Line in
     let p = c.put_step-end.ensures in
-    let i = (l d).loop.invariant in
-    let k = (b d).step-at.auto in
-    (stepping-on i.0 (there d) p.0 p.1 (c.larger-top.ensures ∙ ap (max (l d).loop.top) c.largest_variable.ensures), k.1.1.1.0 ∙ i.1, k.1.1.1.1.0 ∙ i.2)
+    let i = (l d).loop-letter.invariant in
+    let k = (b d).step_at-answer.auto in
+    (stepping-on i.0 (there d) p.put p.upper_bound (c.larger-top.ensures ∙ ap (max (l d).loop-letter.top) c.largest_variable.ensures), k.1.1.1.0 ∙ i.1, k.1.1.1.1.0 ∙ i.2)

@@ -10,4 +10,4 @@ use Rattle.packets.proofs.writer.put_step.Goals as goal
 pub returns : goal.returns
 returns c = let a = c in
     let n = c.put_all.ensures in
-    let letter = rw c.byte_of.ensures at c.put.ensures in record { put = put_on (put_two (byte_of a.args.letter) (length a.args.numbers.now) letter c.put-2.ensures) n.0; upper_bound = omega (arith, n.1, a.requires.0) }
+    let letter = rw c.byte_of.ensures at c.put.ensures in record { put = put_on (put_two (byte_of a.args.letter) (length a.args.numbers.now) letter c.put-2.ensures) n.put; upper_bound = omega (arith, n.value, a.requires.0) }

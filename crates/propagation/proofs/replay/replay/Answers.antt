@@ -81,14 +81,14 @@ module _ (d : Then-is_start) where
   size = l.loop-k.invariant.0.size ∙ s.requires.size
 
 pub derive_at-given-requires : goal.derive_at-given-requires
-derive_at-given-requires c = let d = (goal.at.derive_at-given-requires c).Then-is_start in record { record = read d; size = size d }
+derive_at-given-requires c = let d = (goal.at.derive_at-given-requires c).Then-is_start in record { «record» = read d; size = size d }
 
 -- what it gave
 module _ (c : After-derive_at-given) where
   abbrev at : Then-is_start
   at = (view.up-Then-is_start tie.the-claims reads.Pre reads.Post goal.the-invariant-loop-k goal.the-decreases-loop-k tie.handed_clauses c.before.before.before)
 
-  told : (y : Derived) → c.derive_at-given.result ≡ y → DerivesAt (words at) (x at) (l at).loop.assignment c.derive_at-given.new.assignment y
+  told : (y : Derived) → c.derive_at-given.result ≡ y → DerivesAt (words at) (x at) (l at).loop-k.assignment c.derive_at-given.new.assignment y
   told y e = rw e at c.derive_at-given.ensures
 
 pub returns-in-Conflicting : goal.returns-in-Conflicting
@@ -96,8 +96,8 @@ returns-in-Conflicting c =
     let o = (goal.at.returns-in-Conflicting c).After-derive_at-given in
     let d = at o in
     let t = told o _ c.in-Conflicting.is in
-    let v = (l d).loop.invariant in (
-      clashes-before _ _ _ v.0 (conflicting _ _ (stands d) t.0 (read d).literals (l d).loop.assignment (size d) t.1.1),
+    let v = (l d).loop-k.invariant in (
+      clashes-before _ _ _ v.0 (conflicting _ _ (stands d) t.0 (read d).literals (l d).loop-k.assignment (size d) t.1.1),
       (v.1.0, rw t.1.0 v.1.1),
     )
 
@@ -109,33 +109,33 @@ module _ (c : In-Assigned) where
   abbrev v : ℕ
   v = c.in-Assigned.v
 
-  gives : DerivesAt (words (at o)) (x (at o)) (l (at o)).loop.assignment o.derive_at-given.new.assignment (Assigned v)
+  gives : DerivesAt (words (at o)) (x (at o)) (l (at o)).loop-k.assignment o.derive_at-given.new.assignment (Assigned v)
   gives = told o _ c.in-Assigned.is
 
-  grown : Grows (words (at o)) (l (at o)).loop.assignment o.derive_at-given.new.assignment × (v < entries)
+  grown : Grows (words (at o)) (l (at o)).loop-k.assignment o.derive_at-given.new.assignment × (v < entries)
   grown =
       let d = at o in
-      let g = derived _ _ (stands d) gives.0 (read d).literals (l d).loop.assignment (size d) _ _ gives.1 in
+      let g = derived _ _ (stands d) gives.0 (read d).literals (l d).loop-k.assignment (size d) _ _ gives.1 in
       (g.0, g.3)
 
 pub past-end-requires : goal.past-end-requires
-past-end-requires c = ((l (at (o c))).loop.invariant.1.0, (grown c).1)
+past-end-requires c = ((l (at (o c))).loop-k.invariant.1.0, (grown c).1)
 
 pub loop-k-smaller-in-Assigned : goal.loop-k-smaller-in-Assigned
-loop-k-smaller-in-Assigned c = omega (arith, (at (o (goal.at.loop-k-smaller-in-Assigned c).In-Assigned)).loop-test.true)
+loop-k-smaller-in-Assigned c = omega (arith, (at (o (goal.at.loop-k-smaller-in-Assigned c).In-Assigned)).loop-k-test.true)
 
 pub loop-k-preserved-in-Assigned : goal.loop-k-preserved-in-Assigned
 loop-k-preserved-in-Assigned c =
     let k = (goal.at.loop-k-preserved-in-Assigned c).In-Assigned in
-    let i = (l (at (o k))).loop in
+    let i = (l (at (o k))).loop-k in
     let p = c.past-end.ensures in
     (grows-on i.inv.0 (grown k).0, (p.1.1, rw (gives k).1.3 (blank-set i.assignment (v k) _ i.end _ i.inv.1.1 p.0 p.1.0)))
 
 pub loop-k-smaller-in-Nothing : goal.loop-k-smaller-in-Nothing
-loop-k-smaller-in-Nothing c = omega (arith, (at (goal.at.loop-k-smaller-in-Nothing c).After-derive_at-given).loop-test.true)
+loop-k-smaller-in-Nothing c = omega (arith, (at (goal.at.loop-k-smaller-in-Nothing c).After-derive_at-given).loop-k-test.true)
 
 pub loop-k-preserved-in-Nothing : goal.loop-k-preserved-in-Nothing
-loop-k-preserved-in-Nothing c = let o = (goal.at.loop-k-preserved-in-Nothing c).After-derive_at-given in rw (told o _ c.in-Nothing.is).0 (l (at o)).loop.invariant
+loop-k-preserved-in-Nothing c = let o = (goal.at.loop-k-preserved-in-Nothing c).After-derive_at-given in rw (told o _ c.in-Nothing.is).0 (l (at o)).loop-k.invariant
 
 pub loop-k-smaller : goal.loop-k-smaller
 loop-k-smaller c = omega (arith, c.loop-k-test.true)

@@ -62,8 +62,8 @@ returns-in-Ends c =
     let a = (start t).args in
     λ N P bodies ts H.
     rw (half-stands (new t) H)
-    (subst (λ (x : ℤ). Writes (all_standing x (new t) a.shared.now a.has_body a.has-constraint 0 ts) a.output.now (output' t) a.at (At t.loop.end)) (literal t)
-    (walk_ends a.text.now _ (new t) a.shared.now a.has_body a.has-constraint a.output.now a.at t.loop.invariant.0 t.loop.invariant.1 (output' t) c.in-Ends.is t.write_at.ensures ts H.reads))
+    (subst (λ (x : ℤ). Writes (all_standing x (new t) a.shared.now a.has_body a.has-constraint 0 ts) a.output.now (output' t) a.at (At t.loop-next.end)) (literal t)
+    (walk_ends a.text.now _ (new t) a.shared.now a.has_body a.has-constraint a.output.now a.at t.loop-next.invariant.0 t.loop-next.invariant.1 (output' t) c.in-Ends.is t.write_at.ensures ts H.reads))
 
 pub returns-in-Over : goal.returns-in-Over
 returns-in-Over c =
@@ -72,16 +72,16 @@ returns-in-Over c =
     λ N P bodies ts H.
     rw (half-stands (new t) H)
     (subst (λ (x : ℤ). Writes (all_standing x (new t) a.shared.now a.has_body a.has-constraint 0 ts) a.output.now (output' t) a.at Over) (literal t)
-    (walk-over a.text.now _ (new t) a.shared.now a.has_body a.has-constraint a.output.now a.at t.loop.invariant.0 t.loop.invariant.1 (output' t) c.in-Over.is t.write_at.ensures ts H.reads))
+    (walk-over a.text.now _ (new t) a.shared.now a.has_body a.has-constraint a.output.now a.at t.loop-next.invariant.0 t.loop-next.invariant.1 (output' t) c.in-Over.is t.write_at.ensures ts H.reads))
 
 onward : (c : In-Goes)
     → (let t = (view.up-After-write_at tie.the-claims reads.Pre reads.Post goal.the-invariant-loop-next goal.the-decreases-loop-next tie.handed_clauses c.before.before.before.before.before.before) in let a = (start t).args in
     Walks a.text.now (to_z w32 (of_z w32 a.x)) (new t) a.shared.now a.has_body a.has-constraint a.output.now a.at (output' t) c.in-Goes.next c.in-Goes.n c.in-Goes.e
-    × ((c.in-Goes.e ≤ longest) × ((t.loop.position < c.in-Goes.next) × (c.in-Goes.next ≤ length a.text.now))))
+    × ((c.in-Goes.e ≤ longest) × ((t.loop-next.position < c.in-Goes.next) × (c.in-Goes.next ≤ length a.text.now))))
 onward c =
     let t = (view.up-After-write_at tie.the-claims reads.Pre reads.Post goal.the-invariant-loop-next goal.the-decreases-loop-next tie.handed_clauses c.before.before.before.before.before.before) in
     let a = (start t).args in
-    walk-on a.text.now _ (new t) a.shared.now a.has_body a.has-constraint a.output.now a.at t.loop.invariant.0 t.loop.invariant.1 (output' t) _ _ _ c.in-Goes.is t.write_at.ensures
+    walk-on a.text.now _ (new t) a.shared.now a.has_body a.has-constraint a.output.now a.at t.loop-next.invariant.0 t.loop-next.invariant.1 (output' t) _ _ _ c.in-Goes.is t.write_at.ensures
 
 pub loop-next-smaller : goal.loop-next-smaller
 loop-next-smaller c = let o = onward c in omega (arith, o.1.1.0, o.1.1.1)
@@ -90,5 +90,5 @@ pub loop-next-preserved : goal.loop-next-preserved
 loop-next-preserved c =
     let t = (goal.at.loop-next-preserved c).After-write_at in
     let o = onward c in
-    let i = t.loop.invariant in
+    let i = t.loop-next.invariant in
     (o.0, o.1.0, same-output t, t.write_at.auto.numbers ∙ i.3, t.write_at.auto.sorted ∙ i.4)

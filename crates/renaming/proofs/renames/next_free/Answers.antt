@@ -20,7 +20,7 @@ module _ (c : After-is_marked-in-loop-n) where
 
 pub loop-n-preserved : goal.loop-n-preserved
 loop-n-preserved c =
-    let i = (goal.at.loop-n-preserved c).After-is_marked-in-loop-n.loop in
+    let i = (goal.at.loop-n-preserved c).After-is_marked-in-loop-n.loop-n in
     let t = c.loop-n-test.true in (
       omega (arith, i.inv.0),
       omega (arith, t),
@@ -32,7 +32,7 @@ loop-n-preserved c =
 
 pub returns-else-is_marked : goal.returns-else-is_marked
 returns-else-is_marked c =
-    let i = (goal.at.returns-else-is_marked c).After-is_marked-in-loop-n.loop in
+    let i = (goal.at.returns-else-is_marked c).After-is_marked-in-loop-n.loop-n in
     record { above = i.inv.0; within = i.inv.1; free = λ h. known (goal.at.returns-else-is_marked c).After-is_marked-in-loop-n ∙ c.if-is_marked.false; taken = i.inv.2 }
 
 pub returns : goal.returns

@@ -71,7 +71,7 @@ rename_at-requires c = let i = c.loop-next.invariant in
 pub returns-in-Ends : goal.returns-in-Ends
 returns-in-Ends c =
     let t = (goal.at.returns-in-Ends c).After-rename_at in
-    let i = t.loop.invariant in
+    let i = t.loop-next.invariant in
     λ ws v one two z₁ z₂ H.
     turn-ends H (i.0 ws v one two z₁ z₂ H) i.1 i.2 i.6 (new' t) (shared' t) c.in-Ends.is
     (t.rename_at.ensures.renamed ws H.holds (name_of (named_in [] one)) H.kept)
@@ -79,15 +79,15 @@ returns-in-Ends c =
 pub returns-in-Over : goal.returns-in-Over
 returns-in-Over c =
     let t = (goal.at.returns-in-Over c).After-rename_at in
-    let i = t.loop.invariant in
+    let i = t.loop-next.invariant in
     λ ws v one two z₁ z₂ H.
     turn-over H (i.0 ws v one two z₁ z₂ H) i.1 i.2 i.6 (new' t) (shared' t) c.in-Over.is
     (t.rename_at.ensures.renamed ws H.holds (name_of (named_in [] one)) H.kept)
 
 -- a turn that goes on
 within : (c : In-Goes)
-    → (let t = (view.up-After-rename_at tie.the-claims reads.Pre reads.Post goal.the-invariant-loop-next goal.the-decreases-loop-next tie.handed_clauses c.before.before.before.before.before.before.before.before) in (t.loop.at < c.in-Goes.next) × (c.in-Goes.next ≤ length (start t).args.second.now) × (c.in-Goes.c ≤ entries))
-within c = let t = (view.up-After-rename_at tie.the-claims reads.Pre reads.Post goal.the-invariant-loop-next goal.the-decreases-loop-next tie.handed_clauses c.before.before.before.before.before.before.before.before) in subst (TurnBounds t.loop.at (length (start t).args.second.now)) c.in-Goes.is t.rename_at.ensures.within
+    → (let t = (view.up-After-rename_at tie.the-claims reads.Pre reads.Post goal.the-invariant-loop-next goal.the-decreases-loop-next tie.handed_clauses c.before.before.before.before.before.before.before.before) in (t.loop-next.at < c.in-Goes.next) × (c.in-Goes.next ≤ length (start t).args.second.now) × (c.in-Goes.c ≤ entries))
+within c = let t = (view.up-After-rename_at tie.the-claims reads.Pre reads.Post goal.the-invariant-loop-next goal.the-decreases-loop-next tie.handed_clauses c.before.before.before.before.before.before.before.before) in subst (TurnBounds t.loop-next.at (length (start t).args.second.now)) c.in-Goes.is t.rename_at.ensures.within
 
 pub loop-next-smaller : goal.loop-next-smaller
 loop-next-smaller c = let o = within c in omega (arith, o.0, o.1)
@@ -95,7 +95,7 @@ loop-next-smaller c = let o = within c in omega (arith, o.0, o.1)
 pub loop-next-preserved : goal.loop-next-preserved
 loop-next-preserved c =
     let t = (goal.at.loop-next-preserved c).After-rename_at in
-    let i = t.loop.invariant in
+    let i = t.loop-next.invariant in
     let o = within c in (
       λ ws v one two z₁ z₂ H.
           turn_on H (i.0 ws v one two z₁ z₂ H) i.1 i.2 i.6 (new' t) (shared' t) _ _ c.in-Goes.is

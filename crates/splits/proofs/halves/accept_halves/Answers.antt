@@ -76,7 +76,7 @@ accepts_with-requires c = let x = (goal.at.accepts_with-requires c).Else-not-is_
 pub returns-then-not-accepts_with : goal.returns-then-not-accepts_with
 returns-then-not-accepts_with c = let a = (goal.at.returns-then-not-accepts_with c).After-accepts_with in
     let x = e a in
-    let r = a.accepts_with.ensures in record { empty = r.0; checked = λ ws p. no-half _ ws _ _ _ p.top (is-atom x) (literal x) (r.1 ws p) (c.if-not-accepts_with.true) }
+    let r = a.accepts_with.ensures in record { empty = r.empty; checked = λ ws p. no-half _ ws _ _ _ p.top (is-atom x) (literal x) (r.checked ws p) (c.if-not-accepts_with.true) }
 
 pub complement_of-requires : goal.complement_of-requires
 complement_of-requires c = let x = (goal.at.complement_of-requires c).Else-not-is_atom in rw (literal x) (small x)

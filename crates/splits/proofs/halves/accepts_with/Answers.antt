@@ -36,4 +36,4 @@ accepts-requires c = let d = (goal.at.accepts-requires c).After-append_demand in
 
 pub returns : goal.returns
 returns c = let a = c.accepts.ensures in
-    let d = (goal.at.returns c).After-append_demand in record { empty = a.0; checked = λ ws p. a.1 (demanding_as_written ws (complement d.args.literal)) (whole d p) }
+    let d = (goal.at.returns c).After-append_demand in record { empty = a.empty; checked = λ ws p. a.checked (demanding_as_written ws (complement d.args.literal)) (whole d p) }

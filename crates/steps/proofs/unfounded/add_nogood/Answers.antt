@@ -27,8 +27,8 @@ bounds-numbers-0 c = some_number Loop refl c.requires.set.1
 pub add_by_rules-requires : goal.add_by_rules-requires
 add_by_rules-requires c = let s = c in
     let p = s.requires in
-    let A = p.0.2 in rw (back (get_or s.args.numbers.now 0 (pos 0)) c.add_by_rules-arg-1.given)
-    (record { state = (p.0, omega (arith, A.kept.rules, rules-held A.holds), first-high Loop refl p.1.1.0.1); store = p.1.1.1 })
+    let A = p.state.2 in rw (back (get_or s.args.numbers.now 0 (pos 0)) c.add_by_rules-arg-1.given)
+    (record { state = (p.state, omega (arith, A.kept.rules, rules-held A.holds), first-high Loop refl p.set.1); store = p.store })
 
 pub returns : goal.returns
 returns c =

@@ -10,7 +10,7 @@ use Rattle.totalizer.proofs.levels.levels_of.Goals as goal
 pub sums_of_both-m-requires : goal.sums_of_both-m-requires
 sums_of_both-m-requires c = let s = c in
     let p = s.requires in
-    let f = c.sums_of-n in record { pairs = (p.0.0, p.0.2, p.0.3); room = (p.1.1, omega (arith, f.auto.spare, p.1.2)) }
+    let f = c.sums_of-n in record { pairs = (p.pairs.0, p.pairs.2, p.pairs.3); room = (p.room.1, omega (arith, f.auto.spare, p.room.2)) }
 
 pub slice_bounds-useful_levels-end-2 : goal.slice_bounds-useful_levels-end-2
 slice_bounds-useful_levels-end-2 c = sym (length-take-le _ _ c.sums_of-n.ensures.within)
@@ -24,11 +24,11 @@ useful_levels-requires c = let s = c in
     let p = s.requires in
     let f = c.sums_of-n in
     let g = c.sums_of_both-m in
-    let n = subst (SumsUpTo b) (sym f.ensures.sums) (sums-up-to b _) in record { sums = (n, subst (SumsUpTo b) (sym g.ensures.sums) (sums-up-to b _), p.0.3); room = omega (arith, few-sums n, p.1.3) }
+    let n = subst (SumsUpTo b) (sym f.ensures.sums) (sums-up-to b _) in record { sums = (n, subst (SumsUpTo b) (sym g.ensures.sums) (sums-up-to b _), p.pairs.3); room = omega (arith, few-sums n, p.room.3) }
 
 pub returns : goal.returns
 unfolding levels_for
 returns c = let s = c in
     let r = c.useful_levels.ensures in
     let f = c.sums_of-n in
-    let g = c.sums_of_both-m in record { within = r.0; levels = r.1 ∙ ap₂ (λ others us. useful s.args.bound others us) g.ensures.sums f.ensures.sums }
+    let g = c.sums_of_both-m in record { within = r.within; levels = r.levels ∙ ap₂ (λ others us. useful s.args.bound others us) g.ensures.sums f.ensures.sums }

@@ -7,4 +7,4 @@ pub returns : goal.returns
 unfolding line_of
 returns c = let last = c.put_bytes.ensures in
     let numbers = c.put_numbers-end.ensures in
-    let first = c.put_bytes-from.ensures in record { written = put_on first (put_on numbers.0 last); within = omega (arith, first.ends, numbers.1, last.ends) }
+    let first = c.put_bytes-from.ensures in record { written = put_on first (put_on numbers.written last); within = omega (arith, first.ends, numbers.within, last.ends) }

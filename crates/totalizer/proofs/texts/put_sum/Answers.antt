@@ -11,4 +11,4 @@ returns c = let s = c in
     let bound = c.put_size-bound.ensures in
     let kind = c.put_bytes-kind.ensures in
     let head = c.put_size-head.ensures in
-    let first = c.put_bytes-first.ensures in record { written = sum-put s.args.atom s.args.level s.args.pairs.now (put_on first (put_on head.0 (put_on kind (put_on bound.0 (put_on count.0 (put_on pairs.0 last)))))); within = omega (arith, first.ends, head.1, kind.ends, bound.1, count.1, pairs.1, last.ends) }
+    let first = c.put_bytes-first.ensures in record { written = sum-put s.args.atom s.args.level s.args.pairs.now (put_on first (put_on head.written (put_on kind (put_on bound.written (put_on count.written (put_on pairs.written last)))))); within = omega (arith, first.ends, head.within, kind.ends, bound.within, count.within, pairs.within, last.ends) }

@@ -41,7 +41,7 @@ line_start-start-requires c = let d = (goal.at.line_start-start-requires c).At-l
 pub try_without-left-requires : goal.try_without-left-requires
 try_without-left-requires c = let b = c in
     let d = (goal.at.try_without-left-requires c).In-loop-at in
-    let I = d.loop.invariant in
+    let I = d.loop-at.invariant in
     let q = d.requires in
     let h = b.line_start-start.ensures.before in record { bounds = ((omega (arith, h), (inside d).0), (inside d).1); room = (omega (arith, I.same_text, q.0.0), I.same-trial ∙ q.0.1); program = q.1.1.0; empty = (zeros (pos 0) {n = length d.args.store.now} I.zeros).0 }
 
@@ -53,7 +53,7 @@ loop-at-preserved c =
     let t = c in
     let b = c in
     let d = (goal.at.loop-at-preserved c).In-loop-at in
-    let I = d.loop.invariant in
+    let I = d.loop-at.invariant in
     let a = d.args in
     let k = t.try_without-left.auto in
     let e = t.try_without-left.ensures in
@@ -61,13 +61,13 @@ loop-at-preserved c =
       same_text = k.0 ∙ I.same_text;
       same-trial = k.1.1.1.1.0 ∙ I.same-trial;
       same_store = k.1.1.1.1.1.1.1.1.0 ∙ I.same_store;
-      zeros = e.1.0 ∙ ap (λ (n : ℕ). replicate n (pos 0)) I.same_store;
-      ahead = e.0.0;
-      within = omega (arith, e.0.1, I.within);
+      zeros = e.empty ∙ ap (λ (n : ℕ). replicate n (pos 0)) I.same_store;
+      ahead = e.bounds.0;
+      within = omega (arith, e.bounds.1, I.within);
       trying = λ ws ts p r.
           let x = (steps-exact longest (take a.len a.text.now) ts).0 r in
-          try-on (length a.store.now) ws ts x.2 (rw (← x.0) x.1) d.loop.text t.try_without-left.new.text d.loop.at d.loop.left
-          b.line_start-start.result t.try_without-left.result (some d) (inside d) b.line_start-start.ensures.line (rw I.same_store at (e.1.1 ws p)) (I.trying ws ts p r);
+          try-on (length a.store.now) ws ts x.2 (rw (← x.0) x.1) d.loop-at.text t.try_without-left.new.text d.loop-at.at d.loop-at.left
+          b.line_start-start.result t.try_without-left.result (some d) (inside d) b.line_start-start.ensures.line (rw I.same_store at (e.tried ws p)) (I.trying ws ts p r);
     }
 
 pub returns : goal.returns

@@ -67,8 +67,8 @@ pass-left-requires c = let k = c in
 pub returns-then-left-len : goal.returns-then-left-len
 returns-then-left-len c = let d = (goal.at.returns-then-left-len c).After-pass-left in
     let a = (s d).args in
-    let I = d.loop.invariant in record { within = omega (arith, inside d, same_text d); empty = d.pass-left.ensures.empty ∙ ap (λ (n : ℕ). replicate n (pos 0)) I.same_store; trimmed = λ ws ts p r.
-            reads_end (length a.store.now) ws ts a.text.now r d.loop.text d.loop.len (R d ws ts p r) I.within (text' d) d.pass-left.result (inside d) (after d ws ts p r) c.if-left-len.true }
+    let I = d.loop-len.invariant in record { within = omega (arith, inside d, same_text d); empty = d.pass-left.ensures.empty ∙ ap (λ (n : ℕ). replicate n (pos 0)) I.same_store; trimmed = λ ws ts p r.
+            reads_end (length a.store.now) ws ts a.text.now r d.loop-len.text d.loop-len.len (R d ws ts p r) I.within (text' d) d.pass-left.result (inside d) (after d ws ts p r) c.if-left-len.true }
 
 pub loop-len-smaller : goal.loop-len-smaller
 loop-len-smaller c = let d = (goal.at.loop-len-smaller c).After-pass-left in omega (arith, most d, c.if-left-len.false)
@@ -77,7 +77,7 @@ pub loop-len-preserved : goal.loop-len-preserved
 loop-len-preserved c =
     let d = (goal.at.loop-len-preserved c).After-pass-left in
     let a = (s d).args in
-    let I = d.loop.invariant in
+    let I = d.loop-len.invariant in
     let k = d.pass-left.auto in
     record {
       same_text = same_text d;
@@ -86,7 +86,7 @@ loop-len-preserved c =
       room = k.1.1.0 ∙ I.room;
       within = inside d;
       repeating = λ ws ts p r.
-          reads_on (length a.store.now) ws ts a.text.now r d.loop.text d.loop.len (R d ws ts p r) I.within (text' d) d.pass-left.result (inside d) (after d ws ts p r) c.if-left-len.false;
+          reads_on (length a.store.now) ws ts a.text.now r d.loop-len.text d.loop-len.len (R d ws ts p r) I.within (text' d) d.pass-left.result (inside d) (after d ws ts p r) c.if-left-len.false;
     }
 
 pub slice_bounds-pass-end : goal.slice_bounds-pass-end
