@@ -162,7 +162,7 @@ module _ (M : ℕ → Bool) (W : ℕ → Type 0) (dec : (v : ℕ) → Decides (M
   unfolding give_head
   head-reach k h m g l = rw ((passed (gives M k (variable h))).to g, get_or-set_same m (variable h) 1 0 l) tt
 
-  heads-reach : (k : Kind) {hs : List ℤ} (m : List ℕ) {z : ℤ} → z ∈ hs → T (gives M k (variable z)) → variable z < length m → T (marked (give_heads M k hs m) (variable z))
+  heads-reach : (k : Kind) {z : ℤ} {hs : List ℤ} (m : List ℕ) → z ∈ hs → T (gives M k (variable z)) → variable z < length m → T (marked (give_heads M k hs m) (variable z))
   heads-reach k m (Memᴰ.head {x = h} {xs = hs} p) g l =
       rw p ((heads-later k hs (give_head M k h m)).grows (variable h) (head-reach k h m (rw p at g) (rw p at l)))
   heads-reach k m (Memᴰ.tail {x = h} {xs = hs} i) g l =
@@ -173,7 +173,7 @@ module _ (M : ℕ → Bool) (W : ℕ → Type 0) (dec : (v : ℕ) → Decides (M
   unfolding give_rule
   rule-reach r m b i g l = rw ((passed (body_holds M (marked m) r.body)).to b) (heads-reach r.kind m i g l)
 
-  round-reach : {rs : List InputRule} {r : InputRule} (m : List ℕ) {z : ℤ} → r ∈ rs → T (body_holds M (marked m) r.body) → z ∈ r.heads → T (gives M r.kind (variable z))
+  round-reach : {r : InputRule} {rs : List InputRule} (m : List ℕ) {z : ℤ} → r ∈ rs → T (body_holds M (marked m) r.body) → z ∈ r.heads → T (gives M r.kind (variable z))
       → variable z < length m → T (marked (round M rs m) (variable z))
   round-reach {r = r} m {z} (Memᴰ.head {x = s} {xs = rs} p) b i g l =
       (round-later rs (give_rule M s m)).grows (variable z) (rw p at (rule-reach r m b i g l))

@@ -1,6 +1,7 @@
 // The set test: least model, marks and answer for a set, over a table that the program reader leaves. What it means is
 // specs/SetTest.antt.
 #![tactic(auto)]
+
 mod answers;
 pub mod models;
 mod worklist;

@@ -6,11 +6,10 @@ use Rattle.words.specs.Limits.{entries}
 use Rattle.aspif.specs.Rules.{atoms}
 use Rattle.words.specs.Lists.{ascends}
 use Rattle.aspif.specs.Tables.{rules_at, sound_table}
-use Rattle.marks.specs.marks-1.{listed, marked}
+use Rattle.marks.specs.Marks.{listed, marked}
 use Rattle.aspif.proofs.Cursors.{sound-rules, atoms-small}
 use Rattle.marks.proofs.Sets.{marks-listed}
 use Rattle.answer_set.proofs.Tested.{refused-41, refused-42, refused-43, tested}
-use borrow.Author.Rules.{rules}
 use Rattle.answer_set.proofs.test_set.Goals as goal
 use Rattle.answer_set.proofs.test_set.Goals.{Else-not-is_readable, After-ascends_within}
 
@@ -39,12 +38,12 @@ pub returns-then-marks-ne-ENTRIES : goal.returns-then-marks-ne-ENTRIES
 returns-then-marks-ne-ENTRIES c =
     let d = (goal.at.returns-then-marks-ne-ENTRIES c).After-ascends_within in
     let z = c in
-    refused-43 _ _ _ _ _ z.zero_bytes.ensures (sound (goal.at.returns-then-marks-ne-ENTRIES c).Else-not-is_readable) (sym (told d) ∙ c.if-not-ascends_within.false) (λ e. c.if-marks-ne-ENTRIES.true (z.marks-1.given ∙ e))
+    refused-43 _ _ _ _ _ z.zero_bytes.ensures (sound (goal.at.returns-then-marks-ne-ENTRIES c).Else-not-is_readable) (sym (told d) ∙ c.if-not-ascends_within.false) (λ e. c.if-marks-ne-ENTRIES.true (z.zero_bytes.auto.bytes ∙ e))
 
 pub mark_least-requires : goal.mark_least-requires
 mark_least-requires c = let g = c in
     let d = c in
-    let z = c in record { rules_value = sound (goal.at.mark_least-requires c).Else-not-is_readable; most_value = d.largest_atom-atoms.ensures; marks_len = (g.if-marks-ne-ENTRIES.false, z.zero_bytes.ensures ∙ ap (λ k. replicate k 0) (sym z.marks-1.given)) }
+    let z = c in record { rules_value = sound (goal.at.mark_least-requires c).Else-not-is_readable; most_value = d.largest_atom-atoms.ensures; marks_len = (g.if-marks-ne-ENTRIES.false, z.zero_bytes.ensures ∙ ap (λ k. replicate k 0) (sym z.zero_bytes.auto.bytes)) }
 
 pub judge-requires : goal.judge-requires
 judge-requires c = let d = c in
@@ -62,4 +61,4 @@ returns c =
     let w = sym (told d) ∙ g.if-not-ascends_within.false in
     let h = atoms-small a.rules a.table.now (sound-rules _ _ s) in
     let e : marked m.mark_all.new.marks ≡ listed a.set.now = ap marked m.mark_all.ensures ∙ marks-listed (atoms (rules_at a.rules a.table.now)) entries a.set.now w (omega arith) in
-    tested a.table.now a.rules a.set.now a.marks.now k.mark_least.new.marks s w (sym z.marks-1.given ∙ m.if-marks-ne-ENTRIES.false) e d.largest_atom-atoms.ensures k.mark_least.ensures c.judge.ensures
+    tested a.table.now a.rules a.set.now a.marks.now k.mark_least.new.marks s w (sym z.zero_bytes.auto.bytes ∙ m.if-marks-ne-ENTRIES.false) e d.largest_atom-atoms.ensures k.mark_least.ensures c.judge.ensures

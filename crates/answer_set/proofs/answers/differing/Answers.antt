@@ -11,7 +11,6 @@ use Rattle.answer_set.proofs.answers.differing.Goals.{After-just_one}
 
 -- what the calls tell of the number i
 module _ (c : After-just_one) where
-
   abbrev f : ℕ → Bool
   f = differs_at (marked c.args.inside.now) c.args.marks.now
 

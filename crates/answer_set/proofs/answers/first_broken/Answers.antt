@@ -19,7 +19,6 @@ use Rattle.answer_set.proofs.answers.first_broken.Tie as tie
 
 -- the words from i on, and the rule there
 module _ (c : In-loop-left) where
-
   abbrev M : ℕ → Bool
   M = marked c.args.inside.now
 

@@ -22,7 +22,7 @@ pub loop-left-preserved : goal.loop-left-preserved
 loop-left-preserved c =
     let d = c in
     let l = d.loop-left in
-    (c.marks-1.given ∙ l.invariant.0, l.invariant.1 ∙ rounds-on _ l.left _ l.marks d.loop-left-test.true ∙ rw d.give_all.ensures.marks)
+    (c.give_all.auto.marks ∙ l.invariant.0, l.invariant.1 ∙ rounds-on _ l.left _ l.marks d.loop-left-test.true ∙ rw d.give_all.ensures.marks)
 
 pub returns : goal.returns
 returns c = let l = c.loop-left in sym (l.invariant.1 ∙ rounds-end _ l.left _ l.marks c.loop-left-test.false)

@@ -1,7 +1,7 @@
 use mathlib.Core.Path.{◌≡◌}
 use lib.ListN.{length}
 use Rattle.aspif.specs.Tables.{rules_at}
-use Rattle.marks.specs.marks-1.{marked}
+use Rattle.marks.specs.Marks.{marked}
 use Rattle.answer_set.specs.SetTest.{rounds}
 use Rattle.answer_set.proofs.models.close.Given as goal
 

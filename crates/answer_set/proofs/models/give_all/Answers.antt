@@ -1,7 +1,6 @@
 use mathlib.Core.Path.{sym, ◌∙◌, ap, refl}
-use mathlib.Core.Bool.{false, true≢false}
+use mathlib.Core.Bool.{true≢false}
 use mathlib.Core.List.{List}
-use mathlib.Core.Logic.{⊎_elim}
 use Prim.Native.Nat.{ℕ}
 use native.Mathlib.Omega.{arith}
 use lib.IntN.{ℤ}
@@ -9,19 +8,18 @@ use lib.ListN.{drop}
 use Rattle.aspif.specs.Rules.{InputRule}
 use Rattle.words.proofs.Parts.{tail_of}
 use Rattle.aspif.specs.Tables.{rule_at}
-use Rattle.marks.specs.marks-1.{marked, Marking}
+use Rattle.marks.specs.Marks.{marked, Marking}
 use Rattle.answer_set.specs.SetTest.{give_rule, round}
 use Rattle.aspif.proofs.Cursors.{AtRule, at-rule, no-rules}
 use borrow.Author.Rules.{rules}
 use Rattle.answer_set.proofs.models.give_all.Goals as goal
-use Rattle.answer_set.proofs.models.give_all.Goals.{In-loop-left, After-give_rule}
+use Rattle.answer_set.proofs.models.give_all.Goals.{In-loop-left, After-give_rule, then-give_rule, else-give_rule}
 use Rattle.answer_set.proofs.models.give_all.Lts.View as view
 use Rattle.answer_set.proofs.models.give_all.Reads as reads
 use Rattle.answer_set.proofs.models.give_all.Tie as tie
 
 -- the words from i on, and the rule there
 module _ (c : In-loop-left) where
-
   abbrev t : List ℤ
   t = c.args.table.now
 
@@ -59,9 +57,12 @@ loop-left-preserved c =
     let l = d.loop-left in
     rw c.next_rule-i.ensures.next.0 (
       (at d).next,
-      c.marks-1.given ∙ l.invariant.1,
+      c.give_rule.auto.marks ∙ l.invariant.1,
       l.invariant.2 ∙ ap (λ (rs : List InputRule). round (marked d.args.inside.now) rs l.marks) (at d).rules ∙ rw (told g).marks,
-      ⊎_elim (λ w z. absurd (true≢false (sym w.1 ∙ z))) (λ w z. (told g).still w.0.left ∙ l.invariant.3 (sym w.1 ∙ z)) c.if-give_rule.branch,
+      elim c.if-give_rule.branch [
+        | then-give_rule w ↦ λ z. absurd (true≢false (sym w.new-is ∙ z))
+        | else-give_rule w ↦ λ z. (told g).still w.if-give_rule.false ∙ l.invariant.3 (sym w.new-is ∙ z)
+      ],
     )
 
 pub returns : goal.returns

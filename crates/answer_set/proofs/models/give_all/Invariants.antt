@@ -2,7 +2,7 @@ use mathlib.Core.Path.{◌≡◌}
 use mathlib.Core.Bool.{false}
 use lib.ListN.{length, drop}
 use Rattle.aspif.specs.Tables.{rules_at}
-use Rattle.marks.specs.marks-1.{marked}
+use Rattle.marks.specs.Marks.{marked}
 use Rattle.answer_set.specs.SetTest.{round}
 use Rattle.aspif.proofs.Cursors.{Cursor}
 use Rattle.answer_set.proofs.models.give_all.Given as goal

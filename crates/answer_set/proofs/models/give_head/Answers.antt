@@ -1,7 +1,7 @@
 use mathlib.Core.Path.{◌≡◌, ◌∙◌, refl, sym, ap}
 use mir.Facts.{to_z-of_z}
 use Rattle.words.specs.Literals.{variable}
-use Rattle.marks.specs.marks-1.{marked}
+use Rattle.marks.specs.Marks.{marked}
 use Rattle.answer_set.specs.SetTest.{gives, give_head}
 use Rattle.answer_set.proofs.models.give_head.Goals as goal
 use Rattle.answer_set.proofs.models.give_head.Goals.{After-variable_of-v, After-gives_head}

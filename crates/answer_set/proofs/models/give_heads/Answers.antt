@@ -2,20 +2,18 @@ use native.Mathlib.Omega.{arith}
 use lib.IntN.{ℤ, pos}
 use lib.ListN.{get_or}
 use mathlib.Core.Path.{sym, ◌∙◌}
-use mathlib.Core.Bool.{false, true≢false}
+use mathlib.Core.Bool.{true≢false}
 use mathlib.Core.List.{List}
-use mathlib.Core.Logic.{⊎_elim}
-use Prim.Native.Nat.{ℕ, ◌-◌}
+use Prim.Native.Nat.{ℕ}
 use Rattle.words.proofs.Words.{back}
-use Rattle.marks.specs.marks-1.{marked, Marking}
+use Rattle.marks.specs.Marks.{marked, Marking}
 use Rattle.answer_set.specs.SetTest.{give_head}
 use Rattle.answer_set.proofs.Marking.{heads-on, heads-end}
 use Rattle.answer_set.proofs.models.give_heads.Goals as goal
-use Rattle.answer_set.proofs.models.give_heads.Goals.{After-give_head}
+use Rattle.answer_set.proofs.models.give_heads.Goals.{After-give_head, then-give_head, else-give_head}
 
 -- the head at i, and what the call tells of it
 module _ (c : After-give_head) where
-
   abbrev head : ℤ
   head = get_or c.args.heads.now c.loop-i.i (pos 0)
 
@@ -31,9 +29,12 @@ loop-i-preserved c =
     let l = d.loop-i in
     let a = d.args in (
       omega arith,
-      c.marks-1.given ∙ l.invariant.1,
+      c.give_head.auto.marks ∙ l.invariant.1,
       l.invariant.2 ∙ heads-on (marked a.inside.now) a.kind a.heads.now l.marks l.i d.loop-i-test.true ∙ rw (← (told d).marks),
-      ⊎_elim (λ w z. absurd (true≢false (sym w.1 ∙ z))) (λ w z. (told d).still w.0.left ∙ l.invariant.3 (sym w.1 ∙ z)) c.if-give_head.branch,
+      elim c.if-give_head.branch [
+        | then-give_head w ↦ λ z. absurd (true≢false (sym w.new-is ∙ z))
+        | else-give_head w ↦ λ z. (told d).still w.if-give_head.false ∙ l.invariant.3 (sym w.new-is ∙ z)
+      ],
     )
 
 pub returns : goal.returns

@@ -1,6 +1,6 @@
 use mathlib.Core.Path.{◌≡◌, sym, ◌∙◌, refl}
 use Rattle.aspif.specs.Tables.{body_at}
-use Rattle.marks.specs.marks-1.{marked}
+use Rattle.marks.specs.Marks.{marked}
 use Rattle.answer_set.specs.SetTest.{body_holds, give_rule}
 use Rattle.aspif.proofs.Cursors.{shape_of}
 use Rattle.answer_set.proofs.models.give_rule.Goals as goal

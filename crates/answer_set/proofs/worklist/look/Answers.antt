@@ -4,7 +4,7 @@ use lib.ListN.{drop, get_or}
 use Rattle.words.proofs.Parts.{tail_of}
 use Rattle.aspif.specs.Tables.{rule_at}
 use Rattle.aspif.proofs.Cursors.{shape_of}
-use Rattle.marks.specs.marks-1.{marked, Marking}
+use Rattle.marks.specs.Marks.{marked, Marking}
 use Rattle.answer_set.specs.SetTest.{give_rule}
 use Rattle.answer_set.specs.Private.{RuleStart, nothing}
 use Rattle.answer_set.proofs.Giving.{given-one}

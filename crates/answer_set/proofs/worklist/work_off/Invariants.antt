@@ -2,7 +2,7 @@ use mathlib.Core.Path.{◌≡◌}
 use Prim.Native.Nat.{◌≤◌}
 use lib.ListN.{length}
 use Rattle.aspif.specs.Tables.{rules_at}
-use Rattle.marks.specs.marks-1.{marked}
+use Rattle.marks.specs.Marks.{marked}
 use Rattle.answer_set.specs.Private.{Given}
 use Rattle.answer_set.proofs.worklist.work_off.Given as goal
 
