@@ -379,16 +379,20 @@ def rewrite(text, P, place, goal=None):
     text = re.sub(paths, one, text)
     text = re.sub(r"(?<=\))(?:\.[A-Za-z0-9_'-]+)+", one, text)
     # names for all that a call ensures or that is required
-    for m in list(re.finditer(r"let ([A-Za-z0-9_]+) = ([A-Za-z0-9_]+(?:\.[A-Za-z0-9_'-]+)*)\.(ensures|requires) in", text)):
-        v, last, kind = m.group(1), m.group(2).split(".")[-1], m.group(3)
-        f = clauses.get(last) if kind == "ensures" else (P.entry.get("pre") or {}).get("fields") if "." not in m.group(2) else None
-        if not f: continue
+    for m in reversed(list(re.finditer(r"let ([A-Za-z0-9_]+) = ((?:\([^()]*(?:\([^()]*\))?[^()]*\)|[A-Za-z0-9_]+)(?:\.[A-Za-z0-9_'-]+)*?)\.(ensures|requires)((?:\.1)*) in", text))):
+        v, last, kind, ones = m.group(1), m.group(2).split(".")[-1], m.group(3), m.group(4).count("1")
+        f = clauses.get(aliases.get(m.group(2), last)) if kind == "ensures" else (P.entry.get("pre") or {}).get("fields")
+        if not f or ones >= len(f): continue
+        f = f[ones:]
+        if len(f) == 1:
+            text = text[:m.start()] + f"let {v} = {m.group(2)}.{kind}.{word(f[0])} in" + text[m.end():]
+            continue
         def named_clause(x):
             steps = x.group(1).split(".")[1:]
             k, left = index_of(steps, len(f))
-            return x.group(0) if k is None else ".".join([v, f[k]] + left)
+            return x.group(0) if k is None else ".".join([v, word(f[k])] + left)
         rest = re.sub(r"(?<![A-Za-z0-9_'.-])" + v + r"((?:\.[01])+)", named_clause, text[m.end():])
-        text = text[:m.end()] + rest
+        text = text[:m.start()] + f"let {v} = {m.group(2)}.{kind} in" + rest
     for m in re.finditer(r"let ([A-Za-z0-9_]+) = ([A-Za-z0-9_]+(?:\.[A-Za-z0-9_'-]+)+) in", text):
         last = m.group(2).split(".")[-1]
         if last in clauses or last in callee: aliases[m.group(1)] = last

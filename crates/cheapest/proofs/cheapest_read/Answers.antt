@@ -72,7 +72,7 @@ judge_list-requires c = let e = c.if-n-gt-COST_WORDS.false in
     let p = d.requires in
     let n = (goal.at.judge_list-requires c).After-widen in
     let half = length d.args.costs.now / 2 in
-    let h : length (take half (replicate 12 (pos 0))) ≡ half = length-take-le half (replicate 12 (pos 0)) (omega (arith, e, length-replicate 12 (pos 0))) in record { program = p.0; short = p.1.0; row = (omega (arith, fits n, h), omega (arith, fits n, h), omega (arith, e, h)); set = passed d; empty = p.1.1 }
+    let h : length (take half (replicate 12 (pos 0))) ≡ half = length-take-le half (replicate 12 (pos 0)) (omega (arith, e, length-replicate 12 (pos 0))) in record { program = p.program; short = p.short; row = (omega (arith, fits n, h), omega (arith, fits n, h), omega (arith, e, h)); set = passed d; empty = p.empty }
 
 pub returns : goal.returns
 returns c = λ ws p w.

@@ -46,7 +46,7 @@ returns-then-not-is_good c = λ ws p w.
 pub judge_set-requires : goal.judge_set-requires
 judge_set-requires c = let d = (goal.at.judge_set-requires c).Else-not-all_weights in
     let p = d.requires in
-    let g = c.is_good.ensures.good in record { program = p.0; short = p.1.0; pairs = (weighed d, sym g.0 ∙ c.if-not-is_good.false); sorted = g.1; set = p.1.1.1.0; empty = p.1.1.1.1 }
+    let g = c.is_good.ensures.good in record { program = p.program; short = p.short; pairs = (weighed d, sym g.0 ∙ c.if-not-is_good.false); sorted = g.1; set = p.set; empty = p.empty }
 
 pub returns : goal.returns
 returns c = λ ws p w.

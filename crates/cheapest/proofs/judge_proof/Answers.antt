@@ -24,13 +24,13 @@ module _ (c : After-write_restriction) where
   words : Restricts c.args.atoms (paired c.args.pairs.now) c.args.cost
       (take (5 + 2 * length c.args.sorted.now) c.write_restriction.new.row)
   words =
-      let p = c.requires.1.1 in
-      restricts-row c.args.atoms c.args.pairs.now c.args.sorted.now p.0.0 p.0.1 p.1.0 c.args.cost p.1.1.0 _ _
+      let p = c.requires in
+      restricts-row c.args.atoms c.args.pairs.now c.args.sorted.now p.pairs.0 p.pairs.1 p.sorted c.args.cost p.cost _ _
       c.write_restriction.ensures
 
 pub write_restriction-requires : goal.write_restriction-requires
 write_restriction-requires c = let s = (goal.at.write_restriction-requires c).Start in
-    let p = s.requires.1.1 in record { pairs = (p.0.0, p.1.1.0); sorted = (p.1.0, few s); row = omega (arith, few s, length-replicate (5 + 2 * most_weighted) (pos 0)) }
+    let p = s.requires in record { pairs = (p.pairs.0, p.cost); sorted = (p.sorted, few s); row = omega (arith, few s, length-replicate (5 + 2 * most_weighted) (pos 0)) }
 
 pub slice_bounds-row-end : goal.slice_bounds-row-end
 slice_bounds-row-end c = omega (arith, few (goal.at.slice_bounds-row-end c).Start)
@@ -40,7 +40,7 @@ slice_bounds-accepts-end c = sym (length-take-le _ _ (omega (arith, few (goal.at
 
 pub accepts-requires : goal.accepts-requires
 accepts-requires c = let d = (goal.at.accepts-requires c).Start in
-    let p = d.requires in record { program = p.0; short = p.1.0; rule = (paired d.args.pairs.now, d.args.cost, words d); empty = p.1.1.1.1.1 }
+    let p = d.requires in record { program = p.program; short = p.short; rule = (paired d.args.pairs.now, d.args.cost, words d); empty = p.empty }
 
 pub returns-then-accepts : goal.returns-then-accepts
 returns-then-accepts c = λ ws p w.

@@ -78,7 +78,7 @@ returns-then-cost-eq0 c = λ ws p w.
 
 pub judge_proof-requires : goal.judge_proof-requires
 judge_proof-requires c = let i = (goal.at.judge_proof-requires c).After-is_answer_set in
-    let p = (before-it i).requires in record { program = p.0; short = p.1.0; pairs = p.1.1.0; sorted = p.1.1.1.0; cost = i.if-cost-gt-MOST_WEIGHT.false; empty = p.1.1.1.1.1 }
+    let p = (before-it i).requires in record { program = p.program; short = p.short; pairs = p.pairs; sorted = p.sorted; cost = i.if-cost-gt-MOST_WEIGHT.false; empty = p.empty }
 
 pub returns : goal.returns
 returns c = λ ws p w.

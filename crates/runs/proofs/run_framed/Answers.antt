@@ -7,4 +7,4 @@ slice_bounds-run_lines-end c = let q = c.cells_for-cells in front-size q.result 
 
 pub run_lines-requires : goal.run_lines-requires
 run_lines-requires c = let q = c in
-    let p = q.requires in record { program = p.0; index = p.1.0; relevant = p.1.1.0; start = p.1.1.1.0; bodies = p.1.1.1.1.0; short = p.1.1.1.1.1.0; empty = p.1.1.1.1.1.1; cells = front-blank q.cells_for-cells.result lent_cells q.cells_for-cells.ensures }
+    let p = q.requires in record { program = p.program; index = p.index; relevant = p.relevant; start = p.start; bodies = p.bodies; short = p.short; empty = p.empty; cells = front-blank q.cells_for-cells.result lent_cells q.cells_for-cells.ensures }

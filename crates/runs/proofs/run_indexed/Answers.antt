@@ -1,7 +1,7 @@
 use Rattle.runs.proofs.run_indexed.Goals as goal
 
 pub run_short-requires : goal.run_short-requires
-run_short-requires c = let p = c.requires in record { program = p.0; index = p.1.0; relevant = p.1.1.0; start = p.1.1.1.0; bodies = p.1.1.1.1.0; short = p.1.1.1.1.1.0; empty = p.1.1.1.1.1.1.0 }
+run_short-requires c = let p = c.requires in record { program = p.program; index = p.index; relevant = p.relevant; start = p.start; bodies = p.bodies; short = p.short; empty = p.empty }
 
 pub run_framed-requires : goal.run_framed-requires
-run_framed-requires c = let p = c.requires in record { program = p.0; index = p.1.0; relevant = p.1.1.0; start = p.1.1.1.0; bodies = p.1.1.1.1.0; short = p.1.1.1.1.1.0; empty = p.1.1.1.1.1.1.0 }
+run_framed-requires c = let p = c.requires in record { program = p.program; index = p.index; relevant = p.relevant; start = p.start; bodies = p.bodies; short = p.short; empty = p.empty }

@@ -77,9 +77,9 @@ module _ (c : After-turn_at) where
 pub loop-number-init : goal.loop-number-init
 loop-number-init c =
     let q = c.requires in
-    let p = q.0.0.1 in
+    let p = q.program.0.1 in
     let b = q.1.1.1 in
-    (q.0.0.0, p, going_start _ _ _ _ c.start-state.ensures.start (rw b.0.1 (start-tracks b.0.0 (omega (arith, q.0.1, rules-held p.holds)) (rw (← p.holds.are) b.1.0))) b.1.1.1.0 refl b.1.1.1.1, refl, refl, refl, length-replicate {A = ℤ} most_numbers (pos 0), length-replicate {A = ℤ} most_numbers (pos 0), refl, refl)
+    (q.program.0.0, p, going_start _ _ _ _ c.start-state.ensures.start (rw b.0.1 (start-tracks b.0.0 (omega (arith, q.program.1, rules-held p.holds)) (rw (← p.holds.are) b.1.0))) b.1.1.1.0 refl b.1.1.1.1, refl, refl, refl, length-replicate {A = ℤ} most_numbers (pos 0), length-replicate {A = ℤ} most_numbers (pos 0), refl, refl)
 
 -- the number of the next step
 pub overflow_add-step : goal.overflow_add-step
@@ -97,7 +97,7 @@ slice_bounds-turn_at-end-in-loop-number c = let p = c.loop-number.invariant.7 in
 pub turn_at-requires : goal.turn_at-requires
 unfolding byte_classes
 turn_at-requires c = let i = c.loop-number.invariant in
-    let p = c.requires in record { state = (i.0, i.2.z, i.1, i.2.tracks); index = p.1.0; relevant = p.1.1.0; store = ((i.2.stored, i.2.keeps.keeps), omega (arith, i.2.count)); short = p.1.1.1.1.1.0; classes = refl; rows = (i.6, i.7); free = i.8 }
+    let p = c.requires in record { state = (i.0, i.2.z, i.1, i.2.tracks); index = p.index; relevant = p.relevant; store = ((i.2.stored, i.2.keeps.keeps), omega (arith, i.2.count)); short = p.short; classes = refl; rows = (i.6, i.7); free = i.8 }
 
 pub returns-in-Ends : goal.returns-in-Ends
 returns-in-Ends c =

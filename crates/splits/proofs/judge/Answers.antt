@@ -15,7 +15,7 @@ pub slice_bounds-check_proof-end-2 : goal.slice_bounds-check_proof-end-2
 slice_bounds-check_proof-end-2 c = sym (length-take-le _ _ c.requires.text)
 
 pub check_proof-verdict-requires : goal.check_proof-verdict-requires
-check_proof-verdict-requires c = let q = c.requires in record { program = (q.0.0, omega (arith, q.0.1)); empty = q.1.0 }
+check_proof-verdict-requires c = let q = c.requires in record { program = (q.program.0, omega (arith, q.program.1)); empty = q.empty }
 
 -- what the check of the text says
 module _ (c : After-check_proof-verdict) where

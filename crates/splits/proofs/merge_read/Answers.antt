@@ -56,7 +56,7 @@ module _ (c : After-write-written) where
 
 -- a program that was read is far below the limits of one with constraints behind it
 pub write-written-requires : goal.write-written-requires
-write-written-requires c = let p = c.requires in record { program = (p.0.0, omega (arith, p.0.1)); short = omega (arith, p.1.0); empty = p.1.1 }
+write-written-requires c = let p = c.requires in record { program = (p.program.0, omega (arith, p.program.1)); short = omega (arith, p.short); empty = p.empty }
 
 pub judge-requires : goal.judge-requires
 judge-requires c = let d = (goal.at.judge-requires c).After-write-written in

@@ -19,7 +19,7 @@ returns-then-not-is_tree c = λ ws p w.
 pub merge_whole-requires : goal.merge_whole-requires
 merge_whole-requires c = let d = (goal.at.merge_whole-requires c).Else-not-is_tree in
     let a = d.args in
-    let q = d.requires in record { program = q.0; short = q.1.0; tree = ((fits d).shape, fitting-tree a.atoms a.tree.now a.texts.now a.lengths.now (fits d)); empty = q.1.1 }
+    let q = d.requires in record { program = q.program; short = q.short; tree = ((fits d).shape, fitting-tree a.atoms a.tree.now a.texts.now a.lengths.now (fits d)); empty = q.empty }
 
 pub returns : goal.returns
 returns c = λ ws p w.

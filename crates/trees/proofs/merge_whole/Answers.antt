@@ -47,7 +47,7 @@ module _ (c : After-copy) where
 
 pub merge_side-requires : goal.merge_side-requires
 merge_side-requires c = let d = (goal.at.merge_side-requires c).After-copy in
-    let q = d.requires in record { place = (q.0.0.0, standing d q.0.0.1); tree = (q.1.1.0.0, [], q.1.1.0.1); empty = q.1.1.1.0; blank = refl }
+    let q = d.requires in record { place = (q.program.0.0, standing d q.program.0.1); tree = (q.tree.0, [], q.tree.1); empty = q.empty.0; blank = refl }
 
 -- what the tree comes to
 module _ (c : After-merge_side) where
@@ -94,7 +94,7 @@ module _ (c : In-Text) where
   within : n ≤ longest
   within =
       let q = (begun side).requires in
-      (subst (Merged (s side) (o side) q.0.0.0 q.1.1.0.0 [] (begun side).args.tree.now (begun side).args.texts.now (begun side).args.lengths.now (whole side)) c.in-Text.is (merged side q.0.0.1 q.1.1.0.1)).took.0
+      (subst (Merged (s side) (o side) q.program.0.0 q.tree.0 [] (begun side).args.tree.now (begun side).args.texts.now (begun side).args.lengths.now (whole side)) c.in-Text.is (merged side q.program.0.1 q.tree.1)).took.0
 
   inside : n ≤ length (whole side)
   inside = omega (arith, within, long side)
@@ -104,7 +104,7 @@ module _ (c : In-Text) where
 
 pub write_out-requires : goal.write_out-requires
 write_out-requires c = let d = (goal.at.write_out-requires c).In-Text in
-    let q = (begun (side d)).requires in record { program = q.0; empty = ((zeros (pos 0) {n = s (side d)} (side d).merge_side.ensures.empty).0, q.1.1.1.1); text = omega (arith, size_is d, within d) }
+    let q = (begun (side d)).requires in record { program = q.program; empty = ((zeros (pos 0) {n = s (side d)} (side d).merge_side.ensures.empty).0, q.empty.1); text = omega (arith, size_is d, within d) }
 
 pub returns-in-Refused : goal.returns-in-Refused
 returns-in-Refused c = λ ws p w u T.

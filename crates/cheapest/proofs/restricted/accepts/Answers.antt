@@ -25,12 +25,12 @@ module _ (c : After-append_rule) where
 
 pub append_rule-requires : goal.append_rule-requires
 append_rule-requires c = let p = c.requires in
-    let n = length-replicate 65564 (pos 0) in record { rules = p.0.0.1.holds.sound; short = omega (arith, p.1.0, restricts-size p.1.1.0.2, n); wide = ap (λ (k : ℕ). replicate k (pos 0)) (sym n) }
+    let n = length-replicate 65564 (pos 0) in record { rules = p.program.0.1.holds.sound; short = omega (arith, p.short, restricts-size p.rule.2, n); wide = ap (λ (k : ℕ). replicate k (pos 0)) (sym n) }
 
 pub check_proof-verdict-requires : goal.check_proof-verdict-requires
 check_proof-verdict-requires c = let d = (goal.at.check_proof-verdict-requires c).After-append_rule in
     let p = d.requires in
-    let r = p.1.1.0 in record { program = ((restricted p.0.0.0 r.0 r.1, (whole d p.0.0.1 r.2).0), omega (arith, p.0.1)); empty = p.1.1.1 }
+    let r = p.rule in record { program = ((restricted p.program.0.0 r.0 r.1, (whole d p.program.0.1 r.2).0), omega (arith, p.program.1)); empty = p.empty }
 
 pub returns : goal.returns
 returns c = λ ws p ks C R.

@@ -61,4 +61,4 @@ returns-in-Through c = λ ws p w.
 
 pub run_long-run-requires : goal.run_long-run-requires
 run_long-run-requires c = let p = c.requires in
-    let h : length c.args.proof.now ≤ widest = omega (arith, p.0, c.if-limit-proof.false) in record { program = p.1.0; short = h; empty = p.1.1.0; cells = p.1.1.1 }
+    let h : length c.args.proof.now ≤ widest = omega (arith, p.limit, c.if-limit-proof.false) in record { program = p.program; short = h; empty = p.empty; cells = p.cells }

@@ -25,11 +25,11 @@ slice_bounds-emit_node-end-5 c = let s = c in sym (length-take-le s.args.side.co
 
 pub emit_node-place-requires : goal.emit_node-place-requires
 emit_node-place-requires c = let s = c in
-    let p = s.requires.1.1.1 in
-    let n = c.prefix_levels-n.ensures in record { place = s.requires.place; levels = p.1.0; atoms = (
-          omega (arith, p.1.1, length-take-le s.args.node.count s.args.left.now p.0.0),
-          omega (arith, p.1.1, length-take-le s.args.side.count s.args.right.now p.0.1),
-          omega (arith, p.1.1, ap length n.levels, few-prefix s.args.bound s.args.to s.args.pairs.now, s.requires.pairs.1),
+    let p = s.requires in
+    let n = c.prefix_levels-n.ensures in record { place = s.requires.place; levels = p.levels; atoms = (
+          omega (arith, p.atoms, length-take-le s.args.node.count s.args.left.now p.within.0),
+          omega (arith, p.atoms, length-take-le s.args.side.count s.args.right.now p.within.1),
+          omega (arith, p.atoms, ap length n.levels, few-prefix s.args.bound s.args.to s.args.pairs.now, s.requires.pairs.1),
         ) }
 
 pub slice_bounds-copy_sums-end-2 : goal.slice_bounds-copy_sums-end-2

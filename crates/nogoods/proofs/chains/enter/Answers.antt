@@ -12,7 +12,7 @@ use Rattle.nogoods.proofs.chains.enter.Goals.{After-link}
 
 pub link-requires : goal.link-requires
 link-requires c = let p = c.requires in
-    let k = c.key_of.ensures.upper_bound in record { place = (omega (arith, p.0), k); index = (p.1.0, p.1.1 _ k) }
+    let k = c.key_of.ensures.upper_bound in record { place = (omega (arith, p.«record»), k); index = (p.index.0, p.index.1 _ k) }
 
 -- the cells that are lent on
 module _ (c : After-link) where

@@ -46,7 +46,7 @@ returns-then-store-end c =
 pub write_definition-requires : goal.write_definition-requires
 write_definition-requires c = let e = c in
     let m = (goal.at.write_definition-requires c).After-make_room-end in
-    let p = m.requires.1 in record { origin = p.0.1; numbers = p.1; room = rw (tail_of m.make_room-end.result m.make_room-end.new.store, length-drop) (omega (arith, e.if-store-end.false, p.1)) }
+    let p = m.requires in record { origin = p.origin.1; numbers = p.numbers; room = rw (tail_of m.make_room-end.result m.make_room-end.new.store, length-drop) (omega (arith, e.if-store-end.false, p.numbers)) }
 
 pub returns : goal.returns
 returns c =
@@ -54,10 +54,10 @@ returns c =
     let w = c.write_definition in
     let m = (goal.at.returns c).After-make_room-end in
     let o = m.args.origin in
-    let p = m.requires.1 in
+    let p = m.requires in
     let G = held m stored K in
     record {
-      holds = added G.holds (new m) (size m) (defined-literals o (l m) p.1.1 p.1.0) (added-origins o p.0.0 (defined (l m)))
+      holds = added G.holds (new m) (size m) (defined-literals o (l m) p.numbers.1 p.numbers.0) (added-origins o p.origin.0 (defined (l m)))
           w.new.free w.ensures;
       scale = G.scale;
       size = G.size;

@@ -48,11 +48,11 @@ returns c =
     λ stored K.
     let m = (goal.at.returns c).After-make_room-end in
     let o = m.args.origin in
-    let p = m.requires.1 in
+    let p = m.requires in
     let G = held m stored K in
     record {
-      holds = added G.holds (new m) (size o (L m)) (added-literals o (L m ∷ []) (λ g u. rw (Memᴰ.eq_of_singleton u) p.1.0))
-          (added-origins o p.0.0 (L m ∷ [])) c.write.new.free (rw (append-nil (L m)) c.write.ensures);
+      holds = added G.holds (new m) (size o (L m)) (added-literals o (L m ∷ []) (λ g u. rw (Memᴰ.eq_of_singleton u) p.literals.0))
+          (added-origins o p.origin.0 (L m ∷ [])) c.write.new.free (rw (append-nil (L m)) c.write.ensures);
       scale = G.scale;
       size = G.size;
       covers = covers_more (new m) G.covers;

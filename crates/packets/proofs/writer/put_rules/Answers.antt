@@ -49,7 +49,7 @@ pub put_rule-end-requires : goal.put_rule-end-requires
 put_rule-end-requires c =
     let d = (goal.at.put_rule-end-requires c).In-loop-left in
     let p = d.requires in
-    (rw (tail_of (i d) (t d)) (at d).sound, (rw (tail_of (i d) (t d)) (and_left (has_words (v d) (rule_at (drop (i d) (t d)))) _ (worded d)), omega (arith, d.loop-left.invariant.1.1, d.loop-left-test.true, p.1.0, p.1.1)))
+    (rw (tail_of (i d) (t d)) (at d).sound, (rw (tail_of (i d) (t d)) (and_left (has_words (v d) (rule_at (drop (i d) (t d)))) _ (worded d)), omega (arith, d.loop-left.invariant.1.1, d.loop-left-test.true, p.rules_le_most_rules.0, p.rules_le_most_rules.1)))
 
 pub next_rule-i-requires : goal.next_rule-i-requires
 next_rule-i-requires c = record { here = (at (goal.at.next_rule-i-requires c).In-loop-left).here }
@@ -75,4 +75,4 @@ all-put c =
     going_end (rw (no-rules l.left (drop l.i a.table.now) c.loop-left-test.false) at l.invariant.1.0)
 
 pub returns : goal.returns
-returns c = let p = c.requires in record { put = all-put c; upper_bound = omega (arith, c.loop-left.invariant.1.1, p.1.0, p.1.1) }
+returns c = let p = c.requires in record { put = all-put c; upper_bound = omega (arith, c.loop-left.invariant.1.1, p.rules_le_most_rules.0, p.rules_le_most_rules.1) }

@@ -21,7 +21,7 @@ returns-then-is_dead c = (refl, λ a. absurd (true≢false (sym c.if-is_dead.tru
 
 pub derive-requires : goal.derive-requires
 derive-requires c = let o = c in
-    let p = o.requires in record { literals = rw o.nogood_at.ensures p.0.literals; size = p.1 }
+    let p = o.requires in record { literals = rw o.nogood_at.ensures p.«record».literals; size = p.size }
 
 pub returns : goal.returns
 returns c =

@@ -54,19 +54,19 @@ keep_all-requires c = c.requires.new
 pub loop-next-init : goal.loop-next-init
 loop-next-init c =
     let p = c.requires in (
-      λ ws v one two z₁ z₂ H. walked_start H _ _ c.keep_all.ensures p.1.1.1.1,
-      c.keep_all.auto.new ∙ p.1.1.0,
-      p.1.1.1.0,
+      λ ws v one two z₁ z₂ H. walked_start H _ _ c.keep_all.ensures p.shared.1,
+      c.keep_all.auto.new ∙ p.new,
+      p.shared.0,
       length-replicate {A = ℤ} most_numbers (pos 0),
       length-replicate {A = ℤ} most_numbers (pos 0),
       omega arith,
-      omega (arith, p.0.2),
+      omega (arith, p.program.2),
     )
 
 pub rename_at-requires : goal.rename_at-requires
 unfolding byte_classes
 rename_at-requires c = let i = c.loop-next.invariant in
-    let p = c.requires in record { classes = refl {a = byte_classes}; rows = (i.3, i.4); program = (p.0.0, p.0.1); index = p.1.0; cursor = (i.6, i.1) }
+    let p = c.requires in record { classes = refl {a = byte_classes}; rows = (i.3, i.4); program = (p.program.0, p.program.1); index = p.index; cursor = (i.6, i.1) }
 
 pub returns-in-Ends : goal.returns-in-Ends
 returns-in-Ends c =

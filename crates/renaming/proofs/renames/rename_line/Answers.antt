@@ -35,7 +35,7 @@ name c = rw (back _ c.variable_of-arg-1.given) at c.variable_of-n.ensures
 pub rename_body-requires : goal.rename_body-requires
 rename_body-requires c = let v = (goal.at.rename_body-requires c).After-variable_of-n in
     let e = (goal.at.rename_body-requires c).In-Body in
-    let p = (s e).requires.1 in record { program = p.0; index = p.1.0; line = (rw (name v) (first-high Body refl (body-line e)), p.1.1.0, p.1.1.1) }
+    let p = (s e).requires in record { program = p.program; index = p.index; line = (rw (name v) (first-high Body refl (body-line e)), p.cursor.0, p.cursor.1) }
 
 -- `e`
 module _ (c : In-Extension) where
@@ -52,8 +52,8 @@ pub rename_other-requires : goal.rename_other-requires
 rename_other-requires c =
     let v = (goal.at.rename_other-requires c).After-variable_of in
     let e = (goal.at.rename_other-requires c).In-Extension in
-    let p = (s-e e).requires.1 in
-    (rw (name-e v) (first-high Extension refl (extension-line e)), p.1.1.0, p.1.1.1)
+    let p = (s-e e).requires in
+    (rw (name-e v) (first-high Extension refl (extension-line e)), p.cursor.0, p.cursor.1)
 
 pub returns-in-Addition : goal.returns-in-Addition
 returns-in-Addition c = λ ws H called K. rw c.in-Addition.is (refl, refl, refl)

@@ -71,7 +71,7 @@ overflow_cast-atom c = record { sfits = omega (arith, small c) }
 
 pub accepts_with-requires : goal.accepts_with-requires
 accepts_with-requires c = let x = (goal.at.accepts_with-requires c).Else-not-is_atom in
-    let p = x.requires in record { program = p.0; short = p.1.0; atom = rw (literal x) (is-atom x); start = (p.1.1.0.1, p.1.1.1.0); bodies = p.1.1.1.1.0; empty = p.1.1.1.1.1 }
+    let p = x.requires in record { program = p.program; short = p.short; atom = rw (literal x) (is-atom x); start = (p.marks.1, p.names); bodies = p.bodies; empty = p.empty }
 
 pub returns-then-not-accepts_with : goal.returns-then-not-accepts_with
 returns-then-not-accepts_with c = let a = (goal.at.returns-then-not-accepts_with c).After-accepts_with in
@@ -85,7 +85,7 @@ pub accepts_with-requires-2 : goal.accepts_with-requires-2
 accepts_with-requires-2 c = let k = (goal.at.accepts_with-requires-2 c).After-complement_of in
     let x = d k in
     let a = (goal.at.accepts_with-requires-2 c).After-accepts_with in
-    let p = x.requires in record { program = p.0; short = p.1.0; atom = rw (other k, variable-complement (pos x.args.v)) (is-atom x); start = (p.1.1.0.0, c.zero_names.ensures ∙ ap (λ (n : ℕ). replicate n 0) (same_names a)); bodies = λ w. c.zero_bodies.ensures ∙ ap (λ (n : ℕ). replicate n (pos 0)) (same-bodies a {n = body_words} (p.1.1.1.1.0 w)); empty = (zeros (pos 0) {n = length x.args.store.now} a.accepts_with.ensures.empty).0 }
+    let p = x.requires in record { program = p.program; short = p.short; atom = rw (other k, variable-complement (pos x.args.v)) (is-atom x); start = (p.marks.0, c.zero_names.ensures ∙ ap (λ (n : ℕ). replicate n 0) (same_names a)); bodies = λ w. c.zero_bodies.ensures ∙ ap (λ (n : ℕ). replicate n (pos 0)) (same-bodies a {n = body_words} (p.bodies w)); empty = (zeros (pos 0) {n = length x.args.store.now} a.accepts_with.ensures.empty).0 }
 
 pub returns : goal.returns
 returns c = let b = c.accepts_with-2 in

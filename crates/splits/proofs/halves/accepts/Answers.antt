@@ -17,7 +17,7 @@ returns-then-text-gt-LONGEST c = let s = c in
 
 pub run_half-run-requires : goal.run_half-run-requires
 run_half-run-requires c = let p = c.requires in
-    let h : length c.args.text.now ≤ widest = search rules in record { program = p.0; start = (c.know_atoms.ensures, p.1.0.1); bodies = p.1.1.0; short = h; empty = p.1.1.1 }
+    let h : length c.args.text.now ≤ widest = search rules in record { program = p.program; start = (c.know_atoms.ensures, p.start.1); bodies = p.bodies; short = h; empty = p.empty }
 
 pub ends_empty-accepted-requires : goal.ends_empty-accepted-requires
 ends_empty-accepted-requires c =

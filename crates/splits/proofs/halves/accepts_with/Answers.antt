@@ -19,7 +19,7 @@ blank : (n : ℕ) → (n ≤ length (replicate n (pos 0))) × (replicate n (pos 
 blank n = (omega (arith, length-replicate n (pos 0)), ap (λ (k : ℕ). replicate k (pos 0)) (sym (length-replicate n (pos 0))))
 
 pub append_demand-requires : goal.append_demand-requires
-append_demand-requires c = let p = c.requires in record { rules = p.0.0.1.holds.sound; short = p.1.0; wide = blank 65565 }
+append_demand-requires c = let p = c.requires in record { rules = p.program.0.1.holds.sound; short = p.short; wide = blank 65565 }
 
 -- the program with the constraint
 module _ (c : After-append_demand) where
@@ -31,8 +31,8 @@ module _ (c : After-append_demand) where
 pub accepts-requires : goal.accepts-requires
 accepts-requires c = let d = (goal.at.accepts-requires c).After-append_demand in
     let p = d.requires in
-    let q = p.0.0.1 in
-    let w = whole d q in record { program = ((demanding_as_written p.0.0.0 (complement d.args.literal), w), omega (arith, p.0.1)); start = p.1.1.1.0; bodies = demanded-bodies q d.args.literal p.1.1.0 w p.1.1.1.1.0; empty = p.1.1.1.1.1 }
+    let q = p.program.0.1 in
+    let w = whole d q in record { program = ((demanding_as_written p.program.0.0 (complement d.args.literal), w), omega (arith, p.program.1)); start = p.start; bodies = demanded-bodies q d.args.literal p.atom w p.bodies; empty = p.empty }
 
 pub returns : goal.returns
 returns c = let a = c.accepts.ensures in

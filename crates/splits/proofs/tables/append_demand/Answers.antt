@@ -10,7 +10,7 @@ use borrow.Author.Rules.{rules}
 use Rattle.splits.proofs.tables.append_demand.Goals as goal
 
 pub append_rule-requires : goal.append_rule-requires
-append_rule-requires c = let p = c.requires in record { rules = p.0; short = omega (arith, p.1.0, p.1.1.0); wide = p.1.1.1 }
+append_rule-requires c = let p = c.requires in record { rules = p.rules; short = omega (arith, p.short, p.wide.0); wide = p.wide.1 }
 
 -- the words of the constraint, as they were put
 pub returns : goal.returns

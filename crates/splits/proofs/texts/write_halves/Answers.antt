@@ -15,7 +15,7 @@ use Rattle.splits.proofs.texts.write_halves.Goals as goal
 use Rattle.splits.proofs.texts.write_halves.Goals.{After-accept_halves}
 
 pub accept_halves-requires : goal.accept_halves-requires
-accept_halves-requires c = let p = c.requires in record { program = p.0; short = p.1.0; marks = (length-replicate {A = ℕ} entries 0, length-replicate {A = ℕ} entries 0); names = refl; bodies = p.1.1.1.0; empty = p.1.1.1.1.0 }
+accept_halves-requires c = let p = c.requires in record { program = p.program; short = p.short; marks = (length-replicate {A = ℕ} entries 0, length-replicate {A = ℕ} entries 0); names = refl; bodies = p.bodies; empty = p.empty.0 }
 
 -- what the check of the halves left
 module _ (c : After-accept_halves) where
@@ -39,7 +39,7 @@ returns-then-not-accept_halves c = let d = (goal.at.returns-then-not-accept_halv
 
 pub write_merged-wrote-requires : goal.write_merged-wrote-requires
 write_merged-wrote-requires c = let d = (goal.at.write_merged-wrote-requires c).After-accept_halves in
-    let p = d.requires in record { halves = held d (c.if-not-accept_halves.false) p.0.0.0 p.0.0.1; index = p.1.1.0 }
+    let p = d.requires in record { halves = held d (c.if-not-accept_halves.false) p.program.0.0 p.program.0.1; index = p.index }
 
 pub returns : goal.returns
 unfolding held halves-kept

@@ -3,4 +3,4 @@ use mathlib.Core.Bool.{true≢false}
 use Rattle.splits.proofs.texts.write_plain.Goals as goal
 
 pub write_halves-requires : goal.write_halves-requires
-write_halves-requires c = let p = c.requires in record { program = p.0; short = p.1.0; index = c.fill.ensures; bodies = (λ e. absurd (true≢false (sym p.1.1.0 ∙ e))); empty = p.1.1.1 }
+write_halves-requires c = let p = c.requires in record { program = p.program; short = p.short; index = c.fill.ensures; bodies = (λ e. absurd (true≢false (sym p.plain ∙ e))); empty = p.empty }

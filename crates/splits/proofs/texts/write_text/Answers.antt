@@ -55,7 +55,7 @@ other c = let k = c.complement_of in to_z-of_z {w = w32} (sfits_of {z = k.result
 pub write_second-requires : goal.write_second-requires
 write_second-requires c = let d = (goal.at.write_second-requires c).After-complement_of in
     let a = (goal.at.write_second-requires c).After-write_half-wrote.args in
-    let p = (goal.at.write_second-requires c).After-write_half-wrote.requires in record { at = (wrote (goal.at.write_second-requires c).After-write_half-wrote _ d.in-At.is p.1.1.0).2; literal = rw (other d, variable-complement a.x) p.0; new = p.1.0; half = subst (λ (y : ℤ). HalfText a.second.now y a.shared.now a.forbidden) (sym (other d)) p.1.1.1 }
+    let p = (goal.at.write_second-requires c).After-write_half-wrote.requires in record { at = (wrote (goal.at.write_second-requires c).After-write_half-wrote _ d.in-At.is p.first).2; literal = rw (other d, variable-complement a.x) p.literal; new = p.new; half = subst (λ (y : ℤ). HalfText a.second.now y a.shared.now a.forbidden) (sym (other d)) p.second }
 
 pub returns-in-At : goal.returns-in-At
 returns-in-At c = λ h k.

@@ -34,14 +34,14 @@ module _ (c : After-is_unnamed) where
         ∙ unnamed-body (expand ws) z T.proper s.args.body.now
 
 pub is_unnamed-requires : goal.is_unnamed-requires
-is_unnamed-requires c = let q = c.requires in record { program = q.0; index = q.1.0 }
+is_unnamed-requires c = let q = c.requires in record { program = q.program; index = q.index }
 
 pub returns-then-not-is_unnamed : goal.returns-then-not-is_unnamed
 returns-then-not-is_unnamed c = record { answer = λ N ws p known z T. sym (c.if-not-is_unnamed.true) ∙ answer (goal.at.returns-then-not-is_unnamed c).After-is_unnamed N ws p known z T; named = λ N ws p e. absurd (true≢false (sym e)) }
 
 pub enter-requires : goal.enter-requires
 enter-requires c = let u = (goal.at.enter-requires c).After-is_unnamed in
-    let q = (s u).requires in record { program = q.0; index = q.1.0; body = (q.1.1.0, q.1.1.1, subst (λ (t : List ℤ). top t ≤ largest) (sym u.sort.ensures) (sorted-low (s u).args.body.now q.1.1.2)) }
+    let q = (s u).requires in record { program = q.program; index = q.index; body = (q.name.0, q.name.1, subst (λ (t : List ℤ). top t ≤ largest) (sym u.sort.ensures) (sorted-low (s u).args.body.now q.name.2)) }
 
 pub returns : goal.returns
 returns c = let e = c in

@@ -39,7 +39,7 @@ are_just_names-requires c = let v = (goal.at.are_just_names-requires c).After-va
     let t = c in
     let p = v.requires in
     let l = v.args.numbers.now in
-    let o = others-literals Support refl p.1.1 in record { program = (p.0.0.1.holds.sound, p.0.1); index = (p.1.0, sym t.is_covered.ensures ∙ t.if-is_covered.true); line = rw (again v, tail_of 1 l) (first-high Support refl p.1.1, omega (arith, length-drop 1 l, p.1.1.few), o.once) }
+    let o = others-literals Support refl p.line in record { program = (p.program.0.1.holds.sound, p.program.1); index = (p.index, sym t.is_covered.ensures ∙ t.if-is_covered.true); line = rw (again v, tail_of 1 l) (first-high Support refl p.line, omega (arith, length-drop 1 l, p.line.few), o.once) }
 
 pub returns-then-is_covered : goal.returns-then-is_covered
 returns-then-is_covered c =

@@ -12,7 +12,7 @@ use Rattle.steps.proofs.unfounded.add_by_index.Goals as goal
 use Rattle.steps.proofs.unfounded.add_by_index.Goals.{After-look_up-found}
 
 pub look_up-found-requires : goal.look_up-found-requires
-look_up-found-requires c = let p = c.requires in record { state = p.0; index = p.1.0; set = p.1.1.0; row = refl }
+look_up-found-requires c = let p = c.requires in record { state = p.state; index = p.index; set = p.set; row = refl }
 
 -- what was found
 module _ (c : After-look_up-found) where
@@ -30,7 +30,7 @@ module _ (c : After-look_up-found) where
 pub add_found-requires : goal.add_found-requires
 add_found-requires c = let k = (goal.at.add_found-requires c).After-look_up-found in
     let p = k.requires in
-    let t = p.0 in record { found = (asked k t.0 t.1, h k, gives k t.0 t.1 t.2); store = p.1.1.1 }
+    let t = p.state in record { found = (asked k t.0 t.1, h k, gives k t.0 t.1 t.2); store = p.store }
 
 pub returns : goal.returns
 returns c = let k = (goal.at.returns c).After-look_up-found in λ ws called A b K. c.add_found.ensures (asked k ws called) (h k) (gives k ws called A) b K

@@ -23,7 +23,7 @@ module _ (c : After-scan-found) where
 pub add_found-requires : goal.add_found-requires
 add_found-requires c = let k = (goal.at.add_found-requires c).After-scan-found in
     let p = k.requires in
-    let t = p.0.0 in record { found = (asked k t.0 t.1, k.args.h, gives k t.0 t.1 t.2); store = p.1 }
+    let t = p.state.0 in record { found = (asked k t.0 t.1, k.args.h, gives k t.0 t.1 t.2); store = p.store }
 
 pub returns : goal.returns
 returns c = let k = (goal.at.returns c).After-scan-found in λ ws called A b K. c.add_found.ensures (asked k ws called) k.args.h (gives k ws called A) b K

@@ -38,8 +38,8 @@ module _ (c : In-Names) where
 pub append-requires : goal.append-requires
 append-requires c = let f = (goal.at.append-requires c).In-Names in
     let p = f.requires in
-    let g = held f in record { held = p.1.0; origin = p.1.1; literals = (
-          subst Literals (sym g.1) (gathered-literals (listed p.0.0) p.0.1 largest 1 (omega arith) (omega arith)),
+    let g = held f in record { held = p.store.0; origin = p.store.1; literals = (
+          subst Literals (sym g.1) (gathered-literals (listed p.found.0) p.found.1 largest 1 (omega arith) (omega arith)),
           omega (arith, size f, g.0),
         ) }
 

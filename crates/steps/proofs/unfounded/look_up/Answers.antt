@@ -25,8 +25,8 @@ use Rattle.steps.proofs.unfounded.look_up.Goals.{In-Names, Start}
 
 pub external_names-found-requires : goal.external_names-found-requires
 external_names-found-requires c = let p = c.requires in
-    let A = p.0.2 in
-    let l = p.1.1.0.1.literals in record { program = (A.holds.sound, omega (arith, A.kept.rules, rules-held A.holds)); index = p.1.0; set = (p.1.1.0.0, λ x i. (l.low x i, l.high x i)); row = search (rules, p.1.1.1) }
+    let A = p.state.2 in
+    let l = p.set.1.literals in record { program = (A.holds.sound, omega (arith, A.kept.rules, rules-held A.holds)); index = p.index; set = (p.set.0, λ x i. (l.low x i, l.high x i)); row = search (rules, p.row) }
 
 -- the names in the row after its first word
 module _ (c : In-Names) where

@@ -50,7 +50,7 @@ returns-then-atoms-largest_variable c =
     (omega (arith, c.if-atoms-largest_variable.true, c.largest_variable.ensures))
 
 pub is_loop-requires : goal.is_loop-requires
-is_loop-requires c = let p = c.requires in record { program = (p.0.2.holds.sound, p.1.1.0); index = p.1.0; numbers = members (U c) (line c) }
+is_loop-requires c = let p = c.requires in record { program = (p.state.2.holds.sound, p.relevant); index = p.index; numbers = members (U c) (line c) }
 
 -- question 56, of the rules that the table holds
 looped : (c : After-is_loop)
@@ -67,7 +67,7 @@ pub add_nogood-requires : goal.add_nogood-requires
 add_nogood-requires c = let m = c in
     let e = (goal.at.add_nogood-requires c).Else-atoms-largest_variable in
     let p = e.requires in
-    let t = p.0 in record { state = (t.0, name_of t.1.named, names-above t.1 t.3 t.2 (U e) (line e) (low e)); index = p.1.0; set = (m.marks_of-inside.ensures, line e); store = p.1.1.1.0 }
+    let t = p.state in record { state = (t.0, name_of t.1.named, names-above t.1 t.3 t.2 (U e) (line e) (low e)); index = p.index; set = (m.marks_of-inside.ensures, line e); store = p.store }
 
 pub returns : goal.returns
 returns c =

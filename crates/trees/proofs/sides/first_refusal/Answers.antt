@@ -32,7 +32,7 @@ module _ (c : After-demand_atom) where
 
 pub is_accepted-requires : goal.is_accepted-requires
 is_accepted-requires c = let d = (goal.at.is_accepted-requires c).Start in
-    let q = d.requires in record { program = ((demanding_as_written q.0.0 (pos d.args.v), whole d q.0.1), omega (arith, q.0.1.rules)); empty = q.1.1 }
+    let q = d.requires in record { program = ((demanding_as_written q.place.0 (pos d.args.v), whole d q.place.1), omega (arith, q.place.1.rules)); empty = q.empty }
 
 pub returns-then-not-is_accepted : goal.returns-then-not-is_accepted
 returns-then-not-is_accepted c = let d = (goal.at.returns-then-not-is_accepted c).After-demand_atom in

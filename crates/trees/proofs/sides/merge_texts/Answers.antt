@@ -85,7 +85,7 @@ returns-then-number-eq58 c = let w = (goal.at.returns-then-number-eq58 c).After-
 
 pub first_refusal-requires : goal.first_refusal-requires
 first_refusal-requires c = let w = (goal.at.first_refusal-requires c).After-write in
-    let q = (z w).requires in record { place = (q.0.0, standing (z w) q.0.1); atom = q.1.0; empty = (zeros (pos 0) {n = length (z w).args.store.now} w.write.ensures.empty).0 }
+    let q = (z w).requires in record { place = (q.place.0, standing (z w) q.place.1); atom = q.atom; empty = (zeros (pos 0) {n = length (z w).args.store.now} w.write.ensures.empty).0 }
 
 pub returns-then-place-size : goal.returns-then-place-size
 returns-then-place-size c = let w = (goal.at.returns-then-place-size c).After-write in

@@ -43,7 +43,7 @@ try_without-left-requires c = let b = c in
     let d = (goal.at.try_without-left-requires c).In-loop-at in
     let I = d.loop-at.invariant in
     let q = d.requires in
-    let h = b.line_start-start.ensures.before in record { bounds = ((omega (arith, h), (inside d).0), (inside d).1); room = (omega (arith, I.same_text, q.0.0), I.same-trial ∙ q.0.1); program = q.1.1.0; empty = (zeros (pos 0) {n = length d.args.store.now} I.zeros).0 }
+    let h = b.line_start-start.ensures.before in record { bounds = ((omega (arith, h), (inside d).0), (inside d).1); room = (omega (arith, I.same_text, q.room.0), I.same-trial ∙ q.room.1); program = q.program; empty = (zeros (pos 0) {n = length d.args.store.now} I.zeros).0 }
 
 pub loop-at-smaller : goal.loop-at-smaller
 loop-at-smaller c = c.line_start-start.ensures.before

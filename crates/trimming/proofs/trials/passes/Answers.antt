@@ -62,7 +62,7 @@ pub pass-left-requires : goal.pass-left-requires
 unfolding byte_classes
 pass-left-requires c = let k = c in
     let q = k.requires in
-    let I = k.loop-len.invariant in record { room = (omega (arith, I.same_text, q.0), I.room); within = I.within; program = q.1.0; empty = (zeros (pos 0) {n = length k.args.store.now} I.zeros).0; classes = refl {a = byte_classes} }
+    let I = k.loop-len.invariant in record { room = (omega (arith, I.same_text, q.short), I.room); within = I.within; program = q.program; empty = (zeros (pos 0) {n = length k.args.store.now} I.zeros).0; classes = refl {a = byte_classes} }
 
 pub returns-then-left-len : goal.returns-then-left-len
 returns-then-left-len c = let d = (goal.at.returns-then-left-len c).After-pass-left in
