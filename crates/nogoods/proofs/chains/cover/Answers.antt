@@ -75,7 +75,7 @@ loop-r-preserved c =
     )
 
 pub returns : goal.returns
-returns c = c.loop-r.invariant.0
-
-pub returns : goal.returns
 returns c = c.loop-r.invariant.2
+
+pub end_at-end-requires : goal.end_at-end-requires
+end_at-end-requires c = room c

@@ -17,12 +17,12 @@ module _ (c : After-cover) where
   covered = c.cover.ensures
 
 pub walk-spot-requires : goal.walk-spot-requires
-walk-spot-requires c = let d = (goal.at.walk-spot-requires c).Start in let p = d.requires in (p.0, covered d p.0 p.1)
+walk-spot-requires c = let d = (goal.at.walk-spot-requires c).After-cover in let p = d.requires in (p.0, covered d p.0 p.1)
 
 -- what the walk said
 module _ (c : After-walk-spot) where
   abbrev d : After-cover
-  d = c.before.before.before.before.before.before
+  d = c.before.before.before
 
   said : (t : Spot) → c.walk-spot.result ≡ t → (stored : List Stored) (K : Keeps d.args.store.now d.cover.new.index d.args.used stored)
       → Spotted K.scale K.covers.front d.args.literals.now d.cover.new.index t
