@@ -63,7 +63,12 @@ slice_bounds-propagate-end c =
 pub propagate-requires : goal.propagate-requires
 propagate-requires c = let r = (goal.at.propagate-requires c).After-run in
     let p = (s r).requires.held in
-    let K = searched r p.0 p.1 in let all = ((p.0, used-words _ _ p.0 p.1.holds), (subst (λ (n : ℕ). Marked n (take (s r).args.used (s r).args.store.now) (found r)) K.size (marked K), c.assign-end.ensures.size)) in record { encoded = all.0; index = all.1.0; size = all.1.1.0; start = all.1.1.1 }
+    let K = searched r p.0 p.1 in record {
+      encoded = (p.0, used-words _ _ p.0 p.1.holds);
+      index = subst (λ (n : ℕ). Marked n (take (s r).args.used (s r).args.store.now) (found r)) K.size (marked K);
+      size = c.assign-end.ensures.size.0;
+      start = c.assign-end.ensures.size.1;
+    }
 
 pub returns : goal.returns
 returns c = let r = (goal.at.returns c).After-run in

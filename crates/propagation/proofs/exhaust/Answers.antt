@@ -28,4 +28,4 @@ returns-in-Same c = let k = (goal.at.returns-in-Same c).After-zero_bytes in
 
 pub returns-in-Changed : goal.returns-in-Changed
 returns-in-Changed c = let o = (goal.at.returns-in-Changed c).After-settle-swept in
-    let s = c in let all = absurd (omega (arith, (told o _ c.in-Changed.is).1, free-most s.args.assignment.now, s.requires.size)) in record { decided = all.0; free = all.1 }
+    absurd (omega (arith, (told o _ c.in-Changed.is).1, free-most c.args.assignment.now, c.requires.size))

@@ -16,7 +16,7 @@ use Rattle.nogoods.proofs.Recorded.{readable}
 use Rattle.propagation.proofs.Assignments.{blank-set}
 use Rattle.propagation.proofs.Closures.{grows-not, grows-on, derived, conflicting, clashes-before}
 use Rattle.propagation.proofs.replay.replay.Goals as goal
-use Rattle.propagation.proofs.replay.replay.Goals.{Else-m-eq0, Then-is_start, At-loop-k, Start, After-derive_at-given, In-Assigned}
+use Rattle.propagation.proofs.replay.replay.Goals.{Else-m-eq0, Then-is_start, After-derive_at-given, In-Assigned}
 use Rattle.propagation.proofs.replay.replay.Lts.View as view
 use Rattle.propagation.proofs.replay.replay.Reads as reads
 use Rattle.propagation.proofs.replay.replay.Tie as tie
@@ -54,31 +54,22 @@ is_start-requires c =
 
 -- the nogood at the place
 module _ (d : Then-is_start) where
-  abbrev l : At-loop-k
-  l = d.before.before.before.before
-
-  abbrev e : Else-m-eq0
-  e = l.before.before
-
-  abbrev s : Start
-  s = started e
-
   abbrev words : List ℤ
-  words = s.args.nogoods.now
+  words = d.args.nogoods.now
 
   abbrev x : ℕ
-  x = get_or s.args.index.now (path_at (scale e) + l.loop-k.k) 0
+  x = get_or d.args.index.now (path_at (d.scale_of-m.result) + d.loop-k.k) 0
 
   stands : Stands words x
   stands =
       let t = d.is_start.ensures d.if-is_start.true in
-      subst (λ (n : ℕ). Marked n words s.args.index.now) (sym e.scale_of-m.ensures.value) s.requires.index x t.0 t.1
+      subst (λ (n : ℕ). Marked n words d.args.index.now) (sym d.scale_of-m.ensures.value) d.requires.index x t.0 t.1
 
   read : Readable words x
-  read = readable words x s.requires.encoded stands
+  read = readable words x d.requires.encoded stands
 
-  size : length l.loop-k.assignment ≡ entries
-  size = l.loop-k.invariant.0.size ∙ s.requires.size
+  size : length d.loop-k.assignment ≡ entries
+  size = d.loop-k.invariant.0.size ∙ d.requires.size
 
 pub derive_at-given-requires : goal.derive_at-given-requires
 derive_at-given-requires c = let d = (goal.at.derive_at-given-requires c).Then-is_start in record { «record» = read d; size = size d }
@@ -88,7 +79,7 @@ module _ (c : After-derive_at-given) where
   abbrev at : Then-is_start
   at = (view.up-Then-is_start tie.the-claims reads.Pre reads.Post goal.the-invariant-loop-k goal.the-decreases-loop-k tie.handed_clauses c.before.before.before)
 
-  told : (y : Derived) → c.derive_at-given.result ≡ y → DerivesAt (words at) (x at) (l at).loop-k.assignment c.derive_at-given.new.assignment y
+  told : (y : Derived) → c.derive_at-given.result ≡ y → DerivesAt (words at) (x at) at.loop-k.assignment c.derive_at-given.new.assignment y
   told y e = rw e at c.derive_at-given.ensures
 
 pub returns-in-Conflicting : goal.returns-in-Conflicting
@@ -96,8 +87,8 @@ returns-in-Conflicting c =
     let o = (goal.at.returns-in-Conflicting c).After-derive_at-given in
     let d = at o in
     let t = told o _ c.in-Conflicting.is in
-    let v = (l d).loop-k.invariant in (
-      clashes-before _ _ _ v.0 (conflicting _ _ (stands d) t.0 (read d).literals (l d).loop-k.assignment (size d) t.1.1),
+    let v = d.loop-k.invariant in (
+      clashes-before _ _ _ v.0 (conflicting _ _ (stands d) t.0 (read d).literals d.loop-k.assignment (size d) t.1.1),
       (v.1.0, rw t.1.0 v.1.1),
     )
 
@@ -109,17 +100,17 @@ module _ (c : In-Assigned) where
   abbrev v : ℕ
   v = c.in-Assigned.v
 
-  gives : DerivesAt (words (at o)) (x (at o)) (l (at o)).loop-k.assignment o.derive_at-given.new.assignment (Assigned v)
+  gives : DerivesAt (words (at o)) (x (at o)) (at o).loop-k.assignment o.derive_at-given.new.assignment (Assigned v)
   gives = told o _ c.in-Assigned.is
 
-  grown : Grows (words (at o)) (l (at o)).loop-k.assignment o.derive_at-given.new.assignment × (v < entries)
+  grown : Grows (words (at o)) (at o).loop-k.assignment o.derive_at-given.new.assignment × (v < entries)
   grown =
       let d = at o in
-      let g = derived _ _ (stands d) gives.0 (read d).literals (l d).loop-k.assignment (size d) _ _ gives.1 in
+      let g = derived _ _ (stands d) gives.0 (read d).literals d.loop-k.assignment (size d) _ _ gives.1 in
       (g.0, g.3)
 
 pub past-end-requires : goal.past-end-requires
-past-end-requires c = ((l (at (o c))).loop-k.invariant.1.0, (grown c).1)
+past-end-requires c = ((at (o c)).loop-k.invariant.1.0, (grown c).1)
 
 pub loop-k-smaller-in-Assigned : goal.loop-k-smaller-in-Assigned
 loop-k-smaller-in-Assigned c = omega (arith, (at (o (goal.at.loop-k-smaller-in-Assigned c).In-Assigned)).loop-k-test.true)
@@ -127,15 +118,15 @@ loop-k-smaller-in-Assigned c = omega (arith, (at (o (goal.at.loop-k-smaller-in-A
 pub loop-k-preserved-in-Assigned : goal.loop-k-preserved-in-Assigned
 loop-k-preserved-in-Assigned c =
     let k = (goal.at.loop-k-preserved-in-Assigned c).In-Assigned in
-    let i = (l (at (o k))).loop-k in
+    let i = (at (o k)).loop-k in
     let p = c.past-end.ensures in
-    (grows-on i.inv.0 (grown k).0, (p.1.1, rw (gives k).1.3 (blank-set i.assignment (v k) _ i.end _ i.inv.1.1 p.0 p.1.0)))
+    (grows-on i.invariant.0 (grown k).0, (p.1.1, rw (gives k).1.3 (blank-set i.assignment (v k) _ i.end _ i.invariant.1.1 p.0 p.1.0)))
 
 pub loop-k-smaller-in-Nothing : goal.loop-k-smaller-in-Nothing
 loop-k-smaller-in-Nothing c = omega (arith, (at (goal.at.loop-k-smaller-in-Nothing c).After-derive_at-given).loop-k-test.true)
 
 pub loop-k-preserved-in-Nothing : goal.loop-k-preserved-in-Nothing
-loop-k-preserved-in-Nothing c = let o = (goal.at.loop-k-preserved-in-Nothing c).After-derive_at-given in rw (told o _ c.in-Nothing.is).0 (l (at o)).loop-k.invariant
+loop-k-preserved-in-Nothing c = let o = (goal.at.loop-k-preserved-in-Nothing c).After-derive_at-given in rw (told o _ c.in-Nothing.is).0 (at o).loop-k.invariant
 
 pub loop-k-smaller : goal.loop-k-smaller
 loop-k-smaller c = omega (arith, c.loop-k-test.true)

@@ -27,4 +27,4 @@ pub returns : goal.returns
 returns c =
     let o = c in
     let e = c in
-    derives-live _ _ _ _ c.derive.result (sym e.is_dead.ensures ∙ e.if-is_dead.false) (rw o.nogood_at.ensures at c.derive.ensures)
+    derives-live c.args.nogoods.now c.args.r c.args.assignment.now c.derive.new.assignment c.derive.result (sym e.is_dead.ensures ∙ e.if-is_dead.false) (rw o.nogood_at.ensures at c.derive.ensures)

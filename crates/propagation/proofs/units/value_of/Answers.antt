@@ -21,7 +21,7 @@ wanted-is : (c : After-entry_of-wanted) → c.entry_of-wanted.result ≡ entry c
 wanted-is c = rw (to_z-of_z c.ranges.word) at c.entry_of-wanted.ensures
 
 pub bounds-assignment-v : goal.bounds-assignment-v
-bounds-assignment-v c = let p = c.requires.within.within in omega (arith, v-is (goal.at.bounds-assignment-v c).After-variable_of-v)
+bounds-assignment-v c = let p = c.requires.within in omega (arith, v-is (goal.at.bounds-assignment-v c).After-variable_of-v)
 
 pub returns-then-found-wanted : goal.returns-then-found-wanted
 returns-then-found-wanted c = let o = (goal.at.returns-then-found-wanted c).After-entry_of-wanted in rw (v-is (goal.at.returns-then-found-wanted c).After-variable_of-v, wanted-is o) at c.if-found-wanted.true
