@@ -4,7 +4,6 @@
 use mathlib.Core.Path.{◌≡◌, refl, sym, ◌∙◌, ap, subst}
 use mathlib.Core.Logic.{◌⊎◌, inl, inr}
 use mathlib.Core.Bool.{Bool, not}
-use mathlib.Core.Option.{none}
 use mathlib.Core.List.Memᴰ
 use mathlib.Core.List.{List, [], ◌∷◌, map}
 use Prim.Native.Nat.{ℕ, zero, suc, ◌≤◌, ◌<◌}
@@ -17,7 +16,6 @@ use Rattle.words.specs.Limits.{most_numbers}
 use Rattle.words.specs.Literals.{variable, complement, same}
 use Rattle.words.proofs.Lists.{answered, and-decides, not-decides, any-decides, leb-decides, keep←}
 use Rattle.words.proofs.Literals.{same-decides, has-decides}
-use Rattle.text.specs.declared.Letter.TheVariants.{Loop}
 use Rattle.aspif.specs.Rules.{Rule, plain_atoms}
 use Rattle.aspif.specs.declared.Kind.TheVariants.{Normal}
 use Rattle.aspif.specs.AnswerSets.{LeastModel, derive, AnswerSet}
@@ -25,7 +23,6 @@ use Rattle.drupe.specs.Lines.{is_positive}
 use Rattle.derivation.specs.Loops.{is_edge, Reaches, one, more}
 use Rattle.derivation.specs.Loops as Loops
 use Rattle.derivation.specs.States.{State, is_atom, is_name}
-use Rattle.derivation.specs.Steps.{body}
 use Rattle.derivation.proofs.Valuations.{True, All}
 use Rattle.derivation.proofs.Questions.{positive-is, pos-positive, atom-decides}
 use Rattle.derivation.proofs.Invariant.{Kept}

@@ -10,7 +10,7 @@ use native.Mathlib.Omega.{arith}
 use lib.Dec.{T}
 use lib.IntN.{ℤ, pos, neg_ℤ}
 use lib.ListN.{length, length-map}
-use Rattle.words.specs.Lists.{◌∈◌, any, all, filter}
+use Rattle.words.specs.Lists.{◌∈◌, any, filter}
 use Rattle.words.specs.Literals.{variable, complement, same_list, has, distinct, ascending}
 use Rattle.words.proofs.Lists.{Decides, itself, is_true, and-decides, any-decides, all-decides, each-cons, keep→, keep←}
 use Rattle.words.proofs.Literals.{same_list-decides, has-decides, complement-twice, ascending→, ascending←, positive}

@@ -1,7 +1,7 @@
 -- A derivation leaves no answer set also where question 23 is not put, so that there is one exactly where there is no answer set. Assumes nothing.
 use mathlib.Core.Path.{refl}
 use mathlib.Core.Logic.{◌⊎◌, inl, inr}
-use mathlib.Core.List.{List, []}
+use mathlib.Core.List.{List}
 use Prim.Native.Nat.{ℕ, ◌≤◌, max}
 use native.Mathlib.Omega.{arith}
 use lib.IntN.{pos}

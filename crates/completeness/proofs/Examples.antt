@@ -1,7 +1,7 @@
 -- `complete` at work: what it finds is computed. Assumes nothing.
 use mathlib.Core.Path.{refl}
 use mathlib.Core.List.Memᴰ
-use mathlib.Core.List.{List, [], ◌++◌}
+use mathlib.Core.List.{List, ◌++◌}
 use Prim.Native.Nat.{ℕ}
 use native.Mathlib.Omega.{arith}
 use lib.ListN.{drop}

@@ -239,6 +239,7 @@ module _ (N : ℕ) (P : List Rule) (wf : WellFormed N P) (L : List ℤ) (total :
 
   module _ (rules : (r : Rule) → r ∈ P → Heeded r) (atoms : (x : ℤ) → x ∈ L → Supported x) where
     one-head : {h k : ℤ} (hs : List ℤ) → length hs ≤ 1 → h ∈ hs → k ∈ hs → h ≡ k
+    one-head [] l i j = elim i [ ]
     one-head (x ∷ []) l (Memᴰ.head p) (Memᴰ.head q) = p ∙ sym q
     one-head (x ∷ []) l (Memᴰ.head p) (Memᴰ.tail j) = elim j [ ]
     one-head (x ∷ []) l (Memᴰ.tail i) j = elim i [ ]

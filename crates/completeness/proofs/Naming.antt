@@ -18,7 +18,7 @@ use Rattle.aspif.specs.Rules.{Rule}
 use Rattle.aspif.proofs.Written.{in_order}
 use Rattle.drupe.specs.Lines.{is_positive}
 use Rattle.derivation.specs.States.{Named, State, start, is_known, has_name}
-use Rattle.derivation.specs.Steps.{next, add, definition, define, body, is_unnamed_body, by_letter}
+use Rattle.derivation.specs.Steps.{next, add, definition, define, is_unnamed_body, by_letter}
 use Rattle.derivation.proofs.Questions.{pos-positive, atom-decides, known-decides, atom-known, all_known-decides, has_name-decides, unnamed-decides}
 use Rattle.completeness.specs.Claims.{WellFormed, by-body}
 use Rattle.completeness.proofs.Totals.{distinct_cons, Different}

@@ -4,7 +4,7 @@ use mathlib.Core.Logic.{◌⊎◌, inl, inr, ◌≢◌}
 use mathlib.Core.Bool.{Bool, true, false, cond, not, true≢false}
 use mathlib.Core.List.Memᴰ
 use mathlib.Core.List.{List, [], ◌∷◌, ◌++◌, map, head-eq_of_cons-eq}
-use Prim.Native.Nat.{ℕ, zero, suc, ◌+◌, ◌≤◌}
+use Prim.Native.Nat.{ℕ, zero, suc, ◌≤◌}
 use native.Mathlib.Omega.{arith}
 use lib.Dec.{T}
 use lib.IntN.{ℤ, pos, neg_ℤ}
@@ -102,16 +102,19 @@ extended-all (t ∷ ts) names v m = extended-all ts (extended_by names t) v (ext
 
 module _ (n : ℤ) (L : List ℤ) where
   body-there : (ts : List Step) (named : List Named) → record { letter = Body; numbers = n ∷ L } ∈ ts → record { name = variable n; body = ascending L } ∈ named_in named ts
+  body-there [] named x' = elim x' [ ]
   body-there (t ∷ ts) named (Memᴰ.head p) = subst (λ (s : Step). record { name = variable n; body = ascending L } ∈ named_in (named_by s named) ts) p (named-all ts _ _ (Memᴰ.head refl))
   body-there (t ∷ ts) named (Memᴰ.tail m) = body-there ts (named_by t named) m
 
   -- a line of a letter that introduces its first number
   line-introduced : (c : Letter) → ((names : List ℕ) → variable n ∈ introduced_by (record { letter = c; numbers = n ∷ L }) names)
       → (ts : List Step) (names : List ℕ) → record { letter = c; numbers = n ∷ L } ∈ ts → variable n ∈ introduced_in names ts
+  line-introduced c here [] names x' = elim x' [ ]
   line-introduced c here (t ∷ ts) names (Memᴰ.head p) = subst (λ (s : Step). variable n ∈ introduced_in (introduced_by s names) ts) p (introduced-all ts _ _ (here names))
   line-introduced c here (t ∷ ts) names (Memᴰ.tail m) = line-introduced c here ts (introduced_by t names) m
 
   extension-there : (ts : List Step) (names : List ℕ) → record { letter = Extension; numbers = n ∷ L } ∈ ts → variable n ∈ extended_in names ts
+  extension-there [] names x' = elim x' [ ]
   extension-there (t ∷ ts) names (Memᴰ.head p) = subst (λ (s : Step). variable n ∈ extended_in (extended_by names s) ts) p (extended-all ts _ _ (Memᴰ.head refl))
   extension-there (t ∷ ts) names (Memᴰ.tail m) = extension-there ts (extended_by names t) m
 

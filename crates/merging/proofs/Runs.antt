@@ -7,7 +7,7 @@ use Prim.Native.Nat.{ℕ, ◌≤◌}
 use lib.Dec.{T}
 use lib.IntN.{ℤ, pos, negsuc}
 use Rattle.words.specs.Lists.{◌∈◌}
-use Rattle.words.specs.Literals.{ascending, distinct}
+use Rattle.words.specs.Literals.{ascending}
 use Rattle.words.proofs.Lists.{zero_one, itself, and-decides, not-decides}
 use Rattle.words.proofs.Literals.{has-decides, variable-positive}
 use Rattle.text.specs.declared.Letter.{Letter}

@@ -1,6 +1,6 @@
 -- A tree of splits with proofs at its ends, over lists of steps: document 02, Change 14. proofs/Trees.antt proves the claims.
 -- Assumes nothing.
-use Rattle.std.specs.Prelude.{◌≡◌, true, List, ℕ, ◌≤◌, ℤ, pos, neg_ℤ}
+use Rattle.std.specs.Prelude.{◌≡◌, true, List, ℕ, ◌≤◌, pos, neg_ℤ}
 use Rattle.aspif.specs.Rules.{Rule, InputRule, expand, atoms, plain_atoms}
 use Rattle.drupe.specs.Texts.{Step}
 use Rattle.derivation.specs.States.{is_atom}

@@ -1,6 +1,7 @@
 // The shape of a tree of splits as it is lent: whether the numbers are one, and whether the lengths are those of its ends. Document 02,
 // Change 14; 64 is decided here. What is a tree is specs/Tree.antt.
 #![tactic(auto)]
+
 ghost use Rattle.std.specs.Prelude.{◌≡◌, [], ◌-◌, ◌≤◌, eqb, length, take};
 ghost use Rattle.words.specs.Lists.{any};
 ghost use Rattle.shapes.specs.Tree.{tree_of, sum, most_splits};

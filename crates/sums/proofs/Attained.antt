@@ -18,7 +18,7 @@ use Rattle.sums.proofs.Nodes.{both-parts, sum_both}
 
 -- Numbers that ascend
 
-pub ascending-low : {low x : ℕ} {us : List ℕ} → Ascending low us → x ∈ us → low ≤ x
+pub ascending-low : {x low : ℕ} {us : List ℕ} → Ascending low us → x ∈ us → low ≤ x
 ascending-low a (Memᴰ.head e) = let h = a.0 in omega arith
 ascending-low a (Memᴰ.tail i) = let h = a.0 in let k = ascending-low a.1 i in omega arith
 
@@ -66,6 +66,8 @@ merge-ascends (suc n) low (u ∷ us) (v ∷ vs) a c =
 module _ (x : ℕ) where
   merge-left : (n : ℕ) (us vs : List ℕ) → length us + length vs ≤ n → x ∈ us → x ∈ merge n us vs
   unfolding merge
+  merge-left zero [] vs h i = elim i [ ]
+  merge-left (suc n) [] vs h i = elim i [ ]
   merge-left zero (u ∷ us) vs h i = absurd (omega arith)
   merge-left (suc n) (u ∷ us) [] h i = i
   merge-left (suc n) (u ∷ us) (v ∷ vs) h i =
@@ -76,6 +78,8 @@ module _ (x : ℕ) where
 
   merge-right : (n : ℕ) (us vs : List ℕ) → length us + length vs ≤ n → x ∈ vs → x ∈ merge n us vs
   unfolding merge
+  merge-right zero us [] h i = elim i [ ]
+  merge-right (suc n) (u ∷ us) [] h i = elim i [ ]
   merge-right zero us (v ∷ vs) h i = absurd (omega arith)
   merge-right (suc n) [] vs h i = i
   merge-right (suc n) (u ∷ us) (v ∷ vs) h i =
@@ -89,6 +93,7 @@ module _ (x : ℕ) where
 
   merge_of : (n : ℕ) (us vs : List ℕ) → x ∈ merge n us vs → (x ∈ us) ⊎ (x ∈ vs)
   unfolding merge
+  merge_of zero us vs i = elim i [ ]
   merge_of (suc n) [] vs i = inr i
   merge_of (suc n) (u ∷ us) [] i = inl i
   merge_of (suc n) (u ∷ us) (v ∷ vs) i =
@@ -113,6 +118,7 @@ module _ (b w : ℕ) where
 
   raised-in : (low : ℕ) {x : ℕ} (us : List ℕ) → Ascending low us → x ∈ us → min b (x + w) ∈ raised b w us
   unfolding raised
+  raised-in low {x} [] a i = elim i [ ]
   raised-in low {x} (u ∷ us) a i =
       by-test (λ l. min b (x + w) ∈ l) (ltb (u + w) b)
       (λ e.
@@ -130,6 +136,7 @@ module _ (b w : ℕ) where
 
   pub raised_of : {y : ℕ} (us : List ℕ) → y ∈ raised b w us → From y us
   unfolding raised
+  raised_of {y} [] i = elim i [ ]
   raised_of {y} (u ∷ us) i =
       by-test (λ l. y ∈ l → From y (u ∷ us)) (ltb (u + w) b)
       (λ e.

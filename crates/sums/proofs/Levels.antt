@@ -12,7 +12,6 @@ use Rattle.words.specs.Lists.{◌∈◌, concat}
 use Rattle.words.proofs.Lists.{Decides, answered, leb-decides, not-decides, and-decides, or-decides, any-decides, all-decides, keep→, keep←, by-test}
 use Rattle.weights.specs.Weights.{Weighted, sum}
 use Rattle.weights.specs.Claims.{◌⊑◌, Reorder}
-use Rattle.weights.proofs.Sublists as sub
 use Rattle.weights.proofs.Minimal.{ltb-decides}
 use Rattle.weights.proofs.Reordered.{as_it_was}
 use Rattle.aspif.specs.Rules.{Body, plain, weights, InputRule, expand, atoms}

@@ -16,6 +16,5 @@ returns-in-NoTree c =
 pub returns-in-Tree : goal.returns-in-Tree
 returns-in-Tree c =
     let a = c.args in
-    let g = c.numbers-1.given in
     let p = tree_of 6 _ a.atoms a.tree.now in
-    told-tree p a.tree.now g.0.0 g.0.1.0 (walks-tree p a.tree.now _ _ g.1 c.shape.ensures) a.size a.lengths.now c.adds_up.result c.adds_up.ensures
+    told-tree p a.tree.now _ _ (walks-tree p a.tree.now _ _ c.in-Tree.is c.shape.ensures) a.size a.lengths.now c.adds_up.result c.adds_up.ensures
