@@ -21,7 +21,7 @@ use Rattle.words.proofs.Ascending.{ascends-words}
 use Rattle.words.proofs.Lists.{Decides, reworded, passed, if-true, is_true, or-decides, any-decides, all-decides, and_left, and_right}
 use Rattle.aspif.specs.Rules.{Rule, InputRule, is_plain, all_plain, with_body, expand_rule, expand}
 use Rattle.aspif.specs.Tables.{is_weighted, head_count, head_start, size_at, heads_at, body_words_at, rule_at, rules_at, heads_sound, shape_sound, sound_at, sound_rules}
-use Rattle.aspif.proofs.Cursors.{plain_at_lem, shaped}
+use Rattle.aspif.proofs.Cursors.{plain_at, shaped}
 use Rattle.names.specs.Queries.{Kept}
 use Rattle.heads.specs.Heads.{start_of, words_from, Headed, headed_by, headed_to, headed_at, Place, HasHead}
 use Rattle.names.proofs.Asked.{plain-bodies, plain_entry}
@@ -80,11 +80,11 @@ any-written f (suc n) t = reworded to from (or-decides (passed (f (rule_at t))) 
 -- Programs without weight bodies
 
 -- the rule at the front as a plain rule
-abbrev pub plain_at : List ℤ → Rule
-plain_at ws = with_body (rule_at ws) (body_words_at ws)
+abbrev pub plain_rule_at : List ℤ → Rule
+plain_rule_at ws = with_body (rule_at ws) (body_words_at ws)
 
 not-weighted : (ws : List ℤ) → is_plain (rule_at ws) ≡ true → is_weighted ws ≡ false
-not-weighted ws p = by (is_weighted ws) (sym (plain_at_lem ws) ∙ p)
+not-weighted ws p = by (is_weighted ws) (sym (plain_at ws) ∙ p)
   where
     by : (t : Bool) → not t ≡ true → t ≡ false
     by true e = sym e
@@ -98,7 +98,7 @@ plain-rule (suc n) t p zero h = not-weighted t (and_left (is_plain (rule_at t)) 
 plain-rule (suc n) t p (suc k) h = rw (later k t) (plain-rule n (drop (size_at t) t) (and_right (is_plain (rule_at t)) _ p) k (omega arith))
 
 -- the plain rules: one for each rule
-rules-expanded : (n : ℕ) (t : List ℤ) → all_plain (rules_at (suc n) t) ≡ true → expand (rules_at (suc n) t) ≡ plain_at t ∷ expand (rules_at n (drop (size_at t) t))
+rules-expanded : (n : ℕ) (t : List ℤ) → all_plain (rules_at (suc n) t) ≡ true → expand (rules_at (suc n) t) ≡ plain_rule_at t ∷ expand (rules_at n (drop (size_at t) t))
 unfolding expand expand_rule
 rules-expanded n t p = rw (plain-bodies t (not-weighted t (and_left (is_plain (rule_at t)) _ p)))
 
@@ -106,17 +106,17 @@ no-rule : {r : Rule} (t : List ℤ) → r ∈ expand (rules_at 0 t) → ⊥
 unfolding expand
 no-rule t i = elim i [ ]
 
-pub in-rules→ : (n : ℕ) (t : List ℤ) → all_plain (rules_at n t) ≡ true → (r : Rule) → r ∈ expand (rules_at n t) → (k : ℕ) × (k < n) × (r ≡ plain_at (words_from k t))
+pub in-rules→ : (n : ℕ) (t : List ℤ) → all_plain (rules_at n t) ≡ true → (r : Rule) → r ∈ expand (rules_at n t) → (k : ℕ) × (k < n) × (r ≡ plain_rule_at (words_from k t))
 in-rules→ zero t p r i = absurd (no-rule t i)
 in-rules→ (suc n) t p r i =
     go (in-rules→ n (drop (size_at t) t) (and_right (is_plain (rule_at t)) _ p) r) (Memᴰ.cases_cons (rw (rules-expanded n t p) at i))
   where
-    go : (r ∈ expand (rules_at n (drop (size_at t) t)) → (k : ℕ) × (k < n) × (r ≡ plain_at (words_from k (drop (size_at t) t))))
-        → (r ≡ plain_at t) ⊎ (r ∈ expand (rules_at n (drop (size_at t) t))) → (k : ℕ) × (k < suc n) × (r ≡ plain_at (words_from k t))
-    go f (inl e) = (0, omega arith, e ∙ ap plain_at (sym (first-words t)))
-    go f (inr m) = let q = f m in (suc q.0, omega (arith, q.1), q.2 ∙ ap plain_at (sym (later q.0 t)))
+    go : (r ∈ expand (rules_at n (drop (size_at t) t)) → (k : ℕ) × (k < n) × (r ≡ plain_rule_at (words_from k (drop (size_at t) t))))
+        → (r ≡ plain_rule_at t) ⊎ (r ∈ expand (rules_at n (drop (size_at t) t))) → (k : ℕ) × (k < suc n) × (r ≡ plain_rule_at (words_from k t))
+    go f (inl e) = (0, omega arith, e ∙ ap plain_rule_at (sym (first-words t)))
+    go f (inr m) = let q = f m in (suc q.0, omega (arith, q.1), q.2 ∙ ap plain_rule_at (sym (later q.0 t)))
 
-pub in-rules← : (n : ℕ) (t : List ℤ) → all_plain (rules_at n t) ≡ true → (k : ℕ) → k < n → plain_at (words_from k t) ∈ expand (rules_at n t)
+pub in-rules← : (n : ℕ) (t : List ℤ) → all_plain (rules_at n t) ≡ true → (k : ℕ) → k < n → plain_rule_at (words_from k t) ∈ expand (rules_at n t)
 in-rules← zero t p k h = absurd (omega arith)
 in-rules← (suc n) t p zero h = rw (rules-expanded n t p, first-words t) (Memᴰ.head refl)
 in-rules← (suc n) t p (suc k) h =
@@ -124,22 +124,22 @@ in-rules← (suc n) t p (suc k) h =
 
 -- some plain rule passes: some rule by its number does; and all pass
 module _ {f : Rule → Bool} {F : Rule → Type 0} (i : (r : Rule) → Decides (f r) (F r)) (n : ℕ) (t : List ℤ) (p : all_plain (rules_at n t) ≡ true) where
-  pub any-rule : Decides (any f (expand (rules_at n t))) ((k : ℕ) × (k < n) × F (plain_at (words_from k t)))
+  pub any-rule : Decides (any f (expand (rules_at n t))) ((k : ℕ) × (k < n) × F (plain_rule_at (words_from k t)))
   any-rule = reworded to from (any-decides i (expand (rules_at n t)))
     where
-      to : (r : Rule) × (r ∈ expand (rules_at n t)) × F r → (k : ℕ) × (k < n) × F (plain_at (words_from k t))
+      to : (r : Rule) × (r ∈ expand (rules_at n t)) × F r → (k : ℕ) × (k < n) × F (plain_rule_at (words_from k t))
       to q = let m = in-rules→ n t p q.0 q.1 in (m.0, m.1, subst F m.2 q.2)
 
-      from : (k : ℕ) × (k < n) × F (plain_at (words_from k t)) → (r : Rule) × (r ∈ expand (rules_at n t)) × F r
-      from q = (plain_at (words_from q.0 t), in-rules← n t p q.0 q.1, q.2)
+      from : (k : ℕ) × (k < n) × F (plain_rule_at (words_from k t)) → (r : Rule) × (r ∈ expand (rules_at n t)) × F r
+      from q = (plain_rule_at (words_from q.0 t), in-rules← n t p q.0 q.1, q.2)
 
-  pub all-rules : Decides (all f (expand (rules_at n t))) ((k : ℕ) → k < n → F (plain_at (words_from k t)))
+  pub all-rules : Decides (all f (expand (rules_at n t))) ((k : ℕ) → k < n → F (plain_rule_at (words_from k t)))
   all-rules = reworded to from (all-decides i (expand (rules_at n t)))
     where
-      to : ((r : Rule) → r ∈ expand (rules_at n t) → F r) → (k : ℕ) → k < n → F (plain_at (words_from k t))
-      to g k h = g (plain_at (words_from k t)) (in-rules← n t p k h)
+      to : ((r : Rule) → r ∈ expand (rules_at n t) → F r) → (k : ℕ) → k < n → F (plain_rule_at (words_from k t))
+      to g k h = g (plain_rule_at (words_from k t)) (in-rules← n t p k h)
 
-      from : ((k : ℕ) → k < n → F (plain_at (words_from k t))) → (r : Rule) → r ∈ expand (rules_at n t) → F r
+      from : ((k : ℕ) → k < n → F (plain_rule_at (words_from k t))) → (r : Rule) → r ∈ expand (rules_at n t) → F r
       from g r m = let q = in-rules→ n t p r m in subst F (sym q.2) (g q.0 q.1)
 
 -- what is kept of rule k is the name of its body

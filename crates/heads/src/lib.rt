@@ -2,6 +2,7 @@
 // It is filled once for a check. A program with weight bodies, with more heads than it can hold or with rules too far behind is not covered.
 // What the functions promise is specs/Heads.antt. No service: the checker's steps are built on it.
 #![tactic(auto)]
+
 ghost use Rattle.std.specs.Prelude.{◌≡◌, true, false, cond, ◌&&◌, ◌⊎◌, List, [], ◌∷◌, ◌++◌, map, ℕ, suc, ◌+◌, ◌<◌, ◌≤◌, eqb, ℤ, pos, length, replicate, take, get_or, set};
 ghost use Rattle.words.specs.Limits.{largest, entries, most_held, longest, most_numbers};
 ghost use Rattle.words.specs.Lists.{◌∈◌, any, all};

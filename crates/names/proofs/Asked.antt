@@ -17,7 +17,7 @@ use Rattle.words.proofs.Literals.{same_list-decides}
 use Rattle.weights.specs.Weights.{bodies, paired, most_weighted}
 use Rattle.weights.proofs.Sublists.{filter-append, filter_map, filter_none, any_append, any-map, any_same, none_pass, sublist-short}
 use Rattle.weights.proofs.Minimal.{body→}
-use Rattle.aspif.specs.Rules.{Rule, Body, InputRule, is_normal, bodies_of, with_body, expand_rule, expand}
+use Rattle.aspif.specs.Rules.{Rule, InputRule, is_normal, bodies_of, with_body, expand_rule, expand}
 use Rattle.aspif.specs.Tables.{is_weighted, body_words_at, bound_at, body_at}
 use Rattle.aspif.proofs.SoundWeights.{Weighing}
 use Rattle.marks.specs.Marks.{listed, marked, Marks, mark_all, same_marks}
@@ -27,7 +27,6 @@ use Rattle.names.specs.Minimal.{AlsoMarks}
 use Rattle.names.specs.Queries.{entry, is_inside, asks_heads, asks, asked_names, MarksNames, completing}
 use Rattle.names.specs.declared.queries.Query.{Query}
 use Rattle.names.specs.declared.by_name.Recorded.{Recorded}
-use Rattle.names.specs.declared.by_name.Recorded.TheVariants as Recorded
 
 -- One rule more
 

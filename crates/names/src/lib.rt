@@ -2,6 +2,7 @@
 // kept by name, with the names of all bodies of a weight rule. What the functions promise is specs/Queries.antt, specs/ByName.antt and
 // specs/Minimal.antt. No service: the checker's steps are built on it.
 #![tactic(auto)]
+
 pub mod by_name;
 pub mod minimal;
 pub mod queries;

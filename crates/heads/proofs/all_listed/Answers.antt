@@ -33,7 +33,6 @@ hit-keeps names ns hits j b k h = (
       | inr d ↦ get_or-set_other hits j h.0 1 0 d ∙ h.2.1
     ],
   ),
-
 )
 
 hit-named : (t : List ℤ) (rules : ℕ) (names : List ℕ) (v : ℕ) (ns : List ℤ) (hits : List ℕ) (j k : ℕ) → HasHead t rules v k
@@ -41,7 +40,6 @@ hit-named : (t : List ℤ) (rules : ℕ) (names : List ℕ) (v : ℕ) (ns : List
 hit-named t rules names v ns hits j k H e N i h = elim (equal? i j) [
   | inl q ↦ rw q (k, H, e)
   | inr d ↦ N i (sym (get_or-set_other hits j i 1 0 d) ∙ h)
-
 ]
 
 pub loop-p-init : goal.loop-p-init
@@ -55,7 +53,6 @@ loop-p-init c =
 
 -- the place at hand
 module _ (c : In-loop-p) where
-
   abbrev es : List Headed
   es = headed_to c.args.rules c.args.table.now
 
@@ -93,7 +90,6 @@ returns-then-j-listed c =
 
 -- the name is listed
 module _ (c : Else-j-listed) where
-
   abbrev w : After-word_of-k
   w = (view.up-After-word_of-k tie.the-claims reads.Pre reads.Post goal.the-invariant-loop-p goal.the-decreases-loop-p tie.handed_clauses c.before.before.before.before.before)
 
@@ -103,8 +99,8 @@ module _ (c : Else-j-listed) where
   named : variable (get_or (i w).args.listed.now c.place_of-j.result (pos 0)) ≡ get_or (i w).args.names.now w.word_of-k.result 0
   named = c.place_of-j.ensures.here low ∙ c.wide.ensures.same
 
-  inside : c.place_of-j.result < length (i w).loop.hits
-  inside = omega (arith, low, (i w).requires.line.1, (i w).loop.invariant.0)
+  inside : c.place_of-j.result < length (i w).loop-p.hits
+  inside = omega (arith, low, (i w).requires.line.1, (i w).loop-p.invariant.0)
 
 pub loop-p-smaller : goal.loop-p-smaller
 loop-p-smaller c =
@@ -117,7 +113,7 @@ loop-p-preserved c =
     let e = (goal.at.loop-p-preserved c).Else-j-listed in
     let o = w e in
     let d = i o in
-    let j = e.place-of.result in
+    let j = e.place_of-j.result in
     let a = d.args in
     let hits = d.loop-p.hits in (
       length-set hits j 1 ∙ d.loop-p.invariant.0,
@@ -135,7 +131,13 @@ returns c =
     (all_seen a.table.now a.rules a.v (Hit a.names.now a.listed.now l.hits) l.p c.loop-p-test.false l.invariant.1, l.invariant.2)
 
 pub bounds-hits-j : goal.bounds-hits-j
-bounds-hits-j c = inside c
+bounds-hits-j c = inside (goal.at.bounds-hits-j c).Else-j-listed
 
 pub overflow_add-x-in-loop-p : goal.overflow_add-x-in-loop-p
-overflow_add-x-in-loop-p c = let r = room (i (w c)) in search rules
+overflow_add-x-in-loop-p c = let r = room (goal.at.overflow_add-x-in-loop-p c).In-loop-p in search rules
+
+pub overflow_add-x : goal.overflow_add-x
+overflow_add-x c = let r = room (goal.at.overflow_add-x c).In-loop-p in search rules
+
+pub bounds-names-k : goal.bounds-names-k
+bounds-names-k c = in-names (goal.at.bounds-names-k c).After-word_of-k

@@ -5,12 +5,11 @@ use lib.ListN.{length}
 use lib.Seq.{length-take-le}
 use Rattle.heads.specs.Heads.{Listed}
 use Rattle.heads.proofs.JustNames.{not-just, just-hit}
-use borrow.Author.Rules.{rules}
 use Rattle.heads.proofs.are_just_names.Goals as goal
 use Rattle.heads.proofs.are_just_names.Goals.{After-all_listed}
 
 pub all_listed-requires : goal.all_listed-requires
-all_listed-requires c = let p = c.requires in record { index = (p.1.0.0 p.1.0.1, p.0.0, p.0.1); line = (p.1.1.0, p.1.1.1, refl) }
+all_listed-requires c = let p = c.requires in record { index = (p.index.0 p.index.1, p.program.0, p.program.1); line = (p.line.0, p.line.1, refl) }
 
 -- as many are listed as there is room for hits
 room : (c : After-all_listed) → length c.args.listed.now ≤ length c.all_listed.new.hits

@@ -5,7 +5,6 @@ use lib.ListN.{take}
 use Rattle.aspif.proofs.Readable.{rules-count}
 use Rattle.heads.specs.Heads.{Covers, hint_of}
 use Rattle.heads.proofs.Bodies.{covers-few, found-few, kept-front}
-use borrow.Author.Rules.{rules}
 use Rattle.heads.proofs.enter.Goals as goal
 use Rattle.heads.proofs.enter.Goals.{Then-is_covered}
 
@@ -20,7 +19,7 @@ pub enter_rules-requires : goal.enter_rules-requires
 enter_rules-requires c =
     let d = (goal.at.enter_rules-requires c).Then-is_covered in
     let p = d.requires in
-    (covers d, p.0.0.1.sound, p.0.1)
+    (covers d, p.program.0.1.sound, p.program.1)
 
 pub put_hint-requires : goal.put_hint-requires
 put_hint-requires c =

@@ -1,6 +1,6 @@
 use mathlib.Core.Path.{◌≡◌, refl, sym, ◌∙◌}
 use mathlib.Core.List.{List, [], ◌∷◌, ◌++◌, map, append-nil, append_assoc, map-append}
-use Prim.Native.Nat.{ℕ, ◌+◌, ◌≤◌, ◌<◌, ◌-◌}
+use Prim.Native.Nat.{ℕ, ◌+◌, ◌≤◌, ◌<◌}
 use native.Mathlib.Numerals.{add-one}
 use native.Mathlib.Omega.{arith}
 use lib.IntN.{ℤ, pos}
@@ -32,7 +32,6 @@ size hs j k h es e =
     omega (arith, length-append es (map (headed_by k) (take j hs)), length-map (take j hs) (headed_by k), length-take-le j hs h, e)
 
 module _ (c : After-variable_of) where
-
   abbrev hs : List ℤ
   hs = c.args.heads.now
 

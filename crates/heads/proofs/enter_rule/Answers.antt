@@ -30,12 +30,15 @@ returns c = let e = c.enter_heads in
     let a = s.args in
     let h = q.hash_of.result in
     let is : k.link.new.index ≡ with_body a.index.now a.k a.at h = k.link.ensures in
-    let key : h ≡ hash_from 0 (body_words_at a.words.now) = q.hash_of.ensures.hash.hash.0 ∙ ap (hash_from 0) q.body_of.ensures in
-    let hs = c.heads_of.ensures in record { entered = λ t w at n E.
-          rule-entered a.index.now t a.k a.at h s.requires.index.0 s.requires.index.1 q.hash_of.ensures.hash.hash.1 e.new.index
+    let key : h ≡ hash_from 0 (body_words_at a.words.now) = q.hash_of.ensures.hash.0 ∙ ap (hash_from 0) q.body_of.ensures in
+    let hs = c.heads_of.ensures in record {
+      entered = λ t w at n E.
+          rule-entered a.index.now t a.k a.at h s.requires.index.0 s.requires.index.1 q.hash_of.ensures.hash.1 e.new.index
           (λ i o. e.ensures.others i o ∙ ap (λ l. get_or l i 0) is) E at (key ∙ ap (λ ws. hash_from 0 (body_words_at ws)) w)
           (λ H. subst (λ l. HeadChains e.new.index (headed_to a.k t ++ map (headed_by a.k) l)) (hs ∙ ap heads_at w)
-          (e.ensures.chains (headed_to a.k t) (subst (λ l. HeadChains l (headed_to a.k t)) (sym is) H) n)); first = e.ensures.others 0 (inl (omega arith)) ∙ ap (λ l. get_or l 0 0) is ∙ body-first a.index.now [] a.k a.at h s.requires.index.0 s.requires.index.1 q.hash_of.ensures.hash.hash.1 }
+          (e.ensures.chains (headed_to a.k t) (subst (λ l. HeadChains l (headed_to a.k t)) (sym is) H) n));
+      first = e.ensures.others 0 (inl (omega arith)) ∙ ap (λ l. get_or l 0 0) is ∙ body-first a.index.now [] a.k a.at h s.requires.index.0 s.requires.index.1 q.hash_of.ensures.hash.1;
+    }
 
 pub body_of-requires : goal.body_of-requires
 body_of-requires c = shape_of _ c.requires.rule

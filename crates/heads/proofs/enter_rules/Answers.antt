@@ -36,7 +36,6 @@ loop-p-init c =
 
 -- the rule at hand
 module _ (c : In-loop-p) where
-
   abbrev t : List ℤ
   t = c.args.table.now
 

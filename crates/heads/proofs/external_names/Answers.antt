@@ -6,12 +6,11 @@ use lib.ListN.{length, take, drop}
 use lib.Seq.{length-take-le, take_at}
 use Rattle.words.proofs.Sorting.{length-ascending}
 use Rattle.heads.proofs.Externals.{none_named, all_told}
-use borrow.Author.Rules.{rules}
 use Rattle.heads.proofs.external_names.Goals as goal
 use Rattle.heads.proofs.external_names.Goals.{Else-count-gt-LARGEST}
 
 pub gather_all-count-requires : goal.gather_all-count-requires
-gather_all-count-requires c = let p = c.requires in record { index = (p.1.0.0 p.1.0.1, p.0.0, p.0.1); set = p.1.1.0; row = p.1.1.1 }
+gather_all-count-requires c = let p = c.requires in record { index = (p.index.0 p.index.1, p.program.0, p.program.1); set = p.set; row = p.row }
 
 pub returns-then-count-gt-LARGEST : goal.returns-then-count-gt-LARGEST
 returns-then-count-gt-LARGEST c =

@@ -1,7 +1,7 @@
 use mathlib.Core.Path.{◌≡◌, refl, sym, ap, subst, ◌∙◌}
 use mathlib.Core.Bool.{true}
 use mathlib.Core.List.{List, [], map}
-use Prim.Native.Nat.{ℕ, ◌+◌, ◌-◌, ◌≤◌, ◌<◌}
+use Prim.Native.Nat.{ℕ, ◌+◌, ◌≤◌, ◌<◌}
 use native.Mathlib.Numerals.{add-one}
 use native.Mathlib.Omega.{arith}
 use borrow.Author.Tests.{eqb-true}
@@ -51,7 +51,6 @@ nothing_said {index} e c = absurd (omega (arith, e, eqb-true (get_or index 0 0) 
 
 -- the rule at hand
 module _ (c : In-loop-k) where
-
   abbrev t : List ℤ
   t = c.args.table.now
 
@@ -112,12 +111,15 @@ pub enter_rule-requires : goal.enter_rule-requires
 enter_rule-requires c = let e = c in
     let h = (goal.at.enter_rule-requires c).After-heads_of-heads in
     let d = r h in
-    let l = d.loop-k in record { index = (
-        l.inv.5 ∙ ap length d.requires.zero ∙ length-replicate {A = ℕ} index_words 0,
+    let l = d.loop-k in record {
+      index = (
+        l.invariant.5 ∙ ap length d.requires.zero ∙ length-replicate {A = ℕ} index_words 0,
         omega (arith, taken d, d.requires.program.2),
         e.if-i-gt-LONGEST.false,
         rw (tail_of (i d) (t d)) (rw (heads-are h) at e.if-n-heads-gt-MOST_HEADS.false),
-      ); rule = rw (tail_of (i d) (t d), words-at d) (at d).sound }
+      );
+      rule = rw (tail_of (i d) (t d), words-at d) (at d).sound;
+    }
 
 pub next_rule-i-requires : goal.next_rule-i-requires
 next_rule-i-requires c = let d = (goal.at.next_rule-i-requires c).In-loop-k in record { here = rw (starts d) (at d).here }
@@ -139,10 +141,10 @@ loop-k-preserved c =
     let l = d.loop-k in (
       omega (arith, taken d),
       next_start (k d) (t d) (i d) _ (starts d) c.next_rule-i.ensures.next.0,
-      next-heads (k d) (t d) (i d) _ _ (starts d) l.inv.2 (heads-are h),
-      subst (Entered g.new.index (t d)) (sym (add-one (k d))) (g.ensures.entered (t d) (tail_of (i d) (t d) ∙ words-at d) (starts d) (sym l.inv.2) l.inv.3),
-      g.ensures.first ∙ l.inv.4,
-      g.auto.index ∙ l.inv.5,
+      next-heads (k d) (t d) (i d) _ _ (starts d) l.invariant.2 (heads-are h),
+      subst (Entered g.new.index (t d)) (sym (add-one (k d))) (g.ensures.entered (t d) (tail_of (i d) (t d) ∙ words-at d) (starts d) (sym l.invariant.2) l.invariant.3),
+      g.ensures.first ∙ l.invariant.4,
+      g.auto.index ∙ l.invariant.5,
     )
 
 pub bounds-index-0 : goal.bounds-index-0
@@ -156,3 +158,9 @@ returns c =
     let l = c.loop-k in
     let e : l.k ≡ s.args.rules = omega (arith, l.invariant.0, c.loop-k-test.false) in
     λ q. record { entered = subst (Entered _ s.args.table.now) e (entered-flag 1 l.invariant.3); plain = s.requires.program.1 }
+
+pub slice_bounds-rest-start : goal.slice_bounds-rest-start
+slice_bounds-rest-start c = let w = in_table (goal.at.slice_bounds-rest-start c).In-loop-k in search rules
+
+pub slice_bounds-rest-count : goal.slice_bounds-rest-count
+slice_bounds-rest-count c = in_table (goal.at.slice_bounds-rest-count c).In-loop-k

@@ -2,7 +2,7 @@ use mathlib.Core.Path.{◌≡◌, sym, ap, subst, ◌∙◌}
 use mathlib.Core.Logic.{inl, inr}
 use mathlib.Core.Bool.{true}
 use mathlib.Core.List.{List}
-use Prim.Native.Nat.{ℕ, ◌+◌, ◌-◌, ◌≤◌, ◌<◌}
+use Prim.Native.Nat.{ℕ, ◌+◌, ◌≤◌, ◌<◌}
 use native.Mathlib.Omega.{arith}
 use lib.IntN.{ℤ, pos}
 use lib.ListN.{length, get_or}
@@ -25,7 +25,6 @@ loop-i-init c =
 
 -- the atom at hand
 module _ (c : After-variable_of) where
-
   abbrev i : ℕ
   i = c.loop-i.i
 
@@ -48,7 +47,7 @@ module _ (c : After-variable_of) where
 
 pub gather_head-count-requires : goal.gather_head-count-requires
 gather_head-count-requires c = let v = (goal.at.gather_head-count-requires c).After-variable_of in
-    let p = v.requires in record { index = p.0; head = subst (λ n. (1 ≤ n) × (n ≤ largest) × (marked v.args.inside.now n ≡ true)) (sym (tells v)) (good v); row = v.loop-i.invariant.1 }
+    let p = v.requires in record { index = p.index; head = subst (λ n. (1 ≤ n) × (n ≤ largest) × (marked v.args.inside.now n ≡ true)) (sym (tells v)) (good v); row = v.loop-i.invariant.1 }
 
 pub returns-then-count-gt-LARGEST : goal.returns-then-count-gt-LARGEST
 returns-then-count-gt-LARGEST c = gather-stops c.gather_head-count.ensures c.if-count-gt-LARGEST.true
@@ -61,7 +60,6 @@ got-on : (t : List ℤ) (rules : ℕ) (names m : List ℕ) (atoms before row : L
 got-on t rules names m atoms before row i v count r e h G f j b k H X = elim (equal? j i) [
   | inl q ↦ G.all h k (subst (λ u. HasHead t rules u k) (ap (λ n. variable (get_or atoms n (pos 0))) q ∙ sym e) H) X
   | inr d ↦ in-row-keeps before row count r (G.keeps h) _ (f j (omega (arith, b, d)) k H X)
-
 ]
 
 pub loop-i-preserved : goal.loop-i-preserved

@@ -30,7 +30,6 @@ loop-p-init c =
 
 -- the place at hand
 module _ (c : In-loop-p) where
-
   abbrev t : List ℤ
   t = c.args.table.now
 

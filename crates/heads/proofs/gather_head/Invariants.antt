@@ -1,4 +1,3 @@
-use Prim.Native.Nat.{◌-◌}
 use lib.IntN.{ℤ}
 use lib.ListN.{take}
 use Rattle.words.specs.Lists.{◌∈◌}

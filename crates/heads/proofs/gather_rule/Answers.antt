@@ -3,7 +3,6 @@ use Rattle.words.specs.Lists.{any}
 use Rattle.aspif.specs.Tables.{body_words_at}
 use Rattle.names.specs.Queries.{is_inside}
 use Rattle.heads.proofs.Externals.{rule-inside, rule-unnamed, rule-noted}
-use borrow.Author.Rules.{rules}
 use Rattle.heads.proofs.gather_rule.Goals as goal
 use Rattle.heads.proofs.gather_rule.Goals.{After-any_inside}
 

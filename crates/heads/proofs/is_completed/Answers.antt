@@ -1,7 +1,6 @@
 use mathlib.Core.Path.{sym, ◌∙◌}
 use Rattle.heads.specs.Heads.{Covers}
 use Rattle.heads.proofs.Bodies.{one-completes}
-use borrow.Author.Rules.{rules}
 use Rattle.heads.proofs.is_completed.Goals as goal
 use Rattle.heads.proofs.is_completed.Goals.{Then-is_covered}
 
@@ -10,7 +9,7 @@ covers : (c : Then-is_covered) → (let a = c.args in Covers a.index.now a.table
 covers c = c.requires.index (sym c.is_covered.ensures ∙ c.if-is_covered.true)
 
 pub is_found-requires : goal.is_found-requires
-is_found-requires c = let p = c.requires in (covers c, p.0.0.1.sound, p.0.1)
+is_found-requires c = let p = c.requires in (covers (goal.at.is_found-requires c).Then-is_covered, p.program.0.1.sound, p.program.1)
 
 pub returns-then-is_found : goal.returns-then-is_found
 returns-then-is_found c =

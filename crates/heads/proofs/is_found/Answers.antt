@@ -20,7 +20,6 @@ use Rattle.heads.proofs.is_found.Tie as tie
 
 -- the rule at hand
 module _ (c : In-loop-p) where
-
   abbrev t : List ℤ
   t = c.args.table.now
 
@@ -81,10 +80,10 @@ loop-p-smaller c =
     omega (arith, e, before-less d.requires.0 (k d) (low d), d.loop-p-test.true)
 
 pub returns-then-rules-p : goal.returns-then-rules-p
-returns-then-rules-p c = (λ c e. absurd (true≢false (sym e))) c
+returns-then-rules-p c = λ e. absurd (true≢false (sym e))
 
 pub returns : goal.returns
-returns c = (λ c e. absurd (true≢false (sym e))) c
+returns c = λ e. absurd (true≢false (sym e))
 
 pub loop-p-init : goal.loop-p-init
 loop-p-init c = c.if-rules-p.false

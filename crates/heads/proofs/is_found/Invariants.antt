@@ -1,4 +1,4 @@
-use Prim.Native.Nat.{◌-◌, ◌≤◌}
+use Prim.Native.Nat.{◌≤◌}
 use Rattle.heads.proofs.is_found.Given as goal
 
 abbrev pub invariant-loop-p : goal.invariant-loop-p

@@ -35,7 +35,9 @@ slice_bounds-contains-end-2 c =
 -- what the call tells
 tells : (c : After-contains)
     → (let a = c.args in has (pos a.name) (take a.n a.row.now) ≡ c.contains.result)
-tells c = sym (rw (word c.before.before) at c.contains.ensures)
+tells c =
+    let w : to_z w32 c.args.name ≡ pos c.args.name = to_z_pos w32 {n = c.args.name} (omega (arith, c.if-wide-gt-LARGEST.false, c.wide.ensures.same)) in
+    sym (rw w at c.contains.ensures)
 
 pub returns-then-contains : goal.returns-then-contains
 returns-then-contains c = let b = (goal.at.returns-then-contains c).After-contains in

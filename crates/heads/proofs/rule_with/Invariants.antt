@@ -1,4 +1,3 @@
-use Prim.Native.Nat.{◌-◌}
 use Rattle.heads.specs.Heads.{hash_from, BodyPlace}
 use Rattle.heads.proofs.Walks.{Walk}
 use Rattle.heads.proofs.Bodies.{Other}

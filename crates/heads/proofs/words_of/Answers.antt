@@ -18,7 +18,6 @@ use Rattle.heads.proofs.words_of.Tie as tie
 
 -- the rule of the head
 module _ (c : After-word_of-k) where
-
   abbrev t : List ℤ
   t = c.args.table.now
 

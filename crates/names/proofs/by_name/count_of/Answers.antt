@@ -32,7 +32,6 @@ none z p = record {
   most = omega arith;
   is = λ k. absurd (omega (arith, k));
   none = λ k n i e. true≢false (sym (lt-ltb 0 (suc n) (omega arith)) ∙ sym (ap (lt_z (pos 0)) e) ∙ p);
-
 }
 
 -- what the calls tell of it

@@ -2,11 +2,8 @@
 -- Assumes nothing.
 use mathlib.Core.Path.{sym, ◌∙◌}
 use mathlib.Core.Logic.{inl, inr}
-use mathlib.Core.Bool.{false}
-use Prim.Native.Nat.{◌-◌}
 use native.Mathlib.Omega.{arith}
 use Rattle.words.proofs.Places.{equal?}
-use Rattle.names.specs.ByName.{stands_at}
 use Rattle.names.proofs.Called.{called-by, called-none}
 use Rattle.names.proofs.by_name.found.Goals as goal
 

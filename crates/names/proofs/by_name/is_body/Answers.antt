@@ -1,7 +1,6 @@
 -- `by_name::is_body` meets its contract: the words before i are equal, and the others decide.
 -- Assumes nothing.
 use mathlib.Core.Path.{◌≡◌, sym, ◌∙◌}
-use Prim.Native.Nat.{◌-◌}
 use native.Mathlib.Omega.{arith}
 use lib.IntN.{pos}
 use lib.ListN.{get_or, drop_of_length-le}

@@ -1,9 +1,8 @@
 -- `by_name::put_body` meets its contract: what is left of the body, put from there on, gives the whole.
 -- Assumes nothing.
-use mir.Syntax.{w32}
 use mathlib.Core.Path.{◌≡◌, ◌∙◌, refl}
 use mathlib.Core.List.{List}
-use Prim.Native.Nat.{ℕ, suc, ◌+◌, ◌-◌, ◌<◌, ◌≤◌}
+use Prim.Native.Nat.{ℕ, suc, ◌+◌, ◌<◌, ◌≤◌}
 use native.Mathlib.Numerals.{add-one}
 use native.Mathlib.Omega.{arith}
 use lib.IntN.{ℤ, pos, negsuc}
@@ -57,7 +56,7 @@ loop-i-preserved c =
     let t = c.loop-i-test.true in (
       omega arith,
       simp length-set l.invariant.1,
-      rw (back (x (goal.at.loop-i-preserved c).In-loop-i) c.bodies-1.given, to_z-of_z {w = w32} (fits (goal.at.loop-i-preserved c).In-loop-i)) (on l.bodies a.body.now a.at l.i t ∙ l.invariant.2),
+      rw (back (x (goal.at.loop-i-preserved c).In-loop-i) c.bodies-1.given, to_z-of_z {w = w16} (fits (goal.at.loop-i-preserved c).In-loop-i)) (on l.bodies a.body.now a.at l.i t ∙ l.invariant.2),
     )
 
 pub returns : goal.returns

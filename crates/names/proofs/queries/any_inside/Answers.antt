@@ -2,7 +2,6 @@ use native.Mathlib.Omega.{arith}
 use lib.IntN.{pos}
 use lib.ListN.{get_or}
 use mathlib.Core.Path.{◌≡◌, sym, ◌∙◌}
-use Prim.Native.Nat.{◌-◌}
 use Rattle.words.proofs.Laws.{any-on, any_here, any_none}
 use Rattle.words.proofs.Words.{back}
 use Rattle.names.specs.Queries.{is_inside}

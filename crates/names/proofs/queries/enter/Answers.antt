@@ -1,6 +1,5 @@
 use native.Mathlib.Omega.{arith}
 use Rattle.names.proofs.Called.{entered-longer}
-use borrow.Author.Rules.{rules}
 use Rattle.names.proofs.queries.enter.Goals as goal
 
 pub returns-then-body-le-MOST_WEIGHTED : goal.returns-then-body-le-MOST_WEIGHTED

@@ -1,12 +1,11 @@
 use mathlib.Core.Path.{◌≡◌, sym, refl, ◌∙◌}
 use mathlib.Core.List.{List}
-use Prim.Native.Nat.{ℕ, ◌-◌, ◌<◌}
+use Prim.Native.Nat.{ℕ, ◌<◌}
 use native.Mathlib.Omega.{arith}
 use lib.IntN.{ℤ}
 use lib.ListN.{length, drop, length-set}
 use Rattle.words.proofs.Parts.{tail_of}
 use Rattle.aspif.specs.Tables.{rule_at, rules_at}
-use Rattle.names.specs.Queries.{entry}
 use Rattle.names.proofs.ByRule.{ByRule, course-start, course-set, Turn, turn, entered_on, entered_all}
 use borrow.Author.Rules.{rules}
 use Rattle.names.proofs.queries.enter_rules.Goals as goal
@@ -15,7 +14,6 @@ use Rattle.names.proofs.queries.enter_rules.Invariants.{new}
 
 -- the words from i on, and the rule there
 module _ (c : In-loop-k) where
-
   abbrev t : List ℤ
   t = c.args.table.now
 

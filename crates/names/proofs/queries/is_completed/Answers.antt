@@ -1,6 +1,6 @@
 use mathlib.Core.Path.{◌≡◌, sym, refl, ◌∙◌}
 use mathlib.Core.List.{List}
-use Prim.Native.Nat.{ℕ, ◌-◌}
+use Prim.Native.Nat.{ℕ}
 use native.Mathlib.Omega.{arith}
 use lib.IntN.{ℤ}
 use lib.ListN.{drop}
@@ -19,7 +19,6 @@ use Rattle.names.proofs.queries.is_completed.Tie as tie
 
 -- the words from i on, and the rule there
 module _ (c : In-loop-k) where
-
   abbrev t : List ℤ
   t = c.args.table.now
 

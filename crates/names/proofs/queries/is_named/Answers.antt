@@ -4,6 +4,7 @@ use native.Mathlib.Omega.{arith}
 use lib.Dec.{eqb}
 use lib.Seq.{length-take-le}
 use Rattle.aspif.specs.Tables.{is_weighted, body_words_at}
+use Rattle.aspif.proofs.Cursors.{shape_of}
 use Rattle.aspif.proofs.SoundWeights.{Weighing, weighing}
 use Rattle.names.proofs.Asked.{weight-bodies, plain-bodies, plain_entry, told-few, named-body, named_none}
 use Rattle.names.proofs.queries.is_named.Goals as goal
@@ -52,3 +53,6 @@ pub returns-in-Nothing : goal.returns-in-Nothing
 returns-in-Nothing c =
     let d = (goal.at.returns-in-Nothing c).Else-not-is_weighted in
     λ bodies called C t above e. rw (weight-bodies _ (weighted d)) (sym (named_none (weighs d) (C (weighted d)) above _ c.in-Nothing.is t))
+
+pub body_of-requires : goal.body_of-requires
+body_of-requires c = shape_of _ c.requires.rule

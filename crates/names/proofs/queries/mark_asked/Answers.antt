@@ -75,3 +75,6 @@ asks_heads-requires c = shape_of _ c.requires.rule
 
 pub body_of-requires : goal.body_of-requires
 body_of-requires c = shape_of _ c.requires.rule
+
+pub body_of-requires-2 : goal.body_of-requires-2
+body_of-requires-2 c = shape_of _ c.requires.rule

@@ -1,7 +1,7 @@
 use mathlib.Core.Path.{◌≡◌, sym, ◌∙◌}
 use mathlib.Core.Logic.{inl}
 use mathlib.Core.List.{List, ◌++◌}
-use Prim.Native.Nat.{ℕ, ◌-◌}
+use Prim.Native.Nat.{ℕ}
 use native.Mathlib.Omega.{arith}
 use lib.IntN.{ℤ}
 use lib.ListN.{length, replicate, drop, length-replicate}
@@ -23,7 +23,6 @@ use Rattle.names.proofs.queries.mark_names.Tie as tie
 
 -- the words from i on, and the rule there
 module _ (c : In-loop-k) where
-
   abbrev t : List ℤ
   t = c.args.table.now
 
