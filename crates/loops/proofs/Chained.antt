@@ -10,7 +10,6 @@ use lib.IntN.{ℤ, pos}
 use lib.ListN.{length, get_or, drop, replicate}
 use Rattle.words.specs.Limits.{most_numbers}
 use Rattle.words.specs.Lists.{◌∈◌, any}
-use Rattle.words.specs.Literals.{has}
 use Rattle.words.proofs.Lists.{Decides, passed, if-true, is_true, same_test, and_left, and_right, and_both, or-decides, any-decides, eqb-decides}
 use Rattle.words.proofs.Literals.{has-decides}
 use Rattle.words.proofs.Places.{in-at}

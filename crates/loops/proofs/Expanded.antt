@@ -1,6 +1,6 @@
 -- The edges of a rule as written are those of its plain rules, and of a weight body those of its relevant literals.
 -- Assumes nothing.
-use mathlib.Core.Path.{◌≡◌, refl, sym, ◌∙◌, ap, fun_ext}
+use mathlib.Core.Path.{◌≡◌, refl, sym, ◌∙◌, ap, subst, fun_ext}
 use mathlib.Core.Bool.{Bool, true, false, cond, ◌&&◌, or-false, true≢false}
 use mathlib.Core.List.Memᴰ
 use mathlib.Core.List.{List, [], ◌∷◌, map, nil≢cons, head-eq_of_cons-eq, tail-eq_of_cons-eq}
@@ -49,7 +49,7 @@ module _ (ws : List InputRule) (a b : ℤ) where
     where
       back : {r : Rule} → Expanded ws r → PlainEdge r → (w : InputRule) × (w ∈ ws) × EdgeOf w
       back x e =
-          let f : PlainEdge (with_body x.rule x.body) = rw x.is e in
+          let f : PlainEdge (with_body x.rule x.body) = subst PlainEdge (sym x.is) e in
           (x.rule, x.among, ((x.body, x.one, f.0), f.1))
 
 -- Places and atoms
@@ -103,7 +103,7 @@ entries-say : (f : ℤ → Bool) (g : Weighted → Bool) (m : List ℕ) (l : Lis
 entries-say f g m [] e = refl
 entries-say f g [] (x ∷ l) e = absurd (nil≢cons e)
 entries-say f g (n ∷ m) (x ∷ l) e =
-    rw (head-eq_of_cons-eq e, is (g x), shifted f (cond (g x) 1 0) m 0 l, entries-say f g m l (tail-eq_of_cons-eq e)) refl
+    rw (head-eq_of_cons-eq e, is (g x), shifted f n m 0 l, entries-say f g m l (tail-eq_of_cons-eq e)) refl
   where
     is : (t : Bool) → eqb (cond t 1 0) 1 ≡ t
     is true = refl

@@ -1,7 +1,7 @@
 -- `RelevantBySums` of specs/Relevance.antt. A minimal set, without one literal of it, is some of the other pairs that reach the
 -- bound with it and not without it; of such pairs those that are needed make a minimal set with it. And the laws of the search.
 -- Assumes nothing.
-use mathlib.Core.Path.{◌≡◌, refl, sym, ap, ◌∙◌}
+use mathlib.Core.Path.{◌≡◌, refl, sym, ap, subst, ◌∙◌}
 use mathlib.Core.Logic.{◌⊎◌, inl, inr}
 use mathlib.Core.Bool.{Bool, true, false, not, ◌||◌}
 use mathlib.Core.List.Memᴰ
@@ -112,7 +112,8 @@ in-literals i = Memᴰ.map (λ x. x.literal) i
 pub first_of : {x : Weighted} {l : List Weighted} → distinct (literals l) ≡ true → x ∈ l → Reorder l (x ∷ others x.literal l)
 first_of {x} o (Memᴰ.head {x = y} {xs = l} p) =
     let own = others-own y.literal y l (is_true (same-decides y.literal y.literal) refl) in
-    rw (p, own, all_others y.literal l (once y l o)) (as_it_was (y ∷ l))
+    subst (λ (u : Weighted). Reorder (y ∷ l) (u ∷ others u.literal (y ∷ l))) (sym p)
+    (rw (own, all_others y.literal l (once y l o)) (as_it_was (y ∷ l)))
 first_of {x} o (Memᴰ.tail {x = y} {xs = l} i) =
     let n : ¬ (x.literal ≡ y.literal) = λ p. once y l o (rw p at (in-literals i)) in
     rw (others-other x.literal y l (failed _ ((other-decides x.literal y).from n)))

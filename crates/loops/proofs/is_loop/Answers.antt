@@ -1,6 +1,5 @@
 use Rattle.aspif.specs.Tables.{rules_at}
 use Rattle.loops.proofs.Reaching.{no_loop, loop-if}
-use borrow.Author.Rules.{rules}
 use Rattle.loops.proofs.is_loop.Goals as goal
 
 pub edges_of-edges-requires : goal.edges_of-edges-requires

@@ -17,7 +17,7 @@ use Rattle.loops.proofs.EdgeMarks.{filling-on, filled}
 use Rattle.loops.proofs.Chained.{numbers-left, number-split}
 use borrow.Author.Rules.{rules}
 use Rattle.loops.proofs.edges.look_up.Goals as goal
-use Rattle.loops.proofs.edges.look_up.Goals.{After-variable_of-v, Start}
+use Rattle.loops.proofs.edges.look_up.Goals.{After-variable_of-v}
 
 pub loop-j-init : goal.loop-j-init
 loop-j-init c =
@@ -26,12 +26,8 @@ loop-j-init c =
 
 -- the number at hand
 module _ (c : After-variable_of-v) where
-
-  abbrev s : Start
-  s = c.before.before.before.before.before.before.before
-
   abbrev U : List ℤ
-  U = s.args.numbers.now
+  U = c.args.numbers.now
 
   abbrev j : ℕ
   j = c.loop-j.j
@@ -49,13 +45,13 @@ module _ (c : After-variable_of-v) where
   tells = rw (back x c.variable_of-arg-1.given) at c.variable_of-v.ensures
 
   atom : x ≡ pos c.variable_of-v.result
-  atom = positive-is x ((passed _).from (s.requires.places.0.positive x among)) ∙ ap pos (sym tells)
+  atom = positive-is x ((passed _).from (c.requires.places.0.positive x among)) ∙ ap pos (sym tells)
 
   abbrev m : List ℕ
-  m = s.args.places.now
+  m = c.args.places.now
 
   placed : place_by m (pos c.variable_of-v.result) ≡ suc j
-  placed = sym (ap (place_by m) atom) ∙ s.requires.places.1.from j taken
+  placed = sym (ap (place_by m) atom) ∙ c.requires.places.1.from j taken
 
   there : c.variable_of-v.result < length m
   there = place-there m c.variable_of-v.result placed
@@ -65,15 +61,15 @@ module _ (c : After-variable_of-v) where
 
 pub mark_chain-requires : goal.mark_chain-requires
 mark_chain-requires c = let v = (goal.at.mark_chain-requires c).After-variable_of-v in
-    let p = (s v).requires in
-    let a = v.variable_of-v.result in record { index = p.0; head = (part v (a + 1 - a) (omega arith), omega (arith, tells v, p.1.0.high (x v) (among v))); sizes = (v.loop.invariant.1.long, placed-low p.1.0.few p.1.1, (U v, p.1.1)) }
+    let p = v.requires in
+    let a = v.variable_of-v.result in record { index = p.index; head = (part v (a + 1 - a) (omega arith), omega (arith, tells v, p.places.0.high (x v) (among v))); sizes = (v.loop-j.invariant.1.long, placed-low p.places.0.few p.places.1, (U v, p.places.1)) }
 
 pub loop-j-preserved : goal.loop-j-preserved
 loop-j-preserved c =
     let v = (goal.at.loop-j-preserved c).After-variable_of-v in
-    let a = (s v).args in (
+    let a = v.args in (
       omega (arith, taken v),
-      filling-on v.loop.invariant.1 c.mark_chain.ensures
+      filling-on v.loop-j.invariant.1 c.mark_chain.ensures
           (number-split a.table.now a.rules a.places.now (U v) _ (j v) (taken v) (ap (λ y. y ∷ []) (sym (atom v)))),
     )
 
@@ -84,13 +80,13 @@ returns c =
     filled l.invariant.1 (λ i b. rw (any_none (is_at a.places.now b) a.numbers.now c.loop-j-test.false) refl)
 
 pub overflow_add-v : goal.overflow_add-v
-overflow_add-v c = let r = there c in search rules
+overflow_add-v c = let r = there (goal.at.overflow_add-v c).After-variable_of-v in search rules
 
 pub slice_bounds-mark_chain-start : goal.slice_bounds-mark_chain-start
-slice_bounds-mark_chain-start c = let r = there c in search rules
+slice_bounds-mark_chain-start c = let r = there (goal.at.slice_bounds-mark_chain-start c).After-variable_of-v in search rules
 
 pub slice_bounds-mark_chain-end : goal.slice_bounds-mark_chain-end
-slice_bounds-mark_chain-end c = let r = there c in search rules
+slice_bounds-mark_chain-end c = let r = there (goal.at.slice_bounds-mark_chain-end c).After-variable_of-v in search rules
 
 pub slice_bounds-mark_chain-end-in-loop-j : goal.slice_bounds-mark_chain-end-in-loop-j
 slice_bounds-mark_chain-end-in-loop-j c = sym c.loop-j.invariant.1.long

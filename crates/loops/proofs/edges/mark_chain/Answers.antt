@@ -13,12 +13,8 @@ use Rattle.heads.proofs.Starts.{rule-here, head_of, all_seen}
 use Rattle.heads.proofs.Walks.{walk_from, walk-on, next-less}
 use Rattle.loops.specs.Edges.{LowPlaces}
 use Rattle.loops.proofs.Chained.{Drawn, drawing-start, drawing-on, drawn-keeps, drawn-here, drawing-end}
-use borrow.Author.Rules.{rules}
 use Rattle.loops.proofs.edges.mark_chain.Goals as goal
 use Rattle.loops.proofs.edges.mark_chain.Goals.{In-loop-p, After-mark_body}
-use Rattle.loops.proofs.edges.mark_chain.Lts.View as view
-use Rattle.loops.proofs.edges.mark_chain.Reads as reads
-use Rattle.loops.proofs.edges.mark_chain.Tie as tie
 
 pub loop-p-init : goal.loop-p-init
 loop-p-init c =
@@ -30,7 +26,6 @@ loop-p-init c =
 
 -- the place at hand, and its rule
 module _ (c : In-loop-p) where
-
   abbrev t : List ℤ
   t = c.args.table.now
 
@@ -59,7 +54,7 @@ module _ (c : In-loop-p) where
   shape = (rule-here t c.args.rules c.requires.index.1 k headed.0).2
 
 pub words_of-words-requires : goal.words_of-words-requires
-words_of-words-requires c = record { index = c.requires.index; place = (place c).0 }
+words_of-words-requires c = record { index = c.requires.index; place = (place (goal.at.words_of-words-requires c).In-loop-p).0 }
 
 pub body_of-requires : goal.body_of-requires
 body_of-requires c = subst (λ ws. shape_sound ws ≡ true) (sym c.words_of-words.ensures) (shape (goal.at.body_of-requires c).In-loop-p)
@@ -72,27 +67,24 @@ mark_body-requires c =
     (i.loop-p.invariant.0.long, i.requires.sizes.1, low)
 
 -- what the call marks
-module _ (c : After-mark_body) where
-
-  abbrev d : In-loop-p
-  d = (view.up-After-body_of tie.the-claims reads.Pre reads.Post goal.the-invariant-loop-p goal.the-decreases-loop-p tie.handed_clauses c.before.before.before)
-
-  body : c.body_of.result.now ≡ body_words_at (words_from (k d) (t d))
-  body = c.body_of.ensures ∙ ap body_words_at c.words_of-words.ensures
+body : (c : After-mark_body)
+    → (let t = c.args.table.now in
+    c.body_of.result.now ≡ body_words_at (words_from (headed_at (headed_to c.args.rules t) (c.loop-p.p - 1)).rule t))
+body c = c.body_of.ensures ∙ ap body_words_at c.words_of-words.ensures
 
 pub next_head-p-requires : goal.next_head-p-requires
-next_head-p-requires c = let r = room (d (goal.at.next_head-p-requires c).After-mark_body) in omega (arith, r)
+next_head-p-requires c = let r = room (goal.at.next_head-p-requires c).In-loop-p in omega (arith, r)
 
 pub loop-p-smaller : goal.loop-p-smaller
 loop-p-smaller c =
-    let i = d (goal.at.loop-p-smaller c).After-mark_body in
+    let i = (goal.at.loop-p-smaller c).In-loop-p in
     let f = c.next_head-p.ensures in
     omega (arith, f, next-less i.requires.index.0.entered.heads.chains i.loop-p.invariant.1 (is i))
 
 pub loop-p-preserved : goal.loop-p-preserved
 loop-p-preserved c =
     let m = (goal.at.loop-p-preserved c).After-mark_body in
-    let i = d m in
+    let i = (goal.at.loop-p-preserved c).In-loop-p in
     let a = i.args in
     let p = i.requires.index.0.plain in
     let M = rw i.requires.head.0 at m.mark_body.ensures in (

@@ -1,6 +1,4 @@
-use mathlib.Core.List.Memᴰ
 use mathlib.Core.List.{[], ◌∷◌}
-use Prim.Native.Nat.{◌-◌}
 use lib.IntN.{pos}
 use Rattle.heads.specs.Heads.{headed_to, headed_at, Place}
 use Rattle.heads.proofs.Walks.{Walk}

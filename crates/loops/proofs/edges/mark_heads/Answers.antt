@@ -1,5 +1,5 @@
 use mathlib.Core.Bool.{and-false}
-use Prim.Native.Nat.{suc, ◌-◌}
+use Prim.Native.Nat.{suc}
 use native.Mathlib.Omega.{arith}
 use lib.Dec.{eqb}
 use Rattle.words.proofs.Laws.{any_none}

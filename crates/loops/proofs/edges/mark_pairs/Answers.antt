@@ -1,5 +1,4 @@
 use mathlib.Core.Path.{refl}
-use Prim.Native.Nat.{◌-◌}
 use native.Mathlib.Omega.{arith}
 use lib.IntN.{pos}
 use lib.ListN.{get_or}
@@ -22,13 +21,12 @@ mark_if-requires c =
 pub loop-i-preserved : goal.loop-i-preserved
 loop-i-preserved c =
     let m = c in
-    let a = (goal.at.loop-i-preserved c).After-is_marked in
     let t = c in
     let l = t.loop-i in
     let s = c in
     let pairs = s.args.pairs.now in
     let x = get_or pairs l.i (pos 0) in
-    let more = rw (a.is_marked.ensures, back x a.mark_if-arg-1.given) at m.mark_if.ensures in (
+    let more = rw (c.is_marked.ensures, back x c.mark_if-arg-1.given) at m.mark_if.ensures in (
       omega (arith, t.loop-i-test.true),
       omega (arith, l.invariant.1),
       filling-on l.invariant.2 more

@@ -28,7 +28,6 @@ gather-n-requires c =
 
 -- the places in the row
 module _ (c : After-gather-n) where
-
   abbrev ws : List ℤ
   ws = c.args.words.now
 

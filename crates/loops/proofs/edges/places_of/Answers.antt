@@ -1,5 +1,5 @@
 use mathlib.Core.Path.{◌≡◌}
-use Prim.Native.Nat.{ℕ, ◌-◌, ◌<◌}
+use Prim.Native.Nat.{ℕ, ◌<◌}
 use native.Mathlib.Omega.{arith}
 use lib.IntN.{ℤ, pos}
 use lib.ListN.{length, get_or}
@@ -12,7 +12,6 @@ use Rattle.loops.proofs.edges.places_of.Goals.{After-variable_of-v}
 
 -- the number at i, and its variable
 module _ (c : After-variable_of-v) where
-
   abbrev i : ℕ
   i = c.loop-i.i
 

@@ -17,7 +17,6 @@ use Rattle.loops.proofs.edges.scan.Goals.{In-loop-left}
 
 -- the words from i on, and the rule there
 module _ (c : In-loop-left) where
-
   abbrev t : List ℤ
   t = c.args.table.now
 

@@ -1,5 +1,4 @@
 use mathlib.Core.Path.{◌≡◌}
-use Prim.Native.Nat.{◌-◌}
 use lib.ListN.{length}
 use Rattle.loops.proofs.Filling.{Entering}
 use Rattle.loops.proofs.relevance.fill.Given as goal

@@ -1,15 +1,12 @@
 -- `relevance::fill_pairs` meets its contract: an entry for each pair before i.
 -- Assumes nothing.
-use mathlib.Core.Path.{◌≡◌, refl, ap, ◌∙◌}
+use mathlib.Core.Path.{refl, ap, ◌∙◌}
 use mathlib.Core.Bool.{Bool, cond}
 use mathlib.Core.List.{List}
-use Prim.Native.Nat.{ℕ, ◌+◌, ◌-◌, ◌<◌}
+use Prim.Native.Nat.{ℕ, ◌+◌, ◌<◌}
 use lib.IntN.{ℤ, pos}
 use lib.ListN.{length, get_or, length-set}
-use mir.Syntax.{w32}
-use mir.Val.{to_z, of_z}
 use Rattle.words.proofs.Words.{back}
-use Rattle.loops.specs.Relevance.{is_relevant}
 use Rattle.loops.proofs.Filling.{Filled, filled_none, filled-all, filled-room, filled_in, filled_more}
 use borrow.Author.Rules.{rules}
 use Rattle.loops.proofs.relevance.fill_pairs.Goals as goal
@@ -21,7 +18,6 @@ loop-i-init c = (filled_none _ _ c.requires.2, refl)
 
 -- the pair at i
 module _ (c : In-loop-i) where
-
   abbrev ws : List ℤ
   ws = c.args.pairs.now
 
@@ -34,15 +30,12 @@ module _ (c : In-loop-i) where
   in-loop : i + 1 < length ws
   in-loop = c.loop-i-test.true
 
-  literal : to_z w32 (of_z w32 (get_or ws i (pos 0))) ≡ get_or ws i (pos 0)
-  literal = back (get_or ws i (pos 0)) c.is_relevant-arg-1.given
-
-  weight : to_z w32 (of_z w32 (get_or ws (i + 1) (pos 0))) ≡ get_or ws (i + 1) (pos 0)
-  weight = back (get_or ws (i + 1) (pos 0)) c.is_relevant-arg-in-loop-i-1.given
-
 pub is_relevant-requires : goal.is_relevant-requires
 is_relevant-requires c =
-    let p = (goal.at.is_relevant-requires c).In-loop-i.requires in (p.0, p.1, rw (literal (goal.at.is_relevant-requires c).In-loop-i, weight (goal.at.is_relevant-requires c).In-loop-i) (filled_in _ _ (filled (goal.at.is_relevant-requires c).In-loop-i) (in-loop (goal.at.is_relevant-requires c).In-loop-i)))
+    let d = (goal.at.is_relevant-requires c).In-loop-i in
+    let literal = back (get_or (ws d) (i d) (pos 0)) c.is_relevant-arg-1.given in
+    let weight = back (get_or (ws d) (i d + 1) (pos 0)) c.is_relevant-arg-in-loop-i-1.given in
+    (d.requires.0, d.requires.1, rw (literal, weight) (filled_in _ _ (filled d) (in-loop d)))
 
 pub bounds-entries-n : goal.bounds-entries-n
 bounds-entries-n c = let d = (goal.at.bounds-entries-n c).In-loop-i in filled-room _ _ (filled d) (in-loop d)
@@ -54,7 +47,7 @@ pub loop-i-preserved : goal.loop-i-preserved
 loop-i-preserved c =
     let d = (goal.at.loop-i-preserved c).In-loop-i in
     let l = d.loop-i in
-    let e = rw (literal d) at c.is_relevant.ensures in
+    let e = rw (back (get_or (ws d) (i d) (pos 0)) c.is_relevant-arg-1.given) at c.is_relevant.ensures in
     let more = filled_more _ _ (filled d) (in-loop d) (c.one_if.ensures ∙ ap (λ (t : Bool). cond t 1 0) e) in
     (more, length-set l.entries l.n _ ∙ l.invariant.1)
 

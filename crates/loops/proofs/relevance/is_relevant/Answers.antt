@@ -16,21 +16,20 @@ use Rattle.loops.proofs.relevance.is_relevant.Goals.{After-sum_of}
 
 -- the weight, and what the others add up to
 module _ (c : After-sum_of) where
-
   abbrev all : List Weighted
   all = paired c.args.pairs.now
 
   own : to_z w32 (of_z w32 c.args.literal) ≡ c.args.literal
-  own = to_z-of_z c.fits.literal
+  own = to_z-of_z c.ranges.literal
 
   weight : c.variable_of-w.result ≡ variable c.args.weight
-  weight = rw (to_z-of_z c.fits.weight) at c.variable_of-w.ensures
+  weight = rw (to_z-of_z c.ranges.weight) at c.variable_of-w.ensures
 
   sums : c.sum_of.result ≡ c.variable_of-w.result + sum (others c.args.literal all)
   sums = omega (arith, c.sum_of.ensures, weight, others-sum c.requires.0 c.requires.2)
 
 pub overflow_sub-left : goal.overflow_sub-left
-overflow_sub-left c = omega (arith, sums c)
+overflow_sub-left c = omega (arith, sums (goal.at.overflow_sub-left c).After-sum_of)
 
 pub has_sum-requires : goal.has_sum-requires
 has_sum-requires c = let d = (goal.at.has_sum-requires c).After-sum_of in rw (own d) (omega (arith, sums d))

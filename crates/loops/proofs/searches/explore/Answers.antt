@@ -10,7 +10,7 @@ use Rattle.words.proofs.Lists.{passed, and_left, and_right}
 use Rattle.marks.specs.Marks.{marked}
 use Rattle.loops.proofs.Reaching.{reaching-start, reaching-on, reaching-end, undone-less}
 use Rattle.loops.proofs.searches.explore.Goals as goal
-use Rattle.loops.proofs.searches.explore.Goals.{After-advance-a, Start}
+use Rattle.loops.proofs.searches.explore.Goals.{After-advance-a}
 
 size : {m : List ℕ} → m ≡ replicate most_numbers 0 → length m ≡ most_numbers
 size e = ap length e ∙ length-replicate {A = ℕ} most_numbers 0
@@ -33,10 +33,6 @@ advance-a-requires c =
 
 -- the place is open
 module _ (c : After-advance-a) where
-
-  abbrev s : Start
-  s = c.before.before.before.before.before.before.before.before.before.before.before.before.before.before
-
   still : (marked c.loop-a.found c.loop-a.a
       && not (marked c.loop-a.done c.loop-a.a)) ≡ true
   still = c.loop-a.invariant.1.is c.loop-a-test.true
@@ -44,17 +40,17 @@ module _ (c : After-advance-a) where
 pub loop-a-smaller : goal.loop-a-smaller
 loop-a-smaller c =
     let a = (goal.at.loop-a-smaller c).After-advance-a in
-    let l = a.loop in
+    let l = a.loop-a in
     rw a.advance-a.ensures.1
-    (undone-less _ l.a l.done a.loop-test.true (s a).requires.0 l.inv.0.wide
+    (undone-less _ l.a l.done a.loop-a-test.true a.requires.0 l.invariant.0.wide
     (not-true _ (and_right (marked l.found l.a) _ (still a))))
 
 pub loop-a-preserved : goal.loop-a-preserved
 loop-a-preserved c =
     let a = (goal.at.loop-a-preserved c).After-advance-a in
-    let l = a.loop in (
+    let l = a.loop-a in (
       rw a.advance-a.ensures.1
-          (reaching-on _ _ l.a a.loop-test.true (s a).requires.0 l.inv.0
+          (reaching-on _ _ l.a a.loop-a-test.true a.requires.0 l.invariant.0
           ((passed _).from (and_left (marked l.found l.a) _ (still a))) a.advance-a.ensures.0),
       a.advance-a.ensures.2,
     )
