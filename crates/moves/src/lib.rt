@@ -2,6 +2,7 @@
 // Every rule and every step is asked first. Then the packet made is written rule by rule, from a row that holds one, and the steps' bytes,
 // which both versions have alike, are copied.
 #![tactic(auto)]
+
 ghost use Rattle.std.specs.Prelude.{◌≡◌, true, ◌+◌, ◌*◌, ◌≤◌, length};
 ghost use Rattle.text.specs.Writing.{farthest};
 ghost use Rattle.packets.specs.Bytes.{numbers_from};

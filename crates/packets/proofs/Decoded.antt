@@ -20,7 +20,6 @@ use Rattle.text.specs.Line.{any_outside}
 use Rattle.text.specs.Writing.{Put}
 use Rattle.text.specs.declared.Letter.{Letter}
 use Rattle.text.specs.declared.Class.{Class}
-use Rattle.text.specs.declared.Class.TheVariants as Class
 use Rattle.text.proofs.Puts.{put_on, put-none}
 use Rattle.aspif.proofs.RuleTests.{greatest-more}
 use Rattle.drupe.specs.Lines.{all_passed, line_refusal}

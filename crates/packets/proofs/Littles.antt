@@ -65,11 +65,13 @@ flip_twice (b ∷ bs) f =
     rw e (ap (λ (t : List ℕ). b ∷ t) (flip_twice bs (bytes-tail f)))
 
 bytes-flip : (bs : List ℕ) → Bytes (map (flip_if true) bs)
+bytes-flip [] c x = elim x [ ]
 bytes-flip (b ∷ bs) c (Memᴰ.head p) = rw p (omega arith)
 bytes-flip (b ∷ bs) c (Memᴰ.tail m) = bytes-flip bs c m
 
 pub bytes-little : (k n : ℕ) → Bytes (little k n)
 unfolding little
+bytes-little zero n c x = elim x [ ]
 bytes-little (suc k) n c (Memᴰ.head p) = rw p (mod-lt n {m = 256} (omega arith))
 bytes-little (suc k) n c (Memᴰ.tail m) = bytes-little k (n / 256) c m
 
@@ -172,6 +174,7 @@ numbers-whole k (suc n) bs h f =
 -- What the loops that read bytes cite
 
 pub bytes-all : (bs : List ℕ) → ((i : ℕ) → get_or bs i 0 < 256) → Bytes bs
+bytes-all [] f c x = elim x [ ]
 bytes-all (b ∷ bs) f c (Memᴰ.head p) = rw p (f 0)
 bytes-all (b ∷ bs) f c (Memᴰ.tail m) = bytes-all bs (λ i. f (suc i)) c m
 

@@ -260,6 +260,7 @@ inside-small l h z m = small z (inside l h z m)
 
 -- literals, each with its weight
 pairs_small : (l : List Weighted) → Light l → any_outside (literals l) ≡ false → (z : ℤ) → z ∈ pair_words l → Small z
+pairs_small [] f h z x = elim x [ ]
 pairs_small (x ∷ l) f h z (Memᴰ.head e) = inside-small (literals (x ∷ l)) h z (Memᴰ.head e)
 pairs_small (x ∷ l) f h z (Memᴰ.tail (Memᴰ.head e)) = rw e (omega (arith, f x (Memᴰ.head refl)))
 pairs_small (x ∷ l) f h z (Memᴰ.tail (Memᴰ.tail m)) =

@@ -5,7 +5,7 @@ use mathlib.Core.Bool.{Bool, true, false, cond, not, ◌||◌, true≢false}
 use mathlib.Core.Option.{Option, none, some, some-injective, none-ne-some}
 use mathlib.Core.List.Memᴰ
 use mathlib.Core.List.{List, [], ◌∷◌, ◌++◌}
-use Prim.Native.Nat.{ℕ, zero, suc, ◌+◌, ◌*◌, ◌<◌, ◌≤◌}
+use Prim.Native.Nat.{ℕ, zero, suc, ◌*◌, ◌<◌, ◌≤◌}
 use native.Mathlib.Omega.{arith}
 use borrow.Author.Tests.{le-leb, leb-true, not-true}
 use lib.Dec.{leb, ltb}
@@ -20,7 +20,6 @@ use Rattle.text.specs.Bytes.{byte_of, class_of}
 use Rattle.text.specs.Line.{any_outside}
 use Rattle.text.specs.declared.Letter.{Letter}
 use Rattle.text.specs.declared.Class.{Class}
-use Rattle.text.specs.declared.Class.TheVariants as Class
 use Rattle.text.proofs.Spelling.{Byte, byte-of, class-letter}
 use Rattle.aspif.proofs.Formed.{inside}
 use Rattle.drupe.specs.Lines.{all_passed, line_refusal}

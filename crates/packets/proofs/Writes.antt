@@ -1,6 +1,6 @@
 -- What the loops of the writer cite: bytes put one after another.
 -- Assumes nothing.
-use mathlib.Core.Path.{◌≡◌, refl, sym, ◌∙◌, ap, ap₂, subst}
+use mathlib.Core.Path.{◌≡◌, refl, sym, ◌∙◌, ap, ap₂}
 use mathlib.Core.Bool.{Bool, true, false, cond, ◌&&◌, true≢false}
 use mathlib.Core.Option.{Option, none, some}
 use mathlib.Core.List.{List, [], ◌∷◌, ◌++◌, map, append-nil}
@@ -10,10 +10,10 @@ use borrow.Author.Tests.{ltb-true, leb-true}
 use lib.Dec.{leb}
 use lib.IntN.{ℤ, pos, negsuc}
 use lib.Signed.{lt_z}
-use lib.ListN.{length, set, take, drop, get_or, replicate, drop_of_length-le, length-append, length-replicate}
-use lib.Seq.{drop-cons, take-append_seam, set_comm, sets, sets-eq, length-sets}
+use lib.ListN.{length, set, drop, get_or, replicate, drop_of_length-le, length-append}
+use lib.Seq.{drop-cons, set_comm, sets, sets-eq, length-sets}
 use Rattle.words.proofs.Laws.{drop-replicate}
-use Rattle.words.specs.Limits.{longest, most_numbers}
+use Rattle.words.specs.Limits.{longest}
 use Rattle.words.specs.Lists.{all}
 use Rattle.words.specs.Literals.{variable, top}
 use Rattle.words.proofs.Lists.{zero_one, concat-append}
@@ -28,11 +28,7 @@ use Rattle.drupe.specs.Lines.{LineAt, line, line_at, line_answer, numbers_of, An
 use Rattle.drupe.specs.Lines as Lines
 use Rattle.drupe.specs.Texts.{Step, StepsRead, steps, steps_of}
 use Rattle.drupe.specs.Texts as Texts
-use Rattle.drupe.specs.declared.LineAnswer.{LineAnswer}
-use Rattle.drupe.specs.declared.LineAnswer.TheVariants as Answer
-use Rattle.drupe.specs.declared.LineReading.{LineReading}
 use Rattle.drupe.proofs.Lines.{passed-line}
-use Rattle.drupe.proofs.Rows.{line_told}
 use Rattle.drupe.proofs.Texts.{Walked, walked_start, walked_on, walked_end, walked-refused, short-steps, long-steps}
 use Rattle.packets.specs.Bytes.{little, flip_if, signed_bytes, bytes_of}
 use Rattle.packets.specs.Packets as Packets

@@ -12,7 +12,6 @@ use Rattle.words.specs.Literals.{has, top}
 use Rattle.text.specs.Bytes.{byte_of, class_of}
 use Rattle.text.specs.declared.Letter.{Letter}
 use Rattle.text.specs.declared.Class.{Class}
-use Rattle.text.specs.declared.Class.TheVariants as Class
 use Rattle.aspif.specs.Rules.{InputRule, literals_of, is_plain, greatest, atoms, kind_word, rule_words, program_words, table_words}
 use Rattle.text.specs.Strings.{starts_with}
 use Rattle.aspif.specs.Tables.{rule_at, size_at, sound_at, rules_of}

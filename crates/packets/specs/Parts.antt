@@ -18,7 +18,6 @@ use Rattle.packets.specs.declared.PacketReading.{PacketReading}
 use Rattle.packets.specs.declared.reader.Part.{Part}
 use Rattle.packets.specs.declared.reader.Part.TheVariants.{Taken, Refused}
 use Rattle.packets.specs.declared.reader.RulesPart.{RulesPart}
-use Rattle.packets.specs.declared.reader.RulesPart.TheVariants as RulesPart
 use Rattle.packets.specs.declared.reader.RuleRead.{RuleRead}
 
 -- The reader's rules

@@ -154,7 +154,7 @@ fn put_rules(version: Version, buffer: &mut [u8], at: usize, table: &[i32], rule
 // The step's letter, count and numbers.
 fn put_step(buffer: &mut [u8], at: usize, letter: Letter, numbers: &[i32]) -> usize
     requires { (length numbers.now ≤ most_numbers) × (at + step_room ≤ farthest) }
-    ensures put { Put (step_bytes (record { letter = letter; numbers = numbers.entry.now })) buffer.old
+    ensures put { Put (step_bytes (record { letter = letter; numbers = numbers.now })) buffer.old
         buffer.new at result }
     ensures upper_bound { result ≤ at + step_room }
 {

@@ -10,11 +10,10 @@ use Rattle.moves.proofs.measure.Goals.{After-larger-top}
 
 pub read_steps-text-requires : goal.read_steps-text-requires
 unfolding byte_classes
-read_steps-text-requires c = let all = search rules in record { bytes_value = all.0; classes_value = all.1 }
+read_steps-text-requires c = record { bytes_value = search rules; classes_value = search rules }
 
 -- both parts are read
 module _ (c : After-larger-top) where
-
   read : BothRead c.args.from c.args.count c.args.words.now c.args.steps c.args.bytes.now c.in-Taken.rules c.in-Taken.size c.larger-top.result c.in-Taken.plain
   read =
       both_read _ _ _ _ _ _ _ _ _ c.in-Taken.is c.read_rules-rules.ensures c.in-Taken-text.is c.read_steps-text.ensures c.larger-top.ensures

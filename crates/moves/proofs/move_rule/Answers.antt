@@ -13,7 +13,6 @@ use Rattle.moves.proofs.move_rule.Goals.{After-read_rule-read}
 
 -- the row that the rule stands in
 module _ (c : After-read_rule-read) where
-
   abbrev row : List ℤ
   row = c.read_rule-read.new.table
 

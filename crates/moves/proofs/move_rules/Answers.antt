@@ -11,7 +11,6 @@ use Rattle.packets.specs.Bytes.{numbers_from}
 use Rattle.packets.proofs.Littles.{length-numbers, numbers-later}
 use Rattle.moves.specs.Moves.{RuleMovedAs}
 use Rattle.moves.proofs.Moving.{moving-start, moving-first, moving-worded, moving-room, moving-less, moving-on, moving-end}
-use borrow.Author.Rules.{rules}
 use Rattle.moves.proofs.move_rules.Goals as goal
 use Rattle.moves.proofs.move_rules.Goals.{In-loop-i, After-move_rule-moved}
 use Rattle.moves.proofs.move_rules.Lts.View as view
@@ -23,7 +22,6 @@ loop-i-init c = moving-start _ _ _ _ c.requires.1
 
 -- the words, and those that are left
 module _ (c : In-loop-i) where
-
   abbrev bytes : List ℕ
   bytes = c.args.bytes.now
 
@@ -65,7 +63,7 @@ pub overflow_add-i : goal.overflow_add-i
 overflow_add-i c =
     let e = (goal.at.overflow_add-i c).After-move_rule-moved in
     let f = d e in
-    record { fits = omega (arith, (told e).within, length-drop (i f) (ws f), length-numbers 4 f.args.count (bytes f), f.fits.count, some_left f) }
+    record { fits = omega (arith, (told e).within, length-drop (i f) (ws f), length-numbers 4 f.args.count (bytes f), f.ranges.count.fits, some_left f) }
 
 pub loop-i-smaller : goal.loop-i-smaller
 loop-i-smaller c =

@@ -6,7 +6,6 @@ use Rattle.packets.specs.Packets.{version_of}
 use Rattle.packets.specs.declared.Version.TheVariants.{One, Two}
 use Rattle.packets.proofs.Given.{told-one, told-two, told-other}
 use Rattle.packets.proofs.Writes.{told-written, told-unwritten}
-use borrow.Author.Rules.{rules}
 use Rattle.packets.proofs.write_packet.Goals as goal
 
 pub write_as-requires : goal.write_as-requires

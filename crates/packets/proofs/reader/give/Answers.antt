@@ -5,7 +5,6 @@ use native.Mathlib.Omega.{arith}
 use lib.ListN.{length}
 use Rattle.packets.specs.Packets.{limit, pair_top}
 use Rattle.packets.proofs.Given.{too_large, table-short, text-short, given}
-use borrow.Author.Rules.{rules}
 use Rattle.packets.proofs.reader.give.Goals as goal
 
 pub returns-then-limit_of-top : goal.returns-then-limit_of-top

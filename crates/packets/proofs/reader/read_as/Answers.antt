@@ -7,6 +7,7 @@ use Prim.Native.Nat.{ℕ, ◌+◌, ◌-◌, ◌*◌, ◌≤◌}
 use native.Mathlib.Omega.{arith}
 use lib.ListN.{length, take, drop, length-drop}
 use lib.Seq.{length-take-le}
+use borrow.Author.Rules.{rules}
 use Rattle.words.proofs.Parts.{tail_of}
 use Rattle.packets.specs.Packets.{word_count, step_count, word_part, step_part, lengths_fit, fills, parts_read, pair_in}
 use Rattle.packets.proofs.Littles.{part-is}
@@ -76,6 +77,12 @@ module _ (c : After-count_at-steps) where
       let v = c.args.version in
       let m = sym c.is_marked.ensures ∙ c.if-not-is_marked.false in
       parts-left v p m (fit (view.up-Else-not-lengths_fit tie.the-claims reads.Pre reads.Post tie.handed_clauses c.before.before.before)) _ _ _ _ c.count_at-count.ensures.0 words-there c.count_at-steps.ensures.0 steps-there
+
+pub slice_bounds-read_parts-end : goal.slice_bounds-read_parts-end
+slice_bounds-read_parts-end c = let r = room (goal.at.slice_bounds-read_parts-end c).After-count_at-steps in search rules
+
+pub slice_bounds-read_parts-start-2 : goal.slice_bounds-read_parts-start-2
+slice_bounds-read_parts-start-2 c = let r = room (goal.at.slice_bounds-read_parts-start-2 c).After-count_at-steps in search rules
 
 pub slice_bounds-read_parts-count-2 : goal.slice_bounds-read_parts-count-2
 slice_bounds-read_parts-count-2 c = room (goal.at.slice_bounds-read_parts-count-2 c).After-count_at-steps

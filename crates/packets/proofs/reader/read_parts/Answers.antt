@@ -7,7 +7,7 @@ use Rattle.packets.proofs.reader.read_parts.Goals as goal
 
 pub read_steps-text-requires : goal.read_steps-text-requires
 unfolding byte_classes
-read_steps-text-requires c = let all = search rules in record { bytes_value = all.0; classes_value = all.1 }
+read_steps-text-requires c = record { bytes_value = search rules; classes_value = search rules }
 
 pub returns-in-Refused : goal.returns-in-Refused
 returns-in-Refused c =

@@ -2,7 +2,7 @@
 -- Assumes nothing.
 use mathlib.Core.Path.{◌≡◌, refl, ◌∙◌}
 use mathlib.Core.List.{List}
-use Prim.Native.Nat.{ℕ, ◌-◌, ◌*◌, ◌≤◌, ◌<◌}
+use Prim.Native.Nat.{ℕ, ◌*◌, ◌≤◌, ◌<◌}
 use native.Mathlib.Omega.{arith}
 use lib.IntN.{ℤ}
 use lib.ListN.{length, drop, length-drop}
@@ -11,7 +11,6 @@ use Rattle.packets.specs.Bytes.{numbers_from}
 use Rattle.packets.specs.Parts.{RuleTold}
 use Rattle.packets.proofs.Littles.{length-numbers, numbers-later}
 use Rattle.packets.proofs.RulesRead.{filling-start, filling-kept, filling-full, filling-stop, filling-near, filling-on, filling-end}
-use borrow.Author.Rules.{rules}
 use Rattle.packets.proofs.reader.read_rules.Goals as goal
 use Rattle.packets.proofs.reader.read_rules.Goals.{In-loop-i, After-read_rule-read}
 use Rattle.packets.proofs.reader.read_rules.Lts.View as view
@@ -23,7 +22,6 @@ loop-i-init c = filling-start _ _ _
 
 -- the words, and those that are left
 module _ (c : In-loop-i) where
-
   abbrev ws : List ℤ
   ws = numbers_from 4 c.args.count c.args.bytes.now
 
@@ -80,7 +78,7 @@ pub overflow_add-i : goal.overflow_add-i
 overflow_add-i c =
     let e = (goal.at.overflow_add-i c).After-read_rule-read in
     let f = d e in
-    record { fits = omega (arith, (told e).within, length-drop (i f) (ws f), long f, f.fits.count, f.loop-i-test.true) }
+    record { fits = omega (arith, (told e).within, length-drop (i f) (ws f), long f, f.ranges.count.fits, f.loop-i-test.true) }
 
 pub overflow_add-words : goal.overflow_add-words
 overflow_add-words c =

@@ -4,6 +4,7 @@ use mathlib.Core.Path.{◌≡◌, refl, sym, ◌∙◌, ap}
 use mathlib.Core.Option.{none}
 use native.Mathlib.Omega.{arith}
 use lib.ListN.{length-drop}
+use borrow.Author.Rules.{rules}
 use Rattle.words.proofs.Parts.{tail_of}
 use Rattle.packets.specs.Packets.{letter_in}
 use Rattle.packets.specs.Parts.{step_at}
@@ -19,6 +20,9 @@ bounds-bytes-0 c = let a = c in omega (arith, (size-bytes a.args.bytes.now a.req
 
 pub slice_bounds-step_with-count : goal.slice_bounds-step_with-count
 slice_bounds-step_with-count c = let a = c in (size-bytes a.args.bytes.now a.requires.bytes_nonzero.0).0
+
+pub slice_bounds-step_with-start : goal.slice_bounds-step_with-start
+slice_bounds-step_with-start c = let s = (size-bytes c.args.bytes.now c.requires.bytes_nonzero.0).0 in search rules
 
 pub step_with-requires : goal.step_with-requires
 step_with-requires c =

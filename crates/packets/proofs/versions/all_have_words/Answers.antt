@@ -3,7 +3,6 @@
 use mathlib.Core.Path.{sym}
 use Rattle.aspif.specs.Tables.{rules_at}
 use Rattle.packets.proofs.RuleParts.{all-worded}
-use borrow.Author.Rules.{rules}
 use Rattle.packets.proofs.versions.all_have_words.Goals as goal
 
 pub returns-in-One : goal.returns-in-One

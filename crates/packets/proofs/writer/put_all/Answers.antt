@@ -1,6 +1,5 @@
 -- `packets::writer::put_all` meets its contract. After i turns the first i words are put.
 -- Assumes nothing.
-use Prim.Native.Nat.{◌-◌}
 use native.Mathlib.Numerals.{add-one}
 use native.Mathlib.Omega.{arith}
 use lib.IntN.{pos}

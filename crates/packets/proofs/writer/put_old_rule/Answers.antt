@@ -38,4 +38,4 @@ returns c = let a = c in
     let k = c.kind_of-kind.ensures in
     let p = rw (h, b, k) at c.put_counts-from.ensures in
     let q = rw h at c.put_all-middle.ensures in
-    let t = rw b at c.put_all.ensures in record { put = rule-put (rule_at a.args.rule.now) p.0 q.0 t.0; upper_bound = omega (arith, p.1, q.1, t.1, f.heads-few, f.body-few) }
+    let t = rw b at c.put_all.ensures in record { put = rule-put (rule_at a.args.rule.now) p.put q.put t.put; upper_bound = omega (arith, p.value, q.value, t.value, f.heads-few, f.body-few) }

@@ -35,9 +35,9 @@ put_all-requires c =
     (omega arith, rw (words_are (goal.at.put_all-requires c).After-rule_size-size) (omega (arith, rule-few Two (rule_at b.args.rule.now) (rule-formed b.args.rule.now b.requires.0), b.requires.1.1)))
 
 pub returns-in-One : goal.returns-in-One
-returns-in-One c = let all = rw c.in-One.is c.put_old_rule.ensures in record { put = all.0; upper_bound = all.1 }
+returns-in-One c = rw c.in-One.is c.put_old_rule.ensures
 
 pub returns-in-Two : goal.returns-in-Two
 returns-in-Two c = let b = c in
     let f = rule-few Two (rule_at b.args.rule.now) (rule-formed b.args.rule.now b.requires.0) in
-    let p = rw (words_are (goal.at.returns-in-Two c).After-rule_size-size) at c.put_all.ensures in rw c.in-Two.is (record { put = p.0; upper_bound = omega (arith, p.1, f) })
+    let p = rw (words_are (goal.at.returns-in-Two c).After-rule_size-size) at c.put_all.ensures in rw c.in-Two.is (record { put = p.put; upper_bound = omega (arith, p.value, f) })

@@ -63,7 +63,7 @@ loop-left-preserved c =
     let l = d.loop-left in
     let p = rw (tail_of (i d) (t d)) at c.put_rule-end.ensures in
     rw c.next_rule-i.ensures.next.0
-    (((at d).next, and_right (has_words (v d) (rule_at (drop (i d) (t d)))) _ (worded d)), (rule-on (v d) (rule_at (drop (i d) (t d))) _ _ (at d).rules l.invariant.1.0 p.0, omega (arith, p.1, l.invariant.1.1, d.loop-left-test.true)))
+    (((at d).next, and_right (has_words (v d) (rule_at (drop (i d) (t d)))) _ (worded d)), (rule-on (v d) (rule_at (drop (i d) (t d))) _ _ (at d).rules l.invariant.1.0 p.put, omega (arith, p.upper_bound, l.invariant.1.1, d.loop-left-test.true)))
 
 -- all of them are put
 all-put : (c : After-loop-left) → (let a = c.args in let l = c.loop-left in

@@ -6,7 +6,6 @@ use lib.ListN.{length}
 use Rattle.aspif.specs.Tables.{sound_table}
 use Rattle.aspif.proofs.Cursors.{sound-rules}
 use Rattle.packets.proofs.Writes.{no_table, no-packet, refusal-written}
-use borrow.Author.Rules.{rules}
 use Rattle.packets.proofs.writer.write_as.Goals as goal
 use Rattle.packets.proofs.writer.write_as.Goals.{Else-not-is_readable}
 

@@ -17,7 +17,6 @@ use Rattle.packets.specs.Packets.{packet_words, packet_of, limit, pair_top, writ
 use Rattle.packets.specs.declared.Version.{Version}
 use Rattle.packets.specs.Writes.{is_read, steps_read, StepsPutAs, writing_told}
 use Rattle.packets.proofs.Writes.{put-length, packet-put, packet-ends, by_questions, asked, answer-told, zeros-left, packet-left}
-use borrow.Author.Rules.{rules}
 use Rattle.packets.proofs.writer.write_pair.Goals as goal
 use Rattle.packets.proofs.writer.write_pair.Goals.{After-answer_of-answer, After-put_steps-put, After-put_rules-middle}
 use Rattle.packets.proofs.writer.write_pair.Lts.View as view
@@ -32,7 +31,6 @@ largest_atom-requires c = let a = c in sound-rules a.args.table.now a.args.rules
 
 -- the rules and the steps are put, and the questions asked
 module _ (c : After-answer_of-answer) where
-
   abbrev v : Version
   v = c.args.version
 
