@@ -13,7 +13,7 @@ line s e = subst (λ x. PassedLine x s.args.line.now) e s.requires.line
 
 pub addition-requires : goal.addition-requires
 addition-requires c = let t = c in
-    let s = (goal.at.addition-requires c).Start in let all = (s.requires.store, (line s t.in-Addition.is, s.requires.1.1.1.1.1)) in record { store = all.0; line = all.1.0; sorted = all.1.1.0; free = all.1.1.1 }
+    let s = (goal.at.addition-requires c).Start in record { store = s.requires.store; line = line s t.in-Addition.is; sorted = s.requires.sorted; free = s.requires.free }
 
 pub deletion-requires : goal.deletion-requires
 deletion-requires c = let t = c in
@@ -26,11 +26,11 @@ extension-requires c = let t = c in
 pub step_of_body-requires : goal.step_of_body-requires
 step_of_body-requires c = let m = c in
     let s = c in
-    let p = program-of s.requires.state in record { letter = of_two _ Body Completion m.in-Body.keys4; program = ((p.0.0, p.0.1.holds), p.1); index = s.requires.index; store = s.requires.store; line = s.requires.line }
+    let p = program-of s.requires.state in record { letter = of_two _ Body Completion m.in-Body.in-Body-own.keys4; program = ((p.0.0, p.0.1.holds), p.1); index = s.requires.index; store = s.requires.store; line = s.requires.line }
 
 pub step_of_heads-requires : goal.step_of_heads-requires
 step_of_heads-requires c = let m = c in
-    let s = c in record { letter = of_two _ Loop Support m.in-Loop.keys5; state = s.requires.state; index = s.requires.index; relevant = s.requires.relevant; store = s.requires.store; line = s.requires.line }
+    let s = c in record { letter = of_two _ Loop Support m.in-Loop.in-Loop-own.keys5; state = s.requires.state; index = s.requires.index; relevant = s.requires.relevant; store = s.requires.store; line = s.requires.line }
 
 pub returns-in-Addition : goal.returns-in-Addition
 returns-in-Addition c = let t = c in

@@ -1,9 +1,9 @@
+use mathlib.Core.Logic.{inl, inr}
 use mathlib.Core.Path.{◌≡◌, subst}
-use mathlib.Core.List.{[], ◌∷◌}
+
 use Rattle.text.specs.declared.Letter.{Letter}
 use Rattle.text.specs.declared.Letter.TheVariants.{Completion}
 use Rattle.steps.specs.Held.{PassedLine}
-use Rattle.steps.proofs.Arms.{second}
 use Rattle.steps.proofs.step_of_body.Goals as goal
 use Rattle.steps.proofs.step_of_body.Goals.{Start, In_default}
 
@@ -12,15 +12,15 @@ line : (s : Start) {x : Letter} → s.args.letter ≡ x → PassedLine x s.args.
 line s e = subst (λ x. PassedLine x s.args.line.now) e s.requires.line
 
 -- the letter is not `b`
-other : (m : In_default) → (let s = m.before.before.before.before.before in s.args.letter ≡ Completion)
-other m = second m.requires.letter (0 ∷ 2 ∷ 3 ∷ 4 ∷ 5 ∷ 6 ∷ []) tt m.in_default.keys2
+other : (m : In_default) → m.args.letter ≡ Completion
+other m = elim m.requires.letter [ inl e ↦ absurd (m.in_default.not-Body e) | inr e ↦ e ]
 
 pub body-requires : goal.body-requires
 body-requires c = let t = c in
     let s = (goal.at.body-requires c).Start in record { program = s.requires.program; index = s.requires.index; store = s.requires.store; line = line s t.in-Body.is }
 
 pub completion-requires : goal.completion-requires
-completion-requires c = let m = (goal.at.completion-requires c).Start in
+completion-requires c = let m = (goal.at.completion-requires c).In_default in
     let s = (goal.at.completion-requires c).Start in record { program = s.requires.program; index = s.requires.index; store = s.requires.store; line = line s (other m) }
 
 pub returns-in-Body : goal.returns-in-Body
@@ -30,5 +30,5 @@ returns-in-Body c =
 
 pub returns-in_default : goal.returns-in_default
 returns-in_default c =
-    let m = (goal.at.returns-in_default c).Start in
+    let m = (goal.at.returns-in_default c).In_default in
     λ N ws h z b tracks K. rw (other m) (c.completion.ensures N ws h z b tracks K)

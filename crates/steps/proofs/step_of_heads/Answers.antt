@@ -1,10 +1,10 @@
+use mathlib.Core.Logic.{inl, inr}
 use mathlib.Core.Path.{◌≡◌, subst}
-use mathlib.Core.List.{[], ◌∷◌}
+
 use Rattle.text.specs.declared.Letter.{Letter}
 use Rattle.text.specs.declared.Letter.TheVariants.{Support}
 use Rattle.steps.specs.Held.{PassedLine}
 use Rattle.steps.proofs.Tracking.{program-of}
-use Rattle.steps.proofs.Arms.{second}
 use Rattle.steps.proofs.step_of_heads.Goals as goal
 use Rattle.steps.proofs.step_of_heads.Goals.{Start, In_default}
 
@@ -13,8 +13,8 @@ line : (s : Start) {x : Letter} → s.args.letter ≡ x → PassedLine x s.args.
 line s e = subst (λ x. PassedLine x s.args.line.now) e s.requires.line
 
 -- the letter is not `l`
-other : (m : In_default) → (let s = m.before.before.before.before.before.before in s.args.letter ≡ Support)
-other m = second m.requires.letter (0 ∷ 1 ∷ 2 ∷ 3 ∷ 4 ∷ 6 ∷ []) tt m.in_default.keys2
+other : (m : In_default) → m.args.letter ≡ Support
+other m = elim m.requires.letter [ inl e ↦ absurd (m.in_default.not-Loop e) | inr e ↦ e ]
 
 pub loops-requires : goal.loops-requires
 loops-requires c = let t = c in

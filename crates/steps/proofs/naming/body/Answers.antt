@@ -19,9 +19,6 @@ use Rattle.steps.proofs.Letters.{first, copied, some_number, first-low, first-hi
 use borrow.Author.Rules.{rules}
 use Rattle.steps.proofs.naming.body.Goals as goal
 use Rattle.steps.proofs.naming.body.Goals.{After-variable_of-name, After-is_marked, After-name_body}
-use Rattle.steps.proofs.naming.body.Lts.View as view
-use Rattle.steps.proofs.naming.body.Reads as reads
-use Rattle.steps.proofs.naming.body.Tie as tie
 
 pub slice_bounds-all_marked-count : goal.slice_bounds-all_marked-count
 slice_bounds-all_marked-count c = some_number Body refl c.requires.line
@@ -40,7 +37,7 @@ name c = rw (back _ c.variable_of-arg-1.given) at c.variable_of-name.ensures
 
 -- question 27
 named : (c : After-is_marked) → let a = c.args in c.is_marked.result ≡ marked a.known.now (variable (first a.numbers.now))
-named c = rw (name (view.up-Else-not-all_marked tie.the-claims reads.Pre reads.Post tie.handed_clauses c.before.before.before.before)) at c.is_marked.ensures
+named c = rw (rw (back _ c.variable_of-arg-1.given) at c.variable_of-name.ensures) at c.is_marked.ensures
 
 pub returns-then-is_marked : goal.returns-then-is_marked
 returns-then-is_marked c =
@@ -78,7 +75,7 @@ module _ (c : After-name_body) where
     entered : c.name_body.result ≡ true → is_known N z (variable (first numbers)) ≡ false
         → Kept c.name_body.new.names c.name_body.new.bodies (name_of (record { name = variable (first numbers); body = ascending (drop 1 numbers) } ∷ z.named)) ws
     entered e f =
-        let v = name (view.up-Else-not-all_marked tie.the-claims reads.Pre reads.Post tie.handed_clauses c.before.before.before.before.before.before.before.before.before.before.before.before) in
+        let v : c.variable_of-name.result ≡ variable (first numbers) = rw (back _ c.variable_of-arg-1.given) at c.variable_of-name.ensures in
         subst (λ (t : List ℤ). Kept c.name_body.new.names c.name_body.new.bodies (name_of (record { name = variable (first numbers); body = ascending t } ∷ z.named)) ws) part
         (subst (λ (n : ℕ). is_known N z n ≡ false → Kept c.name_body.new.names c.name_body.new.bodies (name_of (record { name = n; body = ascending (take (length numbers - 1) (drop 1 c.copy.new.destination)) } ∷ z.named)) ws) v
         (c.name_body.ensures.named N ws p e _ z T) f)

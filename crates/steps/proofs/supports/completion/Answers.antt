@@ -15,9 +15,6 @@ use Rattle.steps.proofs.Letters.{first, some_number, first-low, first-high, cite
 use borrow.Author.Rules.{rules}
 use Rattle.steps.proofs.supports.completion.Goals as goal
 use Rattle.steps.proofs.supports.completion.Goals.{After-variable_of-name, After-is_completed}
-use Rattle.steps.proofs.supports.completion.Lts.View as view
-use Rattle.steps.proofs.supports.completion.Reads as reads
-use Rattle.steps.proofs.supports.completion.Tie as tie
 
 pub returns-then-not-all_marked : goal.returns-then-not-all_marked
 returns-then-not-all_marked c =
@@ -35,7 +32,7 @@ name : (c : After-variable_of-name) → c.variable_of-name.result ≡ variable (
 name c = rw (back _ c.variable_of-arg-1.given) at c.variable_of-name.ensures
 
 pub is_completed-requires : goal.is_completed-requires
-is_completed-requires c = let v = (goal.at.is_completed-requires c).Else-not-all_marked in
+is_completed-requires c = let v = (goal.at.is_completed-requires c).After-variable_of-name in
     let s = c in
     let l = s.requires.line in record { program = s.requires.program; index = s.requires.index; name = rw (name v) (first-low Completion refl l, first-high Completion refl l) }
 
@@ -44,9 +41,9 @@ answer : (c : After-is_completed) (N : ℕ) (ws : List InputRule) (z : State) �
     HoldsRules a.table.now a.rules ws → Tracks N ws a.known.now a.names.now a.bodies.now z.introduced z.named
     → c.is_completed.result ≡ is_completion (expand ws) z (first a.numbers.now) (drop 1 a.numbers.now)
 answer c N ws z p T =
-    let v = (view.up-Else-not-all_marked tie.the-claims reads.Pre reads.Post tie.handed_clauses c.before.before.before.before.before) in
+    let v : c.variable_of-name.result ≡ variable (first c.args.numbers.now) = rw (back _ c.variable_of-arg-1.given) at c.variable_of-name.ensures in
     let s = c in
-    completed z T _ s.requires.line (rw (name v) at (c.is_completed.ensures ws p _ T.kept))
+    completed z T _ s.requires.line (rw v at (c.is_completed.ensures ws p _ T.kept))
 
 pub returns-then-not-is_completed : goal.returns-then-not-is_completed
 returns-then-not-is_completed c =

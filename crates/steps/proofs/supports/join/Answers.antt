@@ -24,7 +24,7 @@ module _ (c : After-sort) where
       joined c.args.numbers.now k.new.words c.sort.new.words p.0 p.1 k.ensures c.sort.ensures
 
 pub append-requires : goal.append-requires
-append-requires c = let o = (goal.at.append-requires c).After-complement_all in record { held = o.requires.store.0; origin = o.requires.store.1; literals = ((added o).literals, omega (arith, (added o).size, o.requires.line.2)) }
+append-requires c = let o = (goal.at.append-requires c).After-sort in record { held = o.requires.store.0; origin = o.requires.store.1; literals = ((added o).literals, omega (arith, (added o).size, o.requires.line.2)) }
 
 pub returns : goal.returns
 returns c =

@@ -18,7 +18,7 @@ module _ (c : After-scan-found) where
 
   gives : (ws : List InputRule) (called : List ℤ → ℕ) → Above c.args.table.now c.args.rules c.args.names.now c.args.bodies.now c.args.h ws called
       → LoopNogood (asked ws called) c.args.h c.scan-found.new.row c.scan-found.result
-  gives = rw (to_z-of_z c.fits.h) at c.scan-found.ensures
+  gives = rw (to_z-of_z c.ranges.h) at c.scan-found.ensures
 
 pub add_found-requires : goal.add_found-requires
 add_found-requires c = let k = (goal.at.add_found-requires c).After-scan-found in

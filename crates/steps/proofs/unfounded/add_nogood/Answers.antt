@@ -19,7 +19,7 @@ use Rattle.steps.proofs.unfounded.add_nogood.Goals as goal
 
 pub add_by_index-requires : goal.add_by_index-requires
 add_by_index-requires c = let t = c in
-    let p = t.requires in let all = (p.state, ((p.index, sym t.is_covered.ensures ∙ t.if-is_covered.true), p.1.1)) in record { state = all.0; index = all.1.0; set = all.1.1.0; store = all.1.1.1 }
+    let p = t.requires in record { state = p.state; index = (p.index, sym t.is_covered.ensures ∙ t.if-is_covered.true); set = p.set; store = p.store }
 
 pub bounds-numbers-0 : goal.bounds-numbers-0
 bounds-numbers-0 c = some_number Loop refl c.requires.set.1

@@ -17,7 +17,7 @@ use Rattle.steps.proofs.unfounded.gather.Goals.{After-larger-end}
 module _ (c : After-larger-end) where
 
   first : c.variable_of.result ≡ variable c.args.h
-  first = rw (to_z-of_z c.fits.h) at c.variable_of.ensures
+  first = rw (to_z-of_z c.ranges.h) at c.variable_of.ensures
 
   end_is : c.larger-end.result ≡ max c.extent.result (variable c.args.h + 1)
   end_is = rw first at c.larger-end.ensures

@@ -31,9 +31,6 @@ external_names-found-requires c = let p = c.requires in
 -- the names in the row after its first word
 module _ (c : In-Names) where
 
-  abbrev s : Start
-  s = c.before.before.before.before.before.before.before.before
-
   abbrev row : List ℤ
   row = c.external_names-found.new.row
 
@@ -41,29 +38,29 @@ module _ (c : In-Names) where
   n = c.in-Names.n
 
   abbrev put : List ℤ
-  put = put_mid 1 (length s.args.row.now - 1) s.args.row.now row
+  put = put_mid 1 (length c.args.row.now - 1) c.args.row.now row
 
-  some : 1 ≤ length s.args.row.now
-  some = omega (arith, s.requires.row)
+  some : 1 ≤ length c.args.row.now
+  some = omega (arith, c.requires.row)
 
   others : drop 1 put ≡ row
-  others = put-others s.args.row.now row some
+  others = put-others c.args.row.now row some
 
   long : length put ≡ most_held + 2
-  long = put-size s.args.row.now row some ∙ search (rules, c.external_names-found.kept.1.1.1.1.1.1.0, s.requires.row)
+  long = put-size c.args.row.now row some ∙ search (rules, c.external_names-found.auto.row, c.requires.row)
 
-  module _ (ws : List InputRule) (called : List ℤ → ℕ) (A : Above s.args.table.now s.args.rules s.args.names.now s.args.bodies.now (get_or s.args.numbers.now 0 (pos 0)) ws called) where
-    externals : Externals (asked_names External s.args.inside.now called (expand ws)) row (Names n)
+  module _ (ws : List InputRule) (called : List ℤ → ℕ) (A : Above c.args.table.now c.args.rules c.args.names.now c.args.bodies.now (get_or c.args.numbers.now 0 (pos 0)) ws called) where
+    externals : Externals (asked_names External c.args.inside.now called (expand ws)) row (Names n)
     externals =
-        subst (Externals (asked_names External s.args.inside.now called (expand ws)) row) c.in-Names.is
-        (c.external_names-found.ensures ws A.holds s.args.bodies.now called A.kept)
+        subst (Externals (asked_names External c.args.inside.now called (expand ws)) row) c.in-Names.is
+        (c.external_names-found.ensures ws A.holds c.args.bodies.now called A.kept)
 
   -- as it is known before
-  held : (let p = s.requires.state in Externals (asked_names External s.args.inside.now p.1 (expand p.0)) row (Names n))
-  held = let p = s.requires.state in externals p.0 p.1 p.2
+  held : (let p = c.requires.state in Externals (asked_names External c.args.inside.now p.1 (expand p.0)) row (Names n))
+  held = let p = c.requires.state in externals p.0 p.1 p.2
 
 pub bounds-numbers-0 : goal.bounds-numbers-0
-bounds-numbers-0 c = some_number Loop refl (s (goal.at.bounds-numbers-0 c).In-Names).requires.set.1
+bounds-numbers-0 c = some_number Loop refl (goal.at.bounds-numbers-0 c).In-Names.requires.set.1
 
 pub complete-requires : goal.complete-requires
 complete-requires c = let f = (goal.at.complete-requires c).In-Names in
@@ -77,10 +74,10 @@ returns-in-Names c =
     λ ws called A.
     let k = c in
     let f = (goal.at.returns-in-Names c).In-Names in
-    let line = (s f).requires.set.1 in
-    let h = get_or (s f).args.numbers.now 0 (pos 0) in
+    let line = f.requires.set.1 in
+    let h = get_or f.args.numbers.now 0 (pos 0) in
     let E = externals f ws called A in
-    row-nogood A (s f).args.inside.now (row f) k.complete.new.row (n f) (first-low Loop refl line) (first-high Loop refl line) E
+    row-nogood A f.args.inside.now (row f) k.complete.new.row (n f) (first-low Loop refl line) (first-high Loop refl line) E
     (omega (arith, k.complete.auto.row, long f, E.0))
     (k.complete.ensures ∙ ap (λ x. x ∷ map complement (take (n f) (drop 1 (put f)))) (back h k.complete-arg-1.given)
     ∙ ap (λ l. h ∷ map complement (take (n f) l)) (others f))

@@ -17,9 +17,6 @@ use Rattle.steps.proofs.LoopSteps.{members, names-above, loop-atoms, loop-not, l
 use borrow.Author.Rules.{rules}
 use Rattle.steps.proofs.unfounded.loops.Goals as goal
 use Rattle.steps.proofs.unfounded.loops.Goals.{Else-atoms-largest_variable, After-is_loop}
-use Rattle.steps.proofs.unfounded.loops.Lts.View as view
-use Rattle.steps.proofs.unfounded.loops.Reads as reads
-use Rattle.steps.proofs.unfounded.loops.Tie as tie
 
 -- what the first two tests leave
 module _ (c : Else-atoms-largest_variable) where
@@ -54,8 +51,8 @@ is_loop-requires c = let p = c.requires in record { program = (p.state.2.holds.s
 
 -- question 56, of the rules that the table holds
 looped : (c : After-is_loop)
-    → (let e = (view.up-Else-atoms-largest_variable tie.the-claims reads.Pre reads.Post tie.handed_clauses c.before.before) in is_loop (expand (rules_at e.args.rules e.args.table.now)) (U e) ≡ c.is_Loop.result)
-looped c = sym c.is_Loop.ensures
+    → is_loop (expand (rules_at c.args.rules c.args.table.now)) c.args.numbers.now ≡ c.is_loop.result
+looped c = sym c.is_loop.ensures
 
 pub returns-then-not-is_loop : goal.returns-then-not-is_loop
 returns-then-not-is_loop c =
