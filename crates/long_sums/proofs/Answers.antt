@@ -20,7 +20,6 @@ use Rattle.aspif.specs.Rules.{InputRule, literals_of, rule_top, atoms, table_wor
 use Rattle.aspif.specs.Text.{program_text}
 use Rattle.aspif.specs.Tables.{rules_at}
 use Rattle.aspif.specs.Reading.{Reading, program, read_text_within, read_lines_within, program_answer, table_of}
-use Rattle.aspif.specs.Reading as Reading
 use Rattle.aspif.specs.Claims.{FormedWithin}
 use Rattle.aspif.proofs.Formed.{inside, within-fits}
 use Rattle.aspif.proofs.RuleTests.{greatest-within}

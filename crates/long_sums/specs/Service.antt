@@ -8,7 +8,6 @@ use Rattle.weights.specs.Weights.{most_weighted}
 use Rattle.aspif.specs.Rules.{InputRule, atoms, table_words}
 use Rattle.aspif.specs.Text.{program_text}
 use Rattle.aspif.specs.Reading.{Reading, program, read_text_within}
-use Rattle.aspif.specs.Reading as Reading
 use Rattle.sums.specs.Levels.{split_program, sorted_groups}
 use Rattle.long_sums.specs.declared.SplitAnswer.{SplitAnswer}
 use Rattle.long_sums.specs.declared.SplitAnswer.TheVariants.{Split, RefusedProgram, Refused}

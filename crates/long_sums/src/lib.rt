@@ -1,6 +1,7 @@
 // A program text whose long sums are split into short ones. The service is `split_sums`; what it writes is
 // specs/Service.antt, and that it keeps the answer sets is proved in crate sums.
 #![tactic(auto)]
+
 mod ordering;
 mod program;
 

@@ -51,6 +51,7 @@ found-reaches need (u ∷ us) h = by (ltb u need) refl h (λ k. found-reaches ne
 
 pub found_first : (need low : ℕ) (us : List ℕ) → Ascending low us → (o : ℕ) → o ∈ us → need ≤ o → (below need us < length us) × (get_or us (below need us) 0 ≤ o)
 unfolding below
+found_first need low [] a o i h = elim i [ ]
 found_first need low (u ∷ us) a o i h = by (ltb u need) refl i (λ j. found_first need (suc u) us a.1 o j h)
   where
     by : (t : Bool) → ltb u need ≡ t → o ∈ u ∷ us → (o ∈ us → (below need us < length us) × (get_or us (below need us) 0 ≤ o))
@@ -63,6 +64,7 @@ found_first need low (u ∷ us) a o i h = by (ltb u need) refl i (λ j. found_fi
 -- a number of an ascending list stands at a place or after it, or before it
 pub beside : (low : ℕ) (us : List ℕ) → Ascending low us → (i : ℕ) → i < length us → (v : ℕ) → v ∈ us
     → (get_or us i 0 ≤ v) ⊎ ((p : ℕ) × (i ≡ suc p) × (v ≤ get_or us p 0))
+beside low [] a i h v _ = elim h [ ]
 beside low (u ∷ us) a zero h v (Memᴰ.head e) = inl (omega arith)
 beside low (u ∷ us) a zero h v (Memᴰ.tail j) = inl (let k = ascending-low a.1 j in omega arith)
 beside low (u ∷ us) a (suc zero) h v (Memᴰ.head e) = inr (0, refl, omega arith)

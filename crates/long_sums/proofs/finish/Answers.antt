@@ -5,7 +5,6 @@ use lib.Dec.{leb}
 use lib.ListN.{length}
 use Rattle.words.specs.Limits.{largest, longest, most_rules}
 use Rattle.long_sums.proofs.Answers.{asked, numbers-passed, refused-66, written-66}
-use borrow.Author.Rules.{rules}
 use Rattle.long_sums.proofs.finish.Goals as goal
 use Rattle.long_sums.proofs.finish.Goals.{Else-not-is_writable}
 

@@ -3,7 +3,6 @@ use lib.ListN.{length}
 use Rattle.words.specs.Limits.{most_literals}
 use Rattle.aspif.specs.Reading.{read_text_within}
 use Rattle.long_sums.proofs.Answers.{LongRead, long-read, refused-left, read_left}
-use borrow.Author.Rules.{rules}
 use Rattle.long_sums.proofs.split_sums.Goals as goal
 use Rattle.long_sums.proofs.split_sums.Goals.{In-Read}
 

@@ -6,7 +6,6 @@ use Rattle.aspif.specs.Tables.{rules_at}
 use Rattle.sums.specs.Levels.{split_program, sorted_groups}
 use Rattle.long_sums.specs.Service.{split_to}
 use Rattle.long_sums.proofs.Answers.{bad-size, good-size, size-asked}
-use borrow.Author.Rules.{rules}
 use Rattle.long_sums.proofs.split_table.Goals as goal
 
 pub returns-then-group : goal.returns-then-group

@@ -1,6 +1,5 @@
 use native.Mathlib.Omega.{arith}
 use Rattle.joins.proofs.Chained.{first-at, from_first}
-use borrow.Author.Rules.{rules}
 use Rattle.joins.proofs.chains.emit_chain.Goals as goal
 
 pub emit_part-first-requires : goal.emit_part-first-requires
@@ -14,7 +13,7 @@ emit_rest-requires c = let s = c in
     let y = c.emit_part-first in
     let e = y.ensures in
     let r = s.requires.room in
-    let k = y.auto.1.1.1.1.1.1.1 in record { first = (e.1.1.1, e.1.0); written = (s.args.output.now, s.args.place, first-at s.args.group s.args.bound s.args.pairs.now e.1.1.0 e.0); pairs = s.requires.pairs; group = s.requires.group; atoms = omega (arith, e.1.1.0, s.requires.atoms); room = (omega (arith, k.0, r.0), omega (arith, k.1.0, r.1), omega (arith, k.1.1.0, r.2), omega (arith, k.1.1.1.0, r.3), r.4, r.5) }
+    let k = y.auto in record { first = (e.within.1, e.levels); written = (s.args.output.now, s.args.place, first-at s.args.group s.args.bound s.args.pairs.now e.within.0 e.rules); pairs = s.requires.pairs; group = s.requires.group; atoms = omega (arith, e.within.0, s.requires.atoms); room = (omega (arith, k.inside, r.0), omega (arith, k.outside, r.1), omega (arith, k.spare, r.2), omega (arith, k.levels, r.3), r.4, r.5) }
 
 pub returns : goal.returns
 returns c =

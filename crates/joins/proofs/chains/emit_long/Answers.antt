@@ -2,7 +2,6 @@ use Prim.Native.Nat.{suc, ◌≤◌}
 use native.Mathlib.Omega.{arith}
 use Rattle.totalizer.proofs.Emitted.{emits-full}
 use Rattle.joins.proofs.Chained.{written-rules, written-atoms}
-use borrow.Author.Rules.{rules}
 use Rattle.joins.proofs.chains.emit_long.Goals as goal
 
 pub returns-then-place-gt-MOST_RULES : goal.returns-then-place-gt-MOST_RULES

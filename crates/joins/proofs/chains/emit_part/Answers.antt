@@ -5,7 +5,6 @@ use lib.ListN.{length, drop, length-take}
 use lib.Seq.{length-take-le}
 use Rattle.words.proofs.Parts.{tail_of}
 use Rattle.joins.proofs.Linked.{few-group, weights-take, weights-drop, weights-within}
-use borrow.Author.Rules.{rules}
 use Rattle.joins.proofs.chains.emit_part.Goals as goal
 
 pub slice_bounds-levels_of-end : goal.slice_bounds-levels_of-end

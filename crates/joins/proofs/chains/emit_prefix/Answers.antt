@@ -4,7 +4,6 @@ use native.Mathlib.Omega.{arith}
 use lib.ListN.{length, take, drop, length-append}
 use lib.Seq.{length-take-le, take_at}
 use Rattle.joins.proofs.Linked.{few-prefix}
-use borrow.Author.Rules.{rules}
 use Rattle.joins.proofs.chains.emit_prefix.Goals as goal
 
 pub prefix_levels-n-requires : goal.prefix_levels-n-requires
@@ -26,11 +25,15 @@ slice_bounds-emit_node-end-5 c = let s = c in sym (length-take-le s.args.side.co
 pub emit_node-place-requires : goal.emit_node-place-requires
 emit_node-place-requires c = let s = c in
     let p = s.requires in
-    let n = c.prefix_levels-n.ensures in record { place = s.requires.place; levels = p.levels; atoms = (
-          omega (arith, p.atoms, length-take-le s.args.node.count s.args.left.now p.within.0),
-          omega (arith, p.atoms, length-take-le s.args.side.count s.args.right.now p.within.1),
-          omega (arith, p.atoms, ap length n.levels, few-prefix s.args.bound s.args.to s.args.pairs.now, s.requires.pairs.1),
-        ) }
+    let n = c.prefix_levels-n.ensures in record {
+      place = s.requires.place;
+      levels = p.levels;
+      atoms = (
+        omega (arith, p.atoms, length-take-le s.args.node.count s.args.left.now p.within.0),
+        omega (arith, p.atoms, length-take-le s.args.side.count s.args.right.now p.within.1),
+        omega (arith, p.atoms, ap length n.levels, few-prefix s.args.bound s.args.to s.args.pairs.now, s.requires.pairs.1),
+      );
+    }
 
 pub slice_bounds-copy_sums-end-2 : goal.slice_bounds-copy_sums-end-2
 slice_bounds-copy_sums-end-2 c = sym (length-take-le _ _ c.prefix_levels-n.ensures.within)
@@ -47,4 +50,4 @@ returns c = let s = c in
     let front = take y.result y.new.levels in
     let back = drop (length front) s.args.left.now in
     let e : c.copy_sums.new.destination ≡ front ++ back = c.copy_sums.ensures in
-    let k : length front ≡ y.result = length-take-le y.result y.new.levels n.1 in record { rules = rw n.0 at c.emit_node-place.ensures; levels = ap (take y.result) e ∙ take_at front back y.result k ∙ n.0; within = (refl, omega (arith, ap length e, k, length-append front back)) }
+    let k : length front ≡ y.result = length-take-le y.result y.new.levels n.within in record { rules = rw n.levels at c.emit_node-place.ensures; levels = ap (take y.result) e ∙ take_at front back y.result k ∙ n.levels; within = (refl, omega (arith, ap length e, k, length-append front back)) }

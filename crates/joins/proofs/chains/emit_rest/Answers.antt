@@ -1,6 +1,6 @@
 use mathlib.Core.Path.{◌≡◌, refl, sym, ◌∙◌}
 use mathlib.Core.List.{List}
-use Prim.Native.Nat.{ℕ, suc, ◌+◌, ◌-◌, ◌≤◌}
+use Prim.Native.Nat.{ℕ, suc, ◌+◌, ◌≤◌}
 use native.Mathlib.Nat.{div-add-mod'}
 use native.Mathlib.Omega.{arith}
 use lib.ListN.{length}
@@ -9,40 +9,35 @@ use Rattle.totalizer.specs.declared.texts.Place.{Place}
 use Rattle.totalizer.specs.Emitting.{Emits}
 use Rattle.joins.specs.Chaining.{first_rules, after}
 use Rattle.joins.proofs.Chained.{Chained, chained-start, chained-on, chained-full, chained-last}
-use borrow.Author.Rules.{rules}
 use Rattle.joins.proofs.chains.emit_rest.Goals as goal
-use Rattle.joins.proofs.chains.emit_rest.Goals.{At-loop-from, Start}
-
--- where the loop begins
-abbrev start : At-loop-from → Start
-start c = c.before.before.before.before.before.before.before.before
+use Rattle.joins.proofs.chains.emit_rest.Goals.{At-loop-from}
 
 begun : (c : At-loop-from) (before : List ℕ) (p : Place)
-    → (let a = (start c).args in
+    → (let a = c.args in
     Emits (first_rules a.group a.bound a.pairs.now a.first.first) before a.output.now p a.first.place
     → Chained a.group a.bound a.pairs.now a.first.first before a.output.now p a.first a.left.now a.group)
 begun c before p e =
-    let a = (start c).args in
-    let q = (start c).requires.pairs in
-    let g = (start c).requires.group in
-    let f = (start c).requires.first in
+    let a = c.args in
+    let q = c.requires.pairs in
+    let g = c.requires.group in
+    let f = c.requires.first in
     chained-start a.first a.left.now q.0 g.0 (omega (arith, g, q.2)) q.1 e f.1 refl f.0
 
 -- the text with which the first group began
 abbrev outset : At-loop-from → List ℕ
-outset c = (start c).requires.written.0
+outset c = c.requires.written.0
 
 -- where it stands
 stands : (c : At-loop-from)
-    → (let a = (start c).args in
-    Chained a.group a.bound a.pairs.now a.first.first (outset c) c.loop-from.output (start c).requires.written.1 c.loop-from.node c.loop-from.left c.loop-from.from)
-stands c = c.loop-from.invariant.linked _ _ (begun c _ _ (start c).requires.written.2)
+    → (let a = c.args in
+    Chained a.group a.bound a.pairs.now a.first.first (outset c) c.loop-from.output c.requires.written.1 c.loop-from.node c.loop-from.left c.loop-from.from)
+stands c = c.loop-from.invariant.linked _ _ (begun c _ _ c.requires.written.2)
 
-output-long : (c : At-loop-from) → length c.loop-from.output ≡ length (start c).args.output.now
-output-long c = (stands c).rules.long ∙ sym (start c).requires.written.2.long
+output-long : (c : At-loop-from) → length c.loop-from.output ≡ length c.args.output.now
+output-long c = (stands c).rules.long ∙ sym c.requires.written.2.long
 
 long : (c : At-loop-from)
-    → (let a = (start c).args in
+    → (let a = c.args in
     (length c.loop-from.inside ≡ length a.inside.now)
     × (length c.loop-from.outside ≡ length a.outside.now)
     × (length c.loop-from.spare ≡ length a.spare.now)
@@ -52,7 +47,7 @@ long : (c : At-loop-from)
 long c = let I = c.loop-from.invariant in (I.inside-long, I.outside-long, I.spare-long, I.left-long, I.right-long, I.next-long)
 
 room : (c : At-loop-from)
-    → (let b = (start c).args.bound in
+    → (let b = c.args.bound in
     (suc b ≤ length c.loop-from.inside)
     × (suc b ≤ length c.loop-from.outside)
     × (suc b ≤ length c.loop-from.spare)
@@ -60,16 +55,16 @@ room : (c : At-loop-from)
     × (suc b ≤ length c.loop-from.right)
     × (suc b ≤ length c.loop-from.next))
 room c =
-    let r = (start c).requires.room in
+    let r = c.requires.room in
     let l = long c in
     (omega (arith, r.0, l.0), omega (arith, r.1, l.1), omega (arith, r.2, l.2), omega (arith, r.3, l.3), omega (arith, r.4, l.4), omega (arith, r.5, l.5))
 
 -- all atoms are in reach
 atoms : (c : At-loop-from) → after c.loop-from.node + 8192 ≤ farthest
 atoms c =
-    let p = (start c).requires.pairs in
+    let p = c.requires.pairs in
     let C = stands c in
-    omega (arith, C.low, C.there, p.3, (start c).requires.atoms)
+    omega (arith, C.low, C.there, p.3, c.requires.atoms)
 
 pub loop-from-init : goal.loop-from-init
 loop-from-init c = record {
@@ -80,14 +75,13 @@ loop-from-init c = record {
   left-long = refl;
   right-long = refl;
   next-long = refl;
-
 }
 
 -- sums of places are small
-small : (c : At-loop-from) → c.loop-from.from + (start c).args.group ≤ 100
+small : (c : At-loop-from) → c.loop-from.from + c.args.group ≤ 100
 small c =
-    let p = (start c).requires.pairs in
-    let g = (start c).requires.group in
+    let p = c.requires.pairs in
+    let g = c.requires.group in
     omega (arith, (stands c).there, p.3, g)
 
 pub overflow_add-from : goal.overflow_add-from
@@ -102,8 +96,8 @@ overflow_add-result c = record { fits = omega (arith, atoms (goal.at.overflow_ad
 pub returns-then-here-gt-MOST_RULES : goal.returns-then-here-gt-MOST_RULES
 returns-then-here-gt-MOST_RULES c =
     let d = (goal.at.returns-then-here-gt-MOST_RULES c).At-loop-from in
-    let p = (start d).requires.pairs in
-    λ before q e. chained-full p.0 (d.loop-from.invariant.linked before q (begun d before q e)) (start d).requires.group.0 p.1 p.3 c.if-here-gt-MOST_RULES.true
+    let p = d.requires.pairs in
+    λ before q e. chained-full p.0 (d.loop-from.invariant.linked before q (begun d before q e)) d.requires.group.0 p.1 p.3 c.if-here-gt-MOST_RULES.true
 
 pub overflow_add-from-in-loop-from : goal.overflow_add-from-in-loop-from
 overflow_add-from-in-loop-from c = record { fits = omega (arith, small (goal.at.overflow_add-from-in-loop-from c).At-loop-from) }
@@ -111,8 +105,8 @@ overflow_add-from-in-loop-from c = record { fits = omega (arith, small (goal.at.
 pub emit_next-node-requires : goal.emit_next-node-requires
 emit_next-node-requires c = let d = (goal.at.emit_next-node-requires c).At-loop-from in
     let C = stands d in
-    let p = (start d).requires.pairs in
-    let g = (start d).requires.group in record { node = (C.rules.bounded, C.within, C.levels, atoms d); pairs = (p.0, p.1); part = (omega arith, omega (arith, g), omega (arith, c.loop-from-test.true)); room = room d }
+    let p = d.requires.pairs in
+    let g = d.requires.group in record { node = (C.rules.bounded, C.within, C.levels, atoms d); pairs = (p.0, p.1); part = (omega arith, omega (arith, g), omega (arith, c.loop-from-test.true)); room = room d }
 
 pub overflow_add-from-in-loop-from-2 : goal.overflow_add-from-in-loop-from-2
 overflow_add-from-in-loop-from-2 c = record { fits = omega (arith, small (goal.at.overflow_add-from-in-loop-from-2 c).At-loop-from) }
@@ -120,18 +114,18 @@ overflow_add-from-in-loop-from-2 c = record { fits = omega (arith, small (goal.a
 pub loop-from-smaller : goal.loop-from-smaller
 loop-from-smaller c =
     let d = (goal.at.loop-from-smaller c).At-loop-from in
-    omega (arith, c.loop-from-test.true, (start d).requires.group)
+    omega (arith, c.loop-from-test.true, d.requires.group)
 
 pub loop-from-preserved : goal.loop-from-preserved
 loop-from-preserved c =
     let d = (goal.at.loop-from-preserved c).At-loop-from in
-    let p = (start d).requires.pairs in
-    let g = (start d).requires.group in
+    let p = d.requires.pairs in
+    let g = d.requires.group in
     let I = d.loop-from.invariant in
     let y = c.emit_next-node in
     let e = y.ensures in
     record {
-      linked = λ before q C. chained-on p.0 (I.linked before q C) g.0 p.1 c.loop-from-test.true y.result y.new.left e.0 e.1.0 e.1.1.0 e.1.1.1;
+      linked = λ before q C. chained-on p.0 (I.linked before q C) g.0 p.1 c.loop-from-test.true y.result y.new.left e.rules e.levels e.within.0 e.within.1;
       inside-long = y.auto.inside ∙ I.inside-long;
       outside-long = y.auto.outside ∙ I.outside-long;
       spare-long = y.auto.spare ∙ I.spare-long;
@@ -143,14 +137,14 @@ loop-from-preserved c =
 pub emit_last-requires : goal.emit_last-requires
 emit_last-requires c = let d = (goal.at.emit_last-requires c).At-loop-from in
     let C = stands d in
-    let p = (start d).requires.pairs in
-    let g = (start d).requires.group in
+    let p = d.requires.pairs in
+    let g = d.requires.group in
     let r = room d in
-    let h = div-add-mod' (length (start d).args.pairs.now) 2 in record { node = (C.rules.bounded, C.within, C.levels, atoms d); pairs = (p.0, p.1); part = (omega (arith, h, C.there), omega (arith, h, c.loop-from-test.false, g), omega (arith, h)); room = (r.0, r.1, r.2, r.4) }
+    let h = div-add-mod' (length d.args.pairs.now) 2 in record { node = (C.rules.bounded, C.within, C.levels, atoms d); pairs = (p.0, p.1); part = (omega (arith, h, C.there), omega (arith, h, c.loop-from-test.false, g), omega (arith, h)); room = (r.0, r.1, r.2, r.4) }
 
 pub returns : goal.returns
 returns c =
     let d = (goal.at.returns c).At-loop-from in
-    let p = (start d).requires.pairs in
+    let p = d.requires.pairs in
     let y = c.emit_last in
-    λ before q e. chained-last p.0 (d.loop-from.invariant.linked before q (begun d before q e)) (start d).requires.group.0 p.1 c.loop-from-test.false p.3 y.result y.ensures.rules y.ensures.atom
+    λ before q e. chained-last p.0 (d.loop-from.invariant.linked before q (begun d before q e)) d.requires.group.0 p.1 c.loop-from-test.false p.3 y.result y.ensures.rules y.ensures.atom

@@ -1,4 +1,3 @@
-use Prim.Native.Nat.{◌-◌}
 use native.Mathlib.Omega.{arith}
 use Rattle.totalizer.proofs.Emitted.{emits_none, emits-full}
 use Rattle.joins.proofs.Joins.{share-more, level-rules}

@@ -21,6 +21,9 @@ returns c = let s = c in
     let kind = c.put_bytes-count.ensures in
     let atom = c.put_size-kind.ensures in
     let head = c.put_bytes-head.ensures in
-    let a = s.args in record { written = join-put a.atom _ (said_at a.first a.i) (said_at a.second a.j)
+    let a = s.args in record {
+      written = join-put a.atom _ (said_at a.first a.i) (said_at a.second a.j)
           (omega (arith, said1.0 a.first, said2.0 a.second, length-append (said_at a.first a.i) (said_at a.second a.j)))
-          (put_on head (put_on atom.written (put_on kind (put_on count.written (put_on left.written (put_on right.written last)))))); within = omega (arith, last.ends, right.within, left.within, count.within, kind.ends, atom.within, head.ends) }
+          (put_on head (put_on atom.written (put_on kind (put_on count.written (put_on left.written (put_on right.written last))))));
+      within = omega (arith, last.ends, right.within, left.within, count.within, kind.ends, atom.within, head.ends);
+    }

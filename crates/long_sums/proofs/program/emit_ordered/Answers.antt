@@ -8,7 +8,6 @@ use Rattle.sums.specs.Plans.{size}
 use Rattle.sums.specs.Levels.{SumShape, both, in_groups, sorted_groups}
 use Rattle.joins.proofs.Chained.{two-sides}
 use Rattle.long_sums.proofs.Items.{long-bound, pairs-long, plan_of, split-full, split-whole}
-use borrow.Author.Rules.{rules}
 use Rattle.long_sums.proofs.program.emit_ordered.Goals as goal
 use Rattle.long_sums.proofs.program.emit_ordered.Goals.{Start, Else-end-gt-MOST_RULES}
 

@@ -1,7 +1,5 @@
-use Prim.Native.Nat.{◌-◌}
 use Rattle.words.proofs.Parts.{tail_of}
 use Rattle.long_sums.proofs.InTurn.{stands-first, stands_on, stands-done, at, low-atom}
-use borrow.Author.Rules.{rules}
 use Rattle.long_sums.proofs.program.emit_rules.Goals as goal
 
 pub loop-left-init : goal.loop-left-init

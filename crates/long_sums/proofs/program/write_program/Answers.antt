@@ -1,7 +1,6 @@
 use native.Mathlib.Omega.{arith}
 use Rattle.aspif.specs.Tables.{rules_at}
 use Rattle.long_sums.proofs.Programs.{program-emitted}
-use borrow.Author.Rules.{rules}
 use Rattle.long_sums.proofs.program.write_program.Goals as goal
 
 pub returns : goal.returns

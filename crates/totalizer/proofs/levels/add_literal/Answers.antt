@@ -17,9 +17,9 @@ copy_sums-requires c =
     let s = c in
     let y = c.add_weight-count in
     let w = y.ensures in
-    let e = length-take-le y.result y.new.to w.0 in
+    let e = length-take-le y.result y.new.to w.within in
     let f = few-sums (further-up-to s.args.weight s.requires.sums.0) in
-    omega (arith, e, ap length w.1, f, s.requires.room.1)
+    omega (arith, e, ap length w.sums, f, s.requires.room.1)
 
 pub returns : goal.returns
 returns c = let s = c in
@@ -28,4 +28,4 @@ returns c = let s = c in
     let front = take y.result y.new.to in
     let back = drop (length front) s.args.sums.now in
     let e : c.copy_sums.new.destination ≡ front ++ back = c.copy_sums.ensures in
-    let n : length front ≡ y.result = length-take-le y.result y.new.to w.0 in record { within = omega (arith, ap length e, n, length-append front back); sums = ap (take y.result) e ∙ take_at front back y.result n ∙ w.1 }
+    let n : length front ≡ y.result = length-take-le y.result y.new.to w.within in record { within = omega (arith, ap length e, n, length-append front back); sums = ap (take y.result) e ∙ take_at front back y.result n ∙ w.sums }

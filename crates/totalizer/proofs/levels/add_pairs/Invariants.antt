@@ -1,4 +1,3 @@
-use Prim.Native.Nat.{◌-◌}
 use lib.ListN.{take}
 use Rattle.totalizer.proofs.Adding.{Adding}
 use Rattle.totalizer.proofs.levels.add_pairs.Given as goal

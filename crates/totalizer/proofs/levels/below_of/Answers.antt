@@ -1,5 +1,4 @@
 use mathlib.Core.Path.{sym, ◌∙◌}
-use Prim.Native.Nat.{◌-◌}
 use native.Mathlib.Omega.{arith}
 use Rattle.totalizer.proofs.Below.{below_on, below-here, below_end}
 use Rattle.totalizer.proofs.levels.below_of.Goals as goal

@@ -1,9 +1,7 @@
-use Prim.Native.Nat.{◌-◌}
 use native.Mathlib.Omega.{arith}
 use mathlib.Core.Path.{◌≡◌, refl, ◌∙◌}
 use lib.ListN.{length}
 use lib.Seq.{take-length}
-use Rattle.sums.specs.Levels.{is_useful}
 use Rattle.totalizer.proofs.Merging.{few-sums}
 use Rattle.totalizer.proofs.Below.{keeping-on}
 use Rattle.totalizer.proofs.levels.useful_levels.Goals as goal

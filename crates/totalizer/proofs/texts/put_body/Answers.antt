@@ -36,4 +36,4 @@ returns c = let s = c in
     let bound = c.put_bound-bound.ensures in
     let count = rw (back (get_or ws 3 (pos 0)) c.put_number-arg-4-1.given) at c.put_number-count.ensures in
     let body = rw c.body_of.ensures at c.put_numbers-end.ensures in
-    let last = c.put_bytes.ensures in record { written = rw (spaced-body ws) (put_on kind.0 (put_on bound.written (put_on count.0 (put_on body.0 last)))); within = omega (arith, kind.1, bound.within, count.1, body.1, last.ends, (sized ws s.requires.rule).body) }
+    let last = c.put_bytes.ensures in record { written = rw (spaced-body ws) (put_on kind.written (put_on bound.written (put_on count.written (put_on body.written last)))); within = omega (arith, kind.within, bound.within, count.within, body.within, last.ends, (sized ws s.requires.rule).body) }

@@ -30,4 +30,4 @@ returns c = let s = (goal.at.returns c).Start in
     let first = c.put_bytes-from.ensures in
     let numbers = c.put_numbers-end.ensures in
     let e = c.heads_of.ensures in
-    let heads = rw e at c.put_numbers.ensures in record { written = rw (spaced-append (take 2 ws) (heads_at ws)) (put_on first (put_on numbers.written heads.0)); within = omega (arith, first.ends, numbers.within, two s, heads.1, (sized ws s.requires.rule).heads) }
+    let heads = rw e at c.put_numbers.ensures in record { written = rw (spaced-append (take 2 ws) (heads_at ws)) (put_on first (put_on numbers.written heads.written)); within = omega (arith, first.ends, numbers.within, two s, heads.within, (sized ws s.requires.rule).heads) }

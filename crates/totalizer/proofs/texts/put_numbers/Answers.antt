@@ -1,7 +1,6 @@
 -- `totalizer::texts::put_numbers` meets its contract. After i turns the first i numbers are put.
 -- Assumes nothing.
 use mathlib.Core.Path.{◌≡◌}
-use Prim.Native.Nat.{◌-◌}
 use native.Mathlib.Omega.{arith}
 use lib.IntN.{pos}
 use lib.ListN.{length, take, get_or}
@@ -28,7 +27,7 @@ loop-i-preserved c =
     let n = l.i in
     let h = c.loop-i-test.true in
     let p = rw (back (get_or a.numbers.now n (pos 0)) c.put_number-arg-in-loop-i-1.given) at c.put_number-end.ensures in
-    (omega arith, (rw (spaced-more a.numbers.now n h) (put_on l.invariant.1.0 p.0), omega (arith, p.1, l.invariant.1.1)))
+    (omega arith, (rw (spaced-more a.numbers.now n h) (put_on l.invariant.1.0 p.written), omega (arith, p.within, l.invariant.1.1)))
 
 pub returns : goal.returns
 returns c = let a = c in
