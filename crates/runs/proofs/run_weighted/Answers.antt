@@ -4,7 +4,16 @@ use Rattle.runs.proofs.run_weighted.Goals as goal
 
 pub run_indexed-requires : goal.run_indexed-requires
 run_indexed-requires c = let f = c in
-    let p = f.requires in let all = (p.program, (λ e. absurd (true≢false (sym e)), (f.fill.ensures, p.1))) in record { program = all.0; index = all.1.0; relevant = all.1.1.0; start = all.1.1.1.0; bodies = all.1.1.1.1.0; short = all.1.1.1.1.1.0; empty = all.1.1.1.1.1.1.0; cells = all.1.1.1.1.1.1.1 }
+    let p = f.requires in record {
+      program = p.program;
+      index = λ e. absurd (true≢false (sym e));
+      relevant = f.fill.ensures;
+      start = p.start;
+      bodies = p.bodies;
+      short = p.short;
+      empty = p.empty;
+      cells = p.cells;
+    }
 
 pub returns : goal.returns
 returns c = c.run_indexed.ensures

@@ -15,13 +15,10 @@ use Rattle.drupe.proofs.Lines.{passed-line}
 use Rattle.drupe.proofs.Rows.{into-told, into-sorted, into-room}
 use Rattle.steps.proofs.Turns.{good-line, step_is}
 use Rattle.runs.proofs.turn_at.Goals as goal
-use Rattle.runs.proofs.turn_at.Goals.{In-Line, Start, After-step_at-answer}
+use Rattle.runs.proofs.turn_at.Goals.{In-Line, After-step_at-answer}
 
 -- the line that was read
 module _ (c : In-Line) where
-
-  abbrev start : Start
-  start = c.before.before.before.before.before.before.before.before.before.before.before.before.before
 
   abbrev numbers : List ℤ
   numbers = c.step_at-answer.new.numbers
@@ -29,26 +26,25 @@ module _ (c : In-Line) where
   abbrev sorted : List ℤ
   sorted = c.step_at-answer.new.sorted
 
-  there : (line_at start.args.proof.now start.args.at ≡ line c.in-Line.letter (take c.in-Line.count numbers) c.in-Line.next)
+  there : (line_at c.args.proof.now c.args.at ≡ line c.in-Line.letter (take c.in-Line.count numbers) c.in-Line.next)
   there = into-told c.step_at-answer.ensures c.in-Line.is
 
   -- its numbers are within the rows
   room : ((c.in-Line.count ≤ length numbers) × (c.in-Line.count ≤ length sorted))
   room =
       let u = into-room c.step_at-answer.ensures c.in-Line.is in
-      let k = c.step_at-answer.kept in
-      let r = start.requires.rows in
-      (omega (arith, u.2, k.1.1.1.0, r.0), omega (arith, u.2, k.1.1.1.1.0, r.1))
+      let r = c.requires.rows in
+      (omega (arith, u.2, c.step_at-answer.auto.numbers, r.0), omega (arith, u.2, c.step_at-answer.auto.sorted, r.1))
 
   -- the step's number is at most that of the bytes
-  numbered : (let a = start.args in (1 ≤ a.origin) × (a.origin ≤ widest))
+  numbered : (let a = c.args in (1 ≤ a.origin) × (a.origin ≤ widest))
   numbered =
-      let u = passed-line start.args.proof.now start.args.at there in
-      let o = start.requires.store.1 in
-      (o.0, omega (arith, u.0, u.1, o.1, start.requires.short))
+      let u = passed-line c.args.proof.now c.args.at there in
+      let o = c.requires.store.1 in
+      (o.0, omega (arith, u.0, u.1, o.1, c.requires.short))
 
   good : (let zs = take c.in-Line.count numbers in (line_refusal c.in-Line.letter zs ≡ none) × (has (pos 0) zs ≡ false))
-  good = let u = passed-line start.args.proof.now start.args.at there in (u.2, u.3)
+  good = let u = passed-line c.args.proof.now c.args.at there in (u.2, u.3)
 
 pub slice_bounds-step-end : goal.slice_bounds-step-end
 slice_bounds-step-end c = (room (goal.at.slice_bounds-step-end c).In-Line).0
@@ -64,7 +60,7 @@ slice_bounds-step-end-in-Line-3 c = sym (length-take-le _ _ (room (goal.at.slice
 
 pub step-stepped-requires : goal.step-stepped-requires
 step-stepped-requires c = let d = (goal.at.step-stepped-requires c).In-Line in
-    let s = start d in record { state = s.requires.state; index = s.requires.index; relevant = s.requires.relevant; store = (s.requires.store.0, numbered d); line = good-line _ _ (good d).0 (good d).1; sorted = into-sorted d.step_at-answer.ensures d.in-Line.is; free = s.requires.free }
+    let s = d in record { state = s.requires.state; index = s.requires.index; relevant = s.requires.relevant; store = (s.requires.store.0, numbered d); line = good-line _ _ (good d).0 (good d).1; sorted = into-sorted d.step_at-answer.ensures d.in-Line.is; free = s.requires.free }
 
 -- where there is no step the assignment is as it was
 free : (c : After-step_at-answer) → c.args.assignment.now ≡ replicate entries 0
@@ -80,4 +76,4 @@ pub returns-in-Line : goal.returns-in-Line
 returns-in-Line c = let t = c.step-stepped in
     let d = (goal.at.returns-in-Line c).In-Line in
     let zs = take d.in-Line.count (numbers d) in record { left = λ ws p z stored T K.
-          rw (there d, step_is d.in-Line.letter zs (good d).0 (good d).1 (start d).args.atoms (expand ws) z) (t.result, c.turn_of.ensures, t.ensures.stepped ws p z stored T K); free = t.ensures.free }
+          rw (there d, step_is d.in-Line.letter zs (good d).0 (good d).1 d.args.atoms (expand ws) z) (t.result, c.turn_of.ensures, t.ensures.stepped ws p z stored T K); free = t.ensures.free }
