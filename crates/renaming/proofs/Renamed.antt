@@ -175,6 +175,7 @@ over-half : (P : List Rule) (x : ℤ) (f : ℕ → ℕ) (shared : List (List ℤ
 over-half P x f shared t over ts named m = failed (all_fit (half P x f shared named ts)) ((not-decides (itself (all_fit (half P x f shared named ts)))).from (not-fit ts named m))
   where
     not-fit : (ts : List Step) (named : List Named) → t ∈ ts → ¬ T (all_fit (half P x f shared named ts))
+    not-fit [] named m k = elim m [ ]
     not-fit (s ∷ ts) named m k = go (λ i. not-fit ts (named_by s named) i) (Memᴰ.cases_cons m) (fit_append (kept P x f shared named s.letter s.numbers) (half P x f shared (named_by s named) ts) k)
       where
         go : (t ∈ ts → ¬ T (all_fit (half P x f shared (named_by s named) ts))) → (t ≡ s) ⊎ (t ∈ ts) → T (all_fit (kept P x f shared named s.letter s.numbers)) × T (all_fit (half P x f shared (named_by s named) ts)) → ⊥

@@ -1,7 +1,6 @@
 use mathlib.Core.Path.{◌≡◌, sym, ap₂, ◌∙◌}
 use mathlib.Core.Logic.{inl, inr}
-use mathlib.Core.Bool.{Bool, true, ◌||◌}
-use Prim.Native.Nat.{◌-◌}
+use mathlib.Core.Bool.{Bool, ◌||◌}
 use native.Mathlib.Omega.{arith}
 use Rattle.words.proofs.Places.{equal?}
 use Rattle.marks.specs.Marks.{marked}
@@ -13,7 +12,6 @@ loop-n-init c = (omega arith, c.requires, λ k a b. absurd (omega (arith, a, b))
 
 -- what the calls tell of n
 module _ (c : After-is_marked-in-loop-n) where
-
   known : (let a = c.args in
       (marked a.known1.now c.loop-n.n || marked a.known2.now c.loop-n.n) ≡ (c.is_marked.result || c.is_marked-in-loop-n.result))
   known = ap₂ (λ (a b : Bool). a || b) (sym c.is_marked.ensures) (sym c.is_marked-in-loop-n.ensures)
@@ -22,18 +20,18 @@ pub loop-n-preserved : goal.loop-n-preserved
 loop-n-preserved c =
     let i = (goal.at.loop-n-preserved c).After-is_marked-in-loop-n.loop-n in
     let t = c.loop-n-test.true in (
-      omega (arith, i.inv.0),
+      omega (arith, i.invariant.0),
       omega (arith, t),
       λ k a b. elim (equal? k i.n) [
         | inl e ↦ rw e (known (goal.at.loop-n-preserved c).After-is_marked-in-loop-n ∙ c.if-is_marked.true)
-        | inr d ↦ i.inv.2 k a (omega (arith, b, d))
+        | inr d ↦ i.invariant.2 k a (omega (arith, b, d))
       ],
     )
 
 pub returns-else-is_marked : goal.returns-else-is_marked
 returns-else-is_marked c =
     let i = (goal.at.returns-else-is_marked c).After-is_marked-in-loop-n.loop-n in
-    record { above = i.inv.0; within = i.inv.1; free = λ h. known (goal.at.returns-else-is_marked c).After-is_marked-in-loop-n ∙ c.if-is_marked.false; taken = i.inv.2 }
+    record { above = i.invariant.0; within = i.invariant.1; free = λ h. known (goal.at.returns-else-is_marked c).After-is_marked-in-loop-n ∙ c.if-is_marked.false; taken = i.invariant.2 }
 
 pub returns : goal.returns
 returns c =

@@ -1,6 +1,6 @@
 use mathlib.Core.Path.{◌≡◌, refl, sym, subst, ◌∙◌}
 use mathlib.Core.List.{List, []}
-use Prim.Native.Nat.{ℕ, ◌-◌, ◌≤◌, ◌<◌}
+use Prim.Native.Nat.{ℕ, ◌≤◌, ◌<◌}
 use native.Mathlib.Omega.{arith}
 use lib.IntN.{ℤ, pos}
 use lib.ListN.{length, length-replicate}
@@ -9,20 +9,14 @@ use Rattle.text.specs.Classes.{byte_classes}
 use Rattle.steps.specs.Held.{name_of}
 use Rattle.merging.specs.Merge.{named_in}
 use Rattle.renaming.specs.Renames.{TurnBounds}
+use Rattle.renaming.specs.declared.renames.RenameTurn.TheVariants.{Goes}
 use Rattle.renaming.proofs.Renamed.{walked_start, turn-ends, turn-over, turn_on}
 use borrow.Author.Rules.{rules}
 use Rattle.renaming.proofs.renames.rename_all.Goals as goal
-use Rattle.renaming.proofs.renames.rename_all.Goals.{After-rename_at, Start, In-Goes}
-use Rattle.renaming.proofs.renames.rename_all.Lts.View as view
-use Rattle.renaming.proofs.renames.rename_all.Reads as reads
-use Rattle.renaming.proofs.renames.rename_all.Tie as tie
+use Rattle.renaming.proofs.renames.rename_all.Goals.{After-rename_at}
 
 -- where the loop stands, and what the turn there left
 module _ (c : After-rename_at) where
-
-  abbrev start : Start
-  start = c.before.before.before.before.before.before.before.before.before.before.before.before.before.before.before.before.before.before.before
-
   abbrev new' : List ℕ
   new' = c.rename_at.new.new
 
@@ -36,11 +30,11 @@ module _ (c : After-rename_at) where
   same-shared = c.rename_at.auto.shared ∙ c.loop-next.invariant.2
 
   -- as many words as were lent
-  lent-new : length new' ≡ length start.args.new.now
-  lent-new = same_new ∙ sym start.requires.new
+  lent-new : length new' ≡ length c.args.new.now
+  lent-new = same_new ∙ sym c.requires.new
 
-  lent-shared : length shared' ≡ length start.args.shared.now
-  lent-shared = same-shared ∙ sym start.requires.shared.0
+  lent-shared : length shared' ≡ length c.args.shared.now
+  lent-shared = same-shared ∙ sym c.requires.shared.0
 
   same_numbers : length c.rename_at.new.numbers ≡ most_numbers
   same_numbers = c.rename_at.auto.numbers ∙ c.loop-next.invariant.3
@@ -85,18 +79,17 @@ returns-in-Over c =
     (t.rename_at.ensures.renamed ws H.holds (name_of (named_in [] one)) H.kept)
 
 -- a turn that goes on
-within : (c : In-Goes)
-    → (let t = (view.up-After-rename_at tie.the-claims reads.Pre reads.Post goal.the-invariant-loop-next goal.the-decreases-loop-next tie.handed_clauses c.before.before.before.before.before.before.before.before) in (t.loop-next.at < c.in-Goes.next) × (c.in-Goes.next ≤ length (start t).args.second.now) × (c.in-Goes.c ≤ entries))
-within c = let t = (view.up-After-rename_at tie.the-claims reads.Pre reads.Post goal.the-invariant-loop-next goal.the-decreases-loop-next tie.handed_clauses c.before.before.before.before.before.before.before.before) in subst (TurnBounds t.loop-next.at (length (start t).args.second.now)) c.in-Goes.is t.rename_at.ensures.within
+within : (t : After-rename_at) {next m : ℕ} → t.rename_at.result ≡ Goes next m → (t.loop-next.at < next) × (next ≤ length t.args.second.now) × (m ≤ entries)
+within t g = subst (TurnBounds t.loop-next.at (length t.args.second.now)) g t.rename_at.ensures.within
 
 pub loop-next-smaller : goal.loop-next-smaller
-loop-next-smaller c = let o = within c in omega (arith, o.0, o.1)
+loop-next-smaller c = let o = within (goal.at.loop-next-smaller c).After-rename_at c.in-Goes.is in omega (arith, o.0, o.1)
 
 pub loop-next-preserved : goal.loop-next-preserved
 loop-next-preserved c =
     let t = (goal.at.loop-next-preserved c).After-rename_at in
     let i = t.loop-next.invariant in
-    let o = within c in (
+    let o = within t c.in-Goes.is in (
       λ ws v one two z₁ z₂ H.
           turn_on H (i.0 ws v one two z₁ z₂ H) i.1 i.2 i.6 (new' t) (shared' t) _ _ c.in-Goes.is
           (t.rename_at.ensures.renamed ws H.holds (name_of (named_in [] one)) H.kept),

@@ -16,7 +16,6 @@ use Rattle.renaming.proofs.renames.rename_body.Goals.{After-body_name-k}
 
 -- what the first half calls the body
 module _ (c : After-body_name-k) where
-
   module _ (ws : List InputRule) (H : HoldsRules c.args.table.now c.args.rules ws) (called : List ℤ → ℕ)
       (K : Kept c.args.names.now c.args.bodies.now called ws) where
     answer : c.body_name-k.result ≡ cond (any (λ x. same_list (ascending c.args.body.now) x.body) (expand ws)) (called (ascending c.args.body.now)) entries
