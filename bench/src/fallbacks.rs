@@ -143,14 +143,15 @@ fn copy(from: &Path, to: &Path) -> io::Result<()> {
     Ok(())
 }
 
-/// A contract goes from a line that begins with `requires` or `ensures` to the one with the body's brace alone. Types are copied as Rattle does.
+/// A contract goes from a line that begins with `requires` or `ensures` to the one with the body's brace alone. Attributes are Rattle's own, and
+/// every type is copied.
 fn without_contracts(source: &str) -> String {
     let mut kept = String::new();
     let mut inside = false;
     for line in source.lines() {
         let words = line.trim_start();
         inside = (inside && words != "{") || words.starts_with("requires ") || words.starts_with("ensures ");
-        if inside || words.starts_with("ghost use ") {
+        if inside || words.starts_with("ghost use ") || words.starts_with('#') {
             continue;
         }
         if ["enum ", "struct ", "pub enum ", "pub struct "].iter().any(|start| words.starts_with(start)) {

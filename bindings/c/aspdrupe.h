@@ -2,7 +2,7 @@
  * check over two texts, the same for proofs of any length, the writer and the reader of packets, their moves from one
  * version to the other, the merge of two halves' proofs, the trimming of a proof, the certificate of a cheapest answer
  * set, the merge of the proofs at the ends of a tree of splits, and the splitting of long sums. The functions are in
- * target/staticlib/libexports.a, which `rt staticlib exports` writes, for x86-64 Linux.
+ * target/staticlib/libexports.a, which `bindings/library` writes, for x86-64 Linux.
  *
  * Each function is proved to meet its contract (crates/exports/src/lib.rt and crates/exports/specs/) on every input: no text, no
  * number and no length is asked to be good. What the caller must see to is what C cannot say:

@@ -4,7 +4,7 @@
  * has, or that it is refused: a program with weights does not go down, 61.
  *
  * Build and run, from the repository's root:
- *   rt staticlib exports
+ *   bindings/library
  *   cc -Wall -o target/example bindings/c/example.c target/staticlib/libexports.a
  *   target/example examples/starred-1/case.aspif examples/starred-1/case.drupe
  * prints: inconsistent 1 1 5 6

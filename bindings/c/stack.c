@@ -9,7 +9,7 @@
  * The exit status is 0 where every call has answered as it must. Of a call that leaves its stack the signal is told.
  *
  * To measure, from the repository's root:
- *   rt staticlib exports
+ *   bindings/library
  *   cc -pthread -o target/stack bindings/c/stack.c target/staticlib/libexports.a && target/stack measure */
 #define _DEFAULT_SOURCE
 #include <inttypes.h>

@@ -42,7 +42,7 @@ def link(output: Path) -> None:
     if sys.platform != "linux" or platform.machine() != "x86_64":
         stop("the library is for Linux on x86-64")
     if not LIBRARY.is_file():
-        stop(f"{LIBRARY} is missing: run `rt staticlib exports` in the repository's root first")
+        stop(f"{LIBRARY} is missing: run `bindings/library` in the repository's root first")
     compiler = shlex.split(os.environ.get("CC", "cc"))
     if not compiler or shutil.which(compiler[0]) is None:
         stop("there is no C compiler `cc`; the variable CC names another")

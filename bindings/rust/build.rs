@@ -1,4 +1,4 @@
-// Links the static library that `rt staticlib exports` writes.
+// Links the static library that `bindings/library` writes.
 use std::path::Path;
 
 fn main() {
@@ -10,7 +10,7 @@ fn main() {
     // Lints link nothing: `./test` runs them while the library is built.
     let is_linked = std::env::var_os("ASPDRUPE_UNLINKED").is_none();
     if is_linked && !library.is_file() {
-        eprintln!("{} is missing: run `rt staticlib exports` in the repository's root first.", library.display());
+        eprintln!("{} is missing: run `bindings/library` in the repository's root first.", library.display());
         std::process::exit(1);
     }
     println!("cargo:rustc-link-search=native={}", folder.display());

@@ -1,12 +1,12 @@
 //! Holds the static library and the program `verdict` against a slow and plain reference written from documents 01 and 02.
-//! From the repository's root, after `rt staticlib exports` and `rt check verdict`:
+//! From the repository's root, after `bindings/library`, and `rt run` in crates/verdict or `rt ci`:
 //! cargo run --release --offline --package compare
 //! Usage: compare [--seed N] [--count N] [--verdict PATH|none] [--only FAMILY/INDEX]
 //!        compare --prove PATH [--split D] [--seed N] [--count N] [--only prove/INDEX]
 //!        compare --plans PATH [--seed N] [--count N] [--only plans/INDEX]
 //!        compare --show PATH [--seed N] [--count N] [--only show/INDEX]
 //! --count says how many programs are refuted; the other random families grow with it. --verdict names the program `verdict`,
-//! which is target/bin/verdict otherwise, or leaves it out. --only runs one input again, as a failure names it. --prove names the command
+//! which is crates/verdict/out/verdict otherwise, or leaves it out. --only runs one input again, as a failure names it. --prove names the command
 //! `aspdrupe`: it is run on --count random programs, and each must get a proof that is accepted or an answer set (prove.rs), nothing else; with
 //! --split D it is run with that option.
 //! --plans names it too: its `core`, `optimum`, `forced` and `why` are run on --count random plans each and held to enumeration (plans.rs).
@@ -59,7 +59,7 @@ struct Arguments {
 }
 
 fn arguments() -> Result<Arguments, String> {
-    let verdict = String::from("target/bin/verdict");
+    let verdict = String::from("crates/verdict/out/verdict");
     let mut given = Arguments { seed: 20_261_115, count: 2_000, verdict, prove: None, plans: None, show: None, split: None, only: None };
     let mut words = std::env::args().skip(1);
     while let Some(word) = words.next() {

@@ -42,7 +42,7 @@ def _taken(parameter: str) -> List[Any]:
 
 def _load(path: Path) -> Dict[str, Callable[..., int]]:
     """The functions of the shared object."""
-    again = "install the package again, after `rt staticlib exports` in the repository's root"
+    again = "install the package again, after `bindings/library` in the repository's root"
     if not path.is_file():
         raise ImportError(f"{path} is missing: {again}")
     library = ctypes.CDLL(str(path))

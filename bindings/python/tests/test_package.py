@@ -106,7 +106,7 @@ class Build(unittest.TestCase):
         backend = module("backend")
         with tempfile.TemporaryDirectory() as room:
             backend.LIBRARY = Path(room) / "libexports.a"
-            with self.assertRaisesRegex(SystemExit, "libexports.a is missing: run `rt staticlib exports`"):
+            with self.assertRaisesRegex(SystemExit, "libexports.a is missing: run `bindings/library`"):
                 backend.build_wheel(room)
             backend.LIBRARY.write_bytes(b"")
             with mock.patch.dict(os.environ, CC=f"{room}/none"):

@@ -9,14 +9,19 @@
 // they are, and no more than 72 such runs; a packet and marks are written likewise, in hexadecimal; a text stands on lines of its own, up to its
 // first zero byte and to 600 bytes.
 #![tactic(auto)]
+
 mod services;
 
-use libc::STDIN_FILENO;
+ghost use Rattle.std.specs.Prelude.{◌≤◌, IfOk, length};
+
 use notation::reading::{before, head, tail};
 use notation::{reading, saying};
+use std::io;
+use std::io::Read;
 
 // What is answered with the lent buffers, and what is left in them.
-fn answer(
+fn answer<P: Print>(
+    rt: &P,
     line: &[u8],
     number: u64,
     version: u64,
@@ -24,9 +29,10 @@ fn answer(
     table: &mut [i32],
     store: &mut [i32],
     output: &mut [u8],
-) {
+) -> io::Result<()> {
     let mut numbers = [7u64; 4];
     let code = services::serve(
+        rt,
         line,
         number,
         version,
@@ -35,22 +41,30 @@ fn answer(
         store,
         output,
         &mut numbers,
-    );
-    saying::say_code(code);
-    saying::say_numbers(&numbers);
-    saying::say_table(b", table", table);
-    saying::say_table(b", store", store);
-    saying::say_output(services::is_text(line), output);
+    )?;
+    saying::say_code(rt, code)?;
+    saying::say_numbers(rt, &numbers)?;
+    saying::say_table(rt, b", table", table)?;
+    saying::say_table(rt, b", store", store)?;
+    saying::say_output(rt, services::is_text(line), output)
 }
 
 // The case of a line and of texts, with the front of each of what is lent.
-fn run_within(line: &[u8], texts: &[u8], table: &mut [i32], store: &mut [i32], output: &mut [u8]) {
+fn run_within<P: Print>(
+    rt: &P,
+    line: &[u8],
+    texts: &[u8],
+    table: &mut [i32],
+    store: &mut [i32],
+    output: &mut [u8],
+) -> io::Result<()> {
     let mut numbers = [0u64; 5];
     reading::numbers_of(&mut numbers, head(line, b';'));
     let words = reading::most_words(numbers[0], table);
     let room = reading::most_words(numbers[1], store);
     let bytes = reading::most_bytes(numbers[2], output);
     answer(
+        rt,
         line,
         numbers[3],
         numbers[4],
@@ -58,36 +72,55 @@ fn run_within(line: &[u8], texts: &[u8], table: &mut [i32], store: &mut [i32], o
         &mut table[..words],
         &mut store[..room],
         &mut output[..bytes],
-    );
+    )
 }
 
 // The case of a line and of texts.
-fn run(line: &[u8], texts: &[u8]) {
+fn run<P: Print>(rt: &P, line: &[u8], texts: &[u8]) -> io::Result<()> {
     let mut table = [7i32; 16384];
     let mut store = [7i32; 40000];
     let mut output = [7u8; 66000];
-    run_within(line, texts, &mut table, &mut store, &mut output);
+    run_within(rt, line, texts, &mut table, &mut store, &mut output)
 }
 
-fn run_case(case: &[u8]) {
-    saying::say(head(case, b'['));
+fn run_case<P: Print>(rt: &P, case: &[u8]) -> io::Result<()> {
+    saying::say(rt, head(case, b'['))?;
     let mut space = [0u8; 90000];
     let n = reading::expand(&mut space, tail(case, b'['));
     let whole = &space[..n];
-    run(head(whole, b'\n'), tail(whole, b'\n'));
+    run(rt, head(whole, b'\n'), tail(whole, b'\n'))
 }
 
-fn run_cases(text: &[u8]) {
+fn run_cases<P: Print>(rt: &P, text: &[u8]) -> io::Result<()> {
     let mut at = 0;
     while at < text.len() {
         let end = at + before(&text[at..], b']');
-        run_case(&text[at..end]);
+        run_case(rt, &text[at..end])?;
         at = end + 2;
     }
+    Ok(())
 }
 
-fn main() {
+// Reads until the buffer is full or the input ends; how many bytes.
+fn read_full<F: Read>(input: &mut F, text: &mut [u8]) -> io::Result<usize>
+    ensures { IfOk result (λ n. n ≤ length text.new) }
+{
+    let mut count = 0;
+    for _ in 0..u64::MAX {
+        if count == text.len() {
+            break;
+        }
+        let got = input.read(&mut text[count..])?;
+        if got == 0 {
+            break;
+        }
+        count += got;
+    }
+    Ok(count)
+}
+
+fn main(rt: HostRuntime) -> io::Result<()> {
     let mut text = [0u8; 131072];
-    let n = io::read_full(STDIN_FILENO, &mut text);
-    run_cases(&text[..n]);
+    let n = read_full(&mut rt.reader(), &mut text)?;
+    run_cases(&rt, &text[..n])
 }

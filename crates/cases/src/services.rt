@@ -15,6 +15,7 @@
 //   groups    the group size; the program whose long sums are split
 use notation::reading::{head, tail};
 use notation::{reading, stepping};
+use std::io;
 
 // The code of a word that is none of these, and of a long check that leaves a word in its memory.
 const UNKNOWN: u32 = 99;
@@ -201,7 +202,8 @@ fn serve_lists(
 }
 
 // The service of the line's word. Those that read one text get it whole.
-pub fn serve(
+pub fn serve<P: Print>(
+    rt: &P,
     line: &[u8],
     number: u64,
     version: u64,
@@ -210,17 +212,18 @@ pub fn serve(
     store: &mut [i32],
     output: &mut [u8],
     answer: &mut [u64],
-) -> u32 {
+) -> io::Result<u32> {
     let service = reading::first_of(line);
-    match service {
+    let code = match service {
         b'p' => exports::aspdrupe_read_program(texts, table, answer),
         b'l' => exports::aspdrupe_read_line(texts, number, table, answer),
-        b'n' => stepping::read_steps(texts),
+        b'n' => stepping::read_steps(rt, texts)?,
         b'g' => exports::aspdrupe_split_sums(texts, number, table, output, answer),
         b'r' | b'u' | b'd' => serve_packet(service, version, texts, table, output, answer),
         b'v' | b'm' | b'h' | b't' => serve_texts(
             service, number, texts, table, store, output, answer,
         ),
         _ => serve_lists(line, number, version, texts, table, store, output, answer),
-    }
+    };
+    Ok(code)
 }

@@ -1,16 +1,16 @@
 // The fourteen services for programs in C and Rust, on numbers and slices. An answer's case is the code that is
 // returned, and its numbers are put at the front of the lent `answer`, as many as fit; what the codes and numbers are
-// is specs/Codes.antt, and what each function returns and leaves is specs/Services.antt. bindings/c/aspdrupe.h declares
-// the functions for C.
+// is specs/Codes.antt, and what each function returns and leaves is specs/Services.antt. The crate `exports_c` hands
+// them out to C, each under its name and with its clauses.
 #![tactic(auto)]
+
 mod answers;
 
 ghost use Rattle.packets.specs.Packets.{up, down};
 ghost use Rattle.exports.specs.Services.{ProgramService, SetService, LineService, WriteService, ReadService, MoveService, CheckService, LongService, MergeService, TrimService, CheapestService, TreeService, SplitService};
 
 // Reads a program text into the table.
-#[unsafe(no_mangle)]
-pub extern "C" fn aspdrupe_read_program(text: &[u8], table: &mut [i32], answer: &mut [u64]) -> u32
+pub fn aspdrupe_read_program(text: &[u8], table: &mut [i32], answer: &mut [u64]) -> u32
     ensures { ProgramService text.now table.old table.new answer.old
         answer.new result }
 {
@@ -19,8 +19,7 @@ pub extern "C" fn aspdrupe_read_program(text: &[u8], table: &mut [i32], answer: 
 }
 
 // Tests a set against the program that the table holds.
-#[unsafe(no_mangle)]
-pub extern "C" fn aspdrupe_test_set(
+pub fn aspdrupe_test_set(
     table: &[i32],
     rules: u64,
     set: &[u16],
@@ -35,8 +34,7 @@ pub extern "C" fn aspdrupe_test_set(
 }
 
 // Reads the proof line that begins at the position.
-#[unsafe(no_mangle)]
-pub extern "C" fn aspdrupe_read_line(
+pub fn aspdrupe_read_line(
     text: &[u8],
     position: u64,
     numbers: &mut [i32],
@@ -53,8 +51,7 @@ pub extern "C" fn aspdrupe_read_line(
 }
 
 // Writes a packet of the version told from a table with its rule count and a proof text.
-#[unsafe(no_mangle)]
-pub extern "C" fn aspdrupe_write_packet(
+pub fn aspdrupe_write_packet(
     version: u64,
     table: &[i32],
     rules: u64,
@@ -70,8 +67,7 @@ pub extern "C" fn aspdrupe_write_packet(
 }
 
 // Reads a packet of the version told into a table and a proof text.
-#[unsafe(no_mangle)]
-pub extern "C" fn aspdrupe_read_packet(
+pub fn aspdrupe_read_packet(
     version: u64,
     packet: &[u8],
     table: &mut [i32],
@@ -87,8 +83,7 @@ pub extern "C" fn aspdrupe_read_packet(
 }
 
 // Moves a packet of version 1 to version 2.
-#[unsafe(no_mangle)]
-pub extern "C" fn aspdrupe_packet_up(packet: &[u8], output: &mut [u8], answer: &mut [u64]) -> u32
+pub fn aspdrupe_packet_up(packet: &[u8], output: &mut [u8], answer: &mut [u64]) -> u32
     ensures { MoveService up packet.now output.old output.new answer.old
         answer.new result }
 {
@@ -97,8 +92,7 @@ pub extern "C" fn aspdrupe_packet_up(packet: &[u8], output: &mut [u8], answer: &
 }
 
 // Moves a packet of version 2 to version 1, where that can hold it.
-#[unsafe(no_mangle)]
-pub extern "C" fn aspdrupe_packet_down(packet: &[u8], output: &mut [u8], answer: &mut [u64]) -> u32
+pub fn aspdrupe_packet_down(packet: &[u8], output: &mut [u8], answer: &mut [u64]) -> u32
     ensures { MoveService down packet.now output.old output.new answer.old
         answer.new result }
 {
@@ -107,8 +101,7 @@ pub extern "C" fn aspdrupe_packet_down(packet: &[u8], output: &mut [u8], answer:
 }
 
 // Checks a proof text against a program text.
-#[unsafe(no_mangle)]
-pub extern "C" fn aspdrupe_check_texts(
+pub fn aspdrupe_check_texts(
     program: &[u8],
     proof: &[u8],
     table: &mut [i32],
@@ -124,8 +117,7 @@ pub extern "C" fn aspdrupe_check_texts(
 
 // Checks a proof text of any length up to 2,147,483,647 bytes against a program text. The memory decides time and no answer, and is 0
 // throughout afterwards.
-#[unsafe(no_mangle)]
-pub extern "C" fn aspdrupe_check_long(
+pub fn aspdrupe_check_long(
     program: &[u8],
     proof: &[u8],
     table: &mut [i32],
@@ -141,8 +133,7 @@ pub extern "C" fn aspdrupe_check_long(
 }
 
 // Writes one proof text for a program from the proofs of its two halves.
-#[unsafe(no_mangle)]
-pub extern "C" fn aspdrupe_merge_halves(
+pub fn aspdrupe_merge_halves(
     program: &[u8],
     atom: u64,
     first: &[u8],
@@ -160,8 +151,7 @@ pub extern "C" fn aspdrupe_merge_halves(
 }
 
 // Takes the steps out of a proof text that it does not need.
-#[unsafe(no_mangle)]
-pub extern "C" fn aspdrupe_trim_proof(
+pub fn aspdrupe_trim_proof(
     program: &[u8],
     text: &mut [u8],
     table: &mut [i32],
@@ -176,8 +166,7 @@ pub extern "C" fn aspdrupe_trim_proof(
 }
 
 // Certifies that a set is a cheapest answer set.
-#[unsafe(no_mangle)]
-pub extern "C" fn aspdrupe_check_cheapest(
+pub fn aspdrupe_check_cheapest(
     program: &[u8],
     set: &[u16],
     costs: &[i16],
@@ -194,8 +183,7 @@ pub extern "C" fn aspdrupe_check_cheapest(
 }
 
 // Writes one proof text for a program from the proofs at the ends of a tree of splits.
-#[unsafe(no_mangle)]
-pub extern "C" fn aspdrupe_merge_tree(
+pub fn aspdrupe_merge_tree(
     program: &[u8],
     tree: &[u16],
     texts: &[u8],
@@ -213,8 +201,7 @@ pub extern "C" fn aspdrupe_merge_tree(
 }
 
 // Writes the text of a program with its long sums split into short ones.
-#[unsafe(no_mangle)]
-pub extern "C" fn aspdrupe_split_sums(
+pub fn aspdrupe_split_sums(
     program: &[u8],
     group: u64,
     table: &mut [i32],

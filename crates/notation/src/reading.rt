@@ -7,14 +7,12 @@ ghost use Rattle.notation.specs.Counts.{Counts};
 pub fn before(text: &[u8], mark: u8) -> usize
     ensures { Counts result text.now }
 {
-    let mut i = 0;
-    while i < text.len() {
+    for i in 0..text.len() {
         if text[i] == mark {
             return i;
         }
-        i += 1;
     }
-    i
+    text.len()
 }
 
 // The bytes before the first `mark`, or all of them.
@@ -74,10 +72,8 @@ fn with_digit(v: u64, byte: u8) -> u64 {
 // The number whose digits stand in the text.
 fn number_of(text: &[u8]) -> u64 {
     let mut v = 0;
-    let mut i = 0;
-    while i < text.len() {
-        v = with_digit(v, text[i]);
-        i += 1;
+    for byte in text {
+        v = with_digit(v, *byte);
     }
     v
 }
@@ -131,16 +127,12 @@ fn signed(negative: bool, size: u16) -> i32 {
 pub fn words_of(row: &mut [i32], numbers: &[u64]) -> usize
     ensures { Counts result row.new }
 {
-    let mut i = 0;
-    while i < numbers.len() {
-        if i == row.len() {
-            return i;
-        }
+    let count = numbers.len().min(row.len());
+    for i in 0..count {
         let number = numbers[i];
         row[i] = signed(MINUS <= number, (number % MINUS % 65536) as u16);
-        i += 1;
     }
-    i
+    count
 }
 
 // A cost: of the negative ones those that cases have, of which the last is the least there is.
@@ -158,30 +150,22 @@ fn cost_of(number: u64) -> i16 {
 pub fn costs_of(row: &mut [i16], numbers: &[u64]) -> usize
     ensures { Counts result row.new }
 {
-    let mut i = 0;
-    while i < numbers.len() {
-        if i == row.len() {
-            return i;
-        }
+    let count = numbers.len().min(row.len());
+    for i in 0..count {
         row[i] = cost_of(numbers[i]);
-        i += 1;
     }
-    i
+    count
 }
 
 // A row's numbers as atoms.
 fn atoms_of(row: &mut [u16], numbers: &[u64]) -> usize
     ensures { Counts result row.new }
 {
-    let mut i = 0;
-    while i < numbers.len() {
-        if i == row.len() {
-            return i;
-        }
+    let count = numbers.len().min(row.len());
+    for i in 0..count {
         row[i] = (numbers[i] % 65536) as u16;
-        i += 1;
     }
-    i
+    count
 }
 
 // The atoms, or a tree's numbers, that have a space before them.
@@ -210,10 +194,8 @@ pub fn decode(out: &mut [u8], text: &[u8]) -> usize
     ensures { Counts result out.new }
 {
     let mut n = 0;
-    let mut i = 0;
-    while i < text.len() {
-        n = push_digit(out, n, digit_of(text[i]));
-        i += 1;
+    for byte in text {
+        n = push_digit(out, n, digit_of(*byte));
     }
     most_bytes((n / 2) as u64, out)
 }
@@ -230,10 +212,8 @@ fn push(out: &mut [u8], n: usize, byte: u8) -> usize {
 // The part at n, where there is room.
 pub fn push_all(out: &mut [u8], n: usize, part: &[u8]) -> usize {
     let mut m = n;
-    let mut i = 0;
-    while i < part.len() {
-        m = push(out, m, part[i]);
-        i += 1;
+    for byte in part {
+        m = push(out, m, *byte);
     }
     m
 }
@@ -241,10 +221,8 @@ pub fn push_all(out: &mut [u8], n: usize, part: &[u8]) -> usize {
 // The part so many times.
 fn repeat(out: &mut [u8], n: usize, part: &[u8], times: u64) -> usize {
     let mut m = n;
-    let mut i = 0;
-    while i < times {
+    for _ in 0..times {
         m = push_all(out, m, part);
-        i += 1;
     }
     m
 }
@@ -273,14 +251,7 @@ pub fn expand(out: &mut [u8], text: &[u8]) -> usize
 
 // Whether every word is 0.
 pub fn is_clear(words: &[u32]) -> bool {
-    let mut at = 0;
-    while at < words.len() {
-        if words[at] != 0 {
-            return false;
-        }
-        at += 1;
-    }
-    true
+    words.iter().all(|word| *word == 0)
 }
 
 // The same of cells.

@@ -4,32 +4,32 @@ ghost use Rattle.text.specs.Classes.{byte_classes};
 
 use crate::saying;
 use drupe::{LineAnswer, reader};
+use std::io;
 use text::writing;
 use words::MOST_NUMBERS;
 
 // As the service writes a line: the letter's byte, how many numbers there are and the next position; 0 at the end; or the refusal. Then the row
 // of numbers.
-fn say_step(answer: LineAnswer, numbers: [i32; MOST_NUMBERS]) {
+fn say_step<P: Print>(rt: &P, answer: LineAnswer, numbers: [i32; MOST_NUMBERS]) -> io::Result<()> {
     match answer {
         LineAnswer::Line {
             letter,
             count,
             next,
         } => {
-            saying::say_code(writing::byte_of(letter) as u32);
-            saying::say_number(count as u64);
-            saying::say_number(next as u64);
+            saying::say_code(rt, writing::byte_of(letter) as u32)?;
+            saying::say_number(rt, count as u64)?;
+            saying::say_number(rt, next as u64)?;
         }
-        LineAnswer::End => saying::say_code(0),
-        LineAnswer::Refused(number) => saying::say_code(number as u32),
+        LineAnswer::End => saying::say_code(rt, 0)?,
+        LineAnswer::Refused(number) => saying::say_code(rt, number as u32)?,
     }
-    saying::say_table(b", table", &numbers);
-    saying::say(b"\n");
+    saying::say_table(rt, b", table", &numbers)?;
+    saying::say(rt, b"\n")
 }
 
-// Each step of a proof as one `ProofReader` hands it out, with the end or the refusal, at which the reader stays. The struct
-// stands in a local through all turns, and is lent with the two rows in each, so the function is proved by a walk.
-fn hand_out(text: &[u8], classes: &[u8; 256])
+// Each step of a proof as one `ProofReader` hands it out, with the end or the refusal, at which the reader stays.
+fn hand_out<P: Print>(rt: &P, text: &[u8], classes: &[u8; 256]) -> io::Result<()>
     requires { classes.now ≡ byte_classes }
 {
     let mut numbers = [0; MOST_NUMBERS];
@@ -38,21 +38,21 @@ fn hand_out(text: &[u8], classes: &[u8; 256])
     loop {
         let at = reader.at;
         let answer = reader::next(&mut reader, classes, &mut numbers, &mut sorted);
-        say_step(answer, numbers);
+        say_step(rt, answer, numbers)?;
         if reader.at == at {
-            return;
+            return Ok(());
         }
     }
 }
 
-fn steps(text: &[u8]) {
+fn steps<P: Print>(rt: &P, text: &[u8]) -> io::Result<()> {
     let classes = text::classes::CLASSES;
-    hand_out(text, &classes);
+    hand_out(rt, text, &classes)
 }
 
 // The steps on lines of their own, and the code of an answer that has no more.
-pub fn read_steps(text: &[u8]) -> u32 {
-    saying::say(b"\n");
-    steps(text);
-    0
+pub fn read_steps<P: Print>(rt: &P, text: &[u8]) -> io::Result<u32> {
+    saying::say(rt, b"\n")?;
+    steps(rt, text)?;
+    Ok(0)
 }

@@ -19,7 +19,6 @@ line-told : {text : List ℕ} {position : ℕ} {r : LineReading} {numbers number
 line-told read copied told = record {
   copied = rw read.numbers at copied;
   told = rw read.answer at told;
-
 }
 
 pub returns : goal.returns

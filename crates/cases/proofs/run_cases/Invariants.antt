@@ -1,0 +1,6 @@
+-- `cases::run_cases`: fewer bytes are left after each case. Assumes nothing.
+use Rattle.std.proofs.Common.{length, ◌-◌}
+use Rattle.cases.proofs.run_cases.Given as goal
+
+abbrev pub decreases-loop-at : goal.decreases-loop-at
+decreases-loop-at g l = length l.text - l.at
