@@ -39,7 +39,7 @@ pub slice_bounds-accepts-end : goal.slice_bounds-accepts-end
 slice_bounds-accepts-end c = sym (length-take-le _ _ (omega (arith, few (goal.at.slice_bounds-accepts-end c).Start, long (goal.at.slice_bounds-accepts-end c).After-write_restriction)))
 
 pub accepts-requires : goal.accepts-requires
-accepts-requires c = let d = (goal.at.accepts-requires c).Start in
+accepts-requires c = let d = (goal.at.accepts-requires c).After-write_restriction in
     let p = d.requires in record { program = p.program; short = p.short; rule = (paired d.args.pairs.now, d.args.cost, words d); empty = p.empty }
 
 pub returns-then-accepts : goal.returns-then-accepts

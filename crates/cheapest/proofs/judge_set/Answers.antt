@@ -36,18 +36,12 @@ module _ (c : After-cost_of-cost) where
   with-total ws e = e ∙ ap (λ (C : ℕ). with_cost T S ws c.args.set.now (paired c.args.pairs.now) C c.args.proof.now) cost-is
 
 module _ (c : After-is_answer_set) where
-  abbrev before-it : After-cost_of-cost
-  before-it = c.before.before.before.before.before.before
-
-  abbrev z : Start
-  z = s before-it
-
   -- what is told of the set
-  told : (ws : List InputRule) → Program z.args.table.now z.args.rules z.args.atoms ws
-      → c.is_answer_set.result ≡ is_yes (verdict_of (listed z.args.set.now) ws)
+  told : (ws : List InputRule) → Program c.args.table.now c.args.rules c.args.atoms ws
+      → c.is_answer_set.result ≡ is_yes (verdict_of (listed c.args.set.now) ws)
   told ws p =
-      c.is_answer_set.ensures ws (rules-found z.requires.program.1 p.holds)
-      (subst (λ (n : ℕ). ascends 0 n z.args.set.now ≡ true) p.top z.requires.set)
+      c.is_answer_set.ensures ws (rules-found c.requires.program.1 p.holds)
+      (subst (λ (n : ℕ). ascends 0 n c.args.set.now ≡ true) p.top c.requires.set)
 
 pub cost_of-cost-requires : goal.cost_of-cost-requires
 cost_of-cost-requires c =
@@ -64,7 +58,7 @@ returns-then-cost-gt-MOST_WEIGHT c = λ ws p w.
 pub returns-then-not-is_answer_set : goal.returns-then-not-is_answer_set
 returns-then-not-is_answer_set c = λ ws p w.
     let i = (goal.at.returns-then-not-is_answer_set c).After-is_answer_set in
-    let d = before-it i in
+    let d = (goal.at.returns-then-not-is_answer_set c).After-cost_of-cost in
     let a = d.args in
     with-total d ws (c.refuse-then-not-is_answer_set.ensures
     ∙ no-answer-set (T d) (S d) ws a.set.now (paired a.pairs.now) d.cost_of-cost.result a.proof.now i.if-cost-gt-MOST_WEIGHT.false (sym (told i ws p) ∙ c.if-not-is_answer_set.true))
@@ -72,18 +66,18 @@ returns-then-not-is_answer_set c = λ ws p w.
 pub returns-then-cost-eq0 : goal.returns-then-cost-eq0
 returns-then-cost-eq0 c = λ ws p w.
     let i = (goal.at.returns-then-cost-eq0 c).After-is_answer_set in
-    let d = before-it i in
+    let d = (goal.at.returns-then-cost-eq0 c).After-cost_of-cost in
     let a = d.args in
     with-total d ws (costs-nothing (T d) (S d) ws a.set.now (paired a.pairs.now) d.cost_of-cost.result a.proof.now i.if-cost-gt-MOST_WEIGHT.false (sym (told i ws p) ∙ c.if-not-is_answer_set.false) c.if-cost-eq0.true w d.requires.empty)
 
 pub judge_proof-requires : goal.judge_proof-requires
 judge_proof-requires c = let i = (goal.at.judge_proof-requires c).After-is_answer_set in
-    let p = (before-it i).requires in record { program = p.program; short = p.short; pairs = p.pairs; sorted = p.sorted; cost = i.if-cost-gt-MOST_WEIGHT.false; empty = p.empty }
+    let p = c.requires in record { program = p.program; short = p.short; pairs = p.pairs; sorted = p.sorted; cost = i.if-cost-gt-MOST_WEIGHT.false; empty = p.empty }
 
 pub returns : goal.returns
 returns c = λ ws p w.
     let i = (goal.at.returns c).After-is_answer_set in
-    let d = before-it i in
+    let d = (goal.at.returns c).After-cost_of-cost in
     let a = d.args in
     with-total d ws (c.judge_proof.ensures ws p w
     ∙ with-proof (T d) (S d) ws a.set.now (paired a.pairs.now) d.cost_of-cost.result a.proof.now i.if-cost-gt-MOST_WEIGHT.false (sym (told i ws p) ∙ c.if-not-is_answer_set.false) c.if-cost-eq0.false)
