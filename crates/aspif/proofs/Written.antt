@@ -23,7 +23,7 @@ use Rattle.weights.specs.Weights.{Weighted, literals, paired, pair_words, most_w
 use Rattle.weights.proofs.Matching.{paired_words}
 use Rattle.weights.proofs.Reordered.{rising-distinct}
 use Rattle.aspif.specs.Rules.{Body, plain, weights, InputRule, literals_of, suits, kind_word, rule_words, program_words}
-use Rattle.aspif.specs.Reading.{suited, ranged, body_within, head_within, shape_within, arranged, heads_good, body_good, reads, rule_with, rule_of, adds, is_last, room, turn_within, lines_within, program, header, read_lines_within, read_lines, read_text_within, read_text}
+use Rattle.aspif.specs.Reading.{suited, ranged, body_within, head_within, shape_within, arranged, heads_good, body_good, reads, rule_with, rule_of, adds, is_last, turn_within, lines_within, program, header, read_lines_within, read_lines, read_text_within, read_text}
 use Rattle.aspif.specs.declared.Kind.{Kind}
 use Rattle.aspif.specs.declared.Kind.TheVariants.{Normal, Choice}
 use Rattle.aspif.specs.declared.rules.Shape.{Shape}

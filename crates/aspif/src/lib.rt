@@ -1,6 +1,7 @@
 // Ground programs as ASPIF text, read into a lent table: document 01, 'Program text' and questions 1 to 11, 54 and 55.
 // The public service is `read_program`; what it means is specs/Reading.antt. `read_within` puts question 55 with another number than 12.
 #![tactic(auto)]
+
 mod lines;
 pub mod rules;
 pub mod tables;

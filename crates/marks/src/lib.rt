@@ -1,6 +1,7 @@
 // Sets of variables as marks: number v is in the set where byte v is 1. And sets as they are lent, as ascending numbers.
 // What the functions promise is specs/Marks.antt.
 #![tactic(auto)]
+
 ghost use Rattle.std.specs.Prelude.{◌≡◌, map, ◌≤◌, set};
 ghost use Rattle.words.specs.Limits.{largest, entries};
 ghost use Rattle.words.specs.Lists.{all, ascends};

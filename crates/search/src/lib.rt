@@ -1,6 +1,7 @@
 // A search for a conflict with two watched literals, of which nothing is promised but bounds and an end: what it leaves is a path, the places of the
 // nogoods that it went by, and `replay` decides. What it keeps from step to step, and how, is said in crate `watches`.
 #![tactic(auto)]
+
 mod paths;
 mod root;
 mod trail;

@@ -19,7 +19,6 @@ use Rattle.text.specs.declared.Letter.TheVariants.{Addition, Body, Completion, D
 use Rattle.text.specs.declared.Class.{Class}
 use Rattle.text.specs.declared.Class.TheVariants.{Newline, Space, Minus, Digit, Step, Other}
 use Rattle.text.specs.declared.Number.{Number}
-use Rattle.text.specs.declared.Number.TheVariants as Number
 use Rattle.text.specs.declared.Seen.{Seen}
 
 -- Classes by their numbers

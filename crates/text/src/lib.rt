@@ -1,6 +1,7 @@
 // Bytes to lines and numbers, for the program reader and the proof-line reader alike: document 01, 'Program text'.
 // The claim of `read_line` is `LineScanned` in specs/Scanned.antt. Module `writing` goes the other way.
 #![tactic(auto)]
+
 pub mod classes;
 pub mod writing;
 

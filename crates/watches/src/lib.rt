@@ -11,6 +11,7 @@
 // The root is what is true without any assumption. Where a nogood has a literal that the root makes false, it is not to be looked at as long as the
 // root stays: its watches wait in the list of that literal, which is not gone through.
 #![tactic(auto)]
+
 pub mod cells;
 mod chains;
 pub mod lists;

@@ -1,6 +1,7 @@
 // Weight bodies as pairs of words, each literal with its weight behind it: what the weights add up to, and whether a list of literals
 // is one of the minimal sets. No set is kept: specs/Weights.antt says which there are.
 #![tactic(auto)]
+
 ghost use Rattle.std.specs.Prelude.{◌≡◌, true, ◌≤◌, min, drop};
 ghost use Rattle.words.specs.Lists.{any};
 ghost use Rattle.words.specs.Literals.{same_list, distinct};

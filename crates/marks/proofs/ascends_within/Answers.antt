@@ -2,7 +2,7 @@ use native.Mathlib.Omega.{arith}
 use lib.ListN.{get_or}
 use mathlib.Core.Path.{◌≡◌, sym, ◌∙◌}
 use mathlib.Core.List.{List}
-use Prim.Native.Nat.{ℕ, ◌-◌}
+use Prim.Native.Nat.{ℕ}
 use Rattle.words.proofs.Ascending.{ascends-on, ascends-low, ascends-high, ascends-end}
 use Rattle.marks.proofs.ascends_within.Goals as goal
 use Rattle.marks.proofs.ascends_within.Goals.{After-wide-v}

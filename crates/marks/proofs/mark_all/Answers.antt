@@ -1,7 +1,5 @@
 use native.Mathlib.Omega.{arith}
-use lib.ListN.{set}
 use mathlib.Core.Path.{sym, ◌∙◌, refl}
-use Prim.Native.Nat.{◌-◌}
 use Rattle.marks.proofs.Sets.{mark_on, mark-end}
 use Rattle.marks.proofs.mark_all.Goals as goal
 

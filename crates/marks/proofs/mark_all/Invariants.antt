@@ -1,4 +1,4 @@
-use lib.ListN.{length, drop, set}
+use lib.ListN.{length, drop}
 use mathlib.Core.Path.{◌≡◌}
 use Prim.Native.Nat.{◌≤◌, ◌-◌}
 use Rattle.marks.specs.Marks.{mark_all}

@@ -4,7 +4,6 @@ use lib.ListN.{get_or, drop_of_length-le}
 use lib.Seq.{drop-cons}
 use native.Mathlib.Numerals.{add-one}
 use mathlib.Core.Path.{sym}
-use Prim.Native.Nat.{◌-◌}
 use Rattle.words.proofs.Words.{back}
 use Rattle.marks.proofs.Sets.{found_none, found-on, found_all}
 use Rattle.marks.proofs.marks_of.Goals as goal

@@ -19,8 +19,11 @@ pub returns-then-class-eq-SPACE : goal.returns-then-class-eq-SPACE
 unfolding turn
 returns-then-class-eq-SPACE c = let a = c.args in
     let k = c.class_number-class in
-    let h = k.ensures.within (omega (arith, c.if-class-eq-SPACE.true)) in record { scanned = λ n seen row. acts a.text.now a.at k.result k.ensures.class n seen row (ending a.neg a.m) (λ x. Put a.neg a.m)
-          (ap (λ x. ending a.neg a.m (class_at x)) c.if-class-eq-SPACE.true); within = (omega arith, omega (arith, h)) }
+    let h = k.ensures.within (omega (arith, c.if-class-eq-SPACE.true)) in record {
+      scanned = λ n seen row. acts a.text.now a.at k.result k.ensures.class n seen row (ending a.neg a.m) (λ x. Put a.neg a.m)
+          (ap (λ x. ending a.neg a.m (class_at x)) c.if-class-eq-SPACE.true);
+      within = (omega arith, omega (arith, h));
+    }
 
 pub overflow_add-result-then-class-eq-NEWLINE : goal.overflow_add-result-then-class-eq-NEWLINE
 overflow_add-result-then-class-eq-NEWLINE c =
@@ -32,12 +35,18 @@ pub returns-then-class-eq-NEWLINE : goal.returns-then-class-eq-NEWLINE
 unfolding turn
 returns-then-class-eq-NEWLINE c = let a = c.args in
     let k = c.class_number-class in
-    let h = k.ensures.within (omega (arith, c.if-class-eq-NEWLINE.true)) in record { scanned = λ n seen row. acts a.text.now a.at k.result k.ensures.class n seen row (ending a.neg a.m) (λ x. Last a.neg a.m)
-          (ap (λ x. ending a.neg a.m (class_at x)) c.if-class-eq-NEWLINE.true); within = (omega arith, omega (arith, h)) }
+    let h = k.ensures.within (omega (arith, c.if-class-eq-NEWLINE.true)) in record {
+      scanned = λ n seen row. acts a.text.now a.at k.result k.ensures.class n seen row (ending a.neg a.m) (λ x. Last a.neg a.m)
+          (ap (λ x. ending a.neg a.m (class_at x)) c.if-class-eq-NEWLINE.true);
+      within = (omega arith, omega (arith, h));
+    }
 
 pub returns : goal.returns
 unfolding turn
 returns c = let a = c.args in
     let k = c.class_number-class in
-    let f = ending a.neg a.m in record { scanned = λ n seen row. acts a.text.now a.at k.result k.ensures.class n seen row f (λ x. Fail)
-          (each f (λ x. Fail) k.result (λ e. refl) (λ e. absurd (c.if-class-eq-NEWLINE.false (eqb-true _ _ e))) (λ e. absurd (c.if-class-eq-SPACE.false (eqb-true _ _ e))) (λ e. refl) (λ y. refl) refl); within = tt }
+    let f = ending a.neg a.m in record {
+      scanned = λ n seen row. acts a.text.now a.at k.result k.ensures.class n seen row f (λ x. Fail)
+          (each f (λ x. Fail) k.result (λ e. refl) (λ e. absurd (c.if-class-eq-NEWLINE.false (eqb-true _ _ e))) (λ e. absurd (c.if-class-eq-SPACE.false (eqb-true _ _ e))) (λ e. refl) (λ y. refl) refl);
+      within = tt;
+    }

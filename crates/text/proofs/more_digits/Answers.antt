@@ -1,7 +1,6 @@
 -- `text::more_digits` meets its contract. The loop's invariant: the scan from the first digit is the scan from here, with the size so far.
 -- Assumes nothing.
 use mathlib.Core.Path.{refl, ◌∙◌}
-use Prim.Native.Nat.{◌-◌}
 use native.Mathlib.Omega.{arith}
 use Rattle.text.proofs.Turns.{digit-on, digits-end}
 use borrow.Author.Rules.{rules}

@@ -1,7 +1,6 @@
 -- `text::read_line` meets its contract. The loop's invariant: the whole scan is the scan of what is left, with what was found so far.
 -- Assumes nothing.
 use mathlib.Core.Path.{◌≡◌, refl, sym, ◌∙◌, ap, subst}
-use Prim.Native.Nat.{◌-◌}
 use native.Mathlib.Omega.{arith}
 use lib.ListN.{length}
 use borrow.Author.Tests.{eqb-true}

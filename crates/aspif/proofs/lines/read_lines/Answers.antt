@@ -1,4 +1,3 @@
-use Prim.Native.Nat.{◌-◌}
 use native.Mathlib.Omega.{arith}
 use Rattle.words.proofs.Parts.{tail_of}
 use Rattle.aspif.specs.Turns.{TurnTaken}

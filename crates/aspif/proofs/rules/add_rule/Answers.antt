@@ -7,7 +7,6 @@ use Rattle.words.specs.Literals.{top}
 use Rattle.aspif.specs.Rules.{InputRule, rule_words}
 use Rattle.aspif.specs.Turns.{row_heads, row_body, row_rule}
 use Rattle.aspif.proofs.Rows.{row-rule-size, turn-full, turn-short, turn-adds}
-use borrow.Author.Rules.{rules}
 use Rattle.aspif.proofs.rules.add_rule.Goals as goal
 use Rattle.aspif.proofs.rules.add_rule.Goals.{Start, After-largest_variable-b}
 
@@ -21,7 +20,6 @@ module _ (s : Start) where
 
 -- the largest variable of the heads and of the body
 module _ (c : After-largest_variable-b) where
-
   in-heads : c.largest_variable-a.result ≡ top (row_heads c.args.row.now c.args.heads)
   in-heads = let e : 3 + c.args.heads - 3 ≡ c.args.heads = omega arith in rw e at c.largest_variable-a.ensures
 

@@ -9,7 +9,6 @@ use Rattle.aspif.specs.Turns.{row_heads, row_pairs, row_weighed}
 use Rattle.weights.specs.Weights.{paired}
 use Rattle.aspif.proofs.PairWords.{literals-with}
 use Rattle.aspif.proofs.Rows.{row-weighed-size, turn-full, turn-short, turn-adds}
-use borrow.Author.Rules.{rules}
 use Rattle.aspif.proofs.rules.add_weighed.Goals as goal
 use Rattle.aspif.proofs.rules.add_weighed.Goals.{Start, After-largest_variable-b}
 

@@ -8,7 +8,6 @@ use Rattle.words.specs.Limits.{most_literals}
 use Rattle.aspif.specs.Reading.{ranged, rule_of, room}
 use Rattle.aspif.specs.Turns.{TurnTaken}
 use Rattle.aspif.specs.declared.rules.Shape.TheVariants.{Weighed}
-use borrow.Author.Rules.{rules}
 use Rattle.aspif.proofs.rules.take_weighed.Goals as goal
 use Rattle.aspif.proofs.rules.take_weighed.Goals.{Start}
 

@@ -1,5 +1,4 @@
 use mathlib.Core.Path.{◌≡◌}
-use Prim.Native.Nat.{◌-◌}
 use lib.ListN.{drop}
 use Rattle.aspif.specs.Tables.{rules_at}
 use Rattle.aspif.proofs.Cursors.{Cursor}

@@ -10,7 +10,6 @@ use lib.Seq.{drop-drop}
 use Rattle.words.proofs.Parts.{tail_of}
 use Rattle.aspif.specs.Tables.{size_at, sound_at, sound_rules, sound_table}
 use Rattle.aspif.proofs.Cursors.{shape_of, sound-on, sound-end}
-use borrow.Author.Rules.{rules}
 use Rattle.aspif.proofs.tables.is_readable.Goals as goal
 use Rattle.aspif.proofs.tables.is_readable.Goals.{After-is_sound}
 

@@ -1,7 +1,6 @@
 use native.Mathlib.Omega.{arith}
 use Rattle.aspif.proofs.Cursors.{at-rule}
 use Rattle.aspif.proofs.Used.{passed_on, passed-all}
-use borrow.Author.Rules.{rules}
 use Rattle.aspif.proofs.tables.words_used.Goals as goal
 
 pub loop-left-init : goal.loop-left-init

@@ -1,5 +1,4 @@
 use mathlib.Core.Path.{◌≡◌}
-use Prim.Native.Nat.{◌-◌}
 use Rattle.watches.specs.Small.{SmallVisit}
 use Rattle.watches.specs.declared.turns.Visited.{Visited}
 use borrow.Author.Rules.{rules}

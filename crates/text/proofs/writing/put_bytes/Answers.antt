@@ -1,7 +1,6 @@
 -- `text::writing::put_bytes` meets its contract. After i turns the first i bytes are put.
 -- Assumes nothing.
 use mathlib.Core.Path.{◌≡◌, ◌∙◌}
-use Prim.Native.Nat.{◌-◌}
 use native.Mathlib.Omega.{arith}
 use lib.ListN.{length}
 use lib.Seq.{take-length}
