@@ -9,7 +9,6 @@ use lib.Seq.{length-take-le, take_at}
 use Rattle.words.specs.Limits.{longest}
 use Rattle.aspif.specs.Rules.{InputRule, expand, atoms, table_words}
 use Rattle.aspif.specs.Reading.{Reading, program, read_text, program_answer, table_of}
-use Rattle.aspif.specs.Reading as Reading
 use Rattle.aspif.specs.declared.ProgramReading.{ProgramReading}
 use Rattle.aspif.specs.declared.ProgramReading.TheVariants as Answer
 use Rattle.aspif.specs.declared.ProgramRefusal.{ProgramRefusal}

@@ -19,7 +19,6 @@ use Rattle.text.specs.Decimals.{digits_of, digit_byte, decimal, number_bytes, sp
 use Rattle.text.specs.declared.Letter.{Letter}
 use Rattle.text.specs.declared.Letter.TheVariants.{Addition, Body, Completion, Deletion, Extension, Loop, Support}
 use Rattle.text.specs.declared.Class.{Class}
-use Rattle.text.specs.declared.Class.TheVariants as Class
 use Rattle.text.proofs.Spelling.{Byte, byte-of}
 use Rattle.drupe.specs.Texts.{Step, step_text, text_of}
 use Rattle.drupe.proofs.Texts.{some_byte, text-append}

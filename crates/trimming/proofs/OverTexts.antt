@@ -12,7 +12,6 @@ use Rattle.weights.specs.Claims.{without}
 use Rattle.weights.proofs.Sublists.{itself, through as onto}
 use Rattle.aspif.specs.Rules.{InputRule, atoms, table_words}
 use Rattle.aspif.specs.Reading.{Reading, program, read_text}
-use Rattle.aspif.specs.Reading as Reading
 use Rattle.drupe.specs.Texts.{Step, StepsRead, steps, text_of, steps_of}
 use Rattle.drupe.specs.Texts as Texts
 use Rattle.drupe.proofs.Texts.{AllPass, steps-exact}

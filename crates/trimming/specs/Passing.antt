@@ -3,7 +3,6 @@
 use Rattle.std.specs.Prelude.{◌≡◌, Bool, true, false, cond, List, [], ◌∷◌, ◌++◌, ℕ, ◌-◌, length, take, drop}
 use Rattle.text.specs.declared.Class.{Class}
 use Rattle.text.specs.declared.Class.TheVariants.{Newline, Space, Minus, Digit, Other}
-use Rattle.text.specs.declared.Class.TheVariants as Class
 use Rattle.aspif.specs.Rules.{InputRule}
 use Rattle.drupe.specs.Texts.{Step, steps, text_of, steps_of}
 use Rattle.runs.specs.Course.{is_accepted}

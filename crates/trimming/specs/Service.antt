@@ -3,7 +3,6 @@
 use Rattle.std.specs.Prelude.{◌≡◌, Bool, cond, List, [], ◌++◌, ℕ, ◌-◌, ℤ, pos, length, replicate}
 use Rattle.aspif.specs.Rules.{InputRule, expand, atoms, table_words}
 use Rattle.aspif.specs.Reading.{Reading, program, read_text}
-use Rattle.aspif.specs.Reading as Reading
 use Rattle.drupe.specs.Texts.{Step, StepsRead, steps, refused, text_of, steps_of}
 use Rattle.derivation.specs.States.{start}
 use Rattle.nogoods.specs.Store.{store_words}

@@ -1,5 +1,6 @@
 // Trimmed proofs: document 02, Change 10. The public service is `trim_proof`; what it leaves is specs/Service.antt.
 #![tactic(auto)]
+
 mod trials;
 
 ghost use Rattle.std.specs.Prelude.{◌≡◌, List, ◌≤◌, pos, length, replicate};

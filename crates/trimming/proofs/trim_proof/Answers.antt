@@ -7,24 +7,20 @@ use Rattle.checker.proofs.Verdicts.{ReadProgram, program-read, held}
 use Rattle.trimming.proofs.Answers.{program-unread, program-trimmed, trimmed-same}
 use borrow.Author.Rules.{rules}
 use Rattle.trimming.proofs.trim_proof.Goals as goal
-use Rattle.trimming.proofs.trim_proof.Goals.{In-Read, Start}
+use Rattle.trimming.proofs.trim_proof.Goals.{In-Read}
 
 -- what was read, where a program is
 module _ (c : In-Read) where
-
-  abbrev start : Start
-  start = c.before.before.before.before.before.before.before.before.before.before
-
-  abbrev read : ProgramRead start.args.program.now start.args.table.now c.read_program-read.new.table c.read_program-read.result
+  abbrev read : ProgramRead c.args.program.now c.args.table.now c.read_program-read.new.table c.read_program-read.result
   read = c.read_program-read.ensures
 
-  found : ReadProgram (length start.args.table.now) (length start.args.store.now) start.args.program.now start.args.text.now read.answer read.table c.in-Read.atoms c.in-Read.rules
+  found : ReadProgram (length c.args.table.now) (length c.args.store.now) c.args.program.now c.args.text.now read.answer read.table c.in-Read.atoms c.in-Read.rules
   found = program-read _ _ _ _ read.answer read.table _ _ c.in-Read.is
 
 pub trim_read-requires : goal.trim_read-requires
 trim_read-requires c = let d = (goal.at.trim_read-requires c).In-Read in
     let f = found d in
-    let h = held _ _ _ _ (read d).answer (read d).table f (search rules) in record { program = ((f.P, h.0), h.1); empty = (zeros (pos 0) {n = length (start d).args.store.now} c.zero_all.ensures).0 }
+    let h = held _ _ _ _ (read d).answer (read d).table f (search rules) in record { program = ((f.P, h.0), h.1); empty = (zeros (pos 0) {n = length d.args.store.now} c.zero_all.ensures).0 }
 
 pub returns-in-Refused : goal.returns-in-Refused
 returns-in-Refused c =
@@ -35,9 +31,9 @@ pub returns-in-Read : goal.returns-in-Read
 returns-in-Read c =
     let d = (goal.at.returns-in-Read c).In-Read in
     let f = found d in
-    let t : length d.read_program-read.new.table ≡ length (start d).args.table.now = search rules in
-    let s : length c.zero_all.new.t ≡ length (start d).args.store.now = search rules in
+    let t : length d.read_program-read.new.table ≡ length d.args.table.now = search rules in
+    let s : length c.zero_all.new.t ≡ length d.args.store.now = search rules in
     let h = held _ _ _ _ (read d).answer (read d).table f t in
-    let a = (start d).args in
+    let a = d.args in
     c.trim_read.ensures f.P h.0 h.2 ∙ trimmed-same a.text.now (program f.P) t s
     ∙ program-trimmed (length a.table.now) (length a.store.now) a.program.now a.text.now (read d).answer (read d).table f.P f.read

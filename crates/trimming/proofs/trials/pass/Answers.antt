@@ -27,8 +27,6 @@ loop-at-init c =
 
 -- a turn
 module _ (c : In-loop-at) where
-
-
   some : 0 < c.loop-at.at
   some = c.loop-at-test.true
 
@@ -36,7 +34,7 @@ module _ (c : In-loop-at) where
   inside = let I = c.loop-at.invariant in (I.ahead, omega (arith, I.within, I.same_text, c.requires.within))
 
 pub line_start-start-requires : goal.line_start-start-requires
-line_start-start-requires c = let d = (goal.at.line_start-start-requires c).At-loop-at in record { inside = (some d, omega (arith, (inside d).0, (inside d).1)); classes = d.requires.classes }
+line_start-start-requires c = let d = (goal.at.line_start-start-requires c).In-loop-at in record { inside = (some d, omega (arith, (inside d).0, (inside d).1)); classes = d.requires.classes }
 
 pub try_without-left-requires : goal.try_without-left-requires
 try_without-left-requires c = let b = c in
@@ -58,9 +56,9 @@ loop-at-preserved c =
     let k = t.try_without-left.auto in
     let e = t.try_without-left.ensures in
     record {
-      same_text = k.0 ∙ I.same_text;
-      same-trial = k.1.1.1.1.0 ∙ I.same-trial;
-      same_store = k.1.1.1.1.1.1.1.1.0 ∙ I.same_store;
+      same_text = k.text ∙ I.same_text;
+      same-trial = k.trial ∙ I.same-trial;
+      same_store = k.store ∙ I.same_store;
       zeros = e.empty ∙ ap (λ (n : ℕ). replicate n (pos 0)) I.same_store;
       ahead = e.bounds.0;
       within = omega (arith, e.bounds.1, I.within);
@@ -72,6 +70,10 @@ loop-at-preserved c =
 
 pub returns : goal.returns
 returns c = let I = c.loop-at.invariant in
-    let a = c.args in record { within = I.within; empty = I.zeros; left = λ ws ts p r.
-            try-reads (length a.store.now) ws ts a.text.now a.len r c.loop-at.text c.loop-at.left
-            (try-end (length a.store.now) ws ts (I.trying ws ts p r) (omega (arith, c.loop-at-test.false))) }
+    let a = c.args in record {
+      within = I.within;
+      empty = I.zeros;
+      left = λ ws ts p r.
+          try-reads (length a.store.now) ws ts a.text.now a.len r c.loop-at.text c.loop-at.left
+          (try-end (length a.store.now) ws ts (I.trying ws ts p r) (omega (arith, c.loop-at-test.false)));
+    }

@@ -16,16 +16,15 @@ use Rattle.trimming.specs.Passing.{Reads}
 use Rattle.trimming.proofs.Turns.{Repeating, reads-start, reads_now, reads_end, reads_on}
 use borrow.Author.Rules.{rules}
 use Rattle.trimming.proofs.trials.passes.Goals as goal
-use Rattle.trimming.proofs.trials.passes.Goals.{After-pass-left, Start}
+use Rattle.trimming.proofs.trials.passes.Goals.{After-pass-left}
 
 pub loop-len-init : goal.loop-len-init
 loop-len-init c =
-    let s = c in
-    let a = s.args in
+    let a = c.args in
     record {
       same_text = search rules;
       same_store = search rules;
-      zeros = s.requires.empty;
+      zeros = c.requires.empty;
       room = length-replicate {A = ℕ} longest 0;
       within = omega arith;
       repeating = λ ws ts p r. reads-start (length a.store.now) ws ts a.text.now r;
@@ -33,30 +32,26 @@ loop-len-init c =
 
 -- a pass
 module _ (c : After-pass-left) where
-
-  abbrev s : Start
-  s = c.before.before.before.before.before
-
   abbrev text' : List ℕ
   text' = c.pass-left.new.text
 
   most : c.pass-left.result ≤ c.loop-len.len
   most = c.pass-left.ensures.within
 
-  same_text : length text' ≡ length s.args.text.now
+  same_text : length text' ≡ length c.args.text.now
   same_text = c.pass-left.auto.text ∙ c.loop-len.invariant.same_text
 
   inside : c.pass-left.result ≤ length text'
   inside = let I = c.loop-len.invariant in omega (arith, most, I.within, I.same_text, same_text)
 
-  module _ (ws : List InputRule) (ts : List Step) (p : Program s.args.table.now s.args.rules s.args.atoms ws) (r : steps_of s.args.text.now ≡ steps ts) where
-    abbrev R : Repeating (length s.args.store.now) ws ts c.loop-len.text c.loop-len.len
+  module _ (ws : List InputRule) (ts : List Step) (p : Program c.args.table.now c.args.rules c.args.atoms ws) (r : steps_of c.args.text.now ≡ steps ts) where
+    abbrev R : Repeating (length c.args.store.now) ws ts c.loop-len.text c.loop-len.len
     R = c.loop-len.invariant.repeating ws ts p r
 
-    after : Reads text' c.pass-left.result (pass (accepted (length s.args.store.now) ws) [] R.steps)
+    after : Reads text' c.pass-left.result (pass (accepted (length c.args.store.now) ws) [] R.steps)
     after =
         rw c.loop-len.invariant.same_store at
-        (c.pass-left.ensures.left ws R.steps p (reads_now (length s.args.store.now) ws ts s.args.text.now r c.loop-len.text c.loop-len.len R))
+        (c.pass-left.ensures.left ws R.steps p (reads_now (length c.args.store.now) ws ts c.args.text.now r c.loop-len.text c.loop-len.len R))
 
 pub pass-left-requires : goal.pass-left-requires
 unfolding byte_classes
@@ -66,9 +61,13 @@ pass-left-requires c = let k = c in
 
 pub returns-then-left-len : goal.returns-then-left-len
 returns-then-left-len c = let d = (goal.at.returns-then-left-len c).After-pass-left in
-    let a = (s d).args in
-    let I = d.loop-len.invariant in record { within = omega (arith, inside d, same_text d); empty = d.pass-left.ensures.empty ∙ ap (λ (n : ℕ). replicate n (pos 0)) I.same_store; trimmed = λ ws ts p r.
-            reads_end (length a.store.now) ws ts a.text.now r d.loop-len.text d.loop-len.len (R d ws ts p r) I.within (text' d) d.pass-left.result (inside d) (after d ws ts p r) c.if-left-len.true }
+    let a = d.args in
+    let I = d.loop-len.invariant in record {
+      within = omega (arith, inside d, same_text d);
+      empty = d.pass-left.ensures.empty ∙ ap (λ (n : ℕ). replicate n (pos 0)) I.same_store;
+      trimmed = λ ws ts p r.
+          reads_end (length a.store.now) ws ts a.text.now r d.loop-len.text d.loop-len.len (R d ws ts p r) I.within (text' d) d.pass-left.result (inside d) (after d ws ts p r) c.if-left-len.true;
+    }
 
 pub loop-len-smaller : goal.loop-len-smaller
 loop-len-smaller c = let d = (goal.at.loop-len-smaller c).After-pass-left in omega (arith, most d, c.if-left-len.false)
@@ -76,14 +75,14 @@ loop-len-smaller c = let d = (goal.at.loop-len-smaller c).After-pass-left in ome
 pub loop-len-preserved : goal.loop-len-preserved
 loop-len-preserved c =
     let d = (goal.at.loop-len-preserved c).After-pass-left in
-    let a = (s d).args in
+    let a = d.args in
     let I = d.loop-len.invariant in
     let k = d.pass-left.auto in
     record {
       same_text = same_text d;
-      same_store = k.1.1.1.1.1.1.0 ∙ I.same_store;
+      same_store = k.store ∙ I.same_store;
       zeros = d.pass-left.ensures.empty ∙ ap (λ (n : ℕ). replicate n (pos 0)) I.same_store;
-      room = k.1.1.0 ∙ I.room;
+      room = k.trial ∙ I.room;
       within = inside d;
       repeating = λ ws ts p r.
           reads_on (length a.store.now) ws ts a.text.now r d.loop-len.text d.loop-len.len (R d ws ts p r) I.within (text' d) d.pass-left.result (inside d) (after d ws ts p r) c.if-left-len.false;
