@@ -12,7 +12,6 @@ use Rattle.words.specs.Lists.{ascends}
 use Rattle.weights.specs.Weights.{paired, most_weight, most_weighted}
 use Rattle.aspif.specs.Rules.{InputRule, atoms, table_words}
 use Rattle.aspif.specs.Reading.{Reading, program, read_text, all_weights, program_answer, table_of}
-use Rattle.aspif.specs.Reading as Reading
 use Rattle.aspif.specs.declared.ProgramReading.{ProgramReading}
 use Rattle.aspif.specs.declared.ProgramReading.TheVariants as Answer
 use Rattle.aspif.specs.declared.ProgramRefusal.{ProgramRefusal}

@@ -16,7 +16,6 @@ use Rattle.weights.specs.Claims.{Reorder}
 use Rattle.weights.proofs.Reordered.{and-back, reorder-in, reorder-length, reorder-map, reorder-distinct}
 use Rattle.aspif.specs.Rules.{InputRule, expand, atoms, table_words}
 use Rattle.aspif.specs.Reading.{Reading, program, read_text}
-use Rattle.aspif.specs.Reading as Reading
 use Rattle.aspif.proofs.Formed.{read_fits}
 use Rattle.aspif.proofs.Readable.{table-back}
 use Rattle.marks.specs.Marks.{listed}

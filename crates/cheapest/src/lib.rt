@@ -1,6 +1,7 @@
 // The cheapest answer set: a set with its cost, and a proof that no answer set costs less. The public service is `check_cheapest`; what
 // it means is specs/Service.antt.
 #![tactic(auto)]
+
 mod lists;
 mod restricted;
 

@@ -26,7 +26,7 @@ use Rattle.nogoods.proofs.Live.{by_answer, closed-nil, closed-append, closed-add
 use Rattle.nogoods.proofs.Live.{target-alive, killed-nil, killed-here, killed-on}
 use Rattle.steps.specs.After.{new_in, stored_after, with_added}
 use Rattle.runs.specs.Course.{Course, stopped, through, then_stopped, fitting, course_within}
-use Rattle.runs.specs.Course.{run_steps, run_read, course}
+use Rattle.runs.specs.Course.{run_steps, run_read}
 use Rattle.checker.specs.Check.{judged}
 use Rattle.checker.specs.Claims.{prompt_after, prompt_steps, prompt_read, SameLive, SameCourse, OneWord, ClosedLate}
 use Rattle.runs.proofs.Lines.{stored_next}

@@ -13,7 +13,6 @@ use Rattle.words.specs.Limits.{longest, most_rules}
 use Rattle.words.specs.Lists.{any}
 use Rattle.aspif.specs.Rules.{Rule, InputRule, expand, is_empty, atoms, table_words}
 use Rattle.aspif.specs.Reading.{Reading, program, read_text, read_lines, program_answer, table_of}
-use Rattle.aspif.specs.Reading as Reading
 use Rattle.aspif.specs.declared.ProgramReading.{ProgramReading}
 use Rattle.aspif.specs.declared.ProgramReading.TheVariants.{Read, Refused}
 use Rattle.aspif.specs.declared.ProgramRefusal.{ProgramRefusal}

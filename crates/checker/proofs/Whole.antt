@@ -11,7 +11,6 @@ use Rattle.words.proofs.Lists.{zero_one}
 use Rattle.words.specs.Lists.{◌∈◌}
 use Rattle.aspif.specs.Rules.{Rule, InputRule, expand, atoms}
 use Rattle.aspif.specs.Reading.{Reading, program, read_text}
-use Rattle.aspif.specs.Reading as Reading
 use Rattle.derivation.specs.States.{State, start}
 use Rattle.drupe.specs.Texts.{Step, StepsRead, steps, refused, text_of, steps_within, steps_of, LinePasses}
 use Rattle.drupe.proofs.Texts.{steps-exact, read_back}

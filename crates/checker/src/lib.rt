@@ -1,6 +1,7 @@
 // The whole check over two texts: document 01, from 'The proof's seven letters' on. The public services are `check_texts`, and
 // `check_long` for longer proofs; what they mean is specs/Check.antt. The line that says a verdict is written by `report`.
 #![tactic(auto)]
+
 pub mod judging;
 pub mod report;
 

@@ -1,6 +1,7 @@
 // The store of nogoods: writing into its free tail, marking one dead, closing up, and the index over them.
 // Document 01, 'Variables and nogoods'; what the words mean is specs/Store.antt, and what the index means specs/Index.antt.
 #![tactic(auto)]
+
 pub mod chains;
 pub mod definitions;
 pub mod records;

@@ -1,6 +1,7 @@
 // Unit propagation over the store: document 01, the letter `a`. The one public function, `refutes`, answers what the
 // derivation's `refuted` computes. What the private functions promise is specs/Propagate.antt.
 #![tactic(auto)]
+
 mod replay;
 mod units;
 

@@ -2,7 +2,7 @@
 -- Assumes nothing.
 use mathlib.Core.Path.{◌≡◌, refl, ◌∙◌, ap, subst}
 use mathlib.Core.List.{List, []}
-use Prim.Native.Nat.{ℕ, ◌+◌, ◌-◌, ◌≤◌, ◌<◌}
+use Prim.Native.Nat.{ℕ, ◌+◌, ◌≤◌, ◌<◌}
 use native.Mathlib.Omega.{arith}
 use lib.IntN.{ℤ, pos}
 use lib.ListN.{length, replicate}
@@ -27,7 +27,6 @@ use Rattle.steps.specs.declared.outcomes.Stepped.TheVariants.{Uses, Fails}
 use Rattle.runs.specs.declared.ProofTurn.{ProofTurn}
 use Rattle.runs.specs.declared.ProofTurn.TheVariants as Turn
 use Rattle.runs.specs.declared.Run.{Run}
-use Rattle.runs.specs.declared.Run.TheVariants as Run
 use Rattle.runs.proofs.Lines.{step-by-step}
 use Rattle.runs.proofs.Live.{step-live}
 

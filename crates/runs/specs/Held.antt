@@ -15,7 +15,6 @@ use Rattle.steps.specs.declared.outcomes.Stepped.TheVariants.{Uses, Fails}
 use Rattle.runs.specs.declared.ProofTurn.{ProofTurn}
 use Rattle.runs.specs.declared.ProofTurn.TheVariants as Turn
 use Rattle.runs.specs.declared.Run.{Run}
-use Rattle.runs.specs.declared.Run.TheVariants as Run
 use Rattle.steps.specs.Held.{Tracks, Leaves}
 
 -- what a step comes to, with the position after its line

@@ -1,6 +1,7 @@
 // The proof's lines, one after another: questions 22 to 34 and 56. What a whole proof text comes to is specs/Course.antt, and what its
 // lines leave specs/Held.antt. No service: `checker` and `splits` run proof texts by `run_proof` and `run_half`.
 #![tactic(auto)]
+
 ghost use Rattle.std.specs.Prelude.{◌≡◌, true, List, ℕ, ◌+◌, ◌≤◌, pos, length, replicate};
 ghost use Rattle.words.specs.Limits.{widest, entries, most_numbers, most_held};
 ghost use Rattle.text.specs.Classes.{byte_classes};

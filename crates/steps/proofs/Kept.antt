@@ -17,7 +17,6 @@ use Rattle.nogoods.specs.Store.{Stored, added_in, live, kept_with}
 use Rattle.nogoods.specs.Keeps.{Literals}
 use Rattle.nogoods.specs.Index.{Fits}
 use Rattle.nogoods.specs.declared.store.Added.{Added}
-use Rattle.nogoods.specs.declared.store.Added.TheVariants as Added
 use Rattle.nogoods.proofs.Literals.{literals-ascending, literals-complement-others}
 use Rattle.nogoods.proofs.Defined.{name-and-literals}
 use Rattle.steps.specs.After.{with_added}

@@ -15,7 +15,6 @@ use Rattle.nogoods.specs.Keeps.{Literals}
 use Rattle.nogoods.specs.Index.{Keeps, BlankIndex}
 use Rattle.nogoods.specs.Store.{Stored, added_in, live, kept_with, words_for}
 use Rattle.nogoods.specs.declared.store.Added.{Added}
-use Rattle.nogoods.specs.declared.store.Added.TheVariants as Added
 use Rattle.names.specs.ByName.{body_words}
 use Rattle.names.specs.Queries.{HoldsRules, Kept}
 use Rattle.heads.specs.declared.Found.{Found}

@@ -1,6 +1,7 @@
 // The seven steps, questions 26 to 34 and 56, by letter: document 01, 'The proof's seven letters'. What each comes to is
 // derivation's `by_letter`; how table, arrays and store hold a program and a state is specs/Held.antt.
 #![tactic(auto)]
+
 mod additions;
 mod naming;
 pub mod outcomes;

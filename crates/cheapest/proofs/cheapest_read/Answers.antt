@@ -16,7 +16,6 @@ of-atoms : {N M : ℕ} {b : Bool} (l : List ℕ) → N ≡ M → ascends 0 N l �
 of-atoms {b = b} l e g = subst (λ (n : ℕ). ascends 0 n l ≡ b) e g
 
 module _ (c : Else-not-ascends_within) where
-
   passed : ascends 0 c.args.atoms c.args.set.now ≡ true
   passed = sym c.ascends_within.ensures ∙ c.if-not-ascends_within.false
 

@@ -12,7 +12,6 @@ use Rattle.cheapest.proofs.check_cheapest.Goals.{In-Read, Start}
 
 -- what was read, where a program is
 module _ (c : In-Read) where
-
   abbrev start : Start
   start = c.before.before.before.before.before.before.before.before.before.before.before
 

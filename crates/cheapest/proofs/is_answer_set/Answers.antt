@@ -4,7 +4,6 @@ use lib.ListN.{length-replicate}
 use Rattle.words.specs.Limits.{entries}
 use Rattle.cheapest.specs.Private.{said_yes}
 use Rattle.cheapest.proofs.Answers.{set_tested}
-use borrow.Author.Rules.{rules}
 use Rattle.cheapest.proofs.is_answer_set.Goals as goal
 
 pub returns : goal.returns

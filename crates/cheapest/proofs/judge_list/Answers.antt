@@ -14,7 +14,6 @@ use Rattle.cheapest.proofs.judge_list.Goals as goal
 use Rattle.cheapest.proofs.judge_list.Goals.{Else-not-all_weights}
 
 module _ (c : Else-not-all_weights) where
-
   -- the second of each two words is a cost
   weighed : all_weights c.args.pairs.now ≡ true
   weighed = sym c.all_weights.ensures ∙ c.if-not-all_weights.false

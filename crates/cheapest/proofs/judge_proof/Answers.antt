@@ -17,7 +17,6 @@ module _ (s : Start) where
   few = sorted-few s.args.atoms (paired s.args.pairs.now) s.requires.pairs.1 s.requires.sorted
 
 module _ (c : After-write_restriction) where
-
   long : length c.write_restriction.new.row ≡ 5 + 2 * most_weighted
   long = search rules
 

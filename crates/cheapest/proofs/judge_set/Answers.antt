@@ -15,12 +15,10 @@ use Rattle.costs.specs.Costs.{total}
 use Rattle.cheapest.specs.Service.{CheapestLeft, is_yes, with_cost}
 use Rattle.cheapest.proofs.Answers.{rules-found, too-dear, no-answer-set, costs-nothing, with-proof}
 use Rattle.cheapest.proofs.Words.{good-few}
-use borrow.Author.Rules.{rules}
 use Rattle.cheapest.proofs.judge_set.Goals as goal
 use Rattle.cheapest.proofs.judge_set.Goals.{After-cost_of-cost, After-is_answer_set, Start}
 
 module _ (c : After-cost_of-cost) where
-
   abbrev T : ℕ
   T = length c.args.table.now
 

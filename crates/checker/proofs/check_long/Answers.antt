@@ -18,8 +18,6 @@ use Rattle.checker.proofs.check_long.Goals.{In-Read}
 
 -- what was read, where a program is
 module _ (c : In-Read) where
-
-
   abbrev read : ProgramRead c.args.program.now c.args.table.now c.read_program-read.new.table c.read_program-read.result
   read = c.read_program-read.ensures
 

@@ -36,7 +36,6 @@ module _ (s : List ℤ) (stored : List Stored) (enc : Encodes s stored) (L : Lis
 
 -- what is kept after the search
 module _ (c : After-run) where
-
   abbrev k : After-cover
   k = c.before.before.before.before.before
 
@@ -73,5 +72,9 @@ propagate-requires c = let r = (goal.at.propagate-requires c).After-run in
 pub returns : goal.returns
 returns c = let r = (goal.at.returns c).After-run in
     let a = c.assign-end in
-    let e = a.ensures.literals in record { refuted = λ stored K. answer _ stored (used-words (s r).args.store.now (s r).args.used stored K.holds) (s r).args.literals.now (s r).requires.literals _
-          (λ z. (e z).0) (λ z. (e z).1) c.propagate.result c.propagate.ensures.decided; held = searched r; free = c.propagate.ensures.free }
+    let e = a.ensures.literals in record {
+      refuted = λ stored K. answer _ stored (used-words (s r).args.store.now (s r).args.used stored K.holds) (s r).args.literals.now (s r).requires.literals _
+          (λ z. (e z).0) (λ z. (e z).1) c.propagate.result c.propagate.ensures.decided;
+      held = searched r;
+      free = c.propagate.ensures.free;
+    }

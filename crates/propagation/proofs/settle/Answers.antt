@@ -15,7 +15,6 @@ sweep-swept-requires c = let l = c in record { encoded = l.requires.encoded; siz
 
 -- what the sweep gave
 module _ (c : After-sweep-swept) where
-
   told : (x : Swept) → c.sweep-swept.result ≡ x → Sweeps c.args.nogoods.now c.loop-left.assignment c.sweep-swept.new.assignment x
   told x e = rw e at c.sweep-swept.ensures
 

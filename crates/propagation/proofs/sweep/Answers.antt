@@ -1,7 +1,6 @@
 -- The loop keeps `Sweeping`: what the nogoods before i have given.
 use mathlib.Core.Path.{◌≡◌}
 use mathlib.Core.List.{List}
-use Prim.Native.Nat.{◌-◌}
 use native.Mathlib.Omega.{arith}
 use lib.IntN.{ℤ}
 use Rattle.nogoods.specs.Records.{Readable, Stands}

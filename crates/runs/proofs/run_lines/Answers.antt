@@ -1,7 +1,7 @@
 use Rattle.runs.specs.declared.ProofTurn.TheVariants.{Goes}
 use mathlib.Core.Path.{◌≡◌, refl, subst, ◌∙◌}
 use mathlib.Core.List.{List}
-use Prim.Native.Nat.{ℕ, ◌+◌, ◌-◌, ◌<◌}
+use Prim.Native.Nat.{ℕ, ◌+◌, ◌<◌}
 use native.Mathlib.Omega.{arith}
 use lib.IntN.{ℤ, pos}
 use lib.ListN.{length, length-replicate}
@@ -19,7 +19,6 @@ use Rattle.runs.proofs.run_lines.Goals.{After-turn_at}
 
 -- where the loop stands, and what the turn there left
 module _ (c : After-turn_at) where
-
   abbrev ws : List InputRule
   ws = c.loop-number.invariant.0
 
@@ -116,4 +115,3 @@ loop-number-preserved c =
     let t = (goal.at.loop-number-preserved c).After-turn_at in
     let i = t.loop-number.invariant in
     (i.0, i.1, (onward t c.in-Goes.next c.in-Goes.used c.in-Goes.is).0, same_known t, same_names t, same-bodies t, same_numbers t, same-sorted t, t.turn_at.ensures.free, same_index t)
-

@@ -19,7 +19,6 @@ use Rattle.runs.proofs.turn_at.Goals.{In-Line, After-step_at-answer}
 
 -- the line that was read
 module _ (c : In-Line) where
-
   abbrev numbers : List ℤ
   numbers = c.step_at-answer.new.numbers
 
@@ -75,5 +74,8 @@ returns-in-Refused c = let o = (goal.at.returns-in-Refused c).After-step_at-answ
 pub returns-in-Line : goal.returns-in-Line
 returns-in-Line c = let t = c.step-stepped in
     let d = (goal.at.returns-in-Line c).In-Line in
-    let zs = take d.in-Line.count (numbers d) in record { left = λ ws p z stored T K.
-          rw (there d, step_is d.in-Line.letter zs (good d).0 (good d).1 d.args.atoms (expand ws) z) (t.result, c.turn_of.ensures, t.ensures.stepped ws p z stored T K); free = t.ensures.free }
+    let zs = take d.in-Line.count (numbers d) in record {
+      left = λ ws p z stored T K.
+          rw (there d, step_is d.in-Line.letter zs (good d).0 (good d).1 d.args.atoms (expand ws) z) (t.result, c.turn_of.ensures, t.ensures.stepped ws p z stored T K);
+      free = t.ensures.free;
+    }

@@ -2,7 +2,6 @@ use native.Mathlib.Omega.{arith}
 use lib.IntN.{pos}
 use lib.ListN.{get_or}
 use mathlib.Core.Path.{◌≡◌, sym, ◌∙◌}
-use Prim.Native.Nat.{◌-◌}
 use Rattle.words.specs.Literals.{variable}
 use Rattle.words.proofs.Laws.{all-on, all_here, all_none}
 use Rattle.words.proofs.Words.{back}

@@ -10,13 +10,11 @@ use Rattle.costs.specs.Costs.{Cost, restricted}
 use Rattle.cheapest.specs.Private.{Restricts}
 use Rattle.cheapest.proofs.Answers.{checked-by}
 use Rattle.cheapest.proofs.Words.{restricts-size, restricted-program}
-use borrow.Author.Rules.{rules}
 use Rattle.cheapest.proofs.restricted.accepts.Goals as goal
 use Rattle.cheapest.proofs.restricted.accepts.Goals.{After-append_rule}
 
 -- the program with the restriction
 module _ (c : After-append_rule) where
-
   whole : {ws : List InputRule} → Program c.args.table.now c.args.rules c.args.atoms ws
       → {ks : List Cost} {C : ℕ} → Restricts c.args.atoms ks C c.args.rule.now
       → Program c.append_rule.new.wide (c.args.rules + 1) c.args.atoms (restricted ws ks C)

@@ -18,7 +18,6 @@ use Rattle.checker.proofs.judging.check_within.Goals.{After-run_long-run}
 
 -- what the lines came to
 module _ (c : After-run_long-run) where
-
   abbrev store' : List ℤ
   store' = c.run_long-run.new.store
 

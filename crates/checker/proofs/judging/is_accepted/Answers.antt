@@ -25,5 +25,8 @@ pub returns : goal.returns
 returns c = let q = c in
     let s = c in
     let h : length s.args.text.now ≤ longest = search rules in
-    let same : length q.run_proof-run.new.store ≡ length s.args.store.now = search rules in record { empty = c.zero_all.ensures ∙ ap (λ (n : ℕ). replicate n (pos 0)) same; accepted = λ ws p. c.ends_empty-accepted.ensures longest _ (expand ws) _ _ (q.run_proof-run.ensures longest h ws p)
-          ∙ ap (λ (n : ℕ). ends_empty (course n (expand ws) (length s.args.store.now) s.args.text.now)) p.top }
+    let same : length q.run_proof-run.new.store ≡ length s.args.store.now = search rules in record {
+      empty = c.zero_all.ensures ∙ ap (λ (n : ℕ). replicate n (pos 0)) same;
+      accepted = λ ws p. c.ends_empty-accepted.ensures longest _ (expand ws) _ _ (q.run_proof-run.ensures longest h ws p)
+          ∙ ap (λ (n : ℕ). ends_empty (course n (expand ws) (length s.args.store.now) s.args.text.now)) p.top;
+    }

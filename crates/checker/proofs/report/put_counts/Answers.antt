@@ -2,7 +2,6 @@
 -- Assumes nothing.
 use native.Mathlib.Omega.{arith}
 use Rattle.text.proofs.Puts.{put_on}
-use borrow.Author.Rules.{rules}
 use Rattle.checker.proofs.report.put_counts.Goals as goal
 
 pub returns : goal.returns

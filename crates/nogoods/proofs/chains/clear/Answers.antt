@@ -1,6 +1,6 @@
 -- The loop: the first i cells are 0.
 use mathlib.Core.Path.{◌≡◌, sym, ap, ◌∙◌}
-use Prim.Native.Nat.{ℕ, ◌+◌, ◌-◌, ◌<◌}
+use Prim.Native.Nat.{ℕ, ◌+◌, ◌<◌}
 use native.Mathlib.Omega.{arith}
 use mathlib.Core.Logic.{inl, inr}
 use mathlib.Core.List.{List}
@@ -16,7 +16,6 @@ more : (l : List ℕ) (i : ℕ) → i < length l → ((j : ℕ) → j < i → ge
 more l i b f j h = elim (equal? j i) [
   | inl e ↦ rw e (get_or-set_same l i 0 0 b)
   | inr d ↦ get_or-set_other l i j 0 0 d ∙ f j (omega arith)
-
 ]
 
 -- the cell at i

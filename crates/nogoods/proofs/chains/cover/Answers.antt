@@ -1,7 +1,7 @@
 -- The loop: what is kept is kept, and the records before r are entered.
 use mathlib.Core.Path.{◌≡◌, refl, sym, ap, ◌∙◌}
 use mathlib.Core.List.{List}
-use Prim.Native.Nat.{ℕ, ◌-◌, ◌≤◌}
+use Prim.Native.Nat.{ℕ, ◌≤◌}
 use native.Mathlib.Omega.{arith}
 use lib.ListN.{length, get_or}
 use Rattle.nogoods.specs.Store.{Stored}
@@ -16,8 +16,6 @@ loop-r-init c = (refl, c.covered-r.ensures ∙ ap (λ (k : ℕ). get_or c.args.i
 
 -- the record at r
 module _ (c : In-loop-r) where
-
-
   abbrev m : ℕ
   m = c.scale_of-m.result
 
@@ -40,10 +38,13 @@ module _ (c : In-loop-r) where
 pub enter-requires : goal.enter-requires
 enter-requires c = let e = c in
     let i = (goal.at.enter-requires c).In-loop-r in
-    let K = keeps i in record { «record» = (room i, e.end_at-end.ensures, omega (arith, c.if-m-end.false)); index = (
+    let K = keeps i in record {
+      «record» = (room i, e.end_at-end.ensures, omega (arith, c.if-m-end.false));
+      index = (
         roomy i.loop-r.index (m i) (now-size i) (omega (arith, e.end_at-end.ensures, c.if-m-end.false)),
         λ k b. let t = scaled i K in omega (arith, keeps-small K k (omega (arith, b, t)), t),
-      ) }
+      );
+    }
 
 pub loop-r-smaller : goal.loop-r-smaller
 loop-r-smaller c =

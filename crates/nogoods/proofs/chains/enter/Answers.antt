@@ -1,7 +1,7 @@
 -- One link, the cell that says how far, and the search's own cells.
 use mathlib.Core.Path.{◌≡◌, ap, ◌∙◌}
 use mathlib.Core.List.{List}
-use Prim.Native.Nat.{ℕ, ◌-◌, ◌≤◌}
+use Prim.Native.Nat.{ℕ, ◌≤◌}
 use native.Mathlib.Omega.{arith}
 use lib.ListN.{length, get_or, set, length-set}
 use Rattle.nogoods.specs.Index.{proved_cells, covered_at, key_of, linked_in}
@@ -16,7 +16,6 @@ link-requires c = let p = c.requires in
 
 -- the cells that are lent on
 module _ (c : After-link) where
-
   abbrev w : List ℕ
   w = set c.link.new.index (covered_at c.args.m) c.args.end
 

@@ -7,7 +7,6 @@ pub returns-then-over-eq0 : goal.returns-then-over-eq0
 returns-then-over-eq0 c = record {
   at_start = λ e. rw c.entry_after.ensures;
   at_place = λ y e. absurd (omega (arith, c.if-over-eq0.true));
-
 }
 
 pub returns-else-over-eq0 : goal.returns-else-over-eq0

@@ -5,7 +5,7 @@ use mathlib.Core.List.{List}
 use Prim.Native.Nat.{ℕ, suc, ◌-◌, ◌≤◌, ◌<◌}
 use native.Mathlib.Omega.{arith}
 use lib.ListN.{length}
-use Rattle.words.proofs.Descending.{Walking, walk_start, step_less, step_past, step-found}
+use Rattle.words.proofs.Descending.{walk_start, step_less, step_past, step-found}
 use Rattle.nogoods.specs.Store.{Stored}
 use Rattle.nogoods.specs.Records.{end_at}
 use Rattle.nogoods.specs.Index.{Keeps, Start, key_of, before_of, reach}
@@ -39,7 +39,6 @@ loop-p-init c stored K =
 
 -- the place x
 module _ (c : In-loop-p) where
-
   abbrev x : ℕ
   x = c.loop-p.p - 1
 

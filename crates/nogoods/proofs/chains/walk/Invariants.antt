@@ -1,5 +1,4 @@
 use mathlib.Core.List.{List}
-use Prim.Native.Nat.{◌-◌}
 use Rattle.words.proofs.Descending.{Walking}
 use Rattle.nogoods.specs.Store.{Stored}
 use Rattle.nogoods.specs.Index.{Keeps, Start, Member, Target, key_of, bucket_of, before_of}

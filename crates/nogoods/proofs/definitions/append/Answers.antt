@@ -17,7 +17,6 @@ use Rattle.nogoods.proofs.definitions.append.Goals.{After-make_room-end}
 
 -- what is held once there is room
 module _ (c : After-make_room-end) where
-
   abbrev l : List ℤ
   l = c.args.numbers.now
 

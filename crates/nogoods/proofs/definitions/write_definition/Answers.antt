@@ -21,10 +21,13 @@ write_pairs-requires c = let o = c in
     let w = o.write_first in
     let s = c in
     let l = s.args.numbers.now in
-    let end = header_size + length l in rw (others-sorted l o.sort.new.words s.requires.numbers.1 o.sort.ensures, tail_of end w.new.free, length-drop, length-ascending, w.auto.free) (record { origin = s.requires.origin; room = (
+    let end = header_size + length l in rw (others-sorted l o.sort.new.words s.requires.numbers.1 o.sort.ensures, tail_of end w.new.free, length-drop, length-ascending, w.auto.free) (record {
+      origin = s.requires.origin;
+      room = (
         literals-ascending (drop 1 l) (literals-tail (get_or l 0 (pos 0)) (drop 1 l) (name-and-literals l s.requires.numbers.1 s.requires.numbers.0)),
         omega (arith, length-drop 1 l, s.requires.numbers.1, s.requires.room),
-      ) })
+      );
+    })
 
 pub returns : goal.returns
 returns c =

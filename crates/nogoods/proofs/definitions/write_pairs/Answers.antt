@@ -19,10 +19,13 @@ write_pair-requires c = let t = c in
     let l = t.loop-i in
     let s = c in
     let L = s.args.literals.now in
-    let i = t.loop-i-test.true in record { origin = s.requires.origin; room = (
+    let i = t.loop-i-test.true in record {
+      origin = s.requires.origin;
+      room = (
         rw (back (get_or L l.i (pos 0)) c.write_pair-arg-in-loop-i-1.given) (s.requires.room.0.high (get_or L l.i (pos 0)) (in-at (pos 0) L l.i i)),
         rw (tail_of l.at l.free, length-drop) (omega (arith, i, l.invariant, s.requires.room.1)),
-      ) }
+      );
+    }
 
 pub loop-i-preserved : goal.loop-i-preserved
 loop-i-preserved c =

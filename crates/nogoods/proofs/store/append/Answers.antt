@@ -19,7 +19,6 @@ size o g = ap length (append-nil (stored_words (record_of o g))) ∙ stored-size
 
 -- what is held once there is room
 module _ (c : After-make_room-end) where
-
   abbrev L : List ℤ
   L = c.args.literals.now
 

@@ -1,9 +1,9 @@
 -- The loop keeps `Closing`: the live nogoods before `from` stand in the first `to` words.
-use Prim.Native.Nat.{◌-◌, ◌≤◌}
+use Prim.Native.Nat.{◌≤◌}
 use native.Mathlib.Omega.{arith}
 use lib.ListN.{length}
 use Rattle.nogoods.specs.Records.{end_at}
-use Rattle.nogoods.proofs.Closing.{Closing, closing-start, closing-next, closing-room, closing-ends, closing-over}
+use Rattle.nogoods.proofs.Closing.{closing-start, closing-next, closing-room, closing-ends, closing-over}
 use borrow.Author.Rules.{rules}
 use Rattle.nogoods.proofs.store.close.Goals as goal
 use Rattle.nogoods.proofs.store.close.Goals.{In-loop-from, After-loop-from}

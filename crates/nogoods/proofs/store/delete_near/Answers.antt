@@ -15,7 +15,6 @@ unlinked-at e u = rw e u
 
 -- the nogood is in reach, so that the scale is not 0
 module _ (c : After-scale_of-m) where
-
   abbrev m : ℕ
   m = c.scale_of-m.result
 

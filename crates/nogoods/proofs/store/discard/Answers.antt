@@ -11,7 +11,6 @@ use Rattle.nogoods.proofs.store.discard.Goals.{After-cover, After-walk-spot, In-
 
 -- what is kept after covering
 module _ (c : After-cover) where
-
   covered : (stored : List Stored) → Keeps c.args.store.now c.args.index.now c.args.used stored
       → Keeps c.args.store.now c.cover.new.index c.args.used stored
   covered = c.cover.ensures

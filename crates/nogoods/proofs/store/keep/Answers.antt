@@ -6,7 +6,6 @@ pub returns-then-is_dead : goal.returns-then-is_dead
 returns-then-is_dead c = record {
   dead = λ d. (refl, refl);
   alive = λ a. absurd (true≢false (sym c.if-is_dead.true ∙ c.is_dead.ensures ∙ a));
-
 }
 
 pub returns : goal.returns

@@ -1,6 +1,6 @@
 -- Where both places are one nothing moves. The loop: the first k words are moved, and what stands from `from` + k on is as it was.
 use mathlib.Core.Path.{◌≡◌, refl}
-use Prim.Native.Nat.{◌+◌, ◌-◌, ◌<◌}
+use Prim.Native.Nat.{◌+◌, ◌<◌}
 use native.Mathlib.Omega.{arith}
 use lib.IntN.{pos}
 use lib.ListN.{length, get_or}
@@ -20,7 +20,6 @@ pub loop-k-init : goal.loop-k-init
 loop-k-init c = (omega arith, moved_none _ _ _)
 
 module _ (c : In-loop-k) where
-
   -- the word to read and the one to write are there
   room : let l = c.loop-k in (c.args.to + l.k < length l.words) × (c.args.from + l.k < length l.words)
   room =

@@ -1,7 +1,7 @@
 -- The loop: the assignment grows by what follows, and the entries from the end on are free.
 use mathlib.Core.Path.{◌≡◌, sym, subst, ◌∙◌}
 use mathlib.Core.List.{List}
-use Prim.Native.Nat.{ℕ, ◌+◌, ◌*◌, ◌-◌, ◌≤◌, ◌<◌}
+use Prim.Native.Nat.{ℕ, ◌+◌, ◌*◌, ◌≤◌, ◌<◌}
 use native.Mathlib.Omega.{arith}
 use lib.IntN.{ℤ}
 use lib.ListN.{length, get_or}
@@ -36,7 +36,6 @@ cells index m e h = rw e (scale-room (length index) (omega (arith, h, e)))
 module _ (c : Else-m-eq0) where
   abbrev scale : ℕ
   scale = c.scale_of-m.result
-
 
   enough : cells_per_chain * scale + fixed_cells ≤ length c.args.index.now
   enough = cells c.args.index.now scale c.scale_of-m.ensures.value c.if-m-eq0.false

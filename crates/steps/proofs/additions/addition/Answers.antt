@@ -21,13 +21,19 @@ refutes-live : {store : List ℤ} {index : List ℕ} {used : ℕ} {z : State} {b
 refutes-live K L e f = sym (e ∙ ap (λ l. refuted l L) K.same) ∙ f
 
 pub returns-then-not-all_marked : goal.returns-then-not-all_marked
-returns-then-not-all_marked c = let s = c in record { stepped = λ N ws names bodies z b T K.
-          rw (cited z T Addition _ s.requires.line refl (sym c.all_marked.ensures ∙ c.if-not-all_marked.true)) refl; free = s.requires.free }
+returns-then-not-all_marked c = let s = c in record {
+  stepped = λ N ws names bodies z b T K.
+      rw (cited z T Addition _ s.requires.line refl (sym c.all_marked.ensures ∙ c.if-not-all_marked.true)) refl;
+  free = s.requires.free;
+}
 
 pub returns-then-not-refutes : goal.returns-then-not-refutes
 returns-then-not-refutes c = let k = c in
-    let s = c in record { stepped = λ N ws names bodies z b T K.
-          rw (cited z T Addition _ s.requires.line refl (sym k.all_marked.ensures ∙ k.if-not-all_marked.false), refutes-live K s.args.numbers.now (c.refutes.ensures.refuted b K.keeps) (c.if-not-refutes.true)) refl; free = c.refutes.ensures.free }
+    let s = c in record {
+      stepped = λ N ws names bodies z b T K.
+          rw (cited z T Addition _ s.requires.line refl (sym k.all_marked.ensures ∙ k.if-not-all_marked.false), refutes-live K s.args.numbers.now (c.refutes.ensures.refuted b K.keeps) (c.if-not-refutes.true)) refl;
+      free = c.refutes.ensures.free;
+    }
 
 pub append-requires : goal.append-requires
 append-requires c = let s = c in
@@ -37,8 +43,11 @@ append-requires c = let s = c in
 pub returns : goal.returns
 returns c = let m = c in
     let k = c in
-    let s = c in record { stepped = λ N ws names bodies z b T K. rw (cited z T Addition _ s.requires.line refl (sym k.all_marked.ensures ∙ k.if-not-all_marked.false), refutes-live K s.args.numbers.now (m.refutes.ensures.refuted b K.keeps) (m.if-not-refutes.false)) (
+    let s = c in record {
+      stepped = λ N ws names bodies z b T K. rw (cited z T Addition _ s.requires.line refl (sym k.all_marked.ensures ∙ k.if-not-all_marked.false), refutes-live K s.args.numbers.now (m.refutes.ensures.refuted b K.keeps) (m.if-not-refutes.false)) (
         kept_more K s.args.origin _ _ _ _ c.fitted.result
             (kept-one b s.args.origin _ _ _ c.append.result c.fitted.ensures s.requires.sorted (c.append.ensures b (m.refutes.ensures.held b K.keeps))),
         T,
-      ); free = m.refutes.ensures.free }
+      );
+      free = m.refutes.ensures.free;
+    }

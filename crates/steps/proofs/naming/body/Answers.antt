@@ -52,14 +52,17 @@ slice_bounds-name_body-count c = some_number Body refl c.requires.line
 pub name_body-requires : goal.name_body-requires
 name_body-requires c = let v = (goal.at.name_body-requires c).After-variable_of-name in
     let s = c in
-    let l = s.requires.line in record { program = s.requires.program; index = s.requires.index; name = (
-          rw (name v) (first-low Body refl l),
-          rw (name v) (first-high Body refl l),
-          subst Literals (sym (copied s.args.numbers.now _ _ (some_number Body refl l) c.copy.ensures)) (others-literals Body refl l),
-        ) }
+    let l = s.requires.line in record {
+      program = s.requires.program;
+      index = s.requires.index;
+      name = (
+        rw (name v) (first-low Body refl l),
+        rw (name v) (first-high Body refl l),
+        subst Literals (sym (copied s.args.numbers.now _ _ (some_number Body refl l) c.copy.ensures)) (others-literals Body refl l),
+      );
+    }
 
 module _ (c : After-name_body) where
-
   abbrev numbers : List ℤ
   numbers = c.args.numbers.now
 

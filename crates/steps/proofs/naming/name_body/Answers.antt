@@ -15,13 +15,11 @@ use Rattle.steps.specs.Held.{name_of, Tracks}
 use Rattle.steps.proofs.Names.{unnamed-body}
 use Rattle.steps.proofs.Tracking.{nothing-older}
 use Rattle.steps.proofs.Letters.{no_name, sorted-low}
-use borrow.Author.Rules.{rules}
 use Rattle.steps.proofs.naming.name_body.Goals as goal
 use Rattle.steps.proofs.naming.name_body.Goals.{After-is_unnamed, Start}
 
 -- question 28
 module _ (c : After-is_unnamed) where
-
   abbrev s : Start
   s = c.before.before.before.before.before.before.before
 
@@ -48,8 +46,11 @@ returns c = let e = c in
     let m = c in
     let u = (goal.at.returns c).After-is_unnamed in
     let q = (s u).requires.name in
-    let yes = m.if-not-is_unnamed.false in record { answer = λ N ws p known z T. sym yes ∙ answer u N ws p known z T; named = λ N ws p f known z T new.
+    let yes = m.if-not-is_unnamed.false in record {
+      answer = λ N ws p known z T. sym yes ∙ answer u N ws p known z T;
+      named = λ N ws p f known z T new.
           let none = no_name z T (s u).args.body.now (sym (answer u N ws p known z T) ∙ yes) in
           subst (λ (t : List ℤ). name_of z.named t ≡ 0 → Kept e.enter.new.names e.enter.new.bodies (λ L. cond (same_list t L) (s u).args.name (name_of z.named L)) ws)
           u.sort.ensures
-          (λ n. e.enter.ensures ws p (name_of z.named) T.kept n (nothing-older z T (s u).args.name q.0 q.1 new _ none)) none }
+          (λ n. e.enter.ensures ws p (name_of z.named) T.kept n (nothing-older z T (s u).args.name q.0 q.1 new _ none)) none;
+    }

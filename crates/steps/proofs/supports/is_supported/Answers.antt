@@ -24,7 +24,6 @@ returns-then-atoms-variable_of c =
 
 -- the index covers the program
 module _ (c : After-variable_of-then-is_covered) where
-
   again : c.variable_of-then-is_covered.result ≡ variable (first c.args.numbers.now)
   again = rw (back _ c.h-1.given) at c.variable_of-then-is_covered.ensures
 

@@ -16,7 +16,6 @@ complement_all-requires c =
 
 -- the numbers as they are added
 module _ (c : After-sort) where
-
   added : Joined c.args.numbers.now c.sort.new.words
   added =
       let k = c.complement_all in

@@ -7,7 +7,6 @@ use Rattle.aspif.specs.Rules.{InputRule, expand}
 use Rattle.names.specs.Queries.{asked_names}
 use Rattle.names.specs.declared.queries.Query.TheVariants.{External}
 use Rattle.steps.specs.Held.{Above, LoopNogood}
-use borrow.Author.Rules.{rules}
 use Rattle.steps.proofs.unfounded.add_by_index.Goals as goal
 use Rattle.steps.proofs.unfounded.add_by_index.Goals.{After-look_up-found}
 
@@ -16,7 +15,6 @@ look_up-found-requires c = let p = c.requires in record { state = p.state; index
 
 -- what was found
 module _ (c : After-look_up-found) where
-
   abbrev h : ℤ
   h = get_or c.args.numbers.now 0 (pos 0)
 

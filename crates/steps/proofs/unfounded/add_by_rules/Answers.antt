@@ -6,13 +6,11 @@ use Rattle.aspif.specs.Rules.{InputRule, expand}
 use Rattle.names.specs.Queries.{asked_names}
 use Rattle.names.specs.declared.queries.Query.TheVariants.{External}
 use Rattle.steps.specs.Held.{Above, LoopNogood}
-use borrow.Author.Rules.{rules}
 use Rattle.steps.proofs.unfounded.add_by_rules.Goals as goal
 use Rattle.steps.proofs.unfounded.add_by_rules.Goals.{After-scan-found}
 
 -- what was found
 module _ (c : After-scan-found) where
-
   abbrev asked : List InputRule → (List ℤ → ℕ) → List ℕ
   asked ws called = asked_names External c.args.inside.now called (expand ws)
 

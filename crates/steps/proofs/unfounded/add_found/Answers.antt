@@ -18,7 +18,6 @@ use Rattle.steps.proofs.unfounded.add_found.Goals.{In-Names}
 
 -- the nogood in the row
 module _ (c : In-Names) where
-
   abbrev row : List ℤ
   row = c.args.row.now
 
@@ -38,10 +37,14 @@ module _ (c : In-Names) where
 pub append-requires : goal.append-requires
 append-requires c = let f = (goal.at.append-requires c).In-Names in
     let p = f.requires in
-    let g = held f in record { held = p.store.0; origin = p.store.1; literals = (
-          subst Literals (sym g.1) (gathered-literals (listed p.found.0) p.found.1 largest 1 (omega arith) (omega arith)),
-          omega (arith, size f, g.0),
-        ) }
+    let g = held f in record {
+      held = p.store.0;
+      origin = p.store.1;
+      literals = (
+        subst Literals (sym g.1) (gathered-literals (listed p.found.0) p.found.1 largest 1 (omega arith) (omega arith)),
+        omega (arith, size f, g.0),
+      );
+    }
 
 pub returns-in-Unnamed : goal.returns-in-Unnamed
 returns-in-Unnamed c =

@@ -14,7 +14,6 @@ use Rattle.names.specs.declared.queries.Query.TheVariants.{External}
 use Rattle.steps.specs.Held.{Above, LoopAdded}
 use Rattle.steps.proofs.Tracking.{rules-held}
 use Rattle.steps.proofs.Letters.{some_number, first-high}
-use borrow.Author.Rules.{rules}
 use Rattle.steps.proofs.unfounded.add_nogood.Goals as goal
 
 pub add_by_index-requires : goal.add_by_index-requires

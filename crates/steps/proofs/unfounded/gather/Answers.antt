@@ -1,6 +1,6 @@
 use mathlib.Core.Path.{◌≡◌, refl, ◌∙◌, ap}
 use mathlib.Core.Bool.{false}
-use Prim.Native.Nat.{ℕ, ◌+◌, ◌-◌, ◌≤◌, max}
+use Prim.Native.Nat.{ℕ, ◌+◌, ◌≤◌, max}
 use native.Mathlib.Omega.{arith}
 use lib.Dec.{eqb}
 use mir.Syntax.{w32}
@@ -15,7 +15,6 @@ use Rattle.steps.proofs.unfounded.gather.Goals.{After-larger-end}
 
 -- where the loop ends
 module _ (c : After-larger-end) where
-
   first : c.variable_of.result ≡ variable c.args.h
   first = rw (to_z-of_z c.ranges.h) at c.variable_of.ensures
 
@@ -59,5 +58,8 @@ loop-v-preserved c =
 pub returns : goal.returns
 returns c = let l = c.loop-v in
     let e = (goal.at.returns c).After-larger-end in
-    let h = e.args.h in record { within = omega (arith, l.invariant.1, l.invariant.2, within e); words = gathered-all (marked e.args.found.now) h l.v largest (to_z-of_z {w = w32} e.ranges.h) l.invariant.0 (omega (arith, l.invariant.1, within e))
-          (λ u k. past e u (omega (arith, c.loop-v-test.false))) l.invariant.4 }
+    let h = e.args.h in record {
+      within = omega (arith, l.invariant.1, l.invariant.2, within e);
+      words = gathered-all (marked e.args.found.now) h l.v largest (to_z-of_z {w = w32} e.ranges.h) l.invariant.0 (omega (arith, l.invariant.1, within e))
+          (λ u k. past e u (omega (arith, c.loop-v-test.false))) l.invariant.4;
+    }

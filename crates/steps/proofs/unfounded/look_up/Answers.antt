@@ -30,7 +30,6 @@ external_names-found-requires c = let p = c.requires in
 
 -- the names in the row after its first word
 module _ (c : In-Names) where
-
   abbrev row : List ℤ
   row = c.external_names-found.new.row
 

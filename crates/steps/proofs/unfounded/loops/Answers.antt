@@ -14,13 +14,11 @@ use Rattle.derivation.specs.Loops.{is_loop}
 use Rattle.steps.specs.Held.{PassedLine, name_of}
 use Rattle.steps.proofs.Letters.{cited}
 use Rattle.steps.proofs.LoopSteps.{members, names-above, loop-atoms, loop-not, loop-ends}
-use borrow.Author.Rules.{rules}
 use Rattle.steps.proofs.unfounded.loops.Goals as goal
 use Rattle.steps.proofs.unfounded.loops.Goals.{Else-atoms-largest_variable, After-is_loop}
 
 -- what the first two tests leave
 module _ (c : Else-atoms-largest_variable) where
-
   abbrev U : List ℤ
   U = c.args.numbers.now
 

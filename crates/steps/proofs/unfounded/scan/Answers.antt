@@ -13,13 +13,11 @@ use Rattle.names.specs.declared.queries.Query.TheVariants.{External}
 use Rattle.names.proofs.Asked.{names-all, name-missing}
 use Rattle.steps.specs.Held.{Above, gathered}
 use Rattle.steps.proofs.Gathering.{gathered-same}
-use borrow.Author.Rules.{rules}
 use Rattle.steps.proofs.unfounded.scan.Goals as goal
 use Rattle.steps.proofs.unfounded.scan.Goals.{After-mark_names}
 
 -- the names that are marked
 module _ (c : After-mark_names) where
-
   abbrev marks : List ℕ
   marks = c.mark_names.new.found
 
