@@ -13,7 +13,6 @@ use Rattle.words.specs.Limits.{longest}
 use Rattle.words.proofs.Lists.{if-true, and_right, leb-decides}
 use Rattle.aspif.specs.Rules.{InputRule}
 use Rattle.aspif.specs.Reading.{Reading, program, read_text, program_answer, table_of}
-use Rattle.aspif.specs.Reading as Reading
 use Rattle.aspif.specs.declared.ProgramReading.{ProgramReading}
 use Rattle.aspif.specs.declared.ProgramReading.TheVariants as Answer
 use Rattle.aspif.specs.declared.ProgramRefusal.{ProgramRefusal}
@@ -29,7 +28,6 @@ use Rattle.splits.specs.Joined.{WrittenBy}
 use Rattle.splits.specs.Judging.{judged_as}
 use Rattle.splits.specs.declared.MergeAnswer.TheVariants.{Merged, RefusedProgram, Refused}
 use Rattle.splits.specs.declared.texts.Written.{Written}
-use Rattle.splits.specs.declared.texts.Written.TheVariants as Written
 
 -- what is left of nothing, by the lengths that the caller knows
 pub left-nothing : (t s o : ℕ) {k : ℕ} {table store : List ℤ} {output : List ℕ} → table ≡ replicate t (pos 0) → store ≡ replicate s (pos 0) → output ≡ replicate o 0

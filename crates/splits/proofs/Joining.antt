@@ -32,7 +32,7 @@ use Rattle.steps.specs.Held.{Program, name_of}
 use Rattle.steps.proofs.Names.{name-high}
 use Rattle.steps.proofs.Tracking.{rules-held}
 use Rattle.checker.proofs.Whole.{run-through}
-use Rattle.merging.specs.Merge.{demanding, named_in, is_body, half, second_names, merged, one, fits, all_fit}
+use Rattle.merging.specs.Merge.{demanding, named_in, is_body, half, second_names, merged, fits, all_fit}
 use Rattle.merging.specs.Claims.{demanding_as_written}
 use Rattle.merging.proofs.AsWritten.{demanding-expanded}
 use Rattle.merging.proofs.Merged.{well-named}

@@ -1,6 +1,7 @@
 // Two halves of a split, as texts, into one proof text: document 02, Change 9. The public service is `merge_halves`; what it leaves is
 // specs/Service.antt.
 #![tactic(auto)]
+
 pub mod halves;
 mod tables;
 pub mod texts;

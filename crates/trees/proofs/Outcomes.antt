@@ -22,7 +22,6 @@ use Rattle.merging.specs.Claims.{demanding_as_written}
 use Rattle.splits.specs.Service.{are_halves, merged_steps, is_writable}
 use Rattle.splits.specs.Joined.{WrittenBy}
 use Rattle.splits.specs.declared.texts.Written.{Written}
-use Rattle.splits.specs.declared.texts.Written.TheVariants as Written
 use Rattle.splits.proofs.Answers.{text_in}
 use Rattle.shapes.specs.Tree.{Shape, end, split, leaves, sum, ends}
 use Rattle.trees.specs.Service.{Side, fails, gives, first_end, merge_outcome, tree_outcome}

@@ -11,7 +11,6 @@ use Rattle.words.specs.Limits.{longest}
 use Rattle.words.proofs.Lists.{is_true, leb-decides}
 use Rattle.aspif.specs.Rules.{InputRule, expand, atoms}
 use Rattle.aspif.specs.Reading.{Reading, program, read_text}
-use Rattle.aspif.specs.Reading as Reading
 use Rattle.drupe.specs.Texts.{text_of}
 use Rattle.runs.specs.Course.{course, is_accepted}
 use Rattle.checker.specs.Check.{Checked}

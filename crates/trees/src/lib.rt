@@ -2,6 +2,7 @@
 // it leaves is specs/Service.antt. Recursion goes over the tree, with the remaining depth falling from six: in crate shapes, which decides 64
 // before any end is read, and in sides.rt.
 #![tactic(auto)]
+
 mod sides;
 
 ghost use Rattle.std.specs.Prelude.{◌≡◌, List, [], ◌≤◌, pos, length, replicate};

@@ -19,7 +19,6 @@ check_proof-verdict-requires c = let q = c.requires in record { program = (q.pro
 
 -- what the check of the text says
 module _ (c : After-check_proof-verdict) where
-
   module _ (ws : List InputRule) (text : List ℕ) where
     abbrev came : Course
     came = course (atoms ws) (expand ws) (length c.args.store.now) text

@@ -12,7 +12,6 @@ use Rattle.splits.proofs.merge_halves.Goals.{In-Read, Start}
 
 -- what was read, where a program is
 module _ (c : In-Read) where
-
   abbrev start : Start
   start = c.before.before.before.before.before.before.before.before.before.before.before.before.before.before.before.before
 

@@ -13,13 +13,11 @@ use Rattle.splits.specs.declared.MergeAnswer.TheVariants.{Refused}
 use Rattle.splits.specs.declared.texts.Written.TheVariants as Written
 use Rattle.splits.proofs.Answers.{same-nothing, judged-same, not_written, Text, is-written}
 use native.Mathlib.Omega.{arith}
-use borrow.Author.Rules.{rules}
 use Rattle.splits.proofs.merge_read.Goals as goal
 use Rattle.splits.proofs.merge_read.Goals.{After-write-written}
 
 -- what 57 and 58 left
 module _ (c : After-write-written) where
-
   abbrev store' : List ℤ
   store' = c.write-written.new.store
 

@@ -6,7 +6,6 @@ use Rattle.trees.proofs.merge_read.Goals.{Else-not-is_tree}
 
 -- 64 is passed
 module _ (c : Else-not-is_tree) where
-
   fits : Fitting c.args.atoms c.args.tree.now c.args.texts.now c.args.lengths.now
   fits = fitting c.args.atoms c.args.tree.now c.args.texts.now c.args.lengths.now (sym c.is_tree.ensures ∙ c.if-not-is_tree.false)
 

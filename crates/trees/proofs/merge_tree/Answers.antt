@@ -12,7 +12,6 @@ use Rattle.trees.proofs.merge_tree.Goals.{In-Read, Start}
 
 -- what was read, where a program is
 module _ (c : In-Read) where
-
   abbrev start : Start
   start = c.before.before.before.before.before.before.before.before.before.before.before.before.before.before.before.before.before
 

@@ -15,9 +15,8 @@ use Rattle.trees.specs.Service.{written_tree}
 use Rattle.trees.specs.Sides.{Standing, Subtree, pending, Merged}
 use Rattle.trees.specs.declared.sides.Place.{Place}
 use Rattle.trees.proofs.Constraints.{room_for, standing-first}
-use borrow.Author.Rules.{rules}
 use Rattle.trees.proofs.merge_whole.Goals as goal
-use Rattle.trees.proofs.merge_whole.Goals.{After-copy, After-merge_side, Start, In-Text}
+use Rattle.trees.proofs.merge_whole.Goals.{After-copy, After-merge_side, In-Text}
 use Rattle.trees.proofs.merge_whole.Lts.View as view
 use Rattle.trees.proofs.merge_whole.Reads as reads
 use Rattle.trees.proofs.merge_whole.Tie as tie
@@ -33,7 +32,6 @@ copy-requires c =
 
 -- the program in the wider table
 module _ (c : After-copy) where
-
   abbrev wide : List ℤ
   wide = c.copy.new.destination
 
@@ -54,17 +52,14 @@ module _ (c : After-merge_side) where
   abbrev copied : After-copy
   copied = (view.up-After-copy tie.the-claims reads.Pre reads.Post tie.handed_clauses c.before.before.before.before.before.before)
 
-  abbrev begun : Start
-  begun = start copied
-
   abbrev t : ℕ
-  t = length begun.args.table.now
+  t = length c.args.table.now
 
   abbrev s : ℕ
-  s = length begun.args.store.now
+  s = length c.args.store.now
 
   abbrev o : ℕ
-  o = length begun.args.output.now
+  o = length c.args.output.now
 
   abbrev store' : List ℤ
   store' = c.merge_side.new.store
@@ -78,9 +73,9 @@ module _ (c : After-merge_side) where
   long : length whole ≡ longest
   long = c.merge_side.auto.output ∙ length-replicate {A = ℕ} longest 0
 
-  module _ {ws : List InputRule} (P : Program begun.args.table.now begun.args.rules begun.args.atoms ws) {u : Shape}
-      (T : Subtree most_splits begun.args.atoms begun.args.tree.now begun.args.texts.now begun.args.lengths.now u []) where
-    merged : Merged s o ws u [] begun.args.tree.now begun.args.texts.now begun.args.lengths.now whole c.merge_side.result
+  module _ {ws : List InputRule} (P : Program c.args.table.now c.args.rules c.args.atoms ws) {u : Shape}
+      (T : Subtree most_splits c.args.atoms c.args.tree.now c.args.texts.now c.args.lengths.now u []) where
+    merged : Merged s o ws u [] c.args.tree.now c.args.texts.now c.args.lengths.now whole c.merge_side.result
     merged = c.merge_side.ensures.side ws (standing copied P) u [] T
 
 -- it is a text
@@ -93,8 +88,8 @@ module _ (c : In-Text) where
 
   within : n ≤ longest
   within =
-      let q = (begun side).requires in
-      (subst (Merged (s side) (o side) q.program.0.0 q.tree.0 [] (begun side).args.tree.now (begun side).args.texts.now (begun side).args.lengths.now (whole side)) c.in-Text.is (merged side q.program.0.1 q.tree.1)).took.0
+      let q = side.requires in
+      (subst (Merged (s side) (o side) q.program.0.0 q.tree.0 [] side.args.tree.now side.args.texts.now side.args.lengths.now (whole side)) c.in-Text.is (merged side q.program.0.1 q.tree.1)).took.0
 
   inside : n ≤ length (whole side)
   inside = omega (arith, within, long side)
@@ -102,14 +97,20 @@ module _ (c : In-Text) where
   size_is : length (take n (whole side)) ≡ n
   size_is = length-take-le n (whole side) inside
 
+pub slice_bounds-whole-end : goal.slice_bounds-whole-end
+slice_bounds-whole-end c = inside (goal.at.slice_bounds-whole-end c).In-Text
+
+pub slice_bounds-write_out-end : goal.slice_bounds-write_out-end
+slice_bounds-write_out-end c = sym (size_is (goal.at.slice_bounds-write_out-end c).In-Text)
+
 pub write_out-requires : goal.write_out-requires
 write_out-requires c = let d = (goal.at.write_out-requires c).In-Text in
-    let q = (begun (side d)).requires in record { program = q.program; empty = ((zeros (pos 0) {n = s (side d)} (side d).merge_side.ensures.empty).0, q.empty.1); text = omega (arith, size_is d, within d) }
+    let q = d.requires in record { program = q.program; empty = ((zeros (pos 0) {n = s (side d)} (side d).merge_side.ensures.empty).0, q.empty.1); text = omega (arith, size_is d, within d) }
 
 pub returns-in-Refused : goal.returns-in-Refused
 returns-in-Refused c = λ ws p w u T.
     let d = (goal.at.returns-in-Refused c).After-merge_side in
-    let a = (begun d).args in
+    let a = d.args in
     c.refuse.ensures ∙ same-nothing _ (refl {a = t d}) (same_store d) (refl {a = o d})
     ∙ sym (ap (written_tree (t d) (s d) (o d) ws) (subst (Merged (s d) (o d) ws u [] a.tree.now a.texts.now a.lengths.now (whole d)) c.in-Refused.is (merged d p T)).outcome)
 
@@ -117,7 +118,7 @@ pub returns-in-Text : goal.returns-in-Text
 returns-in-Text c = λ ws p w u T.
     let d = (goal.at.returns-in-Text c).After-merge_side in
     let e = (goal.at.returns-in-Text c).In-Text in
-    let a = (begun d).args in
+    let a = d.args in
     c.write_out.ensures ws p w
     ∙ (ap (λ (z : ℕ). written_tree (t d) z (o d) ws (pending z ws (take (n e) (whole d)) e.in-Text.pending.refusal)) (same_store d)
     ∙ sym (ap (written_tree (t d) (s d) (o d) ws) (subst (Merged (s d) (o d) ws u [] a.tree.now a.texts.now a.lengths.now (whole d)) e.in-Text.is (merged d p T)).outcome))

@@ -9,7 +9,6 @@ use Rattle.trees.proofs.write_out.Goals.{After-check_proof-verdict}
 
 -- what the check of the text says
 module _ (c : After-check_proof-verdict) where
-
   -- the lengths of what was lent
   abbrev t : ℕ
   t = length c.args.table.now

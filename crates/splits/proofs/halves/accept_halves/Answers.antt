@@ -27,7 +27,6 @@ use Rattle.splits.proofs.halves.accept_halves.Tie as tie
 
 -- the number is an atom, and a literal
 module _ (c : Else-not-is_atom) where
-
   is-atom : is_atom c.args.atoms c.args.v ≡ true
   is-atom = sym c.is_atom.ensures ∙ c.if-not-is_atom.false
 
@@ -92,9 +91,12 @@ returns c = let b = c.accepts_with-2 in
     let k = (goal.at.returns c).After-complement_of in
     let a = (goal.at.returns c).After-accepts_with in
     let x = e a in
-    let v = x.args.v in record { empty = b.ensures.empty ∙ ap (λ (n : ℕ). replicate n (pos 0)) (same_store a); checked = λ ws p.
+    let v = x.args.v in record {
+      empty = b.ensures.empty ∙ ap (λ (n : ℕ). replicate n (pos 0)) (same_store a);
+      checked = λ ws p.
           let Half : ℕ → Type 0 = λ n.
           HalfChecked x.args.atoms (demanding_as_written ws (complement (to_z w32 (of_z w32 k.complement_of.result)))) n x.args.first.now
           b.new.known b.new.names b.new.bodies b.result in
           halves-checked (length x.args.store.now) ws v _ _ p.top (is-atom x) (literal x) (a.accepts_with.ensures.checked ws p)
-          (c.if-not-accepts_with.false) (other k) (subst Half (same_store a) (b.ensures.checked ws p)) }
+          (c.if-not-accepts_with.false) (other k) (subst Half (same_store a) (b.ensures.checked ws p));
+    }

@@ -11,9 +11,12 @@ use Rattle.splits.proofs.halves.accepts.Goals as goal
 
 pub returns-then-text-gt-LONGEST : goal.returns-then-text-gt-LONGEST
 returns-then-text-gt-LONGEST c = let s = c in
-    let l : longest < length s.args.text.now = search rules in record { empty = s.requires.empty; checked = λ ws p.
+    let l : longest < length s.args.text.now = search rules in record {
+      empty = s.requires.empty;
+      checked = λ ws p.
           let q = too_long longest s.args.atoms (expand ws) (length s.args.store.now) s.args.text.now l in
-          record { answer = sym (ap ends_empty q); ended = rw q tt } }
+          record { answer = sym (ap ends_empty q); ended = rw q tt };
+    }
 
 pub run_half-run-requires : goal.run_half-run-requires
 run_half-run-requires c = let p = c.requires in

@@ -10,7 +10,6 @@ use Rattle.aspif.specs.Rules.{InputRule}
 use Rattle.steps.specs.Held.{Program}
 use Rattle.merging.specs.Claims.{demanding_as_written}
 use Rattle.splits.proofs.Demands.{demanded, demanded-bodies}
-use borrow.Author.Rules.{rules}
 use Rattle.splits.proofs.halves.accepts_with.Goals as goal
 use Rattle.splits.proofs.halves.accepts_with.Goals.{After-append_demand}
 
@@ -23,10 +22,9 @@ append_demand-requires c = let p = c.requires in record { rules = p.program.0.1.
 
 -- the program with the constraint
 module _ (c : After-append_demand) where
-
   whole : {ws : List InputRule} → Program c.args.table.now c.args.rules c.args.atoms ws
       → Program c.append_demand.new.wide (c.args.rules + 1) c.args.atoms (demanding_as_written ws (complement c.args.literal))
-  whole p = let k = rw (to_z-of_z c.fits.literal) at c.append_demand.ensures in demanded p c.args.literal c.requires.atom k.0 k.1
+  whole p = let k = rw (to_z-of_z c.ranges.literal) at c.append_demand.ensures in demanded p c.args.literal c.requires.atom k.0 k.1
 
 pub accepts-requires : goal.accepts-requires
 accepts-requires c = let d = (goal.at.accepts-requires c).After-append_demand in

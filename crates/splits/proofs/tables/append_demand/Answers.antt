@@ -6,7 +6,6 @@ use mir.Syntax.{w32}
 use mir.Val.{to_z, of_z}
 use mir.Facts.{to_z-of_z}
 use Rattle.splits.specs.Halves.{demand_words}
-use borrow.Author.Rules.{rules}
 use Rattle.splits.proofs.tables.append_demand.Goals as goal
 
 pub append_rule-requires : goal.append_rule-requires

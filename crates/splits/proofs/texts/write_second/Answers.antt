@@ -15,7 +15,6 @@ use Rattle.splits.proofs.texts.write_second.Goals.{After-write_half-wrote}
 
 -- the half's lines
 module _ (c : After-write_half-wrote) where
-
   abbrev new : ℕ → ℕ
   new u = get_or c.args.new.now u 0
 
@@ -29,7 +28,7 @@ module _ (c : After-write_half-wrote) where
   wrote r e h =
       subst (λ (r : Wrote). Lines r h) e
       (subst (λ (x : ℤ). HalfOf c.args.second.now x c.args.shared.now c.args.added.body c.args.added.constraint h.N h.P h.bodies h.ts
-      → Writes (half h.P x new h.bodies [] h.ts) c.args.output.now output' c.args.at c.write_half-wrote.result) (to_z-of_z c.fits.x)
+      → Writes (half h.P x new h.bodies [] h.ts) c.args.output.now output' c.args.at c.write_half-wrote.result) (to_z-of_z c.ranges.x)
       (c.write_half-wrote.ensures h.N h.P h.bodies h.ts) h.is)
 
 pub write_line-requires : goal.write_line-requires

@@ -29,7 +29,6 @@ write_half-wrote-requires c = let s = c in
 
 -- the first half's lines
 module _ (c : After-write_half-wrote) where
-
   abbrev same : ℕ → ℕ
   same u = get_or c.keep_all.new.new u 0
 
@@ -45,7 +44,7 @@ module _ (c : After-write_half-wrote) where
       (same_half same (λ u. u) c.keep_all.ensures h.P c.args.x h.bodies c.args.first.now h.ts h.is.reads)
       (subst (λ (r : Wrote). Writes (lines_of h same) c.args.output.now output' 0 r) e
       (subst (λ (x : ℤ). HalfOf c.args.first.now x (0 ∷ []) c.args.demanded.body c.args.demanded.constraint h.N h.P h.bodies h.ts
-      → Writes (half h.P x same h.bodies [] h.ts) c.args.output.now output' 0 c.write_half-wrote.result) (to_z-of_z c.fits.x)
+      → Writes (half h.P x same h.bodies [] h.ts) c.args.output.now output' 0 c.write_half-wrote.result) (to_z-of_z c.ranges.x)
       (c.write_half-wrote.ensures h.N h.P h.bodies h.ts) h.is))
 
 -- the second half's literal

@@ -13,7 +13,6 @@ use Rattle.trees.proofs.sides.demand_atom.Goals as goal
 use Rattle.trees.proofs.sides.demand_atom.Goals.{After-literal_of}
 
 module _ (c : After-literal_of) where
-
   literal : to_z w32 (of_z w32 c.literal_of.result) ≡ pos c.args.v
   literal = to_z-of_z {w = w32} (sfits_of {z = c.literal_of.result} c.literal_of.type_inv) ∙ c.literal_of.ensures
 

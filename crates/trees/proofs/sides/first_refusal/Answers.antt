@@ -10,7 +10,6 @@ use Rattle.steps.specs.Held.{Program}
 use Rattle.merging.specs.Claims.{demanding_as_written}
 use Rattle.trees.specs.Sides.{Standing}
 use Rattle.trees.proofs.Constraints.{small-atom, demand-program, same-program}
-use borrow.Author.Rules.{rules}
 use Rattle.trees.proofs.sides.first_refusal.Goals as goal
 use Rattle.trees.proofs.sides.first_refusal.Goals.{After-demand_atom}
 
@@ -22,7 +21,6 @@ demand_atom-requires c =
 
 -- the program with the constraint
 module _ (c : After-demand_atom) where
-
   module _ {ws : List InputRule} (S : Standing 1 c.args.place c.args.table.now ws) where
     whole : Program c.demand_atom.new.table (c.args.place.rules + 1) c.args.place.atoms (demanding_as_written ws (pos c.args.v))
     whole = demand-program S (pos c.args.v) c.requires.atom (omega arith) refl c.demand_atom.ensures
@@ -31,7 +29,7 @@ module _ (c : After-demand_atom) where
   same = same-program c.requires.place.1 (pos c.args.v) c.requires.atom (omega arith) refl c.demand_atom.ensures
 
 pub is_accepted-requires : goal.is_accepted-requires
-is_accepted-requires c = let d = (goal.at.is_accepted-requires c).Start in
+is_accepted-requires c = let d = (goal.at.is_accepted-requires c).After-demand_atom in
     let q = d.requires in record { program = ((demanding_as_written q.place.0 (pos d.args.v), whole d q.place.1), omega (arith, q.place.1.rules)); empty = q.empty }
 
 pub returns-then-not-is_accepted : goal.returns-then-not-is_accepted

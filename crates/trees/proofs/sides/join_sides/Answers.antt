@@ -39,20 +39,25 @@ module _ (s : Start) where
 
 pub slice_bounds-merge_texts-end-in-Text : goal.slice_bounds-merge_texts-end-in-Text
 slice_bounds-merge_texts-end-in-Text c =
-    let g = c.other-in-Text-1.given in sym (length-take-le g.0.0.size c.args.second.now (joinable (goal.at.slice_bounds-merge_texts-end-in-Text c).Start g.0.0 g.1).1)
+    sym (length-take-le c.in-Text.two.size c.args.second.now (joinable (goal.at.slice_bounds-merge_texts-end-in-Text c).Start c.in-Text.two c.in-Text.is).1)
 
 pub merge_texts-requires : goal.merge_texts-requires
 merge_texts-requires c = let s = (goal.at.merge_texts-requires c).Start in
-    let g = c.other-in-Text-1.given in let all = (s.requires.place, (s.requires.atom, ((joinable s g.0.0 g.1).2, s.requires.1.1.1))) in record { place = all.0; atom = all.1.0; counted = all.1.1.0; empty = all.1.1.1.0; blank = all.1.1.1.1 }
+    let p = s.requires in record { place = p.place; atom = p.atom; counted = (joinable s c.in-Text.two c.in-Text.is).2; empty = p.empty; blank = p.blank }
 
 pub returns-in-Refused : goal.returns-in-Refused
 returns-in-Refused c = let s = (goal.at.returns-in-Refused c).Start in
     let r = c.first_refusal in
-    let g = c.other-1.given in record { empty = r.ensures.empty; program = r.ensures.program; side = λ ws S.
-              ap (joined s ws) g.1
-              ∙ (other-refused (store-size s) s.args.place.limit ws s.args.v (text s) s.args.one.refusal g.0.0 ∙ ap fails (sym (r.ensures.number ws S))); taken = subst (λ (w : Sided). AddsTo s.args.one w (Refused r.result)) (sym g.1) tt }
+    record {
+      empty = r.ensures.empty;
+      program = r.ensures.program;
+      side = λ ws S.
+          ap (joined s ws) c.in-Refused.is
+          ∙ (other-refused (store-size s) s.args.place.limit ws s.args.v (text s) s.args.one.refusal c.in-Refused.number ∙ ap fails (sym (r.ensures.number ws S)));
+      taken = subst (λ (w : Sided). AddsTo s.args.one w (Refused r.result)) (sym c.in-Refused.is) tt;
+    }
 
 pub returns-in-Text : goal.returns-in-Text
 returns-in-Text c = let s = (goal.at.returns-in-Text c).Start in
     let m = c.merge_texts in
-    let g = c.other-in-Text-1.given in record { empty = m.ensures.empty; program = m.ensures.program; side = λ ws S. ap (joined s ws) g.1 ∙ m.ensures.side ws S; taken = subst (λ (w : Sided). AddsTo s.args.one w m.result) (sym g.1) m.ensures.taken }
+    record { empty = m.ensures.empty; program = m.ensures.program; side = λ ws S. ap (joined s ws) c.in-Text.is ∙ m.ensures.side ws S; taken = subst (λ (w : Sided). AddsTo s.args.one w m.result) (sym c.in-Text.is) m.ensures.taken }

@@ -20,13 +20,11 @@ use Rattle.trees.specs.declared.sides.Pending.{Pending}
 use Rattle.trees.specs.declared.sides.Sided.TheVariants.{Text}
 use Rattle.trees.proofs.Constraints.{within, length-cleared, front-cleared, standing-same}
 use Rattle.trees.proofs.Outcomes.{over-buffer, not-halves, text-size, over-limit, text-pending}
-use borrow.Author.Rules.{rules}
 use Rattle.trees.proofs.sides.merge_texts.Goals as goal
 use Rattle.trees.proofs.sides.merge_texts.Goals.{After-zero_all, After-write}
 
 -- the table without constraints of the sides
 module _ (c : After-zero_all) where
-
   abbrev used : ℕ
   used = c.args.place.used
 
@@ -56,62 +54,83 @@ module _ (c : After-zero_all) where
     atom = subst (λ (N : ℕ). is_atom N c.args.v ≡ true) S.program.top c.requires.atom
 
 pub write-requires : goal.write-requires
-write-requires c = let d = (goal.at.write-requires c).Start in
+write-requires c = let d = (goal.at.write-requires c).After-zero_all in
     let S = d.requires.place.1 in
     let P = program d S in record { program = ((d.requires.place.0, P), omega (arith, S.rules)); short = omega (arith, ap (λ (rs : List InputRule). length (program_words rs)) P.holds.are, S.used, S.room); empty = (d.requires.empty, (zeros 0 {n = longest} d.requires.blank).0) }
 
 -- what 57 and 58 left
 module _ (c : After-write) where
-  abbrev z : After-zero_all
-  z = c.before.before.before.before.before.before.before.before.before.before
-
   abbrev store' : List ℤ
   store' = c.write.new.store
 
   abbrev output' : List ℕ
   output' = c.write.new.output
 
-  same_store : length store' ≡ length z.args.store.now
+  same_store : length store' ≡ length c.args.store.now
   same_store = c.write.auto.store
 
   same-output : length output' ≡ longest
-  same-output = c.write.auto.output ∙ long z
+  same-output = c.write.auto.output ∙ ap length c.requires.blank ∙ length-replicate {A = ℕ} longest 0
 
 pub returns-then-number-eq58 : goal.returns-then-number-eq58
 returns-then-number-eq58 c = let w = (goal.at.returns-then-number-eq58 c).After-write in
-    let x = (z w).args in record { empty = w.write.ensures.empty; program = front (z w); side = λ ws S.
-              over-buffer (length x.store.now) x.place.limit ws x.v x.first.now x.second.now (output' w) x.one.refusal x.two.refusal (atom (z w) S) (same-output w)
-              c.in-Refused.number c.in-Refused.is c.if-number-eq58.true (w.write.ensures.written ws (program (z w) S)); taken = tt }
+    let z = (goal.at.returns-then-number-eq58 c).After-zero_all in
+    let x = z.args in record {
+      empty = w.write.ensures.empty;
+      program = front z;
+      side = λ ws S.
+          over-buffer (length x.store.now) x.place.limit ws x.v x.first.now x.second.now (output' w) x.one.refusal x.two.refusal (atom z S) (same-output w)
+          c.in-Refused.number c.in-Refused.is c.if-number-eq58.true (w.write.ensures.written ws (program z S));
+      taken = tt;
+    }
 
 pub first_refusal-requires : goal.first_refusal-requires
 first_refusal-requires c = let w = (goal.at.first_refusal-requires c).After-write in
-    let q = (z w).requires in record { place = (q.place.0, standing (z w) q.place.1); atom = q.atom; empty = (zeros (pos 0) {n = length (z w).args.store.now} w.write.ensures.empty).0 }
+    let z = (goal.at.first_refusal-requires c).After-zero_all in
+    let q = z.requires in record { place = (q.place.0, standing z q.place.1); atom = q.atom; empty = (zeros (pos 0) {n = length z.args.store.now} w.write.ensures.empty).0 }
 
 pub returns-then-place-size : goal.returns-then-place-size
 returns-then-place-size c = let w = (goal.at.returns-then-place-size c).After-write in
-    let x = (z w).args in record { empty = w.write.ensures.empty; program = front (z w); side = λ ws S.
-              over-limit (length x.store.now) x.place.limit ws x.v x.first.now x.second.now (output' w) x.one.refusal x.two.refusal (atom (z w) S) (same-output w)
-              c.in-Text.size c.in-Text.is (w.write.ensures.written ws (program (z w) S)) c.if-place-size.true; taken = tt }
+    let z = (goal.at.returns-then-place-size c).After-zero_all in
+    let x = z.args in record {
+      empty = w.write.ensures.empty;
+      program = front z;
+      side = λ ws S.
+          over-limit (length x.store.now) x.place.limit ws x.v x.first.now x.second.now (output' w) x.one.refusal x.two.refusal (atom z S) (same-output w)
+          c.in-Text.size c.in-Text.is (w.write.ensures.written ws (program z S)) c.if-place-size.true;
+      taken = tt;
+    }
 
 pub returns-else-number-eq58 : goal.returns-else-number-eq58
 returns-else-number-eq58 c = let w = (goal.at.returns-else-number-eq58 c).After-write in
+    let z = (goal.at.returns-else-number-eq58 c).After-zero_all in
     let f = c.first_refusal in
-    let x = (z w).args in record { empty = f.ensures.empty ∙ ap (λ (n : ℕ). replicate n (pos 0)) (same_store w); program = f.ensures.program ∙ front (z w); side = λ ws S.
-              not-halves (length x.store.now) x.place.limit ws x.v x.first.now x.second.now (output' w) x.one.refusal x.two.refusal (atom (z w) S) (same-output w)
-              c.in-Refused.number c.in-Refused.is c.if-number-eq58.false (w.write.ensures.written ws (program (z w) S))
-              ∙ ap fails
-              (ap (λ (n : ℕ). cond (is_accepted n (demanding_as_written ws (pos x.v)) x.first.now) x.two.refusal x.one.refusal) (sym (same_store w))
-              ∙ sym (f.ensures.number ws (standing (z w) S))); taken = tt }
+    let x = z.args in record {
+      empty = f.ensures.empty ∙ ap (λ (n : ℕ). replicate n (pos 0)) (same_store w);
+      program = f.ensures.program ∙ front z;
+      side = λ ws S.
+          not-halves (length x.store.now) x.place.limit ws x.v x.first.now x.second.now (output' w) x.one.refusal x.two.refusal (atom z S) (same-output w)
+          c.in-Refused.number c.in-Refused.is c.if-number-eq58.false (w.write.ensures.written ws (program z S))
+          ∙ ap fails
+          (ap (λ (n : ℕ). cond (is_accepted n (demanding_as_written ws (pos x.v)) x.first.now) x.two.refusal x.one.refusal) (sym (same_store w))
+          ∙ sym (f.ensures.number ws (standing z S)));
+      taken = tt;
+    }
 
 pub returns-else-place-size : goal.returns-else-place-size
 returns-else-place-size c = let w = (goal.at.returns-else-place-size c).After-write in
-    let x = (z w).args in
-    let q = (z w).requires.place in
-    let g = c.size-1.given in record { empty = w.write.ensures.empty; program = front (z w); side = λ ws S.
-              text-pending (length x.store.now) x.place.limit ws x.v x.first.now x.second.now (output' w) x.one.refusal x.two.refusal (atom (z w) S) (same-output w)
-              g.0.0 g.1 (w.write.ensures.written ws (program (z w) S)) (omega (arith, c.if-place-size.false))
-              ∙ ap (λ (p : Pending). side_of (length x.store.now) ws (output' w) (Text p)) (sym c.both.ensures); taken = subst (λ (p : Pending). Adds x.one x.two (Text p)) (sym c.both.ensures) (
-            text-size (length x.store.now) x.place.limit q.0 x.v x.first.now x.second.now (output' w) x.one.refusal x.two.refusal (atom (z w) q.1) (same-output w)
-                g.0.0 g.1 (w.write.ensures.written q.0 (program (z w) q.1)),
-            refl,
-          ) }
+    let z = (goal.at.returns-else-place-size c).After-zero_all in
+    let x = z.args in
+    let q = z.requires.place in record {
+      empty = w.write.ensures.empty;
+      program = front z;
+      side = λ ws S.
+          text-pending (length x.store.now) x.place.limit ws x.v x.first.now x.second.now (output' w) x.one.refusal x.two.refusal (atom z S) (same-output w)
+          c.in-Text.size c.in-Text.is (w.write.ensures.written ws (program z S)) (omega (arith, c.if-place-size.false))
+          ∙ ap (λ (p : Pending). side_of (length x.store.now) ws (output' w) (Text p)) (sym c.both.ensures);
+      taken = subst (λ (p : Pending). Adds x.one x.two (Text p)) (sym c.both.ensures) (
+        text-size (length x.store.now) x.place.limit q.0 x.v x.first.now x.second.now (output' w) x.one.refusal x.two.refusal (atom z q.1) (same-output w)
+            c.in-Text.size c.in-Text.is (w.write.ensures.written q.0 (program z q.1)),
+        refl,
+      );
+    }

@@ -13,12 +13,11 @@ use Rattle.trees.proofs.sides.put_demand.Goals.{After-copy}
 
 -- the words of the constraint, as they were put
 module _ (c : After-copy) where
-
   abbrev row : List ℤ
   row = pos 0 ∷ pos 0 ∷ pos 0 ∷ pos 1 ∷ to_z w32 (of_z w32 c.args.literal) ∷ []
 
   row_is : row ≡ demand_words c.args.literal
-  row_is = ap demand_words (to_z-of_z c.fits.literal)
+  row_is = ap demand_words (to_z-of_z c.ranges.literal)
 
 pub returns : goal.returns
 returns c =
