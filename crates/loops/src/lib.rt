@@ -1,6 +1,7 @@
 // Loops of a program, question 56: which literals of weight bodies stand in some plain body, found once for a program
 // (`relevance`), and whether a set of atoms is a loop. What a loop is stands in derivation, specs/Loops.antt.
 #![tactic(auto)]
+
 mod edges;
 pub mod relevance;
 mod searches;
