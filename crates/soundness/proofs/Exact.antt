@@ -95,6 +95,7 @@ named (x ∷ l) f d =
     (r.0, r.1, λ y i e. o.0 (y, i, e), named l (λ y i. f y (Memᴰ.tail i)) o.1)
 
 range-of : (l : List ℤ) → Named l → InRange l
+range-of [] n y m = elim m [ ]
 range-of (x ∷ l) n y (Memᴰ.head p) = rw p (n.0, n.1)
 range-of (x ∷ l) n y (Memᴰ.tail i) = range-of l n.3 y i
 

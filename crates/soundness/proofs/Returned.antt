@@ -38,7 +38,7 @@ use Rattle.cheapest.specs.declared.CheapestAnswer.TheVariants as Answers
 use Rattle.sums.specs.Levels.{split_program, sorted_groups}
 use Rattle.long_sums.specs.Service.{SplitLeft, is_group_size, is_writable, split_reading, split_text, SplitSums}
 use Rattle.long_sums.specs.declared.SplitAnswer.TheVariants as Sums
-use Rattle.exports.specs.Services.{ProgramService, CheckService, CheapestService, SplitService}
+use Rattle.exports.specs.Services.{ProgramService, CheapestService, SplitService}
 use Rattle.exports.specs.Codes.{Told, program_code, program_numbers, set_code, verdict_code, verdict_numbers, cheapest_code, cheapest_numbers, split_code, split_numbers}
 use Rattle.soundness.specs.Page.{IsCheapest, SoundReturned, OnlyReturned, SoundLongReturned, OnlyLongReturned, YesReturned, SoundSplitReturned, SoundSplitLongReturned, YesSplitReturned, FoundSplitReturned, OnlySplitReturned, CheapestReturned, OnlyCheapestReturned}
 use Rattle.soundness.proofs.Numbers.{Numbered, within-numbered, read-numbered}

@@ -2,7 +2,7 @@
 -- `yes-split`, `found-split`, `extends-split`; and that what was written is read, `read-split`.
 -- Assumes nothing.
 use mathlib.Core.Path.{◌≡◌, refl, sym, ◌∙◌, ap, ap₂, subst}
-use mathlib.Core.Bool.{Bool, true, false, cond, ◌&&◌, ◌||◌}
+use mathlib.Core.Bool.{Bool, true, false, cond, ◌&&◌}
 use mathlib.Core.Logic.{◌↔◌, ◌⊎◌, inl, inr}
 use mathlib.Core.List.{List, [], ◌∷◌, ◌++◌}
 use Prim.Native.Nat.{ℕ, ◌+◌, ◌-◌, ◌≤◌, ◌<◌}
@@ -10,7 +10,7 @@ use native.Mathlib.Omega.{arith}
 use borrow.Author.Tests.{leb-true, le-leb}
 use lib.Dec.{eqb, leb}
 use lib.IntN.{ℤ, pos, negsuc}
-use lib.ListN.{length, take, replicate, length-append}
+use lib.ListN.{length, take, length-append}
 use lib.Seq.{take-append_seam}
 use Rattle.words.specs.Limits.{largest, longest, widest, most_literals, most_rules}
 use Rattle.words.specs.Lists.{◌∈◌, any, ascends}
@@ -43,8 +43,7 @@ use Rattle.sums.proofs.Sorted.{sorted-groups}
 use Rattle.sums.proofs.Formed.{split-read}
 use Rattle.long_sums.proofs.Answers.{past_first}
 use Rattle.long_sums.specs.Service.{SplitLeft, is_group_size, is_writable, zeroed, written, split_to, split_reading, split_text, SplitSums}
-use Rattle.long_sums.specs.declared.SplitAnswer.{SplitAnswer}
-use Rattle.long_sums.specs.declared.SplitAnswer.TheVariants.{Split, RefusedProgram, Refused}
+use Rattle.long_sums.specs.declared.SplitAnswer.TheVariants.{Split, Refused}
 use Rattle.soundness.specs.Page.{IsAnswerSet, HasNone, SoundSplit, SoundSplitLong, YesSplit, FoundSplit, ExtendsSplit, ReadSplit, OnlySplit}
 use Rattle.soundness.proofs.Printed.{InOrder, within-in-order, none_within, has-none, kept, as_written, as_read, yes-printed}
 use Rattle.soundness.proofs.Direct.{plain-set, direct-set}
