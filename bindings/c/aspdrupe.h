@@ -29,7 +29,8 @@ extern "C" {
 /* A thread with a stack of so many bytes has enough for any call but those below, with what the C library takes of a thread's stack for itself.
  * What your own code and its thread-local variables take comes on top. The need does not grow with the texts: the whole check was measured
  * at 725,216 bytes, the splitting of sums at 203,680, the other services but those below at 64,304 or less
- * (bindings/c/stack.c). Some C libraries give a thread less by default: musl 128 KB. */
+ * (bindings/c/stack.c); these figures and those below are of an older kit, and the sizes named hold with today's. Some C libraries give a
+ * thread less by default: musl 128 KB. */
 #define ASPDRUPE_STACK 786432
 
 /* The same for aspdrupe_merge_halves, which checks the halves over a table of its own beside the one lent: 1,095,104 bytes were measured. */

@@ -120,6 +120,7 @@ fn pass(
 }
 
 // "passes repeat until one removes none": how many bytes are left of the text. A pass that takes a line away makes it shorter.
+#[inline(never)]
 pub fn passes(
     text: &mut [u8],
     table: &[i32],
