@@ -150,7 +150,7 @@ fn ground_file(path: &Path, bytes: &[u8], taken: fn(&[u8]) -> Result<Ground, Fai
 
 /// A program that was loaded, its long sums split, which is said; where it is refused, as it was.
 pub fn split(mut ground: Ground) -> Result<Ground, Failure> {
-    if let Ok(split) = split::split(&ground.text)? {
+    if let Ok(split) = split::split_any(&ground.text)? {
         if let Some(note) = split.note() {
             ground.lines = split::lines(&ground.text, &ground.lines, &split.text);
             ground.notes.extend([Some(note), split::caution(split.unproved)].into_iter().flatten());
@@ -199,7 +199,7 @@ pub fn refused(refusal: ProgramRefusal, ground: &Ground, path: &Path) -> Result<
     let mut outcome = explain::ground(refusal, ground);
     let cut = if ground.of_plan { None } else { cut_down(&ground.text).ok() };
     if let Some(cut) = cut.filter(|cut| cut.text != ground.text) {
-        if split::split(&cut.text)?.is_ok() {
+        if split::split_any(&cut.text)?.is_ok() {
             outcome
                 .words
                 .push(format!("`aspdrupe ground {} -o OUT.aspif` drops what cannot matter, and OUT.aspif is taken", path.display()));

@@ -58,29 +58,25 @@ pub fn caution(unproved: usize) -> Option<String> {
     }
 }
 
-/// The program whose long sums are split, which has the same answer sets, the new atoms aside; or its refusal, with a
-/// line of its own. Of the group sizes that are tried it is the one with the smallest bodies. Where it would be too large
-/// whatever the size, it is refused as it is.
+/// The program whose long sums are split by the library, which has the same answer sets, the new atoms aside; or its
+/// refusal, with a line of its own, which a sum of more literals than the library reads is. Of the group sizes that are
+/// tried it is the one with the smallest bodies. Where it would be too large whatever the size, it is refused as it is.
 pub fn split(text: &[u8]) -> Result<Result<Split, ProgramRefusal>, Failure> {
     let program = Lines::of(text);
-    for groups in GROUPS.iter().filter(|_| program.longest > SHORT) {
-        let mut best: Option<(usize, Split)> = None;
-        for group in *groups {
-            let split = match program.split(text, *group)? {
-                Ok(Some(split)) => split,
-                Ok(None) => continue,
-                Err(refusal) => return Ok(Err(refusal)),
-            };
-            let cost = cost(&split.text, program.atoms);
-            if best.as_ref().is_none_or(|(least, _)| cost < *least) {
-                best = Some((cost, split));
-            }
-        }
-        if let Some((_, split)) = best {
-            return Ok(Ok(split));
-        }
+    if program.has_beyond() {
+        return Ok(library::read_program(text, library::EVERY_TABLE)?.map(|_| Split::none(text)));
     }
-    Ok(library::read_program(text, library::EVERY_TABLE)?.map(|_| Split::none(text)))
+    program.in_groups(text)
+}
+
+/// The same of a program with sums of more literals too, which are split here first.
+pub fn split_any(text: &[u8]) -> Result<Result<Split, ProgramRefusal>, Failure> {
+    let program = Lines::of(text);
+    if program.has_beyond() {
+        program.in_groups(text)
+    } else {
+        split(text)
+    }
 }
 
 /// What to mend where a program is refused for the sum of a line, which was not split; none where it is refused for
@@ -128,6 +124,33 @@ impl Lines<'_> {
         let atoms = rules().flat_map(Rule::atoms).max().unwrap_or(0);
         let longest = rules().filter_map(Rule::sum).map(|(_, pairs)| pairs.len()).max().unwrap_or(0);
         Lines { lines, atoms, longest }
+    }
+
+    /// Whether a sum has more literals than the library splits.
+    fn has_beyond(&self) -> bool {
+        self.lines.iter().any(|(_, rule)| rule.as_ref().is_some_and(is_beyond))
+    }
+
+    /// The program with its long sums in groups of the size that costs least.
+    fn in_groups(&self, text: &[u8]) -> Result<Result<Split, ProgramRefusal>, Failure> {
+        for groups in GROUPS.iter().filter(|_| self.longest > SHORT) {
+            let mut best: Option<(usize, Split)> = None;
+            for group in *groups {
+                let split = match self.split(text, *group)? {
+                    Ok(Some(split)) => split,
+                    Ok(None) => continue,
+                    Err(refusal) => return Ok(Err(refusal)),
+                };
+                let cost = cost(&split.text, self.atoms);
+                if best.as_ref().is_none_or(|(least, _)| cost < *least) {
+                    best = Some((cost, split));
+                }
+            }
+            if let Some((_, split)) = best {
+                return Ok(Ok(split));
+            }
+        }
+        Ok(library::read_program(text, library::EVERY_TABLE)?.map(|_| Split::none(text)))
     }
 
     /// The rules, which are a program's header and end aside.
@@ -256,6 +279,8 @@ mod tests {
         assert_eq!((split_up.rules, split_up.atoms), (3, 3));
         assert!(split_up.note().unwrap().ends_with("adds 3 rules and 3 atoms"));
         assert_eq!(split(b"asp 1 0 0\n1 0\n0\n").unwrap().err().map(|refusal| refusal.line), Some(2));
+        // more literals than a sum may have
+        assert!(split(&counted(5, 65)).unwrap().is_err());
         // groups of 3: with the 41 rules of groups of 7 a week of five people is not decided in a minute
         let week = split(&counted(5, 21)).unwrap().unwrap();
         assert_eq!((week.rules, week.atoms), (105, 46));
@@ -263,21 +288,21 @@ mod tests {
 
     #[test]
     fn sums_beyond_what_the_library_splits() {
-        let proved = split(&counted(3, 64)).unwrap().unwrap();
-        let own = split(&counted(3, 65)).unwrap().unwrap();
+        let proved = split_any(&counted(3, 64)).unwrap().unwrap();
+        let own = split_any(&counted(3, 65)).unwrap().unwrap();
         assert_eq!((proved.unproved, own.unproved), (0, 1));
         assert!(caution(0).is_none() && caution(1).unwrap().starts_with("one sum with more than 64 literals, "));
         // beside others, of which the library splits one and refuses another
         let lines = |count: usize| format!("1 0 0 1 3 {count}{}\n", (1..=count).map(|atom| format!(" {atom} 1")).collect::<String>());
         let text = |last: &str| format!("asp 1 0 0\n{}{}{last}0\n", lines(70), lines(20)).into_bytes();
-        let both = split(&text("1 0 0 0 1 5\n")).unwrap().unwrap();
+        let both = split_any(&text("1 0 0 0 1 5\n")).unwrap().unwrap();
         assert_eq!((both.unproved, both.text.ends_with(b"\n1 0 0 0 1 5\n0\n")), (1, true));
         // what is not written as the library reads it stays so
         for other in ["1 0 0 0 1 05\n", "1 0 0 0 1 5\r\n", "1 0 0 0 1 5\n0\n"] {
-            assert!(split(&text(other)).unwrap().is_err(), "{other}");
+            assert!(split_any(&text(other)).unwrap().is_err(), "{other}");
         }
-        assert!(split(&text("1 0 0 0 1 2147483647\n")).unwrap().is_err() && split(&text("")[..200]).unwrap().is_err());
-        assert_eq!(split(&text("1 0 0 0 1\n")).unwrap().err().map(|refusal| (refusal.question.number(), refusal.line)), Some((6, 4)));
+        assert!(split_any(&text("1 0 0 0 1 2147483647\n")).unwrap().is_err() && split_any(&text("")[..200]).unwrap().is_err());
+        assert_eq!(split_any(&text("1 0 0 0 1\n")).unwrap().err().map(|refusal| (refusal.question.number(), refusal.line)), Some((6, 4)));
     }
 
     #[test]

@@ -1,4 +1,4 @@
-% A week with a day and a night shift for four drivers, who have wishes: 20 nights cost something where a driver has them. Ann is away from Friday on, and Bob has
+% The same week for four drivers, who have wishes: 20 nights cost something where a driver has them. Ann is away from Friday on, and Bob has
 % the first night.
 driver(ann; bob; cid; dan).
 day(1..7).

@@ -291,7 +291,7 @@ impl<'a> Certifier<'a> {
 
     /// The program of a text, its sums split; or the refusal.
     pub fn task(&mut self, text: &[u8]) -> Result<Result<Task, ProgramRefusal>, Failure> {
-        let split = match split::split(text)? {
+        let split = match split::split_any(text)? {
             Ok(split) => split,
             Err(refusal) => return Ok(Err(refusal)),
         };
