@@ -119,7 +119,8 @@ fn pass(
     left
 }
 
-// "passes repeat until one removes none": how many bytes are left of the text. A pass that takes a line away makes it shorter.
+// "passes repeat until one removes none": how many bytes are left of the text. A pass that takes a line away makes it shorter. Inlined it would
+// have its arrays on the stack beside those of the check that comes after it.
 #[inline(never)]
 pub fn passes(
     text: &mut [u8],
