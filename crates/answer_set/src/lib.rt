@@ -27,7 +27,7 @@ pub enum SetAnswer {
 pub fn test_set(table: &[i32], rules: usize, set: &[u16], marks: &mut [u8]) -> SetAnswer
     ensures { SetTested table.now rules set.now marks.old marks.new result }
 {
-    words::zero_bytes(marks);
+    words::zero_all(marks);
     if !tables::is_readable(table, rules) {
         return SetAnswer::Refused(41);
     }

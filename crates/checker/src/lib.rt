@@ -58,7 +58,7 @@ pub fn check_long(
         table.new store.new memory.old memory.new result }
 {
     words::zero_all(store);
-    words::zero_cells(memory);
+    words::zero_all(memory);
     let read = aspif::read_program(program, table);
     match read {
         ProgramReading::Refused(refusal) => Verdict::RefusedProgram(refusal),
@@ -72,7 +72,7 @@ pub fn check_long(
                 store,
                 memory,
             );
-            words::zero_cells(memory);
+            words::zero_all(memory);
             verdict
         }
     }

@@ -50,7 +50,7 @@ fn refuse(table: &mut [i32], output: &mut [u8], answer: SplitAnswer) -> SplitAns
         ≡ zeroed (length table.old) (length output.old) answer }
 {
     words::zero_all(table);
-    words::zero_bytes(output);
+    words::zero_all(output);
     answer
 }
 
@@ -67,7 +67,7 @@ fn finish(table: &mut [i32], output: &mut [u8], written: Numbered, old: usize) -
     if !is_writable(written, output.len()) {
         return refuse(table, output, SplitAnswer::Refused(66));
     }
-    words::zero_bytes(&mut output[bytes..]);
+    words::zero_all(&mut output[bytes..]);
     SplitAnswer::Split {
         bytes,
         atoms: written.atom - 1,

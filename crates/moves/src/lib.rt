@@ -180,7 +180,7 @@ fn move_parts(
 fn move_packet(from: Version, to: Version, packet: &[u8], output: &mut [u8]) -> PacketWriting
     ensures { Moved to (pair_in from packet.now) output.old output.new result }
 {
-    words::zero_bytes(output);
+    words::zero_all(output);
     if !versions::is_marked(from, packet) {
         return PacketWriting::Refused(51);
     }

@@ -318,7 +318,7 @@ fn refuse(number: u8, table: &mut [i32], proof: &mut [u8]) -> PacketReading
         proof.new result }
 {
     words::zero_all(table);
-    words::zero_bytes(proof);
+    words::zero_all(proof);
     PacketReading::Refused(number)
 }
 

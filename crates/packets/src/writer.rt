@@ -270,7 +270,7 @@ fn write_pair(
             answer
         }
         PacketWriting::Refused(_) => {
-            words::zero_bytes(packet);
+            words::zero_all(packet);
             answer
         }
     }

@@ -100,7 +100,7 @@ fn release(assignment: &mut [u8], end: usize)
     requires { (end ≤ length assignment.old) × BlankFrom end assignment.old }
     ensures { assignment.new ≡ replicate (length assignment.old) 0 }
 {
-    words::zero_bytes(&mut assignment[..end]);
+    words::zero_all(&mut assignment[..end]);
 }
 
 // What the replay leaves: sweeps until nothing changes. Each before the last one assigns a variable, so that one more than there are entries is enough.
@@ -111,7 +111,7 @@ fn exhaust(nogoods: &[i32], assignment: &mut [u8; ENTRIES]) -> bool
     ensures free { assignment.new ≡ replicate entries 0 }
 {
     let swept = settle(nogoods, ENTRIES + 1, assignment);
-    words::zero_bytes(assignment);
+    words::zero_all(assignment);
     match swept {
         Swept::Refuted => true,
         Swept::Same => false,

@@ -23,7 +23,7 @@ fn know_atoms(known: &mut [u8], atoms: usize)
     requires { (length known.old ≡ entries) × (atoms ≤ largest) }
     ensures { Marks known.new (up_to atoms) }
 {
-    words::zero_bytes(known);
+    words::zero_all(known);
     let mut left = atoms;
     while 0 < left {
         marks::mark(known, left);

@@ -37,7 +37,7 @@ pub fn refuse(table: &mut [i32], store: &mut [i32], output: &mut [u8], number: u
 {
     words::zero_all(table);
     words::zero_all(store);
-    words::zero_bytes(output);
+    words::zero_all(output);
     MergeAnswer::Refused(number)
 }
 
@@ -133,7 +133,7 @@ pub fn merge_halves(
         table.new store.new output.old output.new result }
 {
     words::zero_all(store);
-    words::zero_bytes(output);
+    words::zero_all(output);
     let read = aspif::read_program(program, table);
     match read {
         ProgramReading::Refused(refusal) => MergeAnswer::RefusedProgram(refusal),

@@ -143,7 +143,7 @@ pub fn merge_tree(
         table.old store.old table.new store.new output.old output.new result }
 {
     words::zero_all(store);
-    words::zero_bytes(output);
+    words::zero_all(output);
     let read = aspif::read_program(program, table);
     match read {
         ProgramReading::Refused(refusal) => MergeAnswer::RefusedProgram(refusal),

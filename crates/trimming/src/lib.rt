@@ -41,7 +41,7 @@ fn trim_read(
         return TrimAnswer::Refused(60);
     }
     let n = trials::passes(text, table, rules, atoms, store);
-    words::zero_bytes(&mut text[n..]);
+    words::zero_all(&mut text[n..]);
     judging::check_proof(&text[..n], table, atoms, rules, store);
     TrimAnswer::Trimmed(n)
 }

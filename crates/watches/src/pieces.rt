@@ -172,7 +172,7 @@ pub fn lay(cells: &mut [u32]) {
 // No list has a watch.
 pub fn clear_lists(cells: &mut [u32]) {
     if ORDER <= cells.len() {
-        words::zero_cells(&mut cells[..ORDER]);
+        words::zero_all(&mut cells[..ORDER]);
     }
 }
 

@@ -37,7 +37,7 @@ returns-in-Read c =
     let d = (goal.at.returns-in-Read c).In-Read in
     let f = found d in
     let t : length d.read_program-read.new.table ≡ length (start d).args.table.now = search rules in
-    let s : length d.zero_all.new.t ≡ length (start d).args.store.now = search rules in
+    let s : length d.zero_all.new.items ≡ length (start d).args.store.now = search rules in
     let h = held _ _ _ _ (read d).answer (read d).table f t in
     let a = (start d).args in
     c.cheapest_read.ensures f.P h.0 h.2 ∙ reading-same a.set.now a.costs.now a.proof.now (program f.P) t s

@@ -26,21 +26,21 @@ module _ (c : In-Read) where
 
 pub check_within-verdict-requires : goal.check_within-verdict-requires
 check_within-verdict-requires c = let d = (goal.at.check_within-verdict-requires c).In-Read in
-    let h = held _ _ _ _ (read d).answer (read d).table (found d) (search rules) in record { limit = omega arith; program = (((found d).P, h.0), omega (arith, h.1)); empty = (zeros (pos 0) {n = length d.args.store.now} d.zero_all.ensures).0; cells = subst (λ (l : List ℕ). BlankIndex l) (sym d.zero_cells.ensures) (blank-index (length d.args.memory.now)) }
+    let h = held _ _ _ _ (read d).answer (read d).table (found d) (search rules) in record { limit = omega arith; program = (((found d).P, h.0), omega (arith, h.1)); empty = (zeros (pos 0) {n = length d.args.store.now} d.zero_all.ensures).0; cells = subst (λ (l : List ℕ). BlankIndex l) (sym d.zero_all.ensures) (blank-index (length d.args.memory.now)) }
 
 pub returns-in-Refused : goal.returns-in-Refused
 returns-in-Refused c =
     let r = c.read_program-read.ensures in
     record {
       checked = program-refused _ _ _ _ r.answer r.table widest _ c.in-Refused.is c.zero_all.ensures;
-      clear = c.zero_cells.ensures;
+      clear = c.zero_all.ensures;
     }
 
 pub returns-in-Read : goal.returns-in-Read
 returns-in-Read c =
     let d = (goal.at.returns-in-Read c).In-Read in
     let a : length d.read_program-read.new.table ≡ length d.args.table.now = search rules in
-    let b : length d.zero_all.new.t ≡ length d.args.store.now = search rules in
+    let b : length d.zero_all.new.items ≡ length d.args.store.now = search rules in
     let m : length c.check_within-verdict.new.index ≡ length d.args.memory.now = search rules in
     let p = found d in
     let h = held _ _ _ _ (read d).answer (read d).table p a in
@@ -48,5 +48,5 @@ returns-in-Read c =
       checked =
           c.check_within-verdict.ensures p.P h.0 h.2 ∙ judged-lengths widest p.P d.args.proof.now a b
           ∙ sym (check-read _ _ _ _ (read d).answer (read d).table widest p);
-      clear = c.zero_cells-in-Read.ensures ∙ ap (λ (n : ℕ). replicate n 0) m;
+      clear = c.zero_all-in-Read.ensures ∙ ap (λ (n : ℕ). replicate n 0) m;
     }

@@ -31,7 +31,7 @@ pub returns-in-Read : goal.returns-in-Read
 returns-in-Read c =
     let d = (goal.at.returns-in-Read c).In-Read in
     let a : length d.read_program-read.new.table ≡ length d.args.table.now = search rules in
-    let b : length c.zero_all.new.t ≡ length d.args.store.now = search rules in
+    let b : length c.zero_all.new.items ≡ length d.args.store.now = search rules in
     let p = found d in
     let h = held _ _ _ _ (read d).answer (read d).table p a in
     c.check_proof.ensures p.P h.0 h.2 ∙ judged-lengths longest p.P d.args.proof.now a b ∙ sym (check-read _ _ _ _ (read d).answer (read d).table longest p)

@@ -8,7 +8,7 @@ use Rattle.propagation.specs.Propagate.{Settles}
 use Rattle.propagation.specs.declared.Swept.{Swept}
 use Rattle.propagation.proofs.Assignments.{free-most}
 use Rattle.propagation.proofs.exhaust.Goals as goal
-use Rattle.propagation.proofs.exhaust.Goals.{After-settle-swept, After-zero_bytes}
+use Rattle.propagation.proofs.exhaust.Goals.{After-settle-swept, After-zero_all}
 
 -- what the sweeps gave
 told : (c : After-settle-swept) (x : Swept) → c.settle-swept.result ≡ x → let s = c in
@@ -16,14 +16,14 @@ told : (c : After-settle-swept) (x : Swept) → c.settle-swept.result ≡ x → 
 told c x e = rw e at c.settle-swept.ensures
 
 -- all are free afterwards
-freed : (c : After-zero_bytes) → c.zero_bytes.new.bytes ≡ replicate entries 0
-freed c = c.zero_bytes.ensures ∙ ap (λ (n : ℕ). replicate n 0) c.zero_bytes-arg-1.given.0.1
+freed : (c : After-zero_all) → c.zero_all.new.items ≡ replicate entries 0
+freed c = c.zero_all.ensures ∙ ap (λ (n : ℕ). replicate n 0) c.zero_all-arg-1.given.0.1
 
 pub returns-in-Refuted : goal.returns-in-Refuted
-returns-in-Refuted c = let k = (goal.at.returns-in-Refuted c).After-zero_bytes in record { decided = told (goal.at.returns-in-Refuted c).After-settle-swept _ c.in-Refuted.is; free = freed k }
+returns-in-Refuted c = let k = (goal.at.returns-in-Refuted c).After-zero_all in record { decided = told (goal.at.returns-in-Refuted c).After-settle-swept _ c.in-Refuted.is; free = freed k }
 
 pub returns-in-Same : goal.returns-in-Same
-returns-in-Same c = let k = (goal.at.returns-in-Same c).After-zero_bytes in
+returns-in-Same c = let k = (goal.at.returns-in-Same c).After-zero_all in
     let t = told (goal.at.returns-in-Same c).After-settle-swept _ c.in-Same.is in record { decided = (_, t.0, t.1); free = freed k }
 
 pub returns-in-Changed : goal.returns-in-Changed

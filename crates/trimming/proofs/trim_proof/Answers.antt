@@ -32,7 +32,7 @@ returns-in-Read c =
     let d = (goal.at.returns-in-Read c).In-Read in
     let f = found d in
     let t : length d.read_program-read.new.table ≡ length d.args.table.now = search rules in
-    let s : length c.zero_all.new.t ≡ length d.args.store.now = search rules in
+    let s : length c.zero_all.new.items ≡ length d.args.store.now = search rules in
     let h = held _ _ _ _ (read d).answer (read d).table f t in
     let a = d.args in
     c.trim_read.ensures f.P h.0 h.2 ∙ trimmed-same a.text.now (program f.P) t s

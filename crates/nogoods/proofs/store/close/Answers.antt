@@ -50,4 +50,4 @@ pub returns : goal.returns
 returns c =
     λ stored H.
     let k = c in
-    closing-over k.loop-from.invariant k.loop-from-test.false c.zero_all.new.t c.zero_all.ensures stored H
+    closing-over k.loop-from.invariant k.loop-from-test.false c.zero_all.new.items c.zero_all.ensures stored H

@@ -12,7 +12,7 @@ no-marks : (m : List ℕ) (n : ℕ) → n ≡ entries → m ≡ replicate n 0 �
 no-marks m n e z l = subst (λ (k : List ℕ). MarkedSoFar k l l) (sym (z ∙ ap (λ (i : ℕ). replicate i 0) e)) (found_none l)
 
 pub loop-left-init : goal.loop-left-init
-loop-left-init c = no-marks _ _ c.requires.0 c.zero_bytes.ensures _
+loop-left-init c = no-marks _ _ c.requires.0 c.zero_all.ensures _
 
 pub loop-left-preserved : goal.loop-left-preserved
 loop-left-preserved c =

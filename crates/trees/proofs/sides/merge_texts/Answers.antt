@@ -32,10 +32,10 @@ module _ (c : After-zero_all) where
   table = c.args.table.now
 
   abbrev now-table : List ℤ
-  now-table = put_mid used (length table - used) table c.zero_all.new.t
+  now-table = put_mid used (length table - used) table c.zero_all.new.items
 
   clear : now-table ≡ cleared used table
-  clear = tail-filled used table (pos 0) c.zero_all.new.t (within c.requires.place.1) c.zero_all.ensures
+  clear = tail-filled used table (pos 0) c.zero_all.new.items (within c.requires.place.1) c.zero_all.ensures
 
   front : take used now-table ≡ take used table
   front = ap (take used) clear ∙ front-cleared used table (within c.requires.place.1)
