@@ -38,12 +38,12 @@ pub returns-then-marks-ne-ENTRIES : goal.returns-then-marks-ne-ENTRIES
 returns-then-marks-ne-ENTRIES c =
     let d = (goal.at.returns-then-marks-ne-ENTRIES c).After-ascends_within in
     let z = c in
-    refused-43 _ _ _ _ _ z.zero_all.ensures (sound (goal.at.returns-then-marks-ne-ENTRIES c).Else-not-is_readable) (sym (told d) ∙ c.if-not-ascends_within.false) (λ e. c.if-marks-ne-ENTRIES.true (z.zero_all.auto.bytes ∙ e))
+    refused-43 _ _ _ _ _ z.zero_all.ensures (sound (goal.at.returns-then-marks-ne-ENTRIES c).Else-not-is_readable) (sym (told d) ∙ c.if-not-ascends_within.false) (λ e. c.if-marks-ne-ENTRIES.true (z.zero_all.auto.items ∙ e))
 
 pub mark_least-requires : goal.mark_least-requires
 mark_least-requires c = let g = c in
     let d = c in
-    let z = c in record { rules_value = sound (goal.at.mark_least-requires c).Else-not-is_readable; most_value = d.largest_atom-atoms.ensures; marks_len = (g.if-marks-ne-ENTRIES.false, z.zero_all.ensures ∙ ap (λ k. replicate k 0) (sym z.zero_all.auto.bytes)) }
+    let z = c in record { rules_value = sound (goal.at.mark_least-requires c).Else-not-is_readable; most_value = d.largest_atom-atoms.ensures; marks_len = (g.if-marks-ne-ENTRIES.false, z.zero_all.ensures ∙ ap (λ k. replicate k 0) (sym z.zero_all.auto.items)) }
 
 pub judge-requires : goal.judge-requires
 judge-requires c = let d = c in
@@ -61,4 +61,4 @@ returns c =
     let w = sym (told d) ∙ g.if-not-ascends_within.false in
     let h = atoms-small a.rules a.table.now (sound-rules _ _ s) in
     let e : marked m.mark_all.new.marks ≡ listed a.set.now = ap marked m.mark_all.ensures ∙ marks-listed (atoms (rules_at a.rules a.table.now)) entries a.set.now w (omega arith) in
-    tested a.table.now a.rules a.set.now a.marks.now k.mark_least.new.marks s w (sym z.zero_all.auto.bytes ∙ m.if-marks-ne-ENTRIES.false) e d.largest_atom-atoms.ensures k.mark_least.ensures c.judge.ensures
+    tested a.table.now a.rules a.set.now a.marks.now k.mark_least.new.marks s w (sym z.zero_all.auto.items ∙ m.if-marks-ne-ENTRIES.false) e d.largest_atom-atoms.ensures k.mark_least.ensures c.judge.ensures
