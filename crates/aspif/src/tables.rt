@@ -6,7 +6,8 @@ ghost use Rattle.words.specs.Literals.{variable, same, top};
 ghost use Rattle.weights.specs.Weights.{literals, paired};
 ghost use Rattle.aspif.specs.Rules.{literals_of, all_plain, suits, is_count, is_weight, rule_top, atoms, program_words};
 ghost use Rattle.aspif.specs.Reading.{all_weights};
-ghost use Rattle.aspif.specs.Tables.{kind_of, is_kind, is_weighted, head_start, body_length, is_headed, size_at, heads_at, body_words_at};
+ghost use Rattle.std.specs.Iterator.{YieldsFirstBy, item_count};
+ghost use Rattle.aspif.specs.Tables.{starts_at, kind_of, is_kind, is_weighted, head_start, body_length, is_headed, size_at, heads_at, body_words_at};
 ghost use Rattle.aspif.specs.Tables.{bound_at, body_at, rule_at, shape_sound, weights_sound, body_sound, sound_at, rules_at, sound_rules, sound_table};
 
 use crate::Kind;
@@ -129,6 +130,102 @@ pub fn rule_size(words: &[i32]) -> usize
     ensures size { (result ≡ size_at words.now) × (result ≤ length words.now) }
 {
     head_start(words) + words::variable_of(words[1]) + body_length(words)
+}
+
+// A rule of a table, as the words from its first on.
+#[derive(Clone, Copy)]
+pub struct Rule<'a> {
+    pub words: &'a [i32],
+    ghost sound: { sound_at words.now ≡ true },
+}
+
+// The rules of a table that are left, one after another.
+#[derive(Drop)]
+pub struct Rules<'a> {
+    pub words: &'a [i32],
+    pub left: usize,
+    ghost sound: { sound_rules left words.now ≡ true },
+}
+
+impl<'a> Rule<'a> {
+    // The largest atom that the rule names.
+    #[tactic(auto, using(crate::proofs::Cursors::shape_of))]
+    pub fn top(&self) -> usize
+        ensures { result ≡ rule_top (rule_at self.now.words.now) }
+    {
+        rule_top(self.words)
+    }
+
+    // How many words the rule takes.
+    #[tactic(auto, using(crate::proofs::Cursors::shape_of))]
+    pub fn size(&self) -> usize
+        ensures size { (result ≡ size_at self.now.words.now) × (result ≤ length self.now.words.now) }
+    {
+        rule_size(self.words)
+    }
+
+    pub fn is_weighted(&self) -> bool
+        ensures { result ≡ is_weighted self.now.words.now }
+    {
+        is_weighted(self.words)
+    }
+
+    pub fn kind(&self) -> Kind
+        ensures { result ≡ kind_of (get_or self.now.words.now 0 (pos 0)) }
+    {
+        kind_of(self.words)
+    }
+
+    #[tactic(auto, using(crate::proofs::Cursors::shape_of))]
+    pub fn heads(&self) -> &'a [i32]
+        ensures { result.now ≡ heads_at self.now.words.now }
+    {
+        heads_of(self.words)
+    }
+
+    // The words of the body: its literals, with a weight body each with its weight behind it.
+    #[tactic(auto, using(crate::proofs::Cursors::shape_of))]
+    pub fn body(&self) -> &'a [i32]
+        ensures { result.now ≡ body_words_at self.now.words.now }
+    {
+        body_of(self.words)
+    }
+
+    // The bound, where it has a weight body.
+    pub fn bound(&self) -> usize
+        ensures { result ≡ bound_at self.now.words.now }
+    {
+        bound_of(self.words)
+    }
+}
+
+// The rules of a table.
+pub fn rules_in<'a>(table: &'a [i32], rules: usize) -> Rules<'a>
+    requires { sound_rules rules table.now ≡ true }
+    ensures start { (result.words ≡ table.entry) × (result.left ≡ rules) }
+{
+    Rules {
+        words: table,
+        left: rules,
+    }
+}
+
+impl<'a> Iterator for Rules<'a> {
+    type Item = Rule<'a>;
+
+    ghost next_gives = { YieldsFirstBy (λ rule. rule.words.now) (λ s. starts_at s.left s.words.now) };
+
+    ghost remaining = { item_count (λ s. starts_at s.left s.words.now) };
+
+    fn next(&mut self) -> Option<Rule<'a>> {
+        if self.left == 0 {
+            return None;
+        }
+        let words = self.words;
+        self.words = &words[rule_size(words)..];
+        self.left -= 1;
+        Some(Rule { words })
+    }
 }
 
 // Where the rule after the one at i begins: how a loop over the table goes on.
@@ -297,17 +394,14 @@ pub fn is_readable(table: &[i32], rules: usize) -> bool
     if words::MOST_RULES < rules {
         return false;
     }
-    let mut left = rules;
-    let mut i = 0;
-    while 0 < left {
-        let rest = &table[i..];
+    let mut rest = table;
+    for _ in 0..rules {
         if !is_sound(rest) {
             return false;
         }
-        i = next_rule(table, i);
-        left -= 1;
+        rest = &rest[rule_size(rest)..];
     }
-    all_zero(&table[i..])
+    all_zero(rest)
 }
 
 // The largest variable of the literals of some pairs.
@@ -344,52 +438,43 @@ pub fn rule_top(words: &[i32]) -> usize
 }
 
 // N: the largest atom named, 0 if none.
+#[tactic(auto, using(crate::proofs::Cursors::rules_from_starts))]
 pub fn largest_atom(table: &[i32], rules: usize) -> usize
     requires { sound_rules rules table.now ≡ true }
     ensures { result ≡ atoms (rules_at rules table.now) }
 {
     let mut most = 0;
-    let mut left = rules;
-    let mut i = 0;
-    while 0 < left {
-        let rest = &table[i..];
-        most = words::larger(most, rule_top(rest));
-        i = next_rule(table, i);
-        left -= 1;
+    for rule in rules_in(table, rules) {
+        most = most.max(rule.top());
     }
     most
 }
 
 // No rule of the table has a weight body.
+#[tactic(auto, using(crate::proofs::Cursors::rules_from_starts, crate::proofs::Cursors::plain_at))]
 pub fn all_plain(table: &[i32], rules: usize) -> bool
     requires { sound_rules rules table.now ≡ true }
     ensures { result ≡ all_plain (rules_at rules table.now) }
 {
-    let mut left = rules;
-    let mut i = 0;
-    while 0 < left {
-        let rest = &table[i..];
-        if is_weighted(rest) {
+    for rule in rules_in(table, rules) {
+        if rule.is_weighted() {
             return false;
         }
-        i = next_rule(table, i);
-        left -= 1;
     }
     true
 }
 
 // How many words of the table the rules take.
+#[tactic(auto, using(crate::proofs::Cursors::rules_from_starts))]
 pub fn words_used(table: &[i32], rules: usize) -> usize
     requires { sound_rules rules table.now ≡ true }
     ensures used { (result ≡ length (program_words (rules_at rules table.now))) × (result ≤ length table.now) }
 {
-    let mut left = rules;
-    let mut i = 0;
-    while 0 < left {
-        i = next_rule(table, i);
-        left -= 1;
+    let mut used = 0;
+    for rule in rules_in(table, rules) {
+        used += rule.size();
     }
-    i
+    used
 }
 
 // The rules in a wider table that is 0 throughout, and behind them the words of one rule more.
