@@ -290,10 +290,8 @@ pub fn copy_literals(pairs: &[i32], row: &mut [i32])
     requires { length pairs.now ≡ 2 * length row.old }
     ensures { row.new ≡ literals (paired pairs.now) }
 {
-    let mut i = 0;
-    while i < row.len() {
+    for i in 0..row.len() {
         row[i] = pairs[2 * i];
-        i += 1;
     }
 }
 
@@ -319,12 +317,9 @@ pub fn write_pairs(free: &mut [i32], pairs: &[i32], literals: &[i32])
     ensures { free.new ≡ pair_words (weighted pairs.now literals.now)
         ++ drop (2 * length literals.now) free.old }
 {
-    let mut i = 0;
-    while i < literals.len() {
-        let weight = weight_in(pairs, literals[i]);
+    for i in 0..literals.len() {
         free[2 * i] = literals[i];
-        free[2 * i + 1] = weight;
-        i += 1;
+        free[2 * i + 1] = weight_in(pairs, literals[i]);
     }
 }
 

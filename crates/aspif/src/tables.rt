@@ -293,14 +293,9 @@ fn ascends_by_variable(words: &[i32]) -> bool
     ensures { result ≡ ascends 0 largest (map variable words.now) }
 {
     let mut low = 0;
-    let mut i = 0;
-    while i < words.len() {
-        let v = words::variable_of(words[i]);
-        i += 1;
-        if v <= low {
-            return false;
-        }
-        if words::LARGEST < v {
+    for word in words {
+        let v = words::variable_of(*word);
+        if v <= low || words::LARGEST < v {
             return false;
         }
         low = v;
@@ -332,15 +327,7 @@ fn pairs_ascend(pairs: &[i32]) -> bool
 fn all_zero(words: &[i32]) -> bool
     ensures { result ≡ all (same (pos 0)) words.now }
 {
-    let mut i = 0;
-    while i < words.len() {
-        if words::is_same(0, words[i]) {
-            i += 1;
-        } else {
-            return false;
-        }
-    }
-    true
+    words.iter().all(|word| words::is_same(0, *word))
 }
 
 // The weight body at the front is one that the reader leaves: at most 12 pairs, bound and weights 0 to 4,095, literals ascending.

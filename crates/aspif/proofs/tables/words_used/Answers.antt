@@ -1,9 +1,5 @@
-use mathlib.Core.Path.{◌≡◌}
 use mathlib.Core.List.{[]}
 use native.Mathlib.Omega.{arith}
-use lib.ListN.{length}
-use Rattle.aspif.specs.Rules.{program_words}
-use Rattle.aspif.specs.Tables.{rules_at}
 use Rattle.aspif.proofs.Used.{Passed, passed_on, used-within}
 use Rattle.aspif.proofs.tables.words_used.Goals as goal
 

@@ -1,5 +1,3 @@
-use mathlib.Core.Path.{◌≡◌, ◌∙◌, ap}
-use mathlib.Core.Bool.{true}
 use Prim.Native.Nat.{◌-◌, ◌<◌}
 use native.Mathlib.Omega.{arith}
 use lib.ListN.{length, take, drop}
@@ -13,8 +11,8 @@ rule_size-requires c = let s = c.args.self.now in shape_of s.words.now (first-so
 
 pub invariant_of-self : goal.invariant_of-self
 invariant_of-self c = let s = c.args.self.now in record {
-    sound = rw (tail_of c.rule_size.result s.words.now, c.rule_size.ensures.size.0) (first-sound s.left s.words.now (omega (arith, c.if-self-eq0.false)) s.sound).1;
-  }
+  sound = rw (tail_of c.rule_size.result s.words.now, c.rule_size.ensures.size.0) (first-sound s.left s.words.now (omega (arith, c.if-self-eq0.false)) s.sound).1;
+}
 
 pub returns-clause-steps : goal.returns-clause-steps
 returns-clause-steps c = let s = c.args.self.now in rw (tail_of c.rule_size.result s.words.now, c.rule_size.ensures.size.0) (starts-on s.left s.words.now (omega (arith, c.if-self-eq0.false)))
