@@ -1,36 +1,26 @@
 -- Laws on marks: literals and weights under them, what the rounds of `close` do to them, and the lowest number that passes a test.
 -- Assumes nothing.
 use mathlib.Core.Path.{◌≡◌, refl, sym, ◌∙◌, ap}
-use mathlib.Core.Bool.{Bool, true, false, cond, not, true≢false}
+use mathlib.Core.Bool.{Bool, true, false, cond}
 use mathlib.Core.Logic.{inl, inr}
 use mathlib.Core.Option.{none, some, some-injective, none-ne-some}
 use mathlib.Core.List.{List, ◌∷◌, ◌++◌}
 use Prim.Native.Nat.{ℕ, zero, suc, ◌+◌, ◌-◌, ◌<◌, ◌≤◌}
 use native.Mathlib.Omega.{arith}
-use borrow.Author.Tests.{ltb-true}
-use lib.IntN.{ℤ, pos, negsuc}
-use lib.Signed.{lt_z}
+use lib.IntN.{ℤ, pos}
 use lib.ListN.{length, get_or}
+use Rattle.std.specs.Prelude.{Option as Found, None, Some}
+use Rattle.std.specs.Option.{MatchOption, IsSomeAnd}
 use Rattle.words.specs.Lists.{filter}
 use Rattle.words.specs.Literals.{variable}
-use Rattle.words.proofs.Lists.{one_less}
 use Rattle.words.proofs.Places.{equal?}
 use Rattle.weights.specs.Weights.{Weighted, sum, paired}
 use Rattle.weights.proofs.Sublists.{sum-le, kept}
 use Rattle.weights.proofs.Merging.{pair-front}
 use Rattle.aspif.specs.Rules.{InputRule}
 use Rattle.answer_set.specs.SetTest.{literal_holds, held_sum, round, rounds, lowest_from}
+use Rattle.answer_set.specs.Private.{searched}
 use Rattle.marks.specs.Marks.{Marking}
-
-module _ (M S : ℕ → Bool) where
-  -- a literal by its sign
-  pub holds-neg : (z : ℤ) → lt_z z (pos 0) ≡ true → literal_holds M S z ≡ not (M (variable z))
-  holds-neg (pos n) h = absurd (omega (arith, ltb-true n 0 h))
-  holds-neg (negsuc n) h = refl
-
-  pub holds-pos : (z : ℤ) → lt_z z (pos 0) ≡ false → literal_holds M S z ≡ S (variable z)
-  holds-pos (pos n) h = refl
-  holds-pos (negsuc n) h = absurd (true≢false h)
 
 -- The loop of `sum_held`
 
@@ -68,15 +58,6 @@ module _ (M : ℕ → Bool) where
   -- what is marked when no mark is new
   pub last-round : (n : ℕ) (rs : List InputRule) {m after whole : List ℕ} {new : Bool} → whole ≡ rounds M n rs m → Marking (round M rs m) m after new → new ≡ false → after ≡ whole
   last-round n rs {m} e g f = let s = g.still f in s ∙ sym (e ∙ rounds-still n rs m (sym g.marks ∙ s))
-
--- The loop of `differing`
-
-module _ (f : ℕ → Bool) (n i : ℕ) where
-  -- the number at i does not pass, and those after it decide
-  pub lowest-on : i < n → f i ≡ false → lowest_from f (n - i) i ≡ lowest_from f (n - (i + 1)) (i + 1)
-  lowest-on h e =
-      let p : n - i - 1 ≡ n - (i + 1) = omega arith in
-      ap (λ k. lowest_from f k i) (one_less (n - i) (omega arith)) ∙ rw (e, p)
 
 -- What is found: a number that passes, and nothing below it does
 pub record Lowest (f : ℕ → Bool) (n v w : ℕ) : Type 0 where
@@ -124,3 +105,13 @@ module _ (f : ℕ → Bool) where
     | inr d ↦ rw (r.below v (omega arith) (omega (arith, r.low, d)))
         (lowest-is n (v + 1) w (record { low = omega (arith, r.low, d); high = omega (arith, r.high); here = r.here; below = λ u h k. r.below u (omega arith) k }))
   ]
+
+-- the first that passes, as a search of the numbers below n finds it, and what is made of it
+pub lowest-found : {P : ℕ → ℕ → Type 0} (f : ℕ → Bool) (n : ℕ) (r o : Found ℕ) → ((v w : ℕ) → P v w → w ≡ v)
+    → MatchOption r ((u : ℕ) → 0 ≤ u → u < n → f u ≡ false) (λ v. (0 ≤ v) × (v < n) × (f v ≡ true) × ((u : ℕ) → 0 ≤ u → u < v → f u ≡ false))
+    → MatchOption r (o ≡ None) (λ v. IsSomeAnd o (P v)) → o ≡ searched (lowest_from f n 0)
+lowest-found f n None o same s m = m ∙ ap searched (sym (none-lowest f n 0 (λ u h k. s u h (omega arith))))
+lowest-found f n (Some v) None same s m = absurd m
+lowest-found f n (Some v) (Some w) same s m =
+    ap Some (same v w m)
+    ∙ ap searched (sym (lowest-is f n 0 v (record { low = s.0; high = omega (arith, s.1); here = s.2; below = s.3 })))

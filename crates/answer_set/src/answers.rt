@@ -21,12 +21,9 @@ fn differing(inside: &[u8], marks: &[u8], n: usize) -> Option<u16>
     requires { n ≤ entries }
     ensures { result ≡ searched (lowest_from (differs_at (marked inside.now) marks.now) n 0) }
 {
-    for i in 0..n {
-        if just_one(marks::is_marked(inside, i), marks::is_marked(marks, i)) {
-            return Some(i as u16);
-        }
-    }
-    None
+    (0..n)
+        .find(|i| just_one(marks::is_marked(inside, *i), marks::is_marked(marks, *i)))
+        .map(|i| i as u16)
 }
 
 // The rule at the front is a constraint.

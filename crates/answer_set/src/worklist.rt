@@ -20,8 +20,9 @@ const FEW: usize = 16;
 
 const STRIDE: usize = words::MOST_RULES + 1;
 
-// The cells: by atom, the first entry that waits for it; by entry, the next in its list; by rule, the place of the first body literal that
-// may not hold, and with a weight body 0 at first, 1 once it waits and 2 once it is given.
+// The cells: by atom, the first entry that waits for it; by entry, the next in its list; by rule, the place of the first
+// body literal that may not hold, and with a weight body 0 at first, 1 once it waits and 2 once it is given. One array
+// of numbers holds them all: an enum for a state, an Option for an entry would only be turned into numbers again.
 const NEXT: usize = words::ENTRIES;
 
 const SEEN: usize = NEXT + weights::MOST_WEIGHTED * STRIDE;
@@ -60,20 +61,8 @@ fn wait(word: i32, entry: usize, marks: &[u8], cells: &mut [u16; CELLS])
     }
 }
 
-// The first literal, from a place on, that does not hold, with its place; none where all hold.
-fn open_from<'a>(
-    body: &'a [i32],
-    from: usize,
-    inside: &[u8],
-    marks: &[u8],
-) -> Option<(usize, &'a i32)> {
-    body.iter()
-        .enumerate()
-        .skip(from)
-        .find(|(_, x)| !models::literal_holds(**x, inside, marks))
-}
-
-// Whether a plain body holds; if not, its rule waits.
+// Whether a plain body holds; if not, its rule waits for the first literal that does not. Those before the place in the
+// rule's cell hold.
 fn plain_holds(
     body: &[i32],
     rule: usize,
@@ -83,10 +72,12 @@ fn plain_holds(
 ) -> bool
     requires { rule ≤ most_rules }
 {
-    match open_from(body, get(cells, SEEN + rule), inside, marks) {
-        Some((i, x)) => {
+    let from = get(cells, SEEN + rule);
+    let open = (from..body.len()).find(|i| !models::literal_holds(body[*i], inside, marks));
+    match open {
+        Some(i) => {
             put(cells, SEEN + rule, i);
-            wait(*x, rule, marks, cells);
+            wait(body[i], rule, marks, cells);
             false
         }
         None => true,

@@ -1,9 +1,16 @@
-use mathlib.Core.Path.{sym, ◌∙◌}
-use Rattle.answer_set.proofs.Marking.{lowest-on}
+use mathlib.Core.Path.{◌≡◌}
+use mathlib.Core.Bool.{Bool, true, false}
+use Prim.Native.Nat.{ℕ}
+use Rattle.std.proofs.Common.{rules}
+use Rattle.std.proofs.lemmas.Iterator.{first_from_Range}
+use Rattle.marks.specs.Marks.{marked}
+use Rattle.answer_set.specs.SetTest.{differs_at}
+use Rattle.answer_set.proofs.Marking.{lowest-found}
 use Rattle.answer_set.proofs.answers.differing.Goals as goal
 
-pub loop-i-preserved : goal.loop-i-preserved
-loop-i-preserved c =
-    let l = c.loop-i in
-    let d = sym (rw (c.is_marked.ensures, c.is_marked-in-loop-i.ensures) at c.just_one.ensures) in
-    l.invariant ∙ lowest-on _ c.args.n l.i c.loop-i-test.true (d ∙ c.if-just_one.false)
+pub returns : goal.returns
+returns c =
+    let a = c.args in
+    let f : ℕ → Bool = differs_at (marked a.inside.now) a.marks.now in
+    let s = first_from_Range _ _ _ _ (λ i. f i ≡ true) (λ i. f i ≡ false) c.find.ensures.ran (λ i g k. search rules) (λ i g k. search rules) in
+    lowest-found f a.n c.find.result c.map.result (λ v w p. search rules) s c.map.ensures.cases
