@@ -9,33 +9,21 @@ ghost use Rattle.answer_set.specs.Private.{searched};
 use crate::{SetAnswer, models};
 use aspif::{Kind, tables};
 
-// What a search finds.
-#[derive(Drop)]
-pub enum Search {
-    At(u16),
-    Nothing,
-}
-
 // One of the two holds.
 fn just_one(a: bool, b: bool) -> bool
     ensures { result ≡ just_one a b }
 {
-    if a { !b } else { b }
+    a != b
 }
 
 // The lowest number below n that lies in just one of M and the least model, if there is one.
-fn differing(inside: &[u8], marks: &[u8], n: usize) -> Search
+fn differing(inside: &[u8], marks: &[u8], n: usize) -> Option<u16>
     requires { n ≤ entries }
     ensures { result ≡ searched (lowest_from (differs_at (marked inside.now) marks.now) n 0) }
 {
-    let mut i = 0;
-    while i < n {
-        if just_one(marks::is_marked(inside, i), marks::is_marked(marks, i)) {
-            return Search::At(i as u16);
-        }
-        i += 1;
-    }
-    Search::Nothing
+    (0..n)
+        .find(|i| just_one(marks::is_marked(inside, *i), marks::is_marked(marks, *i)))
+        .map(|i| i as u16)
 }
 
 // The rule at the front is a constraint.
@@ -43,9 +31,8 @@ fn is_constraint(words: &[i32]) -> bool
     requires { shape_sound words.now ≡ true }
     ensures { result ≡ is_constraint (rule_at words.now) }
 {
-    let kind = tables::kind_of(words);
-    match kind {
-        Kind::Normal => tables::heads_of(words).len() == 0,
+    match tables::kind_of(words) {
+        Kind::Normal => tables::heads_of(words).is_empty(),
         Kind::Choice => false,
     }
 }
@@ -55,10 +42,7 @@ fn is_broken(words: &[i32], inside: &[u8]) -> bool
     requires { sound_at words.now ≡ true }
     ensures { result ≡ is_broken (marked inside.now) (rule_at words.now) }
 {
-    if is_constraint(words) {
-        return models::body_holds(words, inside, inside);
-    }
-    false
+    is_constraint(words) && models::body_holds(words, inside, inside)
 }
 
 // The lowest broken constraint, or yes.
@@ -88,9 +72,8 @@ pub fn judge(table: &[i32], rules: usize, atoms: usize, inside: &[u8], marks: &[
         result ≡ said_of (shown (lowest_from (differs_at M marks.now) (atoms + 1) 0)
         (broken_from M 1 (rules_at rules table.now))) }
 {
-    let found = differing(inside, marks, atoms + 1);
-    match found {
-        Search::At(v) => SetAnswer::Differs(v),
-        Search::Nothing => first_broken(table, rules, inside),
+    match differing(inside, marks, atoms + 1) {
+        Some(v) => SetAnswer::Differs(v),
+        None => first_broken(table, rules, inside),
     }
 }

@@ -24,15 +24,7 @@ pub fn literal_holds(word: i32, inside: &[u8], marks: &[u8]) -> bool
 fn all_hold(body: &[i32], inside: &[u8], marks: &[u8]) -> bool
     ensures { result ≡ all (literal_holds (marked inside.now) (marked marks.now)) body.now }
 {
-    let mut i = 0;
-    while i < body.len() {
-        if literal_holds(body[i], inside, marks) {
-            i += 1;
-        } else {
-            return false;
-        }
-    }
-    true
+    body.iter().all(|x| literal_holds(*x, inside, marks))
 }
 
 // The weight of a literal that holds, and 0 else.
@@ -51,10 +43,8 @@ pub fn sum_held(pairs: &[i32], inside: &[u8], marks: &[u8]) -> usize
     ensures { result ≡ held_sum (marked inside.now) (marked marks.now) (paired pairs.now) }
 {
     let mut total = 0;
-    let mut i = 0;
-    while i + 1 < pairs.len() {
-        total += weight_held(pairs[i], pairs[i + 1], inside, marks);
-        i += 2;
+    for pair in pairs.chunks_exact(2) {
+        total += weight_held(pair[0], pair[1], inside, marks);
     }
     total
 }
@@ -99,12 +89,8 @@ fn give_heads(heads: &[i32], kind: Kind, inside: &[u8], marks: &mut [u8]) -> boo
         marks.old marks.new result }
 {
     let mut new = false;
-    let mut i = 0;
-    while i < heads.len() {
-        if give_head(heads[i], kind, inside, marks) {
-            new = true;
-        }
-        i += 1;
+    for head in heads {
+        new = give_head(*head, kind, inside, marks) | new;
     }
     new
 }
@@ -148,11 +134,9 @@ pub fn close(table: &[i32], rules: usize, most: usize, inside: &[u8], marks: &mu
     ensures { marks.new ≡ rounds (marked inside.now) most (rules_at rules table.now)
         marks.old }
 {
-    let mut left = most;
-    while 0 < left {
+    for _ in 0..most {
         if !give_all(table, rules, inside, marks) {
             return;
         }
-        left -= 1;
     }
 }

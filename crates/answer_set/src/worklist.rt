@@ -20,8 +20,9 @@ const FEW: usize = 16;
 
 const STRIDE: usize = words::MOST_RULES + 1;
 
-// The cells: by atom, the first entry that waits for it; by entry, the next in its list; by rule, the place of the first body literal that
-// may not hold, and with a weight body 0 at first, 1 once it waits and 2 once it is given.
+// The cells: by atom, the first entry that waits for it; by entry, the next in its list; by rule, the place of the first
+// body literal that may not hold, and with a weight body 0 at first, 1 once it waits and 2 once it is given. One array
+// of numbers holds them all: an enum for a state, an Option for an entry would only be turned into numbers again.
 const NEXT: usize = words::ENTRIES;
 
 const SEEN: usize = NEXT + weights::MOST_WEIGHTED * STRIDE;
@@ -35,15 +36,16 @@ const MOST_LOOKS: usize = 131072;
 fn get(cells: &[u16; CELLS], i: usize) -> usize
     ensures { result ≤ 65535 }
 {
-    if i < CELLS { words::wide(cells[i]) } else { 0 }
+    match cells.get(i) {
+        Some(c) => usize::from(*c),
+        None => 0,
+    }
 }
 
 // The cell at i becomes v, where both fit.
 fn put(cells: &mut [u16; CELLS], i: usize, v: usize) {
-    if i < CELLS {
-        if v <= 65535 {
-            cells[i] = v as u16;
-        }
+    if let (Some(c), Ok(w)) = (cells.get_mut(i), u16::try_from(v)) {
+        *c = w;
     }
 }
 
@@ -59,19 +61,8 @@ fn wait(word: i32, entry: usize, marks: &[u8], cells: &mut [u16; CELLS])
     }
 }
 
-// The place of the first literal, from a place on, that does not hold; the body's length or more where all hold.
-fn open_from(body: &[i32], from: usize, inside: &[u8], marks: &[u8]) -> usize {
-    let mut i = from;
-    while i < body.len() {
-        if !models::literal_holds(body[i], inside, marks) {
-            return i;
-        }
-        i += 1;
-    }
-    i
-}
-
-// Whether a plain body holds; if not, its rule waits.
+// Whether a plain body holds; if not, its rule waits for the first literal that does not. Those before the place in the
+// rule's cell hold.
 fn plain_holds(
     body: &[i32],
     rule: usize,
@@ -81,13 +72,16 @@ fn plain_holds(
 ) -> bool
     requires { rule ≤ most_rules }
 {
-    let i = open_from(body, get(cells, SEEN + rule), inside, marks);
-    if i < body.len() {
-        put(cells, SEEN + rule, i);
-        wait(body[i], rule, marks, cells);
-        return false;
+    let from = get(cells, SEEN + rule);
+    let open = (from..body.len()).find(|i| !models::literal_holds(body[*i], inside, marks));
+    match open {
+        Some(i) => {
+            put(cells, SEEN + rule, i);
+            wait(body[i], rule, marks, cells);
+            false
+        }
+        None => true,
     }
-    true
 }
 
 // A rule with a weight body waits for each of its literals, once.
@@ -98,15 +92,13 @@ fn wait_once(pairs: &[i32], rule: usize, marks: &[u8], cells: &mut [u16; CELLS])
         return;
     }
     put(cells, SEEN + rule, 1);
-    let mut k = 0;
-    while k < weights::MOST_WEIGHTED {
+    for k in 0..weights::MOST_WEIGHTED {
         wait(
             words::word_at(pairs, 2 * k),
             rule + STRIDE * k,
             marks,
             cells,
         );
-        k += 1;
     }
 }
 
@@ -155,14 +147,12 @@ fn last_of(first: usize, cells: &[u16; CELLS]) -> usize
     ensures { result ≤ 65535 }
 {
     let mut at = first;
-    let mut left = CELLS;
-    while 0 < left {
+    for _ in 0..CELLS {
         let next = get(cells, NEXT + at);
         if next == 0 {
             return at;
         }
         at = next;
-        left -= 1;
     }
     at
 }
@@ -189,10 +179,8 @@ fn wake_all(heads: &[i32], work: usize, marks: &[u8], cells: &mut [u16; CELLS]) 
     ensures { result ≤ 65535 }
 {
     let mut first = work;
-    let mut i = 0;
-    while i < heads.len() {
-        first = wake(heads[i], first, marks, cells);
-        i += 1;
+    for head in heads {
+        first = wake(*head, first, marks, cells);
     }
     first
 }
@@ -244,10 +232,8 @@ fn starts_of(table: &[i32], rules: usize) -> [usize; STRIDE]
 fn link_all(rules: usize, cells: &mut [u16; CELLS])
     requires { rules ≤ most_rules }
 {
-    let mut left = rules;
-    while 0 < left {
-        put(cells, NEXT + left, left - 1);
-        left -= 1;
+    for rule in 1..rules + 1 {
+        put(cells, NEXT + rule, rule - 1);
     }
 }
 
@@ -265,13 +251,11 @@ fn work_off(
     ensures { Given (marked inside.now) (rules_at rules table.now) marks.old marks.new }
 {
     let mut entry = rules;
-    let mut left = MOST_LOOKS;
-    while 0 < left {
+    for _ in 0..MOST_LOOKS {
         if entry == 0 {
             return;
         }
         entry = look(table, rules, starts, entry, inside, marks, cells);
-        left -= 1;
     }
 }
 

@@ -18,10 +18,7 @@ heads_of-requires c = shape_of _ c.requires
 pub returns-then-body_holds : goal.returns-then-body_holds
 unfolding give_rule
 returns-then-body_holds c =
-    let d = c in
-    let h = c in
-    let k = c in
-    rw (tells (goal.at.returns-then-body_holds c).After-body_holds ∙ k.if-body_holds.true) (rw (h.heads_of.ensures, k.kind_of-kind.ensures) at d.give_heads.ensures)
+    rw (tells (goal.at.returns-then-body_holds c).After-body_holds ∙ c.if-body_holds.true) (rw (c.heads_of.ensures, c.kind_of-kind.ensures) at c.give_heads.ensures)
 
 pub returns : goal.returns
 unfolding give_rule
