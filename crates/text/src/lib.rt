@@ -35,8 +35,8 @@ pub enum Class {
     Other,
 }
 
-// The numbers of the line that a text begins with. `next` is the number of bytes that it takes, its newline included; `outside` tells
-// that some number's size is above the largest variable, `closed` that the last number is 0 and no other is.
+// The numbers of the line that a text begins with. `next` is the number of bytes that it takes, its newline included;
+// `outside` tells that some number's size is above the largest variable, `closed` that the last number is 0 and no other is.
 #[derive(Drop)]
 pub struct LineNumbers {
     pub count: usize,
@@ -232,7 +232,7 @@ fn store(row: &mut [i32], n: usize, negative: bool, size: u16)
     words::put_word(row, n, value(negative, size));
 }
 
-// The numbers of the line that the text begins with, into the row, as many as fit; or none where the text does not begin with a line of
+// The numbers of the line that the text begins with, into the row, as many as fit; `None` where it begins with no line of
 // numbers.
 pub fn read_line(text: &[u8], row: &mut [i32], classes: &[u8; 256]) -> Option<LineNumbers>
     requires { classes.now ≡ byte_classes }
