@@ -8,7 +8,7 @@ ghost use Rattle.aspif.specs.Turns.{TurnTaken, LinesRead};
 
 use crate::rules::RuleAdded;
 use crate::{ProgramFault, ProgramRefusal, rules};
-use text::LineRead;
+use text::LineNumbers;
 use words::MOST_LITERALS;
 
 // The numbers of the longest rule line: three before the heads, three before the pairs of a weight body, and both parts.
@@ -49,27 +49,25 @@ fn read_rule(
         (line_of rest.now)) free.old free.new result }
 {
     let mut row = [0i32; ROW];
-    let read = text::read_line(rest, &mut row, classes);
-    match read {
-        LineRead::Broken => Err(ProgramFault::Malformed),
-        LineRead::Numbers {
-            count,
-            next,
-            outside,
-            closed: _,
-        } => {
-            if outside {
-                return Err(ProgramFault::TooLarge);
-            }
-            if is_last(&row, count) {
-                if next == rest.len() {
-                    return Ok(None);
-                }
-                return Err(ProgramFault::TextAfterEnd);
-            }
-            rules::take_rule(free, &mut row, count, next, rules, most)
-        }
+    let Some(line) = text::read_line(rest, &mut row, classes) else {
+        return Err(ProgramFault::Malformed);
+    };
+    let LineNumbers {
+        count,
+        next,
+        outside,
+        ..
+    } = line;
+    if outside {
+        return Err(ProgramFault::TooLarge);
     }
+    if is_last(&row, count) {
+        if next == rest.len() {
+            return Ok(None);
+        }
+        return Err(ProgramFault::TextAfterEnd);
+    }
+    rules::take_rule(free, &mut row, count, next, rules, most)
 }
 
 // The lines after the first, up to the line `0` or the first that is refused.

@@ -1,17 +1,16 @@
 -- Laws of `line_at` and its parts: which answer each test leads to, and what an answered line passed.
 -- Assumes nothing.
 use mathlib.Core.Path.{◌≡◌, refl, sym, ap, ◌∙◌, subst}
-use mathlib.Core.Bool.{Bool, true, false, cond, not, ◌&&◌, ◌||◌, true≢false}
+use mathlib.Core.Bool.{Bool, true, false, cond, not, ◌&&◌, ◌||◌}
 use mathlib.Core.Option.{Option, none, some}
 use mathlib.Core.List.{List, [], ◌∷◌}
 use Prim.Native.Nat.{ℕ, suc, ◌+◌, ◌-◌, ◌<◌, ◌≤◌, max}
 use native.Mathlib.Omega.{arith}
 use lib.IntN.{ℤ, pos}
 use lib.Dec.{ltb, eqb}
-use lib.ListN.{length, take, drop, get_or, length-drop, drop_of_length-le}
+use lib.ListN.{length, take, drop, length-drop, drop_of_length-le}
 use borrow.Author.Tests.{le-ltb, lt-ltb, ltb-true, ltb-false, eq-eqb, ne_eqb}
 use Rattle.words.specs.Limits.{largest, longest, most_numbers}
-use Rattle.words.specs.Lists.{all}
 use Rattle.words.specs.Literals.{distinct, same, has, top, variable}
 use Rattle.words.proofs.Lists.{if-true, failed, not-decides, and_left, and_right, or-false-right}
 use Rattle.words.proofs.Literals.{same-decides}
@@ -21,33 +20,9 @@ use Rattle.text.proofs.Lines.{bounds_of}
 use Rattle.text.specs.declared.Letter.{Letter}
 use Rattle.text.specs.declared.Class.{Class}
 use Rattle.text.specs.declared.Class.TheVariants.{Newline, Space, Minus, Digit, Step, Other}
-use Rattle.drupe.specs.Lines.{signs_of, is_positive, signed, line_refusal, all_passed, LineAt, end, refused, line, refused_or, line_asked, of_numbers, is_space, after_letter, after_first, line_from, line_at, line_read, line_answer, numbers_of, AnswerBounds, ProofLineRead}
-use Rattle.drupe.specs.declared.Signs.{Signs}
+use Rattle.drupe.specs.Lines.{signs_of, signed, line_refusal, all_passed, LineAt, end, refused, line, refused_or, line_asked, of_numbers, is_space, after_letter, after_first, line_from, line_at, line_read, line_answer, numbers_of, AnswerBounds, ProofLineRead}
 use Rattle.drupe.specs.declared.LineAnswer.{LineAnswer}
 use Rattle.drupe.specs.declared.LineReading.{LineReading}
-
--- Signs
-
-pub signed-none : (k : Signs) (zs : List ℤ) → length zs ≡ 0 → signed k zs ≡ not k.needed
-signed-none k [] e = refl
-signed-none k (z ∷ zs) e = absurd (omega arith)
-
-pub signed-some : (k : Signs) (zs : List ℤ) → (length zs ≡ 0 → ⊥)
-    → signed k zs ≡ ((not k.first || is_positive (get_or zs 0 (pos 0))) && (not k.later || all is_positive (drop 1 zs)))
-signed-some k [] e = absurd (e refl)
-signed-some k (z ∷ zs) e = refl
-
--- Questions 24 and 25, of numbers that passed 23
-
-module _ (x : Letter) (zs : List ℤ) (next : ℕ) (inside : any_outside zs ≡ false) (few : length zs ≤ most_numbers) where
-  pub asked-24 : signed (signs_of x) zs ≡ false → line_asked x zs next ≡ refused 24
-  asked-24 e = rw (inside, le-ltb most_numbers (length zs) few, e)
-
-  pub asked-25 : signed (signs_of x) zs ≡ true → distinct zs ≡ false → line_asked x zs next ≡ refused 25
-  asked-25 e d = rw (inside, le-ltb most_numbers (length zs) few, e, d)
-
-  pub asked-line : signed (signs_of x) zs ≡ true → distinct zs ≡ true → line_asked x zs next ≡ line x zs next
-  asked-line e d = rw (inside, le-ltb most_numbers (length zs) few, e, d)
 
 -- Questions 23 to 25 together
 
@@ -74,10 +49,6 @@ good-parts x zs {a} {b} {s} {d} p q r e = rw (outside-top zs, p, q, r, e) (by a 
 
 -- The numbers before a closing 0
 
-pub closed_some : (zs : List ℤ) → is_closed zs ≡ true → 0 < length zs
-closed_some [] e = absurd (true≢false (sym e))
-closed_some (z ∷ zs) e = omega arith
-
 pub outside-before : (zs : List ℤ) → is_closed zs ≡ true → any_outside (take (length zs - 1) zs) ≡ any_outside zs
 outside-before [] e = refl
 outside-before (z ∷ []) e = rw (if-true (same-decides z (pos 0)) e)
@@ -94,29 +65,6 @@ zero-before (z ∷ y ∷ zs) e =
     let f = if-true (not-decides (same-decides z (pos 0))) (and_left (not (same z (pos 0))) (is_closed (y ∷ zs)) e) in
     let g : same (pos 0) z ≡ false = failed _ ((not-decides (same-decides (pos 0) z)).from (λ p. f (sym p))) in
     rw (h, g) (zero-before (y ∷ zs) (and_right (not (same z (pos 0))) (is_closed (y ∷ zs)) e))
-
--- The first two bytes
-
-module _ (x : Letter) (from : ℕ) where
-  pub after-empty : (s : List ℕ) → length s ≡ 0 → after_letter x from s ≡ refused 22
-  after-empty [] e = refl
-  after-empty (b ∷ s) e = absurd (omega arith)
-
-  pub after-other : (s : List ℕ) → is_space (class_of (get_or s 0 0)) ≡ false → after_letter x from s ≡ refused 22
-  after-other [] e = refl
-  after-other (b ∷ s) e = rw e
-
-  pub after-space : (s : List ℕ) → (length s ≡ 0 → ⊥) → is_space (class_of (get_or s 0 0)) ≡ true → after_letter x from s ≡ of_numbers x (from + 1) (line_of (drop 1 s))
-  after-space [] h e = absurd (h refl)
-  after-space (b ∷ s) h e = rw e
-
-pub line-empty : (from : ℕ) (s : List ℕ) → length s ≡ 0 → line_from from s ≡ refused 22
-line-empty from [] e = refl
-line-empty from (b ∷ s) e = absurd (omega arith)
-
-pub line_first : (from : ℕ) (s : List ℕ) (k : Class) → (length s ≡ 0 → ⊥) → class_of (get_or s 0 0) ≡ k → line_from from s ≡ after_first k (from + 1) (drop 1 s)
-line_first from [] k h e = absurd (h refl)
-line_first from (b ∷ s) k h e = rw e
 
 -- The position
 
@@ -218,9 +166,3 @@ pub reads_of : {s : List ℕ} {at : ℕ} {r : LineReading} → length s ≤ long
 reads_of {s} {at} h e n =
     let q = sym (read_short s at h) in
     record { answer = e ∙ ap line_answer q; numbers = n ∙ ap numbers_of q; within = answer-within s at e }
-
-pub reads-long : {s : List ℕ} {at : ℕ} {r : LineReading} → longest < length s → r.answer ≡ line_answer (refused 21) → r.numbers ≡ numbers_of (refused 21)
-    → ProofLineRead s at r
-reads-long {s} {at} h e n =
-    let q = sym (read-long s at h) in
-    record { answer = e ∙ ap line_answer q; numbers = n ∙ ap numbers_of q; within = subst (AnswerBounds at (length s)) (sym e) tt }

@@ -3,11 +3,11 @@
 use mathlib.Core.Path.{◌≡◌, refl, sym, ap, ◌∙◌, subst}
 use mathlib.Core.Bool.{Bool, true, false}
 use mathlib.Core.Option.{Option, none, some}
-use mathlib.Core.List.{List, [], ◌∷◌, ◌++◌, append-nil}
+use mathlib.Core.List.{List, [], ◌∷◌, ◌++◌}
 use Prim.Native.Nat.{ℕ, ◌+◌, ◌-◌, ◌<◌, ◌≤◌}
 use native.Mathlib.Omega.{arith}
 use lib.IntN.{ℤ, pos}
-use lib.ListN.{length, take, drop, get_or, set, replicate, length-replicate, drop_of_length-le}
+use lib.ListN.{length, take, drop, get_or, set, replicate, length-replicate}
 use lib.Seq.{sets, sets-eq, set-get_or, take-set-le, take-append_seam, length-take-le, get_or-append-add}
 use Rattle.words.specs.Limits.{most_numbers}
 use Rattle.words.specs.Literals.{ascending}
@@ -22,10 +22,6 @@ use Rattle.drupe.specs.declared.LineAnswer.{LineAnswer}
 use Rattle.drupe.specs.declared.LineAnswer.TheVariants.{Line as Answered, End, Refused}
 use Rattle.drupe.proofs.Lines.{Passed, passed, few, answer-within}
 use Rattle.drupe.proofs.Texts.{end-closed}
-
--- a row of as many words that is written over
-pub copied : (xs ys : List ℤ) {zs : List ℤ} → length ys ≡ length xs → zs ≡ xs ++ drop (length xs) ys → zs ≡ xs
-copied xs ys h e = e ∙ rw (drop_of_length-le ys {i = length xs} (omega arith)) (append-nil xs)
 
 -- Numbers and the closing 0, from a row's front on
 
@@ -118,12 +114,6 @@ module _ {s : List ℕ} {at : ℕ} {before numbers sorted : List ℤ} {r : LineA
 
 -- For `read_line`, whose row was zeros
 
--- an answer that has no numbers
-abbrev pub Bare : LineAnswer → Type 0
-Bare End = Unit {0}
-Bare (Refused k) = Unit {0}
-Bare (Answered x count next) = ⊥
-
 module _ (s : List ℕ) (at : ℕ) {r : LineAnswer} where
   pub numbers-read : {numbers sorted : List ℤ} {x : Letter} {count next : ℕ} → ReadInto s at (replicate most_numbers (pos 0)) numbers sorted r → r ≡ Answered x count next
       → numbers ≡ numbers_of (line_at s at)
@@ -133,11 +123,3 @@ module _ (s : List ℕ) (at : ℕ) {r : LineAnswer} where
       by end p a w = absurd (zero_one cc)
       by (refused k) p a w = absurd (zero_one cc)
       by (line y zs n) p a w = w ∙ zeros-written zs most_numbers (few y zs p.2)
-
-  pub none_read : r ≡ line_answer (line_at s at) → (b : LineAnswer) → r ≡ b → Bare b → numbers_of (line_at s at) ≡ replicate most_numbers (pos 0)
-  none_read e b q u = by (line_at s at) (subst Bare (sym q ∙ e) u)
-    where
-      by : (l : LineAt) → Bare (line_answer l) → numbers_of l ≡ replicate most_numbers (pos 0)
-      by end u = refl
-      by (refused k) u = refl
-      by (line x zs next) u = absurd u

@@ -14,7 +14,7 @@ ghost use Rattle.words.specs.Literals.{ascending};
 ghost use Rattle.drupe.specs.Lines.{ProofLineRead, after_letter, all_passed, is_space, line_answer, line_asked, line_from, line_refusal, of_numbers, place_of, signed, signs_of};
 ghost use Rattle.drupe.specs.Rows.{LineInto, ReadInto};
 
-use text::{Class, Letter, LineRead};
+use text::{Class, Letter, LineNumbers};
 use words::MOST_NUMBERS;
 
 // What stands at a position: a line's letter, how many numbers it has and the position after its newline; the end; or the
@@ -67,7 +67,7 @@ const POSITIVE: Signs = Signs {
     later: true,
 };
 
-// By letter: a, b, c, d, e, l, s.
+// By letter: a, b, c, d, e, l, s. A constant table by letter is what the format's document asks for (docs/DECISIONS.md).
 const SIGNS: [Signs; 7] = [SIGNED, NAMED, POSITIVE, SIGNED, NAMED, POSITIVE, POSITIVE];
 
 // The place of a letter in the table.
@@ -97,11 +97,10 @@ fn is_signed(letter: Letter, numbers: &[i32]) -> bool
     ensures { result ≡ signed (signs_of letter) numbers.now }
 {
     let signs = signs_of(letter);
-    if numbers.len() == 0 {
+    let Some((first, later)) = numbers.split_first() else {
         return !signs.needed;
-    }
-    let first = !signs.first | words::is_positive(numbers[0]);
-    first & (!signs.later | words::all_positive(&numbers[1..]))
+    };
+    (!signs.first | words::is_positive(*first)) & (!signs.later | words::all_positive(later))
 }
 
 // Questions 23 to 25. The numbers are left in another order.
@@ -167,48 +166,38 @@ fn read_numbers(
     ensures { LineInto (of_numbers letter from (line_of text.now)) numbers.old numbers.new
         sorted.new result }
 {
-    let read = text::read_line(text, numbers, classes);
-    match read {
-        LineRead::Numbers {
-            count,
-            next,
-            outside,
-            closed,
-        } => {
-            if !closed {
-                return LineAnswer::Refused(22);
-            }
-            if outside {
-                return LineAnswer::Refused(23);
-            }
-            let before = count - 1;
-            if MOST_NUMBERS < before {
-                return LineAnswer::Refused(23);
-            }
-            ask(
-                letter,
-                &numbers[..before],
-                &mut sorted[..before],
-                from + next,
-            )
-        }
-        LineRead::Broken => LineAnswer::Refused(22),
+    let Some(line) = text::read_line(text, numbers, classes) else {
+        return LineAnswer::Refused(22);
+    };
+    let LineNumbers {
+        count,
+        next,
+        outside,
+        closed,
+    } = line;
+    if !closed {
+        return LineAnswer::Refused(22);
     }
+    if outside {
+        return LineAnswer::Refused(23);
+    }
+    let before = count - 1;
+    if MOST_NUMBERS < before {
+        return LineAnswer::Refused(23);
+    }
+    ask(
+        letter,
+        &numbers[..before],
+        &mut sorted[..before],
+        from + next,
+    )
 }
 
 fn is_space(b: u8, classes: &[u8; 256]) -> bool
     requires { classes.now ≡ byte_classes }
     ensures { result ≡ is_space (class_of b) }
 {
-    let class = text::class_of(classes, b);
-    match class {
-        Class::Space => true,
-        Class::Newline => false,
-        Class::Minus => false,
-        Class::Digit(_) => false,
-        Class::Step(_) => false,
-        Class::Other => false,
-    }
+    matches!(text::class_of(classes, b), Class::Space)
 }
 
 // The space after the letter, and what follows it.
@@ -252,21 +241,15 @@ fn read_letter(
     if text.len() == 0 {
         return LineAnswer::Refused(22);
     }
-    let class = text::class_of(classes, text[0]);
-    match class {
-        Class::Step(letter) => {
-            read_space(letter, &text[1..], from + 1, classes, numbers, sorted)
-        }
-        Class::Newline => LineAnswer::Refused(22),
-        Class::Space => LineAnswer::Refused(22),
-        Class::Minus => LineAnswer::Refused(22),
-        Class::Digit(_) => LineAnswer::Refused(22),
-        Class::Other => LineAnswer::Refused(22),
-    }
+    let Class::Step(letter) = text::class_of(classes, text[0]) else {
+        return LineAnswer::Refused(22);
+    };
+    read_space(letter, &text[1..], from + 1, classes, numbers, sorted)
 }
 
-// The line of the text that begins at the position, its numbers at the front of one row, and ascending at the front of the other. Question
-// 21 is not put: whoever calls it puts it, with a limit of its own. The rows need not be cleared, and whoever reads line after line makes the table of classes once. Only the reader calls it.
+// The line of the text that begins at the position, its numbers at the front of one row, and ascending at the front of the
+// other. Question 21 is not put: whoever calls it puts it, with a limit of its own. The rows need not be cleared, and whoever
+// reads line after line makes the table of classes once. Only the reader calls it.
 fn read_into(
     text: &[u8],
     position: usize,
@@ -300,7 +283,6 @@ pub fn read_line(text: &[u8], position: usize) -> LineReading
     let answer = reader::step_at(text, position, &classes, &mut numbers, &mut sorted);
     match answer {
         LineAnswer::Line { .. } => LineReading { answer, numbers },
-        LineAnswer::End => unread(answer),
-        LineAnswer::Refused(_) => unread(answer),
+        LineAnswer::End | LineAnswer::Refused(_) => unread(answer),
     }
 }

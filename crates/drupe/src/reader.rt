@@ -14,8 +14,7 @@ fn position_after(answer: LineAnswer, at: usize) -> usize
 {
     match answer {
         LineAnswer::Line { next, .. } => next,
-        LineAnswer::End => at,
-        LineAnswer::Refused(_) => at,
+        LineAnswer::End | LineAnswer::Refused(_) => at,
     }
 }
 
