@@ -11,7 +11,6 @@ ghost use Rattle.names.specs.ByName.{Called, Told};
 ghost use Rattle.names.specs.Minimal.{AlsoMarks};
 ghost use Rattle.names.specs.Queries.{HoldsRules, entry, Kept, is_inside, asks_heads, asked_names, MarksNames, completing, constraining};
 
-use crate::by_name::Recorded;
 use crate::{by_name, minimal};
 use aspif::{Kind, tables};
 use weights::MOST_WEIGHTED;
@@ -39,14 +38,7 @@ pub fn is_inside(word: i32, inside: &[u8]) -> bool
 pub fn any_inside(literals: &[i32], inside: &[u8]) -> bool
     ensures { result ≡ any (is_inside inside.now) literals.now }
 {
-    let mut i = 0;
-    while i < literals.len() {
-        if is_inside(literals[i], inside) {
-            return true;
-        }
-        i += 1;
-    }
-    false
+    literals.iter().any(|literal| is_inside(*literal, inside))
 }
 
 // The rule at the front is normal.
@@ -113,7 +105,7 @@ fn mark_asked(
         return;
     }
     if !any_inside(tables::body_of(words), inside) {
-        marks::mark(found, name as usize);
+        marks::mark(found, usize::from(name));
     }
 }
 
@@ -183,7 +175,7 @@ pub fn body_name(table: &[i32], rules: usize, names: &[u16], bodies: &[i16], bod
     while k < rules {
         let rest = &table[i..];
         if has_body(rest, body) {
-            return name_at(rest, body, names[k], bodies) as usize;
+            return usize::from(name_at(rest, body, names[k], bodies));
         }
         i = tables::next_rule(table, i);
         k += 1;
@@ -202,7 +194,7 @@ pub fn is_unnamed(table: &[i32], rules: usize, names: &[u16], bodies: &[i16], bo
 }
 
 // Some body of the rule at the front has the name, whose literals are those recorded; `kept` is what is kept by rule.
-fn is_named(words: &[i32], name: u16, kept: u16, recorded: Recorded, row: &[i32]) -> bool
+fn is_named(words: &[i32], name: u16, kept: u16, recorded: Option<usize>, row: &[i32]) -> bool
     requires rule { sound_at words.now ≡ true }
     requires row { (length row.now ≡ most_weighted) × ((bodies : List ℤ) × Told bodies name row.now recorded) }
     ensures { (bodies : List ℤ) (called : List ℤ → ℕ) → (is_weighted words.now ≡ true → Called bodies called)
@@ -214,10 +206,8 @@ fn is_named(words: &[i32], name: u16, kept: u16, recorded: Recorded, row: &[i32]
         return kept == name;
     }
     match recorded {
-        Recorded::Body(n) => {
-            weights::is_body(tables::body_of(words), tables::bound_of(words), &row[..n])
-        }
-        Recorded::Nothing => false,
+        Some(n) => { weights::is_body(tables::body_of(words), tables::bound_of(words), &row[..n]) }
+        None => false,
     }
 }
 
@@ -227,7 +217,7 @@ fn completes(
     heads: &[i32],
     name: u16,
     kept: u16,
-    recorded: Recorded,
+    recorded: Option<usize>,
     row: &[i32],
 ) -> bool
     requires rule { sound_at words.now ≡ true }

@@ -5,20 +5,21 @@ use mathlib.Core.List.{List}
 use Prim.Native.Nat.{ℕ, suc, ◌-◌, ◌≤◌, ◌<◌}
 use native.Mathlib.Omega.{arith}
 use lib.IntN.{ℤ}
-use lib.ListN.{length, take, drop}
+use lib.ListN.{length, take, drop, get_or}
+use Rattle.std.specs.Prelude.{Option, Some, None}
 use Rattle.words.specs.Limits.{most_held}
 use Rattle.words.specs.Lists.{any}
 use Rattle.words.proofs.Parts.{tail_of}
 use Rattle.aspif.specs.Tables.{heads_at, sound_at, shape_sound}
 use Rattle.names.specs.Queries.{is_inside}
-use Rattle.heads.specs.Heads.{start_of, words_from, Headed, headed_to, headed_at, Place, HasHead, Gathers}
+use Rattle.heads.specs.Heads.{start_of, words_from, Headed, headed_to, headed_at, Place, HasHead, Collected, Gathers}
 use Rattle.heads.proofs.Starts.{rule-here, head_of, all_seen}
 use Rattle.heads.proofs.Walks.{walk_from, walk-on, next-less}
 use Rattle.heads.proofs.Bodies.{covers-few}
-use Rattle.heads.proofs.Externals.{Got, collected-few, in-row-keeps, gather-stops, head-inside}
+use Rattle.heads.proofs.Externals.{Got, collected-few, in-row-keeps, head-inside}
 use borrow.Author.Rules.{rules}
 use Rattle.heads.proofs.gather_head.Goals as goal
-use Rattle.heads.proofs.gather_head.Goals.{In-loop-p, After-word_of-k, After-word_of-at, After-gather_rule-count}
+use Rattle.heads.proofs.gather_head.Goals.{In-loop-p, After-word_of-k, After-word_of-at}
 use Rattle.heads.proofs.gather_head.Lts.View as view
 use Rattle.heads.proofs.gather_head.Reads as reads
 use Rattle.heads.proofs.gather_head.Tie as tie
@@ -88,60 +89,55 @@ module _ (c : After-word_of-at) where
   words-at : take (length (t (i o)) - c.word_of-at.result) (drop c.word_of-at.result (t (i o))) ≡ words_from (k o) (t (i o))
   words-at = tail_of c.word_of-at.result (t (i o)) ∙ ap (λ j. drop j (t (i o))) starts
 
-pub gather_rule-count-requires : goal.gather_rule-count-requires
-gather_rule-count-requires c =
-    let w = (goal.at.gather_rule-count-requires c).After-word_of-at in
+pub gather_rule-requires : goal.gather_rule-requires
+gather_rule-requires c =
+    let w = (goal.at.gather_rule-requires c).After-word_of-at in
     let d = i (o w) in
     let C = d.loop-p.invariant.0 in
     (subst (λ ws. shape_sound ws ≡ true) (sym (words-at w)) (here (o w)).2, C.is, omega (arith, collected-few d.requires.index.2 C, covers-few d.requires.index.0))
 
--- what the call gathers
-module _ (c : After-gather_rule-count) where
-  abbrev w : After-word_of-at
-  w = (view.up-After-word_of-at tie.the-claims reads.Pre reads.Post goal.the-invariant-loop-p goal.the-decreases-loop-p tie.handed_clauses c.before.before.before.before.before)
+-- what the call tells of the rule
+gathers : (c : After-word_of-at) (row : List ℤ) (r : Option ℕ) → (let d = i (o c) in
+    ((t' : List ℤ) (rules : ℕ) (names : List ℕ) (k' : ℕ) → take (length (t d) - c.word_of-at.result) (drop c.word_of-at.result (t d)) ≡ words_from k' t'
+    → get_or d.args.names.now (k (o c)) 0 ≡ get_or names k' 0 → k' < rules
+    → any (is_inside d.args.inside.now) (heads_at (words_from k' t')) ≡ true
+    → Collected t' rules names d.args.inside.now d.loop-p.row d.loop-p.count
+    → Gathers t' rules names d.args.inside.now (λ j. j ≡ k') d.loop-p.row d.loop-p.count row r)
+    → Gathers (t d) d.args.rules d.args.names.now d.args.inside.now (λ j. j ≡ k (o c)) d.loop-p.row d.loop-p.count row r)
+gathers c row r told = let d = i (o c) in told (t d) d.args.rules d.args.names.now (k (o c)) (words-at c) refl (headed (o c)).0 (inside (o c)) d.loop-p.invariant.0
 
-  abbrev d : In-loop-p
-  d = i (o w)
-
-  gathers : Gathers (t d) d.args.rules d.args.names.now d.args.inside.now (λ j. j ≡ k (o w)) d.loop-p.row d.loop-p.count
-      c.gather_rule-count.new.row c.gather_rule-count.result
-  gathers = c.gather_rule-count.ensures (t d) d.args.rules d.args.names.now (k (o w)) (words-at w) refl (headed (o w)).0 (inside (o w)) d.loop-p.invariant.0
-
-pub returns-then-count-gt-LARGEST : goal.returns-then-count-gt-LARGEST
-returns-then-count-gt-LARGEST c = gather-stops (gathers (goal.at.returns-then-count-gt-LARGEST c).After-gather_rule-count) c.if-count-gt-LARGEST.true
+pub returns-in_err-count : goal.returns-in_err-count
+returns-in_err-count c = rw c.from_residual.ensures (gathers (goal.at.returns-in_err-count c).After-word_of-at c.gather_rule.new.row None c.in_err-count.ensures)
 
 pub loop-p-smaller : goal.loop-p-smaller
 loop-p-smaller c =
-    let e = d (goal.at.loop-p-smaller c).After-gather_rule-count in
+    let e = i (o (goal.at.loop-p-smaller c).After-word_of-at) in
     let f = c.word_of-p-in-loop-p.ensures in
     omega (arith, f, next-less e.requires.index.0.entered.heads.chains e.loop-p.invariant.2 (is e))
 
 pub loop-p-preserved : goal.loop-p-preserved
 loop-p-preserved c =
-    let g = (goal.at.loop-p-preserved c).After-gather_rule-count in
-    let h = c.if-count-gt-LARGEST.false in
-    let G = gathers g in
-    let e = d g in
-    let a = e.args in
-    let row = g.gather_rule-count.new.row in
-    let r = g.gather_rule-count.result in (
-      G.collected h,
-      (λ y m. G.keeps h y (e.loop-p.invariant.1 y m)),
+    let w = (goal.at.loop-p-preserved c).After-word_of-at in
+    let r = c.in_ok-count.count in
+    let row = c.gather_rule.new.row in
+    let G = gathers w row (Some r) c.in_ok-count.ensures in
+    let e = i (o w) in
+    let a = e.args in (
+      G.collected,
+      (λ y m. G.keeps y (e.loop-p.invariant.1 y m)),
       walk-on e.requires.index.0.entered.heads.chains e.loop-p.invariant.2 (is e) c.word_of-p-in-loop-p.ensures
-          (λ y f X. in-row-keeps e.loop-p.row row e.loop-p.count r (G.keeps h) _ (f X))
-          (λ m. subst (Got (t e) a.rules a.names.now a.inside.now row r) (owner (o (w g))) (λ X. G.all h (k (o (w g))) refl X)),
+          (λ y f X. in-row-keeps e.loop-p.row row e.loop-p.count r G.keeps _ (f X))
+          (λ m. subst (Got (t e) a.rules a.names.now a.inside.now row r) (owner (o w)) (λ X. G.all (k (o w)) refl X)),
     )
 
 pub returns : goal.returns
 returns c =
     let a = c.args in
     let l = c.loop-p in
-    let b = l.invariant.0.is.within in record {
-      most = omega (arith, b);
-      unnamed = λ e. absurd (omega (arith, b));
-      collected = λ h. l.invariant.0;
-      keeps = λ h. l.invariant.1;
-      all = λ h. all_seen a.table.now a.rules a.v (Got a.table.now a.rules a.names.now a.inside.now l.row l.count) l.p c.loop-p-test.false l.invariant.2;
+    record {
+      collected = l.invariant.0;
+      keeps = l.invariant.1;
+      all = all_seen a.table.now a.rules a.v (Got a.table.now a.rules a.names.now a.inside.now l.row l.count) l.p c.loop-p-test.false l.invariant.2;
     }
 
 pub overflow_add-x : goal.overflow_add-x
@@ -169,4 +165,4 @@ pub bounds-names-k : goal.bounds-names-k
 bounds-names-k c = in-names (o (goal.at.bounds-names-k c).After-word_of-at)
 
 pub overflow_add-x-in-loop-p : goal.overflow_add-x-in-loop-p
-overflow_add-x-in-loop-p c = let r = room (d (goal.at.overflow_add-x-in-loop-p c).After-gather_rule-count) in search rules
+overflow_add-x-in-loop-p c = let r = room (i (o (goal.at.overflow_add-x-in-loop-p c).After-word_of-at)) in search rules

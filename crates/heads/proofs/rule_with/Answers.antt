@@ -9,7 +9,7 @@ use Rattle.words.specs.Limits.{most_held}
 use Rattle.words.specs.Literals.{same_list}
 use Rattle.words.proofs.Parts.{tail_of}
 use Rattle.aspif.specs.Tables.{body_words_at, shape_sound, sound_at}
-use Rattle.heads.specs.Heads.{bucket_at, start_of, words_from, hash_from, BodyPlace, RuleWith}
+use Rattle.heads.specs.Heads.{bucket_at, start_of, words_from, hash_from, BodyPlace}
 use Rattle.heads.proofs.Starts.{rule-here}
 use Rattle.heads.proofs.Walks.{walk_from, walk-on, next-less}
 use Rattle.heads.proofs.Bodies.{none-with}
@@ -76,7 +76,7 @@ pub returns-then-is_same_list : goal.returns-then-is_same_list
 returns-then-is_same_list c =
     let b = (goal.at.returns-then-is_same_list c).After-is_same_list in
     let d = i (goal.at.returns-then-is_same_list c).After-word_of-at in
-    subst (RuleWith (t d) d.args.rules d.args.body.now) (sym (is d)) ((place d).0, tells b ∙ c.if-is_same_list.true)
+    ((place d).0, tells b ∙ c.if-is_same_list.true)
 
 pub loop-p-smaller : goal.loop-p-smaller
 loop-p-smaller c =

@@ -60,7 +60,7 @@ returns-then-has_body c =
     let l = d.loop-k in
     let here = one_passes (at d) (with d.args.body.now) (tells (goal.at.returns-then-has_body c).After-has_body ∙ b.if-has_body.true) in
     λ ws H. rw (← H.are) (λ called K.
-    rw (l.invariant.1 ∙ here) (c.name_at.ensures called (rw (tail_of (i d) (t d)) (λ w. K.by_name ((at d).weighted w))) (rw (tail_of (i d) (t d)) ((at d).kept called K.by_rule))))
+    rw (l.invariant.1 ∙ here) (c.from.ensures ∙ c.name_at.ensures called (rw (tail_of (i d) (t d)) (λ w. K.by_name ((at d).weighted w))) (rw (tail_of (i d) (t d)) ((at d).kept called K.by_rule))))
 
 pub next_rule-i-requires : goal.next_rule-i-requires
 next_rule-i-requires c = record { here = (at (goal.at.next_rule-i-requires c).In-loop-k).here }

@@ -33,26 +33,26 @@ pub slice_bounds-is_body-end : goal.slice_bounds-is_body-end
 slice_bounds-is_body-end c =
     let d = c in
     let s = c in
-    sym (length-take-le _ _ (omega (arith, told-few _ s.args.row.now s.args.name d.in-Body.is s.requires.row.1.1, s.requires.row.0)))
+    sym (length-take-le _ _ (omega (arith, told-few _ s.args.row.now s.args.name d.in-Some.is s.requires.row.1.1, s.requires.row.0)))
 
 pub is_body-requires : goal.is_body-requires
 is_body-requires c =
     let w = weighs (goal.at.is_body-requires c).Else-not-is_weighted in
     rw (c.bound_of.ensures, c.body_of.ensures) (w.bound, w.light, w.distinct)
 
-pub returns-in-Body : goal.returns-in-Body
-returns-in-Body c =
+pub returns-in-Some : goal.returns-in-Some
+returns-in-Some c =
     let b = c in
-    let d = (goal.at.returns-in-Body c).Else-not-is_weighted in
+    let d = (goal.at.returns-in-Some c).Else-not-is_weighted in
     λ bodies called C t above e.
     rw (weight-bodies _ (weighted d))
     ((rw (b.bound_of.ensures, b.body_of.ensures) at c.is_body.ensures)
-    ∙ sym (named-body (weighs d) (C (weighted d)) above _ b.in-Body.is t))
+    ∙ sym (named-body (weighs d) (C (weighted d)) above _ b.in-Some.is t))
 
-pub returns-in-Nothing : goal.returns-in-Nothing
-returns-in-Nothing c =
-    let d = (goal.at.returns-in-Nothing c).Else-not-is_weighted in
-    λ bodies called C t above e. rw (weight-bodies _ (weighted d)) (sym (named_none (weighs d) (C (weighted d)) above _ c.in-Nothing.is t))
+pub returns-in-None : goal.returns-in-None
+returns-in-None c =
+    let d = (goal.at.returns-in-None c).Else-not-is_weighted in
+    λ bodies called C t above e. rw (weight-bodies _ (weighted d)) (sym (named_none (weighs d) (C (weighted d)) above _ c.in-None.is t))
 
 pub body_of-requires : goal.body_of-requires
 body_of-requires c = shape_of _ c.requires.rule

@@ -61,7 +61,7 @@ returns-then-not-any_inside c =
     let out = inside (goal.at.returns-then-not-any_inside c).After-any_inside ∙ d.if-not-any_inside.true in
     λ called C e.
     rw (asked-bodies (rule_at _) _ _ called, asked (goal.at.returns-then-not-any_inside c).After-is_weighted, plain-bodies _ p, out)
-    (also_one s.requires.found m.mark.ensures.marks (e ∙ plain_entry _ p called))
+    (also_one s.requires.found m.mark.ensures.marks (m.from.ensures ∙ e ∙ plain_entry _ p called))
 
 pub returns-else-not-any_inside : goal.returns-else-not-any_inside
 returns-else-not-any_inside c =
