@@ -158,10 +158,6 @@ scale-room n h = omega arith
 pub roomy : (index : List ℕ) (sc : ℕ) → sc ≡ scale_of (length index) → 0 < sc → Roomy sc index
 roomy index sc e h = rw e (omega (arith, scale-room (length index) (rw e at h)), scale-most (length index))
 
-pub start-within : (n : ℕ) → start_of n ≤ n
-unfolding start_of
-start-within n = omega arith
-
 -- the cells before the search's that there are
 start-cells : (n j : ℕ) → j < proved_cells (scale_of n) → j < n → j < start_of n
 unfolding start_of
@@ -715,9 +711,6 @@ module _ (L : List ℤ) where
             (unlinked-first dead x (killed-gone K.scale C.front x in-front) {bucket' = bucket_of (set index h (before_of K.scale index x))} h hb (t.2.0 z) (key-changed K.scale index h (before_of K.scale index x) (omega (arith, room, hb))))
             (λ k b. refl)
             (λ j b. ap (λ (m : ℕ). m - 1) (unchanged index K.scale (reach K.scale) h (before_of K.scale index x) (inl hb) j b)))
-
-        start_cell : (j : ℕ) → K.scale ≤ j → get_or index' j 0 ≡ get_or index j 0
-        start_cell j b = rw is (get_or-set_other index h j (before_of K.scale index x) 0 (λ e. omega (arith, hb)))
 
       -- or where it is another place
       module _ (index' : List ℕ) (y : ℕ) (z : over ≡ suc y) (is : index' ≡ set index (K.scale + y) (get_or index (K.scale + x) 0)) where
