@@ -16,7 +16,8 @@ use Rattle.derivation.specs.Steps.{add}
 use Rattle.nogoods.specs.Store.{Stored, added_in, live, kept_with}
 use Rattle.nogoods.specs.Keeps.{Literals}
 use Rattle.nogoods.specs.Index.{Fits}
-use Rattle.nogoods.specs.declared.store.Added.{Added}
+use Rattle.std.specs.declared.option.Option.{Option}
+use Rattle.std.specs.declared.option.Option.TheVariants.{Some, None}
 use Rattle.nogoods.proofs.Literals.{literals-ascending, literals-complement-others}
 use Rattle.nogoods.proofs.Defined.{name-and-literals}
 use Rattle.steps.specs.After.{with_added}
@@ -24,13 +25,13 @@ use Rattle.steps.specs.Held.{fitted, Fitted, HoldsState}
 use Rattle.steps.specs.declared.outcomes.Stepped.{Stepped}
 
 -- what is added fits, or the step is refused
-pub kept-fits : (stored : List Stored) (store : List ℤ) (index : List ℕ) (a : Added) → Fits stored store index a
+pub kept-fits : (stored : List Stored) (store : List ℤ) (index : List ℕ) (a : Option ℕ) → Fits stored store index a
     → Fitted stored store index (fitted a)
-kept-fits stored store index (Added.Uses n) h = h
-kept-fits stored store index Added.Full h = (refl, h)
+kept-fits stored store index (Some n) h = h
+kept-fits stored store index None h = (refl, h)
 
 -- one nogood more, which is g
-pub kept-one : (stored : List Stored) (n size : ℕ) (store : List ℤ) (index : List ℕ) {l g : List ℤ} (a : Added) {r : Stepped} → r ≡ fitted a → l ≡ g
+pub kept-one : (stored : List Stored) (n size : ℕ) (store : List ℤ) (index : List ℕ) {l g : List ℤ} (a : Option ℕ) {r : Stepped} → r ≡ fitted a → l ≡ g
     → Fits (kept_with size (added_in n (l ∷ [])) stored) store index a → Fitted (kept_with size (added_in n (g ∷ [])) stored) store index r
 kept-one stored n size store index {l} a e p h = rw (e, ← p) (kept-fits (kept_with size (added_in n (l ∷ [])) stored) store index a h)
 

@@ -1,7 +1,7 @@
 -- What the functions of the steps cite, and no reader of a public contract needs: how the code holds a program and a state (known variables
 -- as marks, the names of bodies by rule and by name, live nogoods in the store), and what a step leaves.
 -- Assumes nothing.
-use Rattle.std.specs.Prelude.{◌≡◌, ◌⊎◌, Bool, true, false, cond, List, [], ◌∷◌, map, ℕ, zero, suc, ◌≤◌, ◌<◌, T, eqb, ℤ, pos, neg_ℤ, length, replicate, take}
+use Rattle.std.specs.Prelude.{◌≡◌, ◌⊎◌, Bool, true, false, cond, Option, Some, None, List, [], ◌∷◌, map, ℕ, zero, suc, ◌≤◌, ◌<◌, T, eqb, ℤ, pos, neg_ℤ, length, replicate, take}
 use Rattle.words.specs.Limits.{largest, entries, most_numbers}
 use Rattle.words.specs.Lists.{◌∈◌}
 use Rattle.words.specs.Literals.{variable, distinct, same_list}
@@ -14,7 +14,6 @@ use Rattle.derivation.specs.Steps.{Outcome, refused, next, by_letter}
 use Rattle.nogoods.specs.Keeps.{Literals}
 use Rattle.nogoods.specs.Index.{Keeps, BlankIndex}
 use Rattle.nogoods.specs.Store.{Stored, added_in, live, kept_with, words_for}
-use Rattle.nogoods.specs.declared.store.Added.{Added}
 use Rattle.names.specs.ByName.{body_words}
 use Rattle.names.specs.Queries.{HoldsRules, Kept}
 use Rattle.heads.specs.declared.Found.{Found}
@@ -74,9 +73,9 @@ NoBodies ws bodies = all_plain ws ≡ false → bodies ≡ replicate body_words 
 -- Steps
 
 -- question 34: a full store is refused
-abbrev pub fitted : Added → Stepped
-fitted (Added.Uses n) = Uses n
-fitted Added.Full = Fails 34
+abbrev pub fitted : Option ℕ → Stepped
+fitted (Some n) = Uses n
+fitted None = Fails 34
 
 -- the store holds what is stored, or it does not fit: "Do the live words after the step fit the store? 34."
 abbrev pub Fitted : List Stored → List ℤ → List ℕ → Stepped → Type 0
