@@ -1,5 +1,5 @@
 // The cells that all functions of the search are lent, read and written by total functions, and the regions in them. Cells of zeros are a right start.
-ghost use Rattle.std.specs.Prelude.{◌≤◌};
+ghost use Rattle.std.specs.Prelude.{◌≤◌, IfSome};
 ghost use Rattle.watches.specs.Small.{largest_cell};
 
 use words::ENTRIES;
@@ -69,7 +69,7 @@ pub const LAST: usize = 49291;
 pub const BOTH: usize = 49292;
 
 // A number of 32 bits as a size.
-fn wide(number: u32) -> usize
+pub fn wide(number: u32) -> usize
     ensures { result ≤ largest_cell }
 {
     number as usize
@@ -89,4 +89,16 @@ pub fn put(cells: &mut [u32], i: usize, v: usize) {
             cells[i] = v as u32;
         }
     }
+}
+
+// What the cell at i has as one more, or 0 where it is none.
+pub fn get_some(cells: &[u32], i: usize) -> Option<usize>
+    ensures { IfSome result (λ v. v ≤ largest_cell) }
+{
+    get(cells, i).checked_sub(1)
+}
+
+// The cell at i becomes one more than v, or 0 where that is none.
+pub fn put_some(cells: &mut [u32], i: usize, v: Option<usize>) {
+    put(cells, i, v.map_or(0, |v| v.saturating_add(1)));
 }

@@ -2,8 +2,8 @@
 // lent, so that no function here asks for anything but small numbers.
 //
 // A literal's code is the number itself modulo 16,384, found without a branch on its sign; 0 stands for a literal that
-// is true in every nogood, and no literal has the code 8,192. A node is 1 + 2 · place + (0 or 1), for the first and the
-// second watch of the nogood at a place. A place that may be none is one more, or 0.
+// is true in every nogood, and no literal has the code 8,192. A node is 2 · place + (0 or 1), for the first and the
+// second watch of the nogood at a place. A cell holds a place or a node that may be none as one more, or 0.
 //
 // The nodes that watch a literal are its list. With few cells that is a chain through the cells of the nodes, with many
 // it is a row, in pieces that each hold some watches one after another, so that little memory is gone through.
