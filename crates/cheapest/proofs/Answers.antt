@@ -12,8 +12,7 @@ use Rattle.words.specs.Lists.{ascends}
 use Rattle.weights.specs.Weights.{paired, most_weight, most_weighted}
 use Rattle.aspif.specs.Rules.{InputRule, atoms, table_words}
 use Rattle.aspif.specs.Reading.{Reading, program, read_text, all_weights, program_answer, table_of}
-use Rattle.aspif.specs.declared.ProgramReading.{ProgramReading}
-use Rattle.aspif.specs.declared.ProgramReading.TheVariants as Answer
+use Rattle.aspif.specs.declared.ProgramCounts.{ProgramCounts}
 use Rattle.aspif.specs.declared.ProgramRefusal.{ProgramRefusal}
 use Rattle.aspif.specs.Tables.{sound_table, rules_of}
 use Rattle.aspif.proofs.PairWords.{length-paired}
@@ -30,6 +29,7 @@ use Rattle.costs.specs.Costs.{Cost, costs_of, good_costs, total, restricted}
 use Rattle.cheapest.specs.Service.{is_yes, restricted_course, leaves_nothing, judged_proof, with_cost, with_costs, cheapest_reading, cheapest}
 use Rattle.cheapest.specs.Private.{said_yes, ProofChecked}
 use Rattle.cheapest.specs.declared.CheapestAnswer.TheVariants.{Cheapest, RefusedProgram, Refused}
+use Rattle.std.specs.Prelude.{Result, Err}
 
 -- what is left of nothing, by the lengths that the caller knows
 pub left-nothing : (t s : ℕ) {k : ℕ} {table store : List ℤ} → table ≡ replicate t (pos 0) → store ≡ replicate s (pos 0)
@@ -142,8 +142,8 @@ module _ (t s : ℕ) (ws : List InputRule) (set : List ℕ) (costs : List ℤ) (
 
 -- The program
 
-module _ (t s : ℕ) (text set : List ℕ) (costs : List ℤ) (proof : List ℕ) {r : ProgramReading} (answer : r ≡ program_answer (read_text t text)) {table : List ℤ} (words : table ≡ table_of t (read_text t text)) where
-  pub program-unread : (x : ProgramRefusal) {store : List ℤ} → r ≡ Answer.Refused x → store ≡ replicate s (pos 0)
+module _ (t s : ℕ) (text set : List ℕ) (costs : List ℤ) (proof : List ℕ) {r : Result ProgramCounts ProgramRefusal} (answer : r ≡ program_answer (read_text t text)) {table : List ℤ} (words : table ≡ table_of t (read_text t text)) where
+  pub program-unread : (x : ProgramRefusal) {store : List ℤ} → r ≡ Err x → store ≡ replicate s (pos 0)
       → record { answer = RefusedProgram x; table = table; store = store } ≡ cheapest t s text set costs proof
   unfolding cheapest
   program-unread x {store} e z =

@@ -23,7 +23,7 @@ ghost use Rattle.cheapest.specs.Private.{said_yes};
 ghost use Rattle.cheapest.specs.declared.CheapestAnswer.TheVariants.{Refused};
 
 use answer_set::{SetAnswer, models};
-use aspif::{ProgramReading, ProgramRefusal};
+use aspif::{ProgramCounts, ProgramRefusal};
 use weights::{MOST_WEIGHT, MOST_WEIGHTED};
 use words::ENTRIES;
 
@@ -239,8 +239,8 @@ pub fn check_cheapest(
     words::zero_all(store);
     let read = aspif::read_program(program, table);
     match read {
-        ProgramReading::Refused(refusal) => CheapestAnswer::RefusedProgram(refusal),
-        ProgramReading::Read { atoms, rules } => cheapest_read(
+        Err(refusal) => CheapestAnswer::RefusedProgram(refusal),
+        Ok(ProgramCounts { atoms, rules }) => cheapest_read(
             set, costs, proof, table, rules, atoms, store,
         ),
     }

@@ -13,8 +13,7 @@ use Rattle.words.specs.Limits.{longest, most_rules}
 use Rattle.words.specs.Lists.{any}
 use Rattle.aspif.specs.Rules.{Rule, InputRule, expand, is_empty, atoms, table_words}
 use Rattle.aspif.specs.Reading.{Reading, program, read_text, read_lines, program_answer, table_of}
-use Rattle.aspif.specs.declared.ProgramReading.{ProgramReading}
-use Rattle.aspif.specs.declared.ProgramReading.TheVariants.{Read, Refused}
+use Rattle.aspif.specs.declared.ProgramCounts.{ProgramCounts}
 use Rattle.aspif.specs.declared.ProgramRefusal.{ProgramRefusal}
 use Rattle.aspif.specs.Tables.{rules_at}
 use Rattle.aspif.proofs.Cursors.{few-rules, sound-rules, atoms-small, rules-of}
@@ -33,6 +32,7 @@ use Rattle.checker.specs.declared.Verdict.{Verdict}
 use Rattle.checker.specs.declared.Verdict.TheVariants.{RefusedProgram, RefusedProof}
 use Rattle.runs.specs.declared.Run.{Run}
 use Rattle.runs.specs.declared.Run.TheVariants.{Stopped, Through}
+use Rattle.std.specs.Prelude.{Result, Ok, Err}
 
 -- The proof's lines
 
@@ -96,18 +96,18 @@ lines-read t text P e = by (leb (length text) longest) e
     by false e = absurd (zero_one (cc))
 
 -- a program that is not read: what a service says of its refusal and of a table of zeros
-pub unread : (t : ℕ) (text : List ℕ) {r : ProgramReading} → r ≡ program_answer (read_text t text) → {table : List ℤ} → table ≡ table_of t (read_text t text)
+pub unread : (t : ℕ) (text : List ℕ) {r : Result ProgramCounts ProgramRefusal} → r ≡ program_answer (read_text t text) → {table : List ℤ} → table ≡ table_of t (read_text t text)
     → {A : Type 0} (f : Reading → A) (g : ProgramRefusal → List ℤ → A)
     → ((k n : ℕ) → g (record { number = k; line = n }) (replicate t (pos 0)) ≡ f (Reading.refused k n))
-    → (x : ProgramRefusal) → r ≡ Refused x → g x table ≡ f (read_text t text)
+    → (x : ProgramRefusal) → r ≡ Err x → g x table ≡ f (read_text t text)
 unread t text answer {table} words f g same x e = by (read_text t text) (sym answer ∙ e) words
   where
-    by : (d : Reading) → program_answer d ≡ Refused x → table ≡ table_of t d → g x table ≡ f d
+    by : (d : Reading) → program_answer d ≡ Err x → table ≡ table_of t d → g x table ≡ f d
     by (Reading.refused k n) e w = let p : x ≡ record { number = k; line = n } = cc in rw (p, w) (same k n)
     by (program P) e w = absurd (zero_one (cc))
 
-module _ (t s : ℕ) (text proof : List ℕ) {r : ProgramReading} (answer : r ≡ program_answer (read_text t text)) {table : List ℤ} (words : table ≡ table_of t (read_text t text)) where
-  pub program-refused : (limit : ℕ) (x : ProgramRefusal) {store : List ℤ} → r ≡ Refused x → store ≡ replicate s (pos 0)
+module _ (t s : ℕ) (text proof : List ℕ) {r : Result ProgramCounts ProgramRefusal} (answer : r ≡ program_answer (read_text t text)) {table : List ℤ} (words : table ≡ table_of t (read_text t text)) where
+  pub program-refused : (limit : ℕ) (x : ProgramRefusal) {store : List ℤ} → r ≡ Err x → store ≡ replicate s (pos 0)
       → record { verdict = RefusedProgram x; table = table; store = store } ≡ check_within limit text proof t s
   unfolding check_within
   program-refused limit x {store} e z =
@@ -121,10 +121,10 @@ module _ (t s : ℕ) (text proof : List ℕ) {r : ProgramReading} (answer : r �
     pub count : length P ≡ R
     pub rules : table ≡ table_words t P
 
-  pub program-read : (N R : ℕ) → r ≡ Read N R → ReadProgram N R
+  pub program-read : (N R : ℕ) → r ≡ Ok (record { atoms = N; rules = R }) → ReadProgram N R
   program-read N R e = by (read_text t text) refl (sym answer ∙ e) words
     where
-      by : (d : Reading) → read_text t text ≡ d → program_answer d ≡ Read N R → table ≡ table_of t d → ReadProgram N R
+      by : (d : Reading) → read_text t text ≡ d → program_answer d ≡ Ok (record { atoms = N; rules = R }) → table ≡ table_of t d → ReadProgram N R
       by (Reading.refused k n) q e w = absurd (zero_one (cc))
       by (program P) q e w = record { P = P; read = q; top = cc; count = cc; rules = w }
 

@@ -22,7 +22,7 @@ counts_text c = numbered (c.atoms ∷ c.rules ∷ c.steps ∷ c.nogoods ∷ [])
 abbrev pub verdict_line : Verdict → List ℕ
 verdict_line (Inconsistent c) = bytes "inconsistent" ++ counts_text c
 verdict_line (Open c) = bytes "open" ++ counts_text c
-verdict_line (RefusedProgram r) = bytes "refused program" ++ numbered (r.number ∷ r.line ∷ [])
+verdict_line (RefusedProgram r) = bytes "refused program" ++ numbered (number_of r.fault ∷ r.line ∷ [])
 verdict_line (RefusedProof r) = bytes "refused proof" ++ numbered (r.number ∷ r.step ∷ [])
 
 -- the bytes of the longest line: `inconsistent`, four numbers of 20 digits, each after a space, and the newline

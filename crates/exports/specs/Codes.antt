@@ -1,10 +1,11 @@
 -- A service's answer as a code and numbers, for callers in other languages: document 01's number and values for each case.
 -- Assumes nothing.
-use Rattle.std.specs.Prelude.{◌≡◌, List, [], ◌∷◌, ℕ}
+use Rattle.std.specs.Prelude.{◌≡◌, List, [], ◌∷◌, ℕ, Result, Ok, Err}
 use Rattle.std.proofs.lemmas.List.Edits.{sets}
 use Rattle.text.specs.Bytes.{byte_of}
-use Rattle.aspif.specs.declared.ProgramReading.{ProgramReading}
-use Rattle.aspif.specs.declared.ProgramReading.TheVariants as Program
+use Rattle.aspif.specs.declared.ProgramCounts.{ProgramCounts}
+use Rattle.aspif.specs.declared.ProgramRefusal.{ProgramRefusal}
+use Rattle.aspif.specs.Numbers.{number_of}
 use Rattle.answer_set.specs.declared.SetAnswer.{SetAnswer}
 use Rattle.answer_set.specs.declared.SetAnswer.TheVariants as Set
 use Rattle.drupe.specs.declared.LineAnswer.{LineAnswer}
@@ -32,14 +33,14 @@ pub record Told (code : ℕ) (numbers before after : List ℕ) (result : ℕ) : 
 
 -- The program reader: 0, or "the number and the line"; numbers 1 to 11, 54 and 55
 
-abbrev pub program_code : ProgramReading → ℕ
-program_code (Program.Read n rules) = 0
-program_code (Program.Refused r) = r.number
+abbrev pub program_code : Result ProgramCounts ProgramRefusal → ℕ
+program_code (Ok counts) = 0
+program_code (Err r) = number_of r.fault
 
 -- "The reader returns N and the rule count."
-abbrev pub program_numbers : ProgramReading → List ℕ
-program_numbers (Program.Read n rules) = n ∷ rules ∷ []
-program_numbers (Program.Refused r) = r.line ∷ 0 ∷ []
+abbrev pub program_numbers : Result ProgramCounts ProgramRefusal → List ℕ
+program_numbers (Ok counts) = counts.atoms ∷ counts.rules ∷ []
+program_numbers (Err r) = r.line ∷ 0 ∷ []
 
 -- The set test: "yes; or no with" the lowest "atom ..; or .. the lowest rule number"; numbers 41 to 43
 
@@ -104,7 +105,7 @@ count_numbers c = c.atoms ∷ c.rules ∷ c.steps ∷ c.nogoods ∷ []
 abbrev pub verdict_numbers : Verdict → List ℕ
 verdict_numbers (Inconsistent c) = count_numbers c
 verdict_numbers (Open c) = count_numbers c
-verdict_numbers (RefusedProgram r) = r.number ∷ r.line ∷ []
+verdict_numbers (RefusedProgram r) = number_of r.fault ∷ r.line ∷ []
 verdict_numbers (RefusedProof r) = r.number ∷ r.step ∷ []
 
 -- The merge of two halves, and of a tree: 0 with the bytes of the text written; the program's number and line, as its reader tells them; 57 to 59, and
@@ -112,7 +113,7 @@ verdict_numbers (RefusedProof r) = r.number ∷ r.step ∷ []
 
 abbrev pub merge_code : MergeAnswer → ℕ
 merge_code (Merge.Merged n) = 0
-merge_code (Merge.RefusedProgram r) = r.number
+merge_code (Merge.RefusedProgram r) = number_of r.fault
 merge_code (Merge.Refused k) = k
 
 abbrev pub merge_numbers : MergeAnswer → List ℕ
@@ -124,7 +125,7 @@ merge_numbers (Merge.Refused k) = []
 
 abbrev pub trim_code : TrimAnswer → ℕ
 trim_code (Trim.Trimmed n) = 0
-trim_code (Trim.RefusedProgram r) = r.number
+trim_code (Trim.RefusedProgram r) = number_of r.fault
 trim_code (Trim.Refused k) = k
 
 abbrev pub trim_numbers : TrimAnswer → List ℕ
@@ -136,7 +137,7 @@ trim_numbers (Trim.Refused k) = []
 
 abbrev pub cheapest_code : CheapestAnswer → ℕ
 cheapest_code (Cheapest.Cheapest C) = 0
-cheapest_code (Cheapest.RefusedProgram r) = r.number
+cheapest_code (Cheapest.RefusedProgram r) = number_of r.fault
 cheapest_code (Cheapest.Refused k) = k
 
 abbrev pub cheapest_numbers : CheapestAnswer → List ℕ
@@ -149,7 +150,7 @@ cheapest_numbers (Cheapest.Refused k) = []
 
 abbrev pub split_code : SplitAnswer → ℕ
 split_code (Split.Split bytes atoms rules old) = 0
-split_code (Split.RefusedProgram r) = r.number
+split_code (Split.RefusedProgram r) = number_of r.fault
 split_code (Split.Refused k) = k
 
 abbrev pub split_numbers : SplitAnswer → List ℕ

@@ -3,10 +3,11 @@
 -- for which the service's own contract holds, which is an equation; of the others it is said outright. A primed name is
 -- what a lent slice holds afterwards; `answer` is the buffer for the numbers.
 -- Assumes nothing.
-use Rattle.std.specs.Prelude.{◌≡◌, List, ℕ, ℤ, length}
+use Rattle.std.specs.Prelude.{◌≡◌, List, ℕ, ℤ, length, Result}
 use Rattle.std.proofs.lemmas.List.Edits.{sets}
 use Rattle.aspif.specs.Reading.{ProgramRead}
-use Rattle.aspif.specs.declared.ProgramReading.{ProgramReading}
+use Rattle.aspif.specs.declared.ProgramCounts.{ProgramCounts}
+use Rattle.aspif.specs.declared.ProgramRefusal.{ProgramRefusal}
 use Rattle.answer_set.specs.SetTest.{asked, set_answer, marks_of}
 use Rattle.drupe.specs.Lines.{line_read, line_answer, numbers_of}
 use Rattle.packets.specs.Packets.{version_of, reading_of, reading_answer, table_left, text_left, PacketWritten, writing_of, writing_answer, packet_left}
@@ -25,7 +26,7 @@ use Rattle.exports.specs.Codes.{Told, program_code, program_numbers, set_code, s
 
 -- the program reader's answer and every word of the table
 pub record ProgramService (text : List ℕ) (table table' : List ℤ) (answer answer' : List ℕ) (result : ℕ) : Type 0 where
-  pub reading : ProgramReading
+  pub reading : Result ProgramCounts ProgramRefusal
   pub read : ProgramRead text table table' reading
   pub told : Told (program_code reading) (program_numbers reading) answer answer' result
 

@@ -5,7 +5,7 @@ ghost use Rattle.std.proofs.lemmas.List.Edits.{sets};
 ghost use Rattle.exports.specs.Codes.{Told, program_code, program_numbers, set_code, set_numbers, line_code, line_numbers, writing_code, writing_numbers, reading_code, reading_numbers, verdict_code, verdict_numbers, count_numbers, merge_code, merge_numbers, trim_code, trim_numbers, cheapest_code, cheapest_numbers, split_code, split_numbers};
 
 use answer_set::SetAnswer;
-use aspif::ProgramReading;
+use aspif::{ProgramCounts, ProgramRefusal};
 use cheapest::CheapestAnswer;
 use checker::{Counts, Verdict};
 use drupe::LineAnswer;
@@ -76,17 +76,20 @@ fn put_counts(answer: &mut [u64], counts: Counts)
 }
 
 // The program reader's answer.
-pub fn tell_program(reading: ProgramReading, answer: &mut [u64]) -> u32
+pub fn tell_program(
+    reading: Result<ProgramCounts, ProgramRefusal>,
+    answer: &mut [u64],
+) -> u32
     ensures { Told (program_code reading) (program_numbers reading) answer.old answer.new result }
 {
     match reading {
-        ProgramReading::Read { atoms, rules } => {
-            put_two(answer, atoms, rules);
+        Ok(counts) => {
+            put_two(answer, counts.atoms, counts.rules);
             READ
         }
-        ProgramReading::Refused(refusal) => {
+        Err(refusal) => {
             put_two(answer, refusal.line, 0);
-            refusal.number as u32
+            u32::from(u8::from(refusal.fault))
         }
     }
 }
@@ -167,7 +170,7 @@ pub fn tell_verdict(verdict: Verdict, answer: &mut [u64]) -> u32
             OPEN
         }
         Verdict::RefusedProgram(refusal) => {
-            put_two(answer, refusal.number as usize, refusal.line);
+            put_two(answer, usize::from(u8::from(refusal.fault)), refusal.line);
             REFUSED_PROGRAM
         }
         Verdict::RefusedProof(refusal) => {
@@ -188,7 +191,7 @@ pub fn tell_merge(merged: MergeAnswer, answer: &mut [u64]) -> u32
         }
         MergeAnswer::RefusedProgram(refusal) => {
             put_two(answer, refusal.line, 0);
-            refusal.number as u32
+            u32::from(u8::from(refusal.fault))
         }
         MergeAnswer::Refused(number) => number as u32,
     }
@@ -205,7 +208,7 @@ pub fn tell_trim(trimmed: TrimAnswer, answer: &mut [u64]) -> u32
         }
         TrimAnswer::RefusedProgram(refusal) => {
             put_two(answer, refusal.line, 0);
-            refusal.number as u32
+            u32::from(u8::from(refusal.fault))
         }
         TrimAnswer::Refused(number) => number as u32,
     }
@@ -222,7 +225,7 @@ pub fn tell_cheapest(checked: CheapestAnswer, answer: &mut [u64]) -> u32
         }
         CheapestAnswer::RefusedProgram(refusal) => {
             put_two(answer, refusal.line, 0);
-            refusal.number as u32
+            u32::from(u8::from(refusal.fault))
         }
         CheapestAnswer::Refused(number) => number as u32,
     }
@@ -244,7 +247,7 @@ pub fn tell_split(split: SplitAnswer, answer: &mut [u64]) -> u32
         }
         SplitAnswer::RefusedProgram(refusal) => {
             put_two(answer, refusal.line, 0);
-            refusal.number as u32
+            u32::from(u8::from(refusal.fault))
         }
         SplitAnswer::Refused(number) => number as u32,
     }

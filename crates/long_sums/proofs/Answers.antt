@@ -24,12 +24,13 @@ use Rattle.aspif.specs.Claims.{FormedWithin}
 use Rattle.aspif.proofs.Formed.{inside, within-fits}
 use Rattle.aspif.proofs.RuleTests.{greatest-within}
 use Rattle.aspif.specs.declared.ProgramRefusal.{ProgramRefusal}
-use Rattle.aspif.specs.declared.ProgramReading.TheVariants.{Read, Refused}
 use Rattle.joins.specs.declared.chains.Numbered.{Numbered}
 use Rattle.long_sums.proofs.Held.{rules-there, all_held}
 use Rattle.long_sums.specs.Program.{ProgramWritten, ReadLong}
 use Rattle.long_sums.specs.Service.{SplitLeft, is_group_size, is_writable, zeroed, split_to, split_reading, split_text}
 use Rattle.long_sums.specs.declared.SplitAnswer.TheVariants as Answer
+use Rattle.std.specs.Prelude.{Result, Ok, Err}
+use Rattle.aspif.specs.declared.ProgramCounts.{ProgramCounts}
 
 -- Question 66
 
@@ -132,16 +133,16 @@ size-asked g h = and_both (le-leb 2 g h.0) (le-leb g most_weighted h.1)
 
 -- What was read
 
-refusal_is : {a f : ProgramRefusal} → Refused a ≡ Refused f → a ≡ f
+refusal_is : {a f : ProgramRefusal} → ◌≡◌ {A = Result ProgramCounts ProgramRefusal} (Err a) (Err f) → a ≡ f
 refusal_is e = cc
 
-atoms_are : {a b m n : ℕ} → Read a m ≡ Read b n → (a ≡ b) × (m ≡ n)
+atoms_are : {a b m n : ℕ} → ◌≡◌ {A = Result ProgramCounts ProgramRefusal} (Ok (record { atoms = a; rules = m })) (Ok (record { atoms = b; rules = n })) → (a ≡ b) × (m ≡ n)
 atoms_are e = (cc, cc)
 
-never : {a n : ℕ} {f : ProgramRefusal} → Read a n ≡ Refused f → ⊥
+never : {a n : ℕ} {f : ProgramRefusal} → ◌≡◌ {A = Result ProgramCounts ProgramRefusal} (Ok (record { atoms = a; rules = n })) (Err f) → ⊥
 never e = let z : ◌≡◌ {A = ℕ} 0 1 = cc in omega arith
 
-pub refused-read : (t o g : ℕ) (x : Reading) (f : ProgramRefusal) → program_answer x ≡ Refused f → split_reading t o g x ≡ zeroed t o (Answer.RefusedProgram f)
+pub refused-read : (t o g : ℕ) (x : Reading) (f : ProgramRefusal) → program_answer x ≡ Err f → split_reading t o g x ≡ zeroed t o (Answer.RefusedProgram f)
 refused-read t o g (Reading.refused k n) f e = ap (λ (r : ProgramRefusal). zeroed t o (Answer.RefusedProgram r)) (refusal_is e)
 refused-read t o g (program rs) f e = absurd (never e)
 
@@ -164,7 +165,7 @@ pub record LongRead (x : Reading) (rules top : ℕ) (table : List ℤ) : Type 0 
   pub long : ReadLong rules top table
   pub is : x ≡ program (rules_at rules table)
 
-pub long-read : (size : ℕ) (text : List ℕ) (x : Reading) → read_text_within most_literals size text ≡ x → {top rules : ℕ} → program_answer x ≡ Read top rules
+pub long-read : (size : ℕ) (text : List ℕ) (x : Reading) → read_text_within most_literals size text ≡ x → {top rules : ℕ} → program_answer x ≡ Ok (record { atoms = top; rules = rules })
     → (table : List ℤ) → table ≡ table_of size x → length table ≡ size → LongRead x rules top table
 long-read size text (Reading.refused k n) r e table w l = absurd (never (sym e))
 long-read size text (program rs) r {top} {rules} e table w l =
@@ -186,7 +187,7 @@ long-read size text (program rs) r {top} {rules} e table w l =
 -- What the service leaves
 
 module _ (t o : ℕ) (text : List ℕ) (g : ℕ) {n : ℕ} (size : n ≡ t) (left : SplitLeft) where
-  pub refused-left : (f : ProgramRefusal) → program_answer (read_text_within most_literals t text) ≡ Refused f → left ≡ zeroed n o (Answer.RefusedProgram f)
+  pub refused-left : (f : ProgramRefusal) → program_answer (read_text_within most_literals t text) ≡ Err f → left ≡ zeroed n o (Answer.RefusedProgram f)
       → left ≡ split_text t o text g
   unfolding split_text
   refused-left f e l =

@@ -13,7 +13,7 @@ ghost use Rattle.aspif.specs.Tables.{rules_at};
 ghost use Rattle.long_sums.specs.Program.{ProgramWritten, ReadLong};
 ghost use Rattle.long_sums.specs.Service.{zeroed, split_to, split_reading, SplitSums};
 
-use aspif::{ProgramReading, ProgramRefusal};
+use aspif::{ProgramCounts, ProgramRefusal};
 use joins::chains::Numbered;
 use weights::MOST_WEIGHTED;
 use words::{ENTRIES, LONGEST, MOST_LITERALS, MOST_RULES};
@@ -101,9 +101,9 @@ pub fn split_sums(text: &[u8], group: usize, table: &mut [i32], output: &mut [u8
 {
     let read = aspif::read_within(text, table, MOST_LITERALS);
     match read {
-        ProgramReading::Refused(refusal) => {
+        Err(refusal) => {
             refuse(table, output, SplitAnswer::RefusedProgram(refusal))
         }
-        ProgramReading::Read { atoms, rules } => split_table(table, output, group, rules, atoms),
+        Ok(ProgramCounts { atoms, rules }) => split_table(table, output, group, rules, atoms),
     }
 }

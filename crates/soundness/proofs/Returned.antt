@@ -20,7 +20,6 @@ use Rattle.aspif.specs.Rules.{InputRule, atoms}
 use Rattle.aspif.specs.Reading.{Reading, refused, program, read_text_within, read_text, program_answer, ProgramRead}
 use Rattle.aspif.specs.Tables.{rules_of}
 use Rattle.aspif.specs.Text.{program_text}
-use Rattle.aspif.specs.declared.ProgramReading.TheVariants.{Read}
 use Rattle.marks.specs.Marks.{listed}
 use Rattle.answer_set.specs.SetTest.{SetVerdict, yes, differs, breaks, verdict_of, asked_of, asked, said_of, set_answer}
 use Rattle.answer_set.specs.declared.SetAnswer.{SetAnswer}
@@ -45,6 +44,7 @@ use Rattle.soundness.proofs.Numbers.{Numbered, within-numbered, read-numbered}
 use Rattle.soundness.proofs.Printed.{sound-printed, only-printed, sound-long, only-long, yes-printed}
 use Rattle.soundness.proofs.Split.{sound-split, sound-split-long, yes-split, only-split, found-split}
 use Rattle.soundness.proofs.Cheapest.{cheapest-printed, only-cheapest}
+use Rattle.std.specs.Prelude.{Ok}
 
 -- The whole check
 
@@ -93,7 +93,7 @@ front-two (b ∷ c ∷ before) e = (cc, cc)
 
 -- the program that was read is told by 0, N and R
 is_read : (x : Reading) → Numbered x → 0 ≡ program_code (program_answer x) → (before : List ℕ) {more : List ℕ} {N R : ℕ}
-    → N ∷ R ∷ more ≡ sets before 0 (program_numbers (program_answer x)) → program_answer x ≡ Read N R
+    → N ∷ R ∷ more ≡ sets before 0 (program_numbers (program_answer x)) → program_answer x ≡ Ok (record { atoms = N; rules = R })
 is_read (refused k n) p e before w = absurd (omega (arith, p))
 is_read (program rs) p e before w = let f = front-two before w in rw (f.0, f.1) refl
 
@@ -119,11 +119,11 @@ answer-only table R l n = asked-only (rules_of table R) l n
 
 -- where 0 is returned, the numbers at the front of the buffer are those of the program that was read
 read-so : {text : List ℕ} {table table' : List ℤ} {before more : List ℕ} {N R : ℕ}
-    → ProgramService text table table' before (N ∷ R ∷ more) 0 → ProgramRead text table table' (Read N R)
+    → ProgramService text table table' before (N ∷ R ∷ more) 0 → ProgramRead text table table' (Ok (record { atoms = N; rules = R }))
 read-so {text} {table} {table'} {before} {N = N} {R = R} s =
     let x = read_text (length table) text in
     let q : program_answer x ≡ s.reading = sym s.read.answer in
-    let taken : program_answer x ≡ Read N R =
+    let taken : program_answer x ≡ Ok (record { atoms = N; rules = R }) =
     is_read x (read-numbered (length table) text) (s.told.returned ∙ ap program_code (sym q)) before (s.told.written ∙ ap (λ r. sets before 0 (program_numbers r)) (sym q)) in
     subst (ProgramRead text table table') (sym q ∙ taken) s.read
 

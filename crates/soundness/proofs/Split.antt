@@ -22,7 +22,6 @@ use Rattle.aspif.specs.Rules.{Body, plain, weights, InputRule, expand, atoms, bo
 use Rattle.aspif.specs.AnswerSets.{AnswerSet}
 use Rattle.aspif.specs.Reading.{Reading, refused, program, read_text_within, read_lines, read_text, program_answer, ProgramRead}
 use Rattle.aspif.specs.Claims.{FormedWithin}
-use Rattle.aspif.specs.declared.ProgramReading.TheVariants.{Read}
 use Rattle.aspif.specs.Text.{body_numbers, rule_numbers, rule_text, rules_text, program_text}
 use Rattle.aspif.proofs.Formed.{within-fits}
 use Rattle.aspif.proofs.Spelled.{within-spelled}
@@ -47,6 +46,7 @@ use Rattle.long_sums.specs.declared.SplitAnswer.TheVariants.{Split, Refused}
 use Rattle.soundness.specs.Page.{IsAnswerSet, HasNone, SoundSplit, SoundSplitLong, YesSplit, FoundSplit, ExtendsSplit, ReadSplit, OnlySplit}
 use Rattle.soundness.proofs.Printed.{InOrder, within-in-order, none_within, has-none, kept, as_written, as_read, yes-printed}
 use Rattle.soundness.proofs.Direct.{plain-set, direct-set}
+use Rattle.std.specs.Prelude.{Ok}
 
 -- Rules that can be written, as question 66 asks
 pub record Writable (vs : List InputRule) : Type 0 where
@@ -267,13 +267,13 @@ sound-split-long ws g table table' output output' b a r N s proof words store wo
 pub yes-split : YesSplit
 yes-split ws g table table' output output' b a r N s words words' A R p l marks marks' t =
     let w = wrote ws g table table' output output' b a r N s in
-    let q = subst (λ (x : List ℕ). ProgramRead x words words' (Read A R)) w.told.is p in
+    let q = subst (λ (x : List ℕ). ProgramRead x words words' (Ok (record { atoms = A; rules = R }))) w.told.is p in
     down_to w (λ v. v ∈ l) ((yes-printed (vs w) words words' A R q l marks marks' Yes t).0 refl).2
 
 pub found-split : FoundSplit
 found-split ws g table table' output output' b a r N s words words' A R p l S =
     let w = wrote ws g table table' output output' b a r N s in
-    let q = subst (λ (x : List ℕ). ProgramRead x words words' (Read A R)) w.told.is p in
+    let q = subst (λ (x : List ℕ). ProgramRead x words words' (Ok (record { atoms = A; rules = R }))) w.told.is p in
     let h = kept (vs w) words words' A R q in
     let u = up_from w (λ v. v ∈ l) S in
     let T = as_read h.order (with-new w (λ v. v ∈ l)) u.0 in

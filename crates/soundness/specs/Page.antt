@@ -4,7 +4,7 @@
 -- (`PrintedOnce`), Direct.antt (`SameAnswerSets`), Split.antt, Cheapest.antt and Returned.antt
 -- (services for C).
 -- Assumes nothing.
-use Rattle.std.specs.Prelude.{◌≡◌, ◌↔◌, true, List, ◌∷◌, ◌++◌, ℕ, suc, ◌≤◌, ℤ, pos, negsuc, length, take}
+use Rattle.std.specs.Prelude.{◌≡◌, ◌↔◌, true, List, ◌∷◌, ◌++◌, ℕ, suc, ◌≤◌, ℤ, pos, negsuc, length, take, Result, Ok}
 use Rattle.words.specs.Limits.{entries}
 use Rattle.words.specs.Lists.{◌∈◌, ascends}
 use Rattle.text.specs.Strings.{bytes}
@@ -15,8 +15,7 @@ use Rattle.aspif.specs.Text.{program_text}
 use Rattle.aspif.specs.AnswerSets.{AnswerSet}
 use Rattle.aspif.specs.Reading.{ProgramRead}
 use Rattle.aspif.specs.declared.Kind.TheVariants.{Choice}
-use Rattle.aspif.specs.declared.ProgramReading.{ProgramReading}
-use Rattle.aspif.specs.declared.ProgramReading.TheVariants.{Read}
+use Rattle.aspif.specs.declared.ProgramCounts.{ProgramCounts}
 use Rattle.derivation.specs.Claims.{WrittenConstraint}
 use Rattle.answer_set.specs.SetTest.{SetTested}
 use Rattle.answer_set.specs.declared.SetAnswer.{SetAnswer}
@@ -31,6 +30,7 @@ use Rattle.costs.specs.Costs.{Costs}
 use Rattle.cheapest.specs.Service.{CheckedCheapest}
 use Rattle.cheapest.specs.declared.CheapestAnswer.TheVariants.{Cheapest}
 use Rattle.exports.specs.Services.{ProgramService, SetService, CheckService, LongService, CheapestService, SplitService}
+use Rattle.aspif.specs.declared.ProgramRefusal.{ProgramRefusal}
 
 -- Answer sets: document 01, 'Answer sets', of rules as they are written. A set is any predicate on
 -- numbers.
@@ -153,7 +153,7 @@ PrintedOnce = (ws vs : List InputRule) → program_text ws ≡ program_text vs �
 abbrev pub YesPrinted : Type 0
 YesPrinted =
     (ws : List InputRule) (table table' : List ℤ) (N R : ℕ)
-    → ProgramRead (program_text ws) table table' (Read N R)
+    → ProgramRead (program_text ws) table table' (Ok (record { atoms = N; rules = R }))
     → (l marks marks' : List ℕ) (r : SetAnswer) → SetTested table' R l marks marks' r
     → (r ≡ Yes)
     ↔ ((ascends 0 N l ≡ true) × (length marks ≡ entries) × IsAnswerSet (λ v. v ∈ l) ws)
@@ -199,7 +199,7 @@ YesSplit =
     (ws : List InputRule) (group : ℕ) (table table' : List ℤ) (output output' : List ℕ)
     (bytes atoms rules N : ℕ)
     → SplitSums (program_text ws) group table table' output output' (Split bytes atoms rules N)
-    → (words words' : List ℤ) (A R : ℕ) → ProgramRead (take bytes output') words words' (Read A R)
+    → (words words' : List ℤ) (A R : ℕ) → ProgramRead (take bytes output') words words' (Ok (record { atoms = A; rules = R }))
     → (l marks marks' : List ℕ) → SetTested words' R l marks marks' Yes
     → IsAnswerSet (λ v. (v ≤ N) × (v ∈ l)) ws
 
@@ -209,7 +209,7 @@ FoundSplit =
     (ws : List InputRule) (group : ℕ) (table table' : List ℤ) (output output' : List ℕ)
     (bytes atoms rules N : ℕ)
     → SplitSums (program_text ws) group table table' output output' (Split bytes atoms rules N)
-    → (words words' : List ℤ) (A R : ℕ) → ProgramRead (take bytes output') words words' (Read A R)
+    → (words words' : List ℤ) (A R : ℕ) → ProgramRead (take bytes output') words words' (Ok (record { atoms = A; rules = R }))
     → (l : List ℕ) → IsAnswerSet (λ v. v ∈ l) ws
     → (k : List ℕ) × ((v : ℕ) → v ∈ l ↔ ((v ≤ N) × (v ∈ k)))
     × ((marks marks' : List ℕ) (r : SetAnswer) → length marks ≡ entries
@@ -233,8 +233,8 @@ ReadSplit =
     (ws : List InputRule) (group : ℕ) (table table' : List ℤ) (output output' : List ℕ)
     (bytes atoms rules N : ℕ)
     → SplitSums (program_text ws) group table table' output output' (Split bytes atoms rules N)
-    → (words words' : List ℤ) (r : ProgramReading) → bytes ≤ length words
-    → ProgramRead (take bytes output') words words' r → r ≡ Read atoms rules
+    → (words words' : List ℤ) (r : Result ProgramCounts ProgramRefusal) → bytes ≤ length words
+    → ProgramRead (take bytes output') words words' r → r ≡ Ok (record { atoms = atoms; rules = rules })
 
 -- Nothing is missed: a text whose sums are split is the text of a program
 abbrev pub OnlySplit : Type 0

@@ -13,8 +13,7 @@ use Rattle.words.specs.Limits.{longest}
 use Rattle.words.proofs.Lists.{if-true, and_right, leb-decides}
 use Rattle.aspif.specs.Rules.{InputRule}
 use Rattle.aspif.specs.Reading.{Reading, program, read_text, program_answer, table_of}
-use Rattle.aspif.specs.declared.ProgramReading.{ProgramReading}
-use Rattle.aspif.specs.declared.ProgramReading.TheVariants as Answer
+use Rattle.aspif.specs.declared.ProgramCounts.{ProgramCounts}
 use Rattle.aspif.specs.declared.ProgramRefusal.{ProgramRefusal}
 use Rattle.drupe.specs.Texts.{text_of}
 use Rattle.derivation.specs.Steps.{empty_live}
@@ -28,6 +27,7 @@ use Rattle.splits.specs.Joined.{WrittenBy}
 use Rattle.splits.specs.Judging.{judged_as}
 use Rattle.splits.specs.declared.MergeAnswer.TheVariants.{Merged, RefusedProgram, Refused}
 use Rattle.splits.specs.declared.texts.Written.{Written}
+use Rattle.std.specs.Prelude.{Result, Err}
 
 -- what is left of nothing, by the lengths that the caller knows
 pub left-nothing : (t s o : ℕ) {k : ℕ} {table store : List ℤ} {output : List ℕ} → table ≡ replicate t (pos 0) → store ≡ replicate s (pos 0) → output ≡ replicate o 0
@@ -91,8 +91,8 @@ module _ (t s o : ℕ) (ws : List InputRule) (v : ℕ) (first second output : Li
 
 -- The program
 
-module _ (t s o : ℕ) (text : List ℕ) (v : ℕ) (first second : List ℕ) {r : ProgramReading} (answer : r ≡ program_answer (read_text t text)) {table : List ℤ} (words : table ≡ table_of t (read_text t text)) where
-  pub unread-halves : (x : ProgramRefusal) {store : List ℤ} {output : List ℕ} → r ≡ Answer.Refused x → store ≡ replicate s (pos 0) → output ≡ replicate o 0
+module _ (t s o : ℕ) (text : List ℕ) (v : ℕ) (first second : List ℕ) {r : Result ProgramCounts ProgramRefusal} (answer : r ≡ program_answer (read_text t text)) {table : List ℤ} (words : table ≡ table_of t (read_text t text)) where
+  pub unread-halves : (x : ProgramRefusal) {store : List ℤ} {output : List ℕ} → r ≡ Err x → store ≡ replicate s (pos 0) → output ≡ replicate o 0
       → record { answer = RefusedProgram x; table = table; store = store; output = output } ≡ merge t s o text v first second
   unfolding merge
   unread-halves x {store} {output} e z y =

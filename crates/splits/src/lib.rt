@@ -19,7 +19,7 @@ ghost use Rattle.splits.specs.Judging.{judged_as};
 ghost use Rattle.splits.specs.declared.MergeAnswer.TheVariants.{Refused};
 
 use crate::texts::Written;
-use aspif::{ProgramReading, ProgramRefusal};
+use aspif::{ProgramCounts, ProgramRefusal};
 use checker::judging;
 
 // The length of the text written; the question that the program fails, with its line; or 57, 58 or 59, and 64 of a tree.
@@ -136,8 +136,8 @@ pub fn merge_halves(
     words::zero_all(output);
     let read = aspif::read_program(program, table);
     match read {
-        ProgramReading::Refused(refusal) => MergeAnswer::RefusedProgram(refusal),
-        ProgramReading::Read { atoms, rules } => merge_read(
+        Err(refusal) => MergeAnswer::RefusedProgram(refusal),
+        Ok(ProgramCounts { atoms, rules }) => merge_read(
             first, second, table, rules, atoms, atom, store, output,
         ),
     }

@@ -13,8 +13,7 @@ use Rattle.words.proofs.Lists.{and_left, and_right}
 use Rattle.text.specs.Writing.{Put}
 use Rattle.aspif.specs.Rules.{InputRule, expand, atoms}
 use Rattle.aspif.specs.Reading.{Reading, program, read_text, program_answer, table_of}
-use Rattle.aspif.specs.declared.ProgramReading.{ProgramReading}
-use Rattle.aspif.specs.declared.ProgramReading.TheVariants as Answer
+use Rattle.aspif.specs.declared.ProgramCounts.{ProgramCounts}
 use Rattle.aspif.specs.declared.ProgramRefusal.{ProgramRefusal}
 use Rattle.words.proofs.Laws.{drop-replicate}
 use Rattle.runs.specs.Course.{course, is_accepted}
@@ -28,6 +27,7 @@ use Rattle.shapes.specs.Tree.{Shape, Parsed, bad, found, tree_of, most_splits, l
 use Rattle.shapes.specs.Walks.{is_tree}
 use Rattle.trees.specs.Service.{tree_outcome, written_tree, parsed_tree, tree_reading, merge_tree}
 use Rattle.trees.specs.Sides.{Subtree, pending}
+use Rattle.std.specs.Prelude.{Result, Err}
 
 -- A text put at the front of a buffer
 
@@ -103,8 +103,8 @@ module _ (N : ℕ) (tree texts lengths : List ℕ) where
 
 -- The program
 
-module _ (t s o : ℕ) (text tree texts lengths : List ℕ) {r : ProgramReading} (answer : r ≡ program_answer (read_text t text)) {table : List ℤ} (words : table ≡ table_of t (read_text t text)) where
-  pub unread-tree : (x : ProgramRefusal) {store : List ℤ} {output : List ℕ} → r ≡ Answer.Refused x → store ≡ replicate s (pos 0) → output ≡ replicate o 0
+module _ (t s o : ℕ) (text tree texts lengths : List ℕ) {r : Result ProgramCounts ProgramRefusal} (answer : r ≡ program_answer (read_text t text)) {table : List ℤ} (words : table ≡ table_of t (read_text t text)) where
+  pub unread-tree : (x : ProgramRefusal) {store : List ℤ} {output : List ℕ} → r ≡ Err x → store ≡ replicate s (pos 0) → output ≡ replicate o 0
       → record { answer = RefusedProgram x; table = table; store = store; output = output } ≡ merge_tree t s o text tree texts lengths
   unfolding merge_tree
   unread-tree x {store} {output} e z y =

@@ -15,8 +15,8 @@ ghost use Rattle.shapes.specs.Tree.{Shape, ends, most_splits};
 ghost use Rattle.trees.specs.Service.{tree_outcome, written_tree, tree_reading, MergedTree};
 ghost use Rattle.trees.specs.Sides.{Subtree, pending};
 
+use aspif::ProgramCounts;
 use crate::sides::{Place, Sided};
-use aspif::ProgramReading;
 use checker::judging;
 use splits::MergeAnswer;
 use splits::halves::WIDE;
@@ -146,8 +146,8 @@ pub fn merge_tree(
     words::zero_all(output);
     let read = aspif::read_program(program, table);
     match read {
-        ProgramReading::Refused(refusal) => MergeAnswer::RefusedProgram(refusal),
-        ProgramReading::Read { atoms, rules } => merge_read(
+        Err(refusal) => MergeAnswer::RefusedProgram(refusal),
+        Ok(ProgramCounts { atoms, rules }) => merge_read(
             tree, texts, lengths, table, rules, atoms, store, output,
         ),
     }

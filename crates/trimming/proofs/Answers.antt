@@ -9,8 +9,7 @@ use lib.Seq.{length-take-le, take_at}
 use Rattle.words.specs.Limits.{longest}
 use Rattle.aspif.specs.Rules.{InputRule, expand, atoms, table_words}
 use Rattle.aspif.specs.Reading.{Reading, program, read_text, program_answer, table_of}
-use Rattle.aspif.specs.declared.ProgramReading.{ProgramReading}
-use Rattle.aspif.specs.declared.ProgramReading.TheVariants as Answer
+use Rattle.aspif.specs.declared.ProgramCounts.{ProgramCounts}
 use Rattle.aspif.specs.declared.ProgramRefusal.{ProgramRefusal}
 use Rattle.drupe.specs.Texts.{Step, StepsRead, steps, text_of, steps_of}
 use Rattle.drupe.specs.Texts as Texts
@@ -25,6 +24,7 @@ use Rattle.trimming.specs.Passing.{Reads}
 use Rattle.trimming.specs.declared.TrimAnswer.TheVariants.{Trimmed, RefusedProgram, Refused}
 use Rattle.trimming.proofs.Passes.{trimmed-settles, trimmed-order}
 use Rattle.trimming.proofs.Turns.{sub-course}
+use Rattle.std.specs.Prelude.{Result, Err}
 
 -- The proof
 
@@ -71,8 +71,8 @@ module _ (t s : ℕ) (proof : List ℕ) (ws : List InputRule) {table store : Lis
 
 -- The program
 
-module _ (t s : ℕ) (text proof : List ℕ) {r : ProgramReading} (answer : r ≡ program_answer (read_text t text)) {table : List ℤ} (words : table ≡ table_of t (read_text t text)) where
-  pub program-unread : (x : ProgramRefusal) {store : List ℤ} → r ≡ Answer.Refused x → store ≡ replicate s (pos 0)
+module _ (t s : ℕ) (text proof : List ℕ) {r : Result ProgramCounts ProgramRefusal} (answer : r ≡ program_answer (read_text t text)) {table : List ℤ} (words : table ≡ table_of t (read_text t text)) where
+  pub program-unread : (x : ProgramRefusal) {store : List ℤ} → r ≡ Err x → store ≡ replicate s (pos 0)
       → record { answer = RefusedProgram x; text = proof; table = table; store = store } ≡ trim t s proof text
   unfolding trim
   program-unread x {store} e z =

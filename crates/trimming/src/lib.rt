@@ -10,7 +10,7 @@ ghost use Rattle.aspif.specs.Reading.{program};
 ghost use Rattle.steps.specs.Held.{Program};
 ghost use Rattle.trimming.specs.Service.{trimmed_reading, TrimmedProof};
 
-use aspif::{ProgramReading, ProgramRefusal};
+use aspif::{ProgramCounts, ProgramRefusal};
 use checker::judging;
 
 // The length of the trimmed text; the question that the program fails, with its line; or 60.
@@ -61,7 +61,7 @@ pub fn trim_proof(
     words::zero_all(store);
     let read = aspif::read_program(program, table);
     match read {
-        ProgramReading::Refused(refusal) => TrimAnswer::RefusedProgram(refusal),
-        ProgramReading::Read { atoms, rules } => trim_read(text, table, rules, atoms, store),
+        Err(refusal) => TrimAnswer::RefusedProgram(refusal),
+        Ok(ProgramCounts { atoms, rules }) => trim_read(text, table, rules, atoms, store),
     }
 }

@@ -8,32 +8,32 @@ use Rattle.checker.proofs.Verdicts.{ReadProgram, program-read, held}
 use Rattle.splits.proofs.Answers.{unread-halves, merge-read, reading-same}
 use borrow.Author.Rules.{rules}
 use Rattle.splits.proofs.merge_halves.Goals as goal
-use Rattle.splits.proofs.merge_halves.Goals.{In-Read, Start}
+use Rattle.splits.proofs.merge_halves.Goals.{In-Ok, Start}
 
 -- what was read, where a program is
-module _ (c : In-Read) where
+module _ (c : In-Ok) where
   abbrev start : Start
   start = c.before.before.before.before.before.before.before.before.before.before.before.before.before.before.before.before
 
   abbrev read : ProgramRead start.args.program.now start.args.table.now c.read_program-read.new.table c.read_program-read.result
   read = c.read_program-read.ensures
 
-  found : ReadProgram (length start.args.table.now) (length start.args.store.now) start.args.program.now start.args.first.now read.answer read.table c.in-Read.atoms c.in-Read.rules
-  found = program-read _ _ _ _ read.answer read.table _ _ c.in-Read.is
+  found : ReadProgram (length start.args.table.now) (length start.args.store.now) start.args.program.now start.args.first.now read.answer read.table c.in-Ok.atoms c.in-Ok.rules
+  found = program-read _ _ _ _ read.answer read.table _ _ c.in-Ok.is
 
 pub merge_read-requires : goal.merge_read-requires
-merge_read-requires c = let d = (goal.at.merge_read-requires c).In-Read in
+merge_read-requires c = let d = (goal.at.merge_read-requires c).In-Ok in
     let f = found d in
     let h = held _ _ _ _ (read d).answer (read d).table f (search rules) in record { program = ((f.P, h.0), h.1); short = rw h.0.holds.are (read-shorter _ _ f.P f.read); empty = ((zeros (pos 0) {n = length (start d).args.store.now} c.zero_all.ensures).0, (zeros 0 {n = length (start d).args.output.now} c.zero_all.ensures).0) }
 
-pub returns-in-Refused : goal.returns-in-Refused
-returns-in-Refused c =
+pub returns-in-Err : goal.returns-in-Err
+returns-in-Err c =
     let r = c.read_program-read.ensures in
-    unread-halves _ _ _ _ _ _ _ r.answer r.table _ c.in-Refused.is c.zero_all.ensures c.zero_all.ensures
+    unread-halves _ _ _ _ _ _ _ r.answer r.table _ c.in-Err.is c.zero_all.ensures c.zero_all.ensures
 
-pub returns-in-Read : goal.returns-in-Read
-returns-in-Read c =
-    let d = (goal.at.returns-in-Read c).In-Read in
+pub returns-in-Ok : goal.returns-in-Ok
+returns-in-Ok c =
+    let d = (goal.at.returns-in-Ok c).In-Ok in
     let f = found d in
     let t : length d.read_program-read.new.table ≡ length (start d).args.table.now = search rules in
     let s : length c.zero_all.new.items ≡ length (start d).args.store.now = search rules in
