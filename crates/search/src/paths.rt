@@ -138,13 +138,7 @@ fn is_small(cells: &[u32], mark: usize) -> bool
     requires { mark ≤ entries }
 {
     let n = count(cells);
-    if MOST <= n + mark {
-        return false;
-    }
-    if mark <= FEW {
-        return true;
-    }
-    4 * mark <= n
+    n + mark < MOST && (mark <= FEW || 4 * mark <= n)
 }
 
 // The path to the nogood at x, which is violated. Where it begins.

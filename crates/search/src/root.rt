@@ -36,10 +36,7 @@ pub fn note_led(cells: &mut [u32], x: usize)
 
 // The path leads to the nogood that the root violates, and no literal was written over it.
 pub fn is_led(cells: &[u32]) -> bool {
-    if get(cells, HINT) < LED {
-        return false;
-    }
-    count(cells) <= get(cells, FIRST)
+    LED <= get(cells, HINT) && count(cells) <= get(cells, FIRST)
 }
 
 // The place of a nogood that is violated without any assumption, if there is one.
@@ -101,8 +98,7 @@ pub fn unhint(cells: &mut [u32], x: usize)
     requires { x ≤ largest_cell }
 {
     if hint_of(cells) == Some(x) {
-        put(cells, HINT, 0);
-        put(cells, DONE, 0);
+        clear_hint(cells);
     }
 }
 

@@ -4,7 +4,7 @@ ghost use Rattle.watches.specs.Small.{largest_cell};
 
 use words::ENTRIES;
 
-// The largest number that a cell holds.
+// The largest number that a cell holds. A walk along links takes no more turns, whatever the cells hold.
 pub const LARGEST_CELL: usize = 4294967295;
 
 // As many numbers a cell can hold.
@@ -68,7 +68,7 @@ pub const LAST: usize = 49291;
 
 pub const BOTH: usize = 49292;
 
-// A number of 32 bits as a size.
+// A number of 32 bits as a size, by `as`, since `From` has none of these.
 pub fn wide(number: u32) -> usize
     ensures { result ≤ largest_cell }
 {
@@ -79,15 +79,13 @@ pub fn wide(number: u32) -> usize
 pub fn get(cells: &[u32], i: usize) -> usize
     ensures { result ≤ largest_cell }
 {
-    if i < cells.len() { wide(cells[i]) } else { 0 }
+    cells.get(i).map_or(0, |v| wide(*v))
 }
 
 // The cell at i becomes v, where both fit.
 pub fn put(cells: &mut [u32], i: usize, v: usize) {
-    if i < cells.len() {
-        if v <= LARGEST_CELL {
-            cells[i] = v as u32;
-        }
+    if let (Some(cell), Ok(word)) = (cells.get_mut(i), u32::try_from(v)) {
+        *cell = word;
     }
 }
 
