@@ -1,5 +1,6 @@
-// A search for a conflict with two watched literals, of which nothing is promised but bounds and an end: what it leaves is a path, the places of the
-// nogoods that it went by, and `replay` decides. What it keeps from step to step, and how, is said in crate `watches`.
+// A search for a conflict with two watched literals, of which nothing is promised but bounds and an end: what it leaves
+// is a path, the places of the nogoods that it went by, and `replay` decides. What it keeps from step to step, and how,
+// is said in crate `watches`.
 #![tactic(auto)]
 
 mod paths;
@@ -29,10 +30,12 @@ pub const FIRST: usize = cells::FIRST;
 
 pub const MOST: usize = cells::MOST;
 
-// Places from here on are not watched. Whoever lends the cells sees to it that there are two for each word of the store that is entered.
+// Places from here on are not watched. Whoever lends the cells sees to it that there are two for each word of the store
+// that is entered.
 const FAR: usize = 1073741824;
 
-// The literals are true, and what follows. The path to a nogood that is violated, or to a literal that is true and false; else all that was found.
+// The literals are true, and what follows. The path to a nogood that is violated, or to a literal that is true and
+// false; else all that was found.
 fn pursue(store: &[i32], literals: &[i32], cells: &mut [u32], mark: usize) -> usize
     requires { mark ≤ entries }
 {
@@ -64,7 +67,8 @@ fn find(
     }
 }
 
-// One search for a conflict that the literals lead to. It leaves a path; one that leads to a conflict without any assumption stays.
+// One search for a conflict that the literals lead to. It leaves a path; one that leads to a conflict without any
+// assumption stays.
 pub fn run(store: &[i32], literals: &[i32], cells: &mut [u32]) {
     ready(cells);
     fit(store, cells);
@@ -109,7 +113,8 @@ pub fn enter(store: &[i32], x: usize, cells: &mut [u32]) {
     }
 }
 
-// Nothing of the root rests on the nogood at x, which is dead now. What it gave is the complement of a literal that it watches.
+// Nothing of the root rests on the nogood at x, which is dead now. What it gave is the complement of a literal that it
+// watches.
 pub fn forget(x: usize, cells: &mut [u32]) {
     if FAR <= x {
         return;
@@ -127,8 +132,8 @@ pub fn forget(x: usize, cells: &mut [u32]) {
     }
 }
 
-// The store is closed up, and all nogoods are to be entered again: no literal is watched. What rests on nogoods before the first dead one stays, since
-// they do not move.
+// The store is closed up, and all nogoods are to be entered again: no literal is watched. What rests on nogoods before
+// the first dead one stays, since they do not move.
 pub fn reset(cells: &mut [u32]) {
     let kept = front(cells);
     put(cells, KEPT, kept);

@@ -77,7 +77,8 @@ fn retract(cells: &mut [u32], to: usize) {
     undo(cells, to);
 }
 
-// A literal of a nogood at x that is dead now: if its complement was true by it, that and what came later is not any more. Whether that is so.
+// A literal of a nogood at x that is dead now: if its complement was true by it, that and what came later is not any
+// more. Whether that is so.
 pub fn withdraw(cells: &mut [u32], x: usize, c: usize) -> bool
     requires { (c ≤ largest_cell) × (x ≤ largest_cell) }
 {

@@ -1,4 +1,5 @@
-// The cells that all functions of the search are lent, read and written by total functions, and the regions in them. Cells of zeros are a right start.
+// The cells that all functions of the search are lent, read and written by total functions, and the regions in them.
+// Cells of zeros are a right start.
 ghost use Rattle.std.specs.Prelude.{◌≤◌, IfSome};
 ghost use Rattle.watches.specs.Small.{largest_cell};
 
@@ -31,8 +32,9 @@ pub const PATH: usize = REASON;
 
 pub const BLOCKS: usize = REASON + MOST;
 
-// How many are true; how many of them were propagated; a nogood that the root violates, and whether the path leads to it; where the path begins; the
-// first place of a nogood that died since the store was closed up; before which place the nogoods stayed where they were then.
+// How many are true; how many of them were propagated; a nogood that the root violates, and whether the path leads to
+// it; where the path begins; the first place of a nogood that died since the store was closed up; before which place
+// the nogoods stayed where they were then.
 pub const COUNT: usize = 49280;
 
 pub const DONE: usize = 49281;
