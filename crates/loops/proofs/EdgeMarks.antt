@@ -103,13 +103,13 @@ module _ {A : Type 0} (f : A → Bool) (l : List A) (k : ℕ) (d : A) (h : k < l
   body-split p = ap (λ (b : Bool). b && p) split-any ∙ and-or_distrib_right (f (get_or l k d)) (any f (drop (k + 1) l)) p
 
 -- one pair
-module _ (f : ℤ → Bool) (m : List ℕ) (k : ℕ) (ws : List ℤ) (i : ℕ) (h : i + 1 < length ws) where
+module _ (f : ℤ → Bool) (m : List ℕ) (k : ℕ) (ws : List ℤ) (i : ℕ) (h : i + 1 < length ws) {next : ℕ} (e : next ≡ i + 2) where
   split-pair : any_marked f m k (paired (drop i ws))
-      ≡ ((marked m k && f (get_or ws i (pos 0))) || any_marked f m (k + 1) (paired (drop (i + 2) ws)))
-  split-pair = rw (pair-on ws i h, add-one) refl
+      ≡ ((marked m k && f (get_or ws i (pos 0))) || any_marked f m (k + 1) (paired (drop next ws)))
+  split-pair = rw (e, pair-on ws i h, add-one) refl
 
   pub pair-split : (p : Bool) → (any_marked f m k (paired (drop i ws)) && p)
-      ≡ (((marked m k && f (get_or ws i (pos 0))) && p) || (any_marked f m (k + 1) (paired (drop (i + 2) ws)) && p))
+      ≡ (((marked m k && f (get_or ws i (pos 0))) && p) || (any_marked f m (k + 1) (paired (drop next ws)) && p))
   pair-split p =
       ap (λ (b : Bool). b && p) split-pair
-      ∙ and-or_distrib_right (marked m k && f (get_or ws i (pos 0))) (any_marked f m (k + 1) (paired (drop (i + 2) ws))) p
+      ∙ and-or_distrib_right (marked m k && f (get_or ws i (pos 0))) (any_marked f m (k + 1) (paired (drop next ws))) p

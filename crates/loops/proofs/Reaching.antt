@@ -10,6 +10,7 @@ use native.Mathlib.Omega.{arith}
 use borrow.Author.Tests.{eq-eqb}
 use lib.Dec.{T, eqb}
 use lib.IntN.{ℤ, pos}
+use Rattle.std.proofs.Common.{None}
 use lib.ListN.{length, get_or, set, replicate, length-set, length-replicate}
 use lib.Seq.{get_or-set_same, get_or-set_other}
 use Rattle.words.specs.Limits.{most_numbers}
@@ -123,12 +124,12 @@ module _ (f : ℕ → ℕ → Bool) (n : ℕ) where
           old : T (marked (set done a 1) c) → T (marked done c)
           old u = rw (get_or-set_other done a c 1 0 e) at u
 
-  pub reaching-end : {found done : List ℕ} {a : ℕ} → n ≤ a → Open found done n a → Reaching f n found done → Searched f n found
-  reaching-end {found} {done} h o r = record { to = r.sound; from = λ b w. all w }
+  pub reaching-end : {found done : List ℕ} → Open found done n None → Reaching f n found done → Searched f n found
+  reaching-end {found} {done} o r = record { to = r.sound; from = λ b w. all w }
     where
       all : {b : ℕ} → Way f n b → T (marked found b)
       all (first l t) = r.begun _ l t
-      all (on {a = a} w l t) = r.closed a _ l ((passed _).from (o.none h a (way-low w) ((passed _).to (all w)))) t
+      all (on {a = a} w l t) = r.closed a _ l ((passed _).from (o a (way-low w) ((passed _).to (all w)))) t
 
 -- how many places are not done
 abbrev below : ℕ → List ℕ
