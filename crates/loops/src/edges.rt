@@ -29,6 +29,7 @@ fn byte_at(bytes: &[u8], v: usize) -> usize
 }
 
 // For each variable its place in the line, counted from 1; 0 for none.
+// 0 and no Option: Option<u8> takes two bytes for each of 8,192 variables.
 pub fn places_of(numbers: &[i32]) -> [u8; ENTRIES]
     requires { Members numbers.now }
     ensures { Placed result numbers.now }

@@ -26,7 +26,13 @@ fn has_sum(pairs: &[i32], x: i32, low: usize, high: usize, left: usize) -> bool
         return has_sum(rest, x, low, high, left);
     }
     let w = words::variable_of(pairs[1]);
-    if has_sum(rest, x, low.saturating_sub(w), high.saturating_sub(w), left - w) {
+    if has_sum(
+        rest,
+        x,
+        low.saturating_sub(w),
+        high.saturating_sub(w),
+        left - w,
+    ) {
         return true;
     }
     has_sum(rest, x, low, high, left - w)

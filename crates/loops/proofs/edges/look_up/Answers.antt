@@ -1,4 +1,4 @@
-use mathlib.Core.Path.{◌≡◌, refl, sym, ap, ◌∙◌}
+use mathlib.Core.Path.{◌≡◌, sym, ap, ◌∙◌}
 use mathlib.Core.List.{List, [], ◌∷◌}
 use Prim.Native.Nat.{ℕ, suc, ◌+◌, ◌-◌, ◌<◌}
 use native.Mathlib.Omega.{arith}
@@ -6,14 +6,13 @@ use lib.IntN.{ℤ, pos}
 use lib.ListN.{length, take, drop, get_or}
 use Rattle.words.specs.Lists.{◌∈◌}
 use Rattle.words.specs.Literals.{variable}
-use Rattle.words.proofs.Laws.{any_none}
 use Rattle.words.proofs.Lists.{passed}
 use Rattle.words.proofs.Places.{in-at}
 use Rattle.words.proofs.Words.{back}
 use Rattle.derivation.proofs.Questions.{positive-is}
-use Rattle.loops.specs.Edges.{place_by, is_at}
-use Rattle.loops.proofs.Placing.{placed-low, place-there, place-part}
-use Rattle.loops.proofs.EdgeMarks.{filling-on, filled}
+use Rattle.loops.specs.Edges.{place_by}
+use Rattle.loops.proofs.Placing.{placed-low, place-part}
+use Rattle.loops.proofs.EdgeMarks.{filling-on}
 use Rattle.loops.proofs.Chained.{numbers-left, number-split}
 use Rattle.std.proofs.Common.{rules}
 use Rattle.loops.proofs.edges.look_up.Goals as goal
@@ -51,16 +50,19 @@ module _ (c : After-variable_of-v) where
   placed : place_by m (pos c.variable_of-v.result) ≡ suc j
   placed = sym (ap (place_by m) atom) ∙ c.requires.places.1.from j taken
 
-  there : c.variable_of-v.result < length m
-  there = place-there m c.variable_of-v.result placed
-
   part : (n : ℕ) → n ≡ 1 → take n (drop c.variable_of-v.result m) ≡ place_by m (pos c.variable_of-v.result) ∷ []
   part n e = place-part m c.variable_of-v.result placed n e
 
-pub mark_chain-requires : goal.mark_chain-requires
-mark_chain-requires c = let v = (goal.at.mark_chain-requires c).After-variable_of-v in
-    let p = v.requires in
-    let a = v.variable_of-v.result in record { index = p.index; head = (part v (a + 1 - a) (omega arith), omega (arith, tells v, p.places.0.high (x v) (among v))); sizes = (v.loop-x.invariant.long, placed-low p.places.0.few p.places.1, (U v, p.places.1)) }
+pub mark_chain-requires-clause-head : goal.mark_chain-requires-clause-head
+mark_chain-requires-clause-head c =
+    let v = (goal.at.mark_chain-requires-clause-head c).After-variable_of-v in
+    let a = v.variable_of-v.result in
+    (part v (a + 1 - a) (omega arith), omega (arith, tells v, v.requires.places.0.high (x v) (among v)))
+
+pub mark_chain-requires-clause-sizes : goal.mark_chain-requires-clause-sizes
+mark_chain-requires-clause-sizes c =
+    let p = c.requires.places in
+    (c.loop-x.invariant.long, placed-low p.0.few p.1, (c.args.numbers.now, p.1))
 
 pub loop-x-preserved : goal.loop-x-preserved
 loop-x-preserved c =
@@ -68,20 +70,3 @@ loop-x-preserved c =
     let a = v.args in
     filling-on v.loop-x.invariant c.mark_chain.ensures
     (number-split a.table.now a.rules a.places.now (U v) _ (j v) (taken v) (ap (λ y. y ∷ []) (sym (atom v))))
-
-pub returns : goal.returns
-returns c =
-    let a = c.args in
-    filled c.loop-x.invariant (λ i b. rw (any_none (is_at a.places.now b) a.numbers.now c.loop-x-test.false) refl)
-
-pub overflow_add-v : goal.overflow_add-v
-overflow_add-v c = let r = there (goal.at.overflow_add-v c).After-variable_of-v in search rules
-
-pub slice_bounds-mark_chain-start : goal.slice_bounds-mark_chain-start
-slice_bounds-mark_chain-start c = let r = there (goal.at.slice_bounds-mark_chain-start c).After-variable_of-v in search rules
-
-pub slice_bounds-mark_chain-end : goal.slice_bounds-mark_chain-end
-slice_bounds-mark_chain-end c = let r = there (goal.at.slice_bounds-mark_chain-end c).After-variable_of-v in search rules
-
-pub slice_bounds-mark_chain-end-in-loop-x : goal.slice_bounds-mark_chain-end-in-loop-x
-slice_bounds-mark_chain-end-in-loop-x c = sym c.loop-x.invariant.long

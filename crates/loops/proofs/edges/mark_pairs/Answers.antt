@@ -8,14 +8,8 @@ use Rattle.words.specs.Lists.{any}
 use Rattle.words.proofs.Words.{back}
 use Rattle.weights.proofs.Matching.{pair-none}
 use Rattle.loops.specs.Edges.{is_place, is_at}
-use Rattle.loops.proofs.EdgeMarks.{filling-start, filling-on, filling-end, pair-split}
+use Rattle.loops.proofs.EdgeMarks.{filling-on, filling-end, pair-split}
 use Rattle.loops.proofs.edges.mark_pairs.Goals as goal
-
-pub loop-k-init : goal.loop-k-init
-loop-k-init c = filling-start _ _ c.requires.0
-
-pub mark_if-requires : goal.mark_if-requires
-mark_if-requires c = (c.loop-k.invariant.long, c.requires.1, c.requires.2)
 
 pub loop-k-preserved : goal.loop-k-preserved
 loop-k-preserved c =

@@ -13,9 +13,6 @@ use Rattle.loops.proofs.edges.places_of.Goals.{After-variable_of-v}
 tells : (c : After-variable_of-v) → c.variable_of-v.result ≡ variable (get_or c.args.numbers.now c.loop-i.i (pos 0))
 tells c = rw (back (get_or c.args.numbers.now c.loop-i.i (pos 0)) (search rules)) at c.variable_of-v.ensures
 
-pub overflow_cast-places : goal.overflow_cast-places
-overflow_cast-places c = record { fits = omega (arith, c.requires.few) }
-
 pub bounds-places-v : goal.bounds-places-v
 bounds-places-v c = omega (arith, tells c, c.requires.high _ (in-at (pos 0) c.args.numbers.now c.loop-i.i c.loop-i-test.true))
 

@@ -10,13 +10,10 @@ use lib.ListN.{length, get_or}
 use mir.Val.{bool_byte}
 use Rattle.std.proofs.Common.{rules}
 use Rattle.words.proofs.Words.{back}
-use Rattle.loops.proofs.Filling.{Filled, filled_none, filled-all, filled-room, filled_in, filled_more}
+use Rattle.loops.proofs.Filling.{Filled, filled-all, filled_in, filled_more}
 use Rattle.loops.proofs.relevance.fill_pairs.Goals as goal
 use Rattle.loops.proofs.relevance.fill_pairs.Goals.{In-loop-n}
 use Rattle.loops.proofs.relevance.fill_pairs.Invariants.{entry}
-
-pub loop-n-init : goal.loop-n-init
-loop-n-init c = filled_none _ _ c.requires.2
 
 byte : (t : Bool) → bool_byte t ≡ cond t 1 0
 byte true = refl
@@ -42,9 +39,6 @@ is_relevant-requires c =
     let literal = back (get_or (ws d) (i d) (pos 0)) (search rules) in
     let weight = back (get_or (ws d) (i d + 1) (pos 0)) (search rules) in
     (d.requires.0, d.requires.1, rw (literal, weight) (filled_in _ _ (filled d) (in-loop d)))
-
-pub bounds-entries-n : goal.bounds-entries-n
-bounds-entries-n c = let d = (goal.at.bounds-entries-n c).In-loop-n in filled-room _ _ (filled d) (in-loop d)
 
 pub loop-n-preserved : goal.loop-n-preserved
 loop-n-preserved c =

@@ -1,23 +1,11 @@
-use mathlib.Core.Path.{◌≡◌, ◌∙◌, ap}
-use mathlib.Core.List.{List}
-use Prim.Native.Nat.{ℕ}
-use native.Mathlib.Omega.{arith}
 use borrow.Author.Tests.{not-true}
-use lib.ListN.{length, replicate, length-replicate}
-use Rattle.words.specs.Limits.{most_numbers}
 use Rattle.words.proofs.Lists.{passed, and_left, and_right}
 use Rattle.marks.specs.Marks.{marked}
 use Rattle.loops.proofs.Reaching.{reaching-start, reaching-on, reaching-end, undone-less}
 use Rattle.loops.proofs.searches.explore.Goals as goal
 
-pub spread-requires : goal.spread-requires
-spread-requires c = (c.requires.0, omega arith, ap length c.requires.1 ∙ length-replicate {A = ℕ} most_numbers 0)
-
 pub loop-a-init : goal.loop-a-init
 loop-a-init c = rw c.requires.2 (reaching-start _ _ (rw c.requires.1 at c.spread.ensures))
-
-pub advance-requires : goal.advance-requires
-advance-requires c = (c.requires.0, omega (arith, c.in-Some.ensures.0, c.requires.0), c.loop-a.invariant.long)
 
 pub loop-a-smaller : goal.loop-a-smaller
 loop-a-smaller c =
