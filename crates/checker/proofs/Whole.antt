@@ -45,12 +45,12 @@ run-first N P size n m z w b l t ts e = by (step N P z t) refl e
 
     by : (o : Outcome) → step N P z t ≡ o → elim o [
       | Steps.refused k ↦ stopped k (n + 1)
-      | next z' ↦ cond (fitting size z') (on z') (stopped 34 (n + 1))
+      | next z' ↦ cond (fitting size z') (on z') (stopped StoreFull (n + 1))
     ] ≡ through m w l → First N P size n z b t ts (through m w l)
     by (Steps.refused k) q e = absurd (zero_one (cc))
     by (next z') q e = fits (fitting size z') refl e
       where
-        fits : (f : Bool) → fitting size z' ≡ f → cond f (on z') (stopped 34 (n + 1)) ≡ through m w l
+        fits : (f : Bool) → fitting size z' ≡ f → cond f (on z') (stopped StoreFull (n + 1)) ≡ through m w l
             → First N P size n z b t ts (through m w l)
         fits true f e = record { left = z'; is = q; fits = f; later = e }
         fits false f e = absurd (zero_one (cc))

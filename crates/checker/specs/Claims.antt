@@ -146,7 +146,7 @@ module _ (N : ℕ) (P : List Rule) (size : ℕ) where
         | next z' ↦
             cond (fitting size z')
             (prompt_steps (n + 1) z' (prompt_after (n + 1) t.letter t.numbers stored z') ts)
-            (stopped 34 (n + 1))
+            (stopped StoreFull (n + 1))
       ]
 
   abbrev pub prompt_read : StepsRead → Course

@@ -18,6 +18,7 @@ use Rattle.drupe.specs.Texts.{Step}
 use Rattle.derivation.specs.States.{State, start}
 use Rattle.derivation.specs.Steps.{Outcome, refused, next, by_letter}
 use Rattle.completeness.specs.Claims.{free_step, free_steps, Sized}
+use Rattle.drupe.specs.declared.ProofFault.TheVariants.{Malformed, WrongSigns, RepeatedVariable}
 
 -- Outcomes
 
@@ -46,8 +47,8 @@ module _ (N : ℕ) (P : List Rule) where
   pub accepted : (z z' : State) (x : Letter) (l : List ℤ) → ((y : ℤ) → y ∈ l → 1 ≤ variable y) → signed (signs_of x) l ≡ true → distinct l ≡ true
       → by_letter N P z x l ≡ next z' → free_step N P z (record { letter = x; numbers = l }) ≡ next z'
   accepted z z' x l f s d e =
-      no-passes 22 (failed (has (pos 0) l) ((not-decides (has-decides (pos 0) l)).from (λ i. omega (arith, f (pos 0) i))))
-      (yes-passes 24 s (yes-passes 25 d e))
+      no-passes Malformed (failed (has (pos 0) l) ((not-decides (has-decides (pos 0) l)).from (λ i. omega (arith, f (pos 0) i))))
+      (yes-passes WrongSigns s (yes-passes RepeatedVariable d e))
 
   -- the steps after one that leaves an outcome
   abbrev pub then : List Step → Outcome → Outcome

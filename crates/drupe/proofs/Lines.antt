@@ -2,7 +2,7 @@
 -- Assumes nothing.
 use mathlib.Core.Path.{◌≡◌, refl, sym, ap, ◌∙◌, subst}
 use mathlib.Core.Bool.{Bool, true, false, cond, not, ◌&&◌, ◌||◌}
-use mathlib.Core.Option.{Option, none, some}
+use Rattle.std.specs.Prelude.{Option, None, Some}
 use mathlib.Core.List.{List, [], ◌∷◌}
 use Prim.Native.Nat.{ℕ, suc, ◌+◌, ◌-◌, ◌<◌, ◌≤◌, max}
 use native.Mathlib.Omega.{arith}
@@ -21,8 +21,11 @@ use Rattle.text.specs.declared.Letter.{Letter}
 use Rattle.text.specs.declared.Class.{Class}
 use Rattle.text.specs.declared.Class.TheVariants.{Newline, Space, Minus, Digit, Step, Other}
 use Rattle.drupe.specs.Lines.{signs_of, signed, line_refusal, all_passed, LineAt, end, refused, line, refused_or, line_asked, of_numbers, is_space, after_letter, after_first, line_from, line_at, line_read, line_answer, numbers_of, AnswerBounds, ProofLineRead}
-use Rattle.drupe.specs.declared.LineAnswer.{LineAnswer}
+use Rattle.drupe.specs.declared.ProofLine.{ProofLine}
+use Rattle.drupe.specs.declared.ProofFault.{ProofFault}
 use Rattle.drupe.specs.declared.LineReading.{LineReading}
+use Rattle.std.specs.Prelude.{Result}
+use Rattle.drupe.specs.declared.ProofFault.TheVariants.{TooLong, Malformed, OutOfRange, WrongSigns, RepeatedVariable}
 
 -- Questions 23 to 25 together
 
@@ -39,7 +42,7 @@ pub good-parts : (x : Letter) (zs : List ℤ) {a b s d : Bool} → ltb largest (
     → all_passed (line_refusal x zs) ≡ (not b && (not a && (s && d)))
 good-parts x zs {a} {b} {s} {d} p q r e = rw (outside-top zs, p, q, r, e) (by a b s d)
   where
-    by : (a b s d : Bool) → all_passed (cond (a || b) (some 23) (cond s (cond d none (some 25)) (some 24))) ≡ (not b && (not a && (s && d)))
+    by : (a b s d : Bool) → all_passed (cond (a || b) (Some OutOfRange) (cond s (cond d None (Some RepeatedVariable)) (Some WrongSigns))) ≡ (not b && (not a && (s && d)))
     by true true s d = refl
     by true false s d = refl
     by false true s d = refl
@@ -75,13 +78,13 @@ module _ (s : List ℕ) (at : ℕ) where
   pub at-line : (at ≡ length s → ⊥) → line_at s at ≡ line_from at (drop at s)
   at-line k = rw (ne_eqb at (length s) k)
 
-  pub at-past : length s < at → line_at s at ≡ refused 22
+  pub at-past : length s < at → line_at s at ≡ refused Malformed
   at-past l =
       let e : drop at s ≡ [] = drop_of_length-le s {i = at} (omega arith) in
       rw (ne_eqb at (length s) (λ k. omega arith), e)
 
   -- question 21
-  pub read-long : longest < length s → line_read s at ≡ refused 21
+  pub read-long : longest < length s → line_read s at ≡ refused TooLong
   read-long h = rw (lt-ltb longest (length s) h)
 
   pub read_short : length s ≤ longest → line_read s at ≡ line_at s at
@@ -93,17 +96,17 @@ module _ (s : List ℕ) (at : ℕ) where
 abbrev pub Passed : ℕ → ℕ → LineAt → Type 0
 Passed at n end = Unit {0}
 Passed at n (refused k) = Unit {0}
-Passed at n (line x zs next) = (at < next) × (next ≤ n) × (line_refusal x zs ≡ none) × (has (pos 0) zs ≡ false)
+Passed at n (line x zs next) = (at < next) × (next ≤ n) × (line_refusal x zs ≡ None) × (has (pos 0) zs ≡ false)
 
 module _ (at n : ℕ) where
   asked-passed : (x : Letter) (zs : List ℤ) (next : ℕ) → at < next → next ≤ n → has (pos 0) zs ≡ false → Passed at n (line_asked x zs next)
   asked-passed x zs next h l f = by (line_refusal x zs) refl
     where
-      by : (o : Option ℕ) → line_refusal x zs ≡ o → Passed at n (refused_or o (line x zs next))
-      by none e = (h, l, e, f)
-      by (some k) e = tt
+      by : (o : Option ProofFault) → line_refusal x zs ≡ o → Passed at n (refused_or o (line x zs next))
+      by None e = (h, l, e, f)
+      by (Some k) e = tt
 
-  cond-passed : (t : Bool) (l : LineAt) → (t ≡ true → Passed at n l) → Passed at n (cond t l (refused 22))
+  cond-passed : (t : Bool) (l : LineAt) → (t ≡ true → Passed at n l) → Passed at n (cond t l (refused Malformed))
   cond-passed true l p = p refl
   cond-passed false l p = tt
 
@@ -141,14 +144,14 @@ passed s at = by (eqb at (length s))
     by false = line-passed at (length s) (drop at s) (length-drop at s)
 
 pub passed-line : (s : List ℕ) (at : ℕ) {x : Letter} {zs : List ℤ} {next : ℕ} → line_at s at ≡ line x zs next
-    → (at < next) × (next ≤ length s) × (line_refusal x zs ≡ none) × (has (pos 0) zs ≡ false)
+    → (at < next) × (next ≤ length s) × (line_refusal x zs ≡ None) × (has (pos 0) zs ≡ false)
 passed-line s at e = subst (Passed at (length s)) e (passed s at)
 
 -- no more numbers than the array has
-pub few : (x : Letter) (zs : List ℤ) → line_refusal x zs ≡ none → length zs ≤ most_numbers
+pub few : (x : Letter) (zs : List ℤ) → line_refusal x zs ≡ None → length zs ≤ most_numbers
 few x zs e = by (any_outside zs || ltb most_numbers (length zs)) _ refl e
   where
-    by : (t : Bool) (o : Option ℕ) → (any_outside zs || ltb most_numbers (length zs)) ≡ t → cond t (some 23) o ≡ none → length zs ≤ most_numbers
+    by : (t : Bool) (o : Option ProofFault) → (any_outside zs || ltb most_numbers (length zs)) ≡ t → cond t (Some OutOfRange) o ≡ None → length zs ≤ most_numbers
     by true o k e = absurd (let z : ◌≡◌ {A = ℕ} 0 1 = cc in omega arith)
     by false o k e = ltb-false most_numbers (length zs) (or-false-right (any_outside zs) (ltb most_numbers (length zs)) k)
 
@@ -157,7 +160,7 @@ within at n end p = tt
 within at n (refused k) p = tt
 within at n (line x zs next) p = (p.0, p.1, few x zs p.2)
 
-pub answer-within : (s : List ℕ) (at : ℕ) {r : LineAnswer} → r ≡ line_answer (line_at s at) → AnswerBounds at (length s) r
+pub answer-within : (s : List ℕ) (at : ℕ) {r : Result (Option ProofLine) ProofFault} → r ≡ line_answer (line_at s at) → AnswerBounds at (length s) r
 answer-within s at e = subst (AnswerBounds at (length s)) (sym e) (within at (length s) (line_at s at) (passed s at))
 
 -- what `read_line` says of a text that passes 21, and of one that does not

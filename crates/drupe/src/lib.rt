@@ -17,18 +17,62 @@ ghost use Rattle.drupe.specs.Rows.{LineInto, ReadInto};
 use text::{Class, Letter, LineNumbers};
 use words::MOST_NUMBERS;
 
-// What stands at a position: a line's letter, how many numbers it has and the position after its newline; the end; or the
-// number of the question that is answered no.
-#[derive(Clone, Copy)]
-pub enum LineAnswer {
-    Line {
-        letter: Letter,
-        count: usize,
-        next: usize,
-    },
-    End,
-    Refused(u8),
+// What is wrong with a proof, by the first question that a line or a step fails. `u8::from` gives the question's number.
+#[derive(Clone, Copy, PartialEq, Eq)]
+pub enum ProofFault {
+    TooLong,
+    Malformed,
+    OutOfRange,
+    WrongSigns,
+    RepeatedVariable,
+    UnknownVariable,
+    KnownName,
+    NoUnnamedBody,
+    NoCompletion,
+    NoSupport,
+    NoAtoms,
+    UnnamedBody,
+    NoConflict,
+    StoreFull,
+    NoLoop,
 }
+
+impl From<ProofFault> for u8 {
+    ghost use Rattle.drupe.specs.Numbers.{number_of};
+
+    ghost from_gives = { λ fault number. number ≡ number_of fault };
+
+    fn from(fault: ProofFault) -> u8 {
+        match fault {
+            ProofFault::TooLong => 21,
+            ProofFault::Malformed => 22,
+            ProofFault::OutOfRange => 23,
+            ProofFault::WrongSigns => 24,
+            ProofFault::RepeatedVariable => 25,
+            ProofFault::UnknownVariable => 26,
+            ProofFault::KnownName => 27,
+            ProofFault::NoUnnamedBody => 28,
+            ProofFault::NoCompletion => 29,
+            ProofFault::NoSupport => 30,
+            ProofFault::NoAtoms => 31,
+            ProofFault::UnnamedBody => 32,
+            ProofFault::NoConflict => 33,
+            ProofFault::StoreFull => 34,
+            ProofFault::NoLoop => 56,
+        }
+    }
+}
+
+// A line of a proof: its letter, how many numbers it has and the position after its newline.
+#[derive(Clone, Copy)]
+pub struct ProofLine {
+    pub letter: Letter,
+    pub count: usize,
+    pub next: usize,
+}
+
+// What stands at a position: a line; nothing at the end; or what is wrong with the line.
+pub type LineAnswer = Result<Option<ProofLine>, ProofFault>;
 
 // The numbers stand beside the answer, with zeros after them; all are 0 unless a line is answered.
 #[derive(Drop)]
@@ -139,16 +183,16 @@ fn ask(letter: Letter, numbers: &[i32], sorted: &mut [i32], next: usize) -> Line
     words::copy(sorted, numbers);
     let distinct = words::sort_distinct(sorted);
     if !is_signed(letter, numbers) {
-        return LineAnswer::Refused(24);
+        return Err(ProofFault::WrongSigns);
     }
     if !distinct {
-        return LineAnswer::Refused(25);
+        return Err(ProofFault::RepeatedVariable);
     }
-    LineAnswer::Line {
+    Ok(Some(ProofLine {
         letter,
         count: numbers.len(),
         next,
-    }
+    }))
 }
 
 // The numbers of a line, which begin at position `from`: the text is what is left there.
@@ -167,7 +211,7 @@ fn read_numbers(
         sorted.new result }
 {
     let Some(line) = text::read_line(text, numbers, classes) else {
-        return LineAnswer::Refused(22);
+        return Err(ProofFault::Malformed);
     };
     let LineNumbers {
         count,
@@ -176,14 +220,14 @@ fn read_numbers(
         closed,
     } = line;
     if !closed {
-        return LineAnswer::Refused(22);
+        return Err(ProofFault::Malformed);
     }
     if outside {
-        return LineAnswer::Refused(23);
+        return Err(ProofFault::OutOfRange);
     }
     let before = count - 1;
     if MOST_NUMBERS < before {
-        return LineAnswer::Refused(23);
+        return Err(ProofFault::OutOfRange);
     }
     ask(
         letter,
@@ -216,10 +260,10 @@ fn read_space(
         sorted.new result }
 {
     if text.len() == 0 {
-        return LineAnswer::Refused(22);
+        return Err(ProofFault::Malformed);
     }
     if !is_space(text[0], classes) {
-        return LineAnswer::Refused(22);
+        return Err(ProofFault::Malformed);
     }
     read_numbers(letter, &text[1..], from + 1, classes, numbers, sorted)
 }
@@ -239,10 +283,10 @@ fn read_letter(
         sorted.new result }
 {
     if text.len() == 0 {
-        return LineAnswer::Refused(22);
+        return Err(ProofFault::Malformed);
     }
     let Class::Step(letter) = text::class_of(classes, text[0]) else {
-        return LineAnswer::Refused(22);
+        return Err(ProofFault::Malformed);
     };
     read_space(letter, &text[1..], from + 1, classes, numbers, sorted)
 }
@@ -262,10 +306,10 @@ fn read_into(
     ensures { ReadInto text.now position numbers.old numbers.new sorted.new result }
 {
     if position == text.len() {
-        return LineAnswer::End;
+        return Ok(None);
     }
     if text.len() < position {
-        return LineAnswer::Refused(22);
+        return Err(ProofFault::Malformed);
     }
     read_letter(&text[position..], position, classes, numbers, sorted)
 }
@@ -275,14 +319,14 @@ pub fn read_line(text: &[u8], position: usize) -> LineReading
     ensures { ProofLineRead text.now position result }
 {
     if words::LONGEST < text.len() {
-        return unread(LineAnswer::Refused(21));
+        return unread(Err(ProofFault::TooLong));
     }
     let classes = text::classes::CLASSES;
     let mut numbers = [0; MOST_NUMBERS];
     let mut sorted = [0; MOST_NUMBERS];
     let answer = reader::step_at(text, position, &classes, &mut numbers, &mut sorted);
     match answer {
-        LineAnswer::Line { .. } => LineReading { answer, numbers },
-        LineAnswer::End | LineAnswer::Refused(_) => unread(answer),
+        Ok(Some(_)) => LineReading { answer, numbers },
+        Ok(None) | Err(_) => unread(answer),
     }
 }

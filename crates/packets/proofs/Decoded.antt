@@ -150,7 +150,7 @@ module _ (x : Letter) (zs : List ℤ) where
       let d = or-decides (passed (any_outside zs)) (passed (ltb most_numbers (length zs))) in
       not_good (by (any_outside zs || ltb most_numbers (length zs)) _ (is_true d (inr (lt-ltb most_numbers (length zs) h))))
     where
-      by : (t : Bool) (o : Option ℕ) → t ≡ true → all_passed (cond t (some 23) o) ≡ false
+      by : (t : Bool) (o : Option ProofFault) → t ≡ true → all_passed (cond t (some OutOfRange) o) ≡ false
       by true o e = refl
       by false o e = absurd (true≢false (sym e))
 

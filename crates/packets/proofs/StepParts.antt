@@ -40,14 +40,14 @@ pub test-pass : (t : Step) → step_passes t ≡ true → LinePasses t
 unfolding step_passes
 test-pass t e = (by (line_refusal t.letter t.numbers) (and_right (not (has (pos 0) t.numbers)) _ e), not-true _ (and_left _ _ e))
   where
-    by : (o : Option ℕ) → all_passed o ≡ true → o ≡ none
+    by : (o : Option ProofFault) → all_passed o ≡ true → o ≡ none
     by none e = refl
     by (some k) e = absurd (true≢false (sym e))
 
 inside-line : (x : Letter) (zs : List ℤ) → line_refusal x zs ≡ none → any_outside zs ≡ false
 inside-line x zs e = by (any_outside zs || ltb most_numbers (length zs)) _ refl e
   where
-    by : (t : Bool) (o : Option ℕ) → (any_outside zs || ltb most_numbers (length zs)) ≡ t → cond t (some 23) o ≡ none → any_outside zs ≡ false
+    by : (t : Bool) (o : Option ProofFault) → (any_outside zs || ltb most_numbers (length zs)) ≡ t → cond t (some OutOfRange) o ≡ none → any_outside zs ≡ false
     by true o k e = absurd (zero_one (cc))
     by false o k e = or-false-left (any_outside zs) (ltb most_numbers (length zs)) k
 

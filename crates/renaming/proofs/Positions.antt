@@ -28,7 +28,7 @@ module _ (text : List ℕ) where
   unfolding steps_within
   left-start {ts} e = by (ltb longest (length text)) e
     where
-      by : (b : Bool) → cond b (refused [] 21 0) (steps_at text (suc (length text)) 0 0) ≡ steps ts → Left 0 ts
+      by : (b : Bool) → cond b (refused [] TooLong 0) (steps_at text (suc (length text)) 0 0) ≡ steps ts → Left 0 ts
       by true e = absurd (zero_one (cc))
       by false e = record { turns = suc (length text); done = 0; read = e }
 

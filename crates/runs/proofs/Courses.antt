@@ -106,7 +106,7 @@ module _ (N : ℕ) (ws : List InputRule) (size : ℕ) (text : List ℕ) where
               outcome (next z) p (Fails i) e l =
                   let a = l.0.0 in
                   let m = step-live N P (steps + 1) size G.z G.stored G.keeps.same (record { letter = x; numbers = zs }) z p in
-                  stops 34 (cc) (comes limit h _ (full q p (omega (arith, l.0.1, ap words_for m, same, G.long))))
+                  stops StoreFull (cc) (comes limit h _ (full q p (omega (arith, l.0.1, ap words_for m, same, G.long))))
 
       pub going_on : {r : ProofTurn} (n m : ℕ) → r ≡ Turn.Goes n m → Turned (line_at text at) r → Going after index' known' names' bodies' m n (steps + 1) × (at < n)
       going_on n m e t = by (line_at text at) refl (subst (Turned (line_at text at)) e t)

@@ -25,7 +25,7 @@ module _ (N : ℕ) (P : List Rule) (size : ℕ) (text : List ℕ) where
         → step N P z (record { letter = x; numbers = zs }) ≡ Steps.refused k → Runs at n z b (stopped k (n + 1))
     full : {at n after : ℕ} {z z' : State} {b : List Stored} {x : Letter} {zs : List ℤ} → line_at text at ≡ line x zs after
         → step N P z (record { letter = x; numbers = zs }) ≡ next z' → size < words_for z'.live
-        → Runs at n z b (stopped 34 (n + 1))
+        → Runs at n z b (stopped StoreFull (n + 1))
     good : {at n after : ℕ} {z z' : State} {b : List Stored} {x : Letter} {zs : List ℤ} {c : Course}
         → line_at text at ≡ line x zs after → step N P z (record { letter = x; numbers = zs }) ≡ next z' → words_for z'.live ≤ size
         → Runs after (n + 1) z' (stored_after (n + 1) size x zs b z') c → Runs at n z b c

@@ -37,7 +37,7 @@ module _ (N : ℕ) (P : List Rule) (size : ℕ) where
         | next z' ↦
             cond (fitting size z')
             (run_steps (n + 1) z' (stored_after (n + 1) size t.letter t.numbers stored z') ts)
-            (stopped 34 (n + 1))
+            (stopped StoreFull (n + 1))
       ]
 
   -- a text's steps; or those before the line that is refused, and then that refusal

@@ -67,7 +67,7 @@ module _ (t s o : ℕ) (ws : List InputRule) (v : ℕ) (first second output' : L
         is : r ≡ Merged (length (text_of ts))
         is = l.0 ∙ w.0
 
-    stopped-full : PastStore s ws ts → (n : ℕ) × (course (atoms ws) (expand ws) s (text_of ts) ≡ stopped 34 n) → Exactly s o ws v first second output' r
+    stopped-full : PastStore s ws ts → (n : ℕ) × (course (atoms ws) (expand ws) s (text_of ts) ≡ stopped StoreFull n) → Exactly s o ws v first second output' r
     stopped-full past (n, c) = record {
       merged = (λ q. absurd (apart q.1 is), λ q. absurd (q.1 past));
       text = λ m q. absurd (apart q is);

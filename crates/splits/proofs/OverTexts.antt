@@ -54,12 +54,12 @@ module _ (N : ℕ) (P : List Rule) (size : ℕ) where
       after z' = run_steps N P size (n + 1) z' (stored_after (n + 1) size t.letter t.numbers b z') ts
 
       by : ((z' : State) → RunsAs (Claims.steps_in (fitting size) N P z' ts) (after z')) → (o : Outcome)
-          → RunsAs (elim o as (λ x. Outcome) [ refused k ↦ refused k | next z' ↦ cond (fitting size z') (Claims.steps_in (fitting size) N P z' ts) (refused 34) ])
-          (elim o [ refused k ↦ stopped k (n + 1) | next z' ↦ cond (fitting size z') (after z') (stopped 34 (n + 1)) ])
+          → RunsAs (elim o as (λ x. Outcome) [ refused k ↦ refused k | next z' ↦ cond (fitting size z') (Claims.steps_in (fitting size) N P z' ts) (refused StoreFull) ])
+          (elim o [ refused k ↦ stopped k (n + 1) | next z' ↦ cond (fitting size z') (after z') (stopped StoreFull (n + 1)) ])
       by below (refused k) = (n + 1, refl)
       by below (next z') = fits (fitting size z')
         where
-          fits : (f : Bool) → RunsAs (cond f (Claims.steps_in (fitting size) N P z' ts) (refused 34)) (cond f (after z') (stopped 34 (n + 1)))
+          fits : (f : Bool) → RunsAs (cond f (Claims.steps_in (fitting size) N P z' ts) (refused StoreFull)) (cond f (after z') (stopped StoreFull (n + 1)))
           fits true = below z'
           fits false = (n + 1, refl)
 
@@ -126,9 +126,9 @@ merged-ends size ws v first second halves fit h = (
         (runs_as (atoms ws) (expand ws) size 0 start [] ts))
 
     by : InOr34 (fitting size) (atoms ws) (expand ws) ts
-        → ((¬ (PastStore size ws ts)) × (is_accepted size ws (text_of ts) ≡ true)) ⊎ (PastStore size ws ts × ((n : ℕ) × (checked ≡ stopped 34 n)))
+        → ((¬ (PastStore size ws ts)) × (is_accepted size ws (text_of ts) ≡ true)) ⊎ (PastStore size ws ts × ((n : ℕ) × (checked ≡ stopped StoreFull n)))
     by (inl (z, e, l)) = inl (never-past size ws ts z e, ap ends_empty (ran (next z) e).2 ∙ l)
-    by (inr e) = inr (goes-past size ws ts good.0 good.1 e, ran (refused 34) e)
+    by (inr e) = inr (goes-past size ws ts good.0 good.1 e, ran (refused StoreFull) e)
 
 pub merged-text : MergedText
 unfolding check_within
@@ -137,7 +137,7 @@ merged-text text t s ws q v first second halves fit h =
     (first-half s ws v first second halves fit) (second-half s ws v first second halves fit) fit in
     (rw q (by (course (atoms ws) (expand ws) s (text_of (merged_steps ws v first second))) (merged-ends s ws v first second halves fit h).1.1), m.1)
   where
-    by : {A B : Type 0} (c : Course) → (A × (ends_empty c ≡ true)) ⊎ (B × ((n : ℕ) × (c ≡ stopped 34 n)))
+    by : {A B : Type 0} (c : Course) → (A × (ends_empty c ≡ true)) ⊎ (B × ((n : ℕ) × (c ≡ stopped StoreFull n)))
         → ((k : Counts) × ((judged t s ws c).verdict ≡ Inconsistent k))
         ⊎ ((n : ℕ) × ((judged t s ws c).verdict ≡ RefusedProof (record { number = 34; step = n })))
     by (stopped k m) (inl (x, e)) = absurd (true≢false (sym e))

@@ -37,7 +37,7 @@ MergedEnds =
     × ((steps_of (text_of (merged_steps ws v first second)) ≡ steps (merged_steps ws v first second))
     × (((¬ (PastStore size ws (merged_steps ws v first second))) × (is_accepted size ws (text_of (merged_steps ws v first second)) ≡ true))
     ⊎ (PastStore size ws (merged_steps ws v first second)
-    × ((n : ℕ) × (course (atoms ws) (expand ws) size (text_of (merged_steps ws v first second)) ≡ stopped 34 n)))))
+    × ((n : ℕ) × (course (atoms ws) (expand ws) size (text_of (merged_steps ws v first second)) ≡ stopped StoreFull n)))))
 
 -- "The merged proof is accepted whenever it fits": where the halves are accepted with a store of s words and the merged lines and text
 -- keep to their limits, the check of that text with such a store says "inconsistent" or stops with 34, and nothing else

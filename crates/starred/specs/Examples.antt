@@ -111,27 +111,27 @@ pub record Starred : Type 0 where
       ≡ record { verdict = inconsistent 1 1 5 6; table = table1 ++ replicate 16378 (pos 0); store = store1 ++ replicate 16363 (pos 0) }
   pub one_fits : check program1 proof1 6 21 ≡ record { verdict = inconsistent 1 1 5 6; table = table1; store = store1 }
   pub one_short : check program1 proof1 6 20
-      ≡ record { verdict = refused_proof 34 5; table = replicate 6 (pos 0); store = replicate 20 (pos 0) }
+      ≡ record { verdict = refused_proof StoreFull 5; table = replicate 6 (pos 0); store = replicate 20 (pos 0) }
   -- 2: "example 1 with `d 0` added: `open 1 1 6 5`"
   pub two : verdict program1 (proof1 ++ lines ("d 0" ∷ [])) ≡ undecided 1 1 6 5
   pub two_prints : printed program1 (proof1 ++ lines ("d 0" ∷ [])) ≡ lines ("open 1 1 6 5" ∷ [])
   -- 3: "27, step 2"
-  pub three : verdict program1 proof3 ≡ refused_proof 27 2
+  pub three : verdict program1 proof3 ≡ refused_proof KnownName 2
   pub three_prints : printed program1 proof3 ≡ lines ("refused proof 27 2" ∷ [])
   -- 4: "no rules, empty proof: `open 0 0 0 0`; the empty set passes. Proof `a 0`: 33, step 1."
   pub four : verdict (rules []) [] ≡ undecided 0 0 0 0
   pub four_empty : SetPasses (rules []) []
-  pub four_adds : verdict (rules []) (lines ("a 0" ∷ [])) ≡ refused_proof 33 1
+  pub four_adds : verdict (rules []) (lines ("a 0" ∷ [])) ≡ refused_proof NoConflict 1
   -- 5: "`inconsistent 2 3 4 5`. Without the `l` line: 33, step 3."
   pub five : verdict program5 (lines ("b 3 -1 0" ∷ "c 3 0" ∷ "l 1 2 0" ∷ "a 0" ∷ [])) ≡ inconsistent 2 3 4 5
-  pub five_without : verdict program5 (lines ("b 3 -1 0" ∷ "c 3 0" ∷ "a 0" ∷ [])) ≡ refused_proof 33 3
+  pub five_without : verdict program5 (lines ("b 3 -1 0" ∷ "c 3 0" ∷ "a 0" ∷ [])) ≡ refused_proof NoConflict 3
   -- 6: "the empty set passes, {1, 2} does not"
   pub six_empty : SetPasses program6 []
   pub six_one_two : SetFails program6 (1 ∷ 2 ∷ []) (Differs 1)
   -- 7: "both {} and {1} pass; proof `b 2 0`, `c 2 1 0`: 29, step 2"
   pub seven_empty : SetPasses program7 []
   pub seven_one : SetPasses program7 (1 ∷ [])
-  pub seven : verdict program7 (lines ("b 2 0" ∷ "c 2 1 0" ∷ [])) ≡ refused_proof 29 2
+  pub seven : verdict program7 (lines ("b 2 0" ∷ "c 2 1 0" ∷ [])) ≡ refused_proof NoCompletion 2
   -- 8: "{1} passes"
   pub eight_one : SetPasses program8 (1 ∷ [])
   -- "literal `-0`: 3"
@@ -141,7 +141,7 @@ pub record Starred : Type 0 where
   pub largest_atom : verdict (rules ("1 0 1 8191 0 0" ∷ [])) [] ≡ undecided 8191 1 0 0
   pub too_large : verdict (rules ("1 0 1 8192 0 0" ∷ [])) [] ≡ refused_program 4 2
   -- "an `s` that leaves out one body: 30"
-  pub left_out : verdict (rules ("1 0 1 1 0 1 2" ∷ "1 0 1 1 0 1 -2" ∷ [])) (lines ("b 3 2 0" ∷ "b 4 -2 0" ∷ "s 1 3 0" ∷ [])) ≡ refused_proof 30 3
+  pub left_out : verdict (rules ("1 0 1 1 0 1 2" ∷ "1 0 1 1 0 1 -2" ∷ [])) (lines ("b 3 2 0" ∷ "b 4 -2 0" ∷ "s 1 3 0" ∷ [])) ≡ refused_proof NoSupport 3
 
 -- The worked example of source document 000: its example 1's eight rules, and the 26 lines of its figure 1. It is no starred one.
 
@@ -171,7 +171,7 @@ weight_rules = rules ("1 1 3 1 2 3 0 0" ∷ "1 0 0 1 4 3 1 3 2 2 3 2" ∷ "1 0 0
 pub record WeightBodies : Type 0 where
   pub refuted : verdict weight_rules (lines ("b 4 1 2 0" ∷ "b 5 -1 0" ∷ "b 6 -2 0" ∷ "c 4 0" ∷ "c 5 0" ∷ "c 6 0" ∷ "a 0" ∷ [])) ≡ inconsistent 3 4 7 11
   -- the whole literal set reaches the bound and is not minimal
-  pub whole_set : verdict weight_rules (lines ("b 4 1 2 3 0" ∷ [])) ≡ refused_proof 28 1
+  pub whole_set : verdict weight_rules (lines ("b 4 1 2 3 0" ∷ [])) ≡ refused_proof NoUnnamedBody 1
   -- "a weight or bound out of its range is 54, more than 12 literals 55"
   pub weight_range : verdict (rules ("1 0 1 1 1 3 1 2 -1" ∷ [])) [] ≡ refused_program 54 2
   pub too_many : verdict (rules ("1 0 0 1 1 13 1 1 2 1 3 1 4 1 5 1 6 1 7 1 8 1 9 1 10 1 11 1 12 1 13 1" ∷ [])) [] ≡ refused_program 55 2
@@ -191,10 +191,10 @@ pub record BrokenSecond : Type 0 where
 pub record LoopsOnly : Type 0 where
   -- "A set that is no loop is refused with 56, asked right after question 31": with example 6's rules 1 alone is none.
   -- Question 32 would be answered no too, since its external body has no name.
-  pub six_no_loop : verdict program6 (lines ("l 1 0" ∷ [])) ≡ refused_proof 56 1
+  pub six_no_loop : verdict program6 (lines ("l 1 0" ∷ [])) ≡ refused_proof NoLoop 1
   -- "weight rules as expanded": with bound 2 on 1=2, 2=1 the minimal set is {1}; on 1=1, 2=2 it is {2}
   pub weight_loop : verdict (rules ("1 0 1 1 1 2 2 1 2 2 1" ∷ [])) (lines ("l 1 0" ∷ [])) ≡ undecided 2 1 1 1
-  pub weight_no_loop : verdict (rules ("1 0 1 1 1 2 2 1 1 2 2" ∷ [])) (lines ("l 1 0" ∷ [])) ≡ refused_proof 56 1
+  pub weight_no_loop : verdict (rules ("1 0 1 1 1 2 2 1 1 2 2" ∷ [])) (lines ("l 1 0" ∷ [])) ≡ refused_proof NoLoop 1
 
 -- Origins (Change 7), no starred ones: the store that each proof leaves, of the length given, with 0 after its words. The fact
 -- `1 0 1 1 0 0` is the one rule of all but the first two.
@@ -228,14 +228,14 @@ pub record OriginWords : Type 0 where
       (pos 2 ∷ pos 2 ∷ neg 1 ∷ pos 2
       ∷ pos 4 ∷ pos 2 ∷ neg 1 ∷ pos 2
       ∷ pos 5 ∷ pos 2 ∷ neg 1 ∷ pos 2 ∷ [])
-  pub again_short : leaves fact (lines ("b 2 0" ∷ "c 2 1 0" ∷ "d -2 0" ∷ "c 2 1 0" ∷ "c 2 1 0" ∷ [])) 11 (refused_proof 34 5) []
+  pub again_short : leaves fact (lines ("b 2 0" ∷ "c 2 1 0" ∷ "d -2 0" ∷ "c 2 1 0" ∷ "c 2 1 0" ∷ [])) 11 (refused_proof StoreFull 5) []
   -- all nogoods of one `e` carry its number
   pub together : leaves fact (lines ("b 2 0" ∷ "e 3 1 2 0" ∷ [])) 16 (undecided 1 1 2 4)
       (pos 1 ∷ pos 1 ∷ neg 2
       ∷ pos 2 ∷ pos 3 ∷ pos 1 ∷ pos 2 ∷ neg 3
       ∷ pos 2 ∷ pos 2 ∷ neg 1 ∷ pos 3
       ∷ pos 2 ∷ pos 2 ∷ neg 2 ∷ pos 3 ∷ [])
-  pub together_short : leaves fact (lines ("b 2 0" ∷ "e 3 1 2 0" ∷ [])) 15 (refused_proof 34 2) []
+  pub together_short : leaves fact (lines ("b 2 0" ∷ "e 3 1 2 0" ∷ [])) 15 (refused_proof StoreFull 2) []
 
 -- Marks and closing up (Change 8), no starred ones: the same rules, stores and lengths
 
@@ -281,13 +281,13 @@ pub record DeadWords : Type 0 where
   pub extends : leaves fact (lines then_extended) 16 (undecided 1 1 3 3) (neg 1 ∷ pos 1 ∷ neg 2 ∷ extended)
   pub extends_closed : leaves fact (lines then_extended) 15 (undecided 1 1 3 3) extended
   pub extends_exactly : leaves fact (lines then_extended) 13 (undecided 1 1 3 3) extended
-  pub extends_short : leaves fact (lines then_extended) 12 (refused_proof 34 3) []
+  pub extends_short : leaves fact (lines then_extended) 12 (refused_proof StoreFull 3) []
   -- closed up again and again
   pub closed_once : leaves fact (lines over_and_over) 8 (undecided 1 1 7 1) (neg 5 ∷ pos 2 ∷ neg 1 ∷ pos 2 ∷ completed 7)
   pub closed_twice : leaves fact (lines over_and_over) 7 (undecided 1 1 7 1) (completed 7)
-  pub never_fits : leaves fact (lines over_and_over) 6 (refused_proof 34 2) []
+  pub never_fits : leaves fact (lines over_and_over) 6 (refused_proof StoreFull 2) []
   -- the dead refute nothing
-  pub dead_refute_nothing : verdict program1 (proof1 ++ lines ("d 0" ∷ "d 1 0" ∷ "a 0" ∷ [])) ≡ refused_proof 33 8
+  pub dead_refute_nothing : verdict program1 (proof1 ++ lines ("d 0" ∷ "d 1 0" ∷ "a 0" ∷ [])) ≡ refused_proof NoConflict 8
 
 -- lines with numbers of several digits, of which the starred examples have none
 pub record LongLines : Type 0 where

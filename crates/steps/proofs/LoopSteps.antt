@@ -104,12 +104,12 @@ module _ {N : ℕ} {ws : List InputRule} {known names : List ℕ} {bodies : List
     atoms_are : top U ≤ N → all_atoms N z U ≡ true
     atoms_are = is_true (all-atoms N z U line.literals.low)
 
-  pub loop-atoms : (U : List ℤ) → PassedLine Loop U → all (λ x. marked known (variable x)) U ≡ true → N < top U → LoopLeaves U (Fails 31)
+  pub loop-atoms : (U : List ℤ) → PassedLine Loop U → all (λ x. marked known (variable x)) U ≡ true → N < top U → LoopLeaves U (Fails NoAtoms)
   loop-atoms [] line k a = absurd (true≢false (sym line.signs))
   loop-atoms (h ∷ hs) line k a = rw (cited z tracks Loop (h ∷ hs) line refl k, atoms-not (h ∷ hs) line a) refl
 
   pub loop-not : (U : List ℤ) → PassedLine Loop U → all (λ x. marked known (variable x)) U ≡ true → top U ≤ N
-      → is_loop (expand ws) U ≡ false → LoopLeaves U (Fails 56)
+      → is_loop (expand ws) U ≡ false → LoopLeaves U (Fails NoLoop)
   loop-not [] line k a l = absurd (true≢false (sym line.signs))
   loop-not (h ∷ hs) line k a l = rw (cited z tracks Loop (h ∷ hs) line refl k, atoms_are (h ∷ hs) line a, l) refl
 
@@ -127,7 +127,7 @@ module _ {N : ℕ} {ws : List InputRule} {known names : List ℕ} {bodies : List
 
     loop-named : (U : List ℤ) → PassedLine Loop U → all (λ x. marked known (variable x)) U ≡ true → top U ≤ N
         → is_loop (expand ws) U ≡ true → Marks inside (map variable U)
-        → listed asked 0 ≡ true → LoopLeaves U (Fails 32)
+        → listed asked 0 ≡ true → LoopLeaves U (Fails UnnamedBody)
     loop-named [] line k a l set n = absurd (true≢false (sym line.signs))
     loop-named (h ∷ hs) line k a l set n =
         rw (cited z tracks Loop (h ∷ hs) line refl k, atoms_are (h ∷ hs) line a, l, sym (named-is (h ∷ hs) line set) ∙ ap not n) refl

@@ -73,12 +73,12 @@ NoBodies ws bodies = all_plain ws ≡ false → bodies ≡ replicate body_words 
 -- question 34: a full store is refused
 abbrev pub fitted : Option ℕ → Stepped
 fitted (Some n) = Uses n
-fitted None = Fails 34
+fitted None = Fails StoreFull
 
 -- the store holds what is stored, or it does not fit: "Do the live words after the step fit the store? 34."
 abbrev pub Fitted : List Stored → List ℤ → List ℕ → Stepped → Type 0
 Fitted stored store index (Uses n) = Keeps store index n stored
-Fitted stored store index (Fails k) = (k ≡ 34) × (length store < words_for (live stored))
+Fitted stored store index (Fails k) = (k ≡ StoreFull) × (length store < words_for (live stored))
 
 -- store and index keep what is stored in the store's first `used` words, and what is live of it are the state's nogoods
 pub record HoldsState (store : List ℤ) (index : List ℕ) (used : ℕ) (z : State) (stored : List Stored) : Type 0 where
@@ -126,5 +126,5 @@ LoopNogood l h row None = listed l 0 ≡ true
 -- what an `l` step comes to that adds to what is stored: question 32, or this nogood
 abbrev pub LoopAdded : List ℕ → ℤ → (size n : ℕ) → List Stored → List ℤ → List ℕ → Stepped → Type 0
 LoopAdded l h size n stored store index r =
-    ((listed l 0 ≡ true) × (r ≡ Fails 32))
+    ((listed l 0 ≡ true) × (r ≡ Fails UnnamedBody))
     ⊎ ((listed l 0 ≡ false) × Fitted (kept_with size (added_in n (gathered (listed l) h largest 1 ∷ [])) stored) store index r)

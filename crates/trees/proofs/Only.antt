@@ -76,7 +76,7 @@ module _ (s o : ℕ) (ws : List InputRule) (v : ℕ) (F S : List ℕ) (halves : 
   ts = merged_steps ws v F S
 
   either : ((¬ (PastStore s ws ts)) × (is_accepted s ws (text_of ts) ≡ true))
-      ⊎ (PastStore s ws ts × ((n : ℕ) × (course (atoms ws) (expand ws) s (text_of ts) ≡ stopped 34 n)))
+      ⊎ (PastStore s ws ts × ((n : ℕ) × (course (atoms ws) (expand ws) s (text_of ts) ≡ stopped StoreFull n)))
   either = let short = writable-short o ts w in (merged-ends s ws v F S halves short.0 short.1).1.1
 
   pub keeps-to-store : is_accepted s ws (text_of ts) ≡ true → ¬ (PastStore s ws ts)

@@ -7,12 +7,13 @@ use Rattle.text.proofs.Lines.{numbered}
 use Rattle.drupe.proofs.Lines.{outside-before}
 use Rattle.drupe.proofs.Rows.{row_written, row_before, into-refused, into-same, into-asked}
 use Rattle.drupe.proofs.read_numbers.Goals as goal
+use Rattle.drupe.specs.declared.ProofFault.TheVariants.{OutOfRange}
 
 pub returns-then-outside : goal.returns-then-outside
 returns-then-outside c =
     let f = numbered c.read_line.ensures c.in-Some.is in
     let shut = sym f.shut ∙ c.if-not-closed.false in
-    into-refused 23 (rw (f.is, shut, outside-before f.list shut ∙ sym f.large ∙ c.if-outside.true))
+    into-refused OutOfRange (rw (f.is, shut, outside-before f.list shut ∙ sym f.large ∙ c.if-outside.true))
 
 -- the part of the row that is lent is the line's numbers before the closing 0
 pub ask-requires-clause-sizes : goal.ask-requires-clause-sizes

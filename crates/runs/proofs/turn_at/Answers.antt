@@ -1,7 +1,7 @@
 use mathlib.Core.Path.{◌≡◌, refl, sym}
 use mathlib.Core.Bool.{false}
 use mathlib.Core.List.{List}
-use mathlib.Core.Option.{none}
+use Rattle.std.specs.Prelude.{None}
 use Prim.Native.Nat.{◌≤◌}
 use native.Mathlib.Omega.{arith}
 use lib.IntN.{ℤ, pos}
@@ -42,7 +42,7 @@ module _ (c : In-Line) where
       let o = c.requires.store.1 in
       (o.0, omega (arith, u.0, u.1, o.1, c.requires.short))
 
-  good : (let zs = take c.in-Line.count numbers in (line_refusal c.in-Line.letter zs ≡ none) × (has (pos 0) zs ≡ false))
+  good : (let zs = take c.in-Line.count numbers in (line_refusal c.in-Line.letter zs ≡ None) × (has (pos 0) zs ≡ false))
   good = let u = passed-line c.args.proof.now c.args.at there in (u.2, u.3)
 
 pub slice_bounds-step-end : goal.slice_bounds-step-end

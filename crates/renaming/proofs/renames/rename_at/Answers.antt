@@ -1,7 +1,7 @@
 use mathlib.Core.Path.{◌≡◌, refl}
 use mathlib.Core.Bool.{false}
 use mathlib.Core.List.{List}
-use mathlib.Core.Option.{none}
+use Rattle.std.specs.Prelude.{None}
 use Prim.Native.Nat.{◌≤◌}
 use native.Mathlib.Omega.{arith}
 use lib.IntN.{ℤ, pos}
@@ -31,7 +31,7 @@ module _ (c : In-Line) where
       let r = c.requires.rows.0 in
       omega (arith, u.2, k, r)
 
-  good : (let zs = take c.in-Line.count numbers in (line_refusal c.in-Line.letter zs ≡ none) × (has (pos 0) zs ≡ false))
+  good : (let zs = take c.in-Line.count numbers in (line_refusal c.in-Line.letter zs ≡ None) × (has (pos 0) zs ≡ false))
   good = let u = passed-line c.args.second.now c.args.at there in (u.2, u.3)
 
 pub rename_line-from-requires : goal.rename_line-from-requires
