@@ -123,9 +123,9 @@ module _ {s : List ℕ} {at : ℕ} {before numbers sorted : List ℤ} {r : Resul
 -- For `read_line`, whose row was zeros
 
 module _ (s : List ℕ) (at : ℕ) {r : Result (Option ProofLine) ProofFault} where
-  pub numbers-read : {numbers sorted : List ℤ} {x : Letter} {count next : ℕ} → ReadInto s at (replicate most_numbers (pos 0)) numbers sorted r → r ≡ Ok (Some (record { letter = x; count = count; next = next }))
+  pub numbers-read : {numbers sorted : List ℤ} (l : ProofLine) → ReadInto s at (replicate most_numbers (pos 0)) numbers sorted r → r ≡ Ok (Some l)
       → numbers ≡ numbers_of (line_at s at)
-  numbers-read {numbers} {sorted} {x} {count} {next} i e = by (line_at s at) (passed s at) i.answer i.row
+  numbers-read {numbers} {sorted} x i e = by (line_at s at) (passed s at) i.answer i.row
     where
       by : (l : LineAt) → Passed at (length s) l → r ≡ line_answer l → Written l (replicate most_numbers (pos 0)) numbers → numbers ≡ numbers_of l
       by end p a w = absurd (zero_one cc)
