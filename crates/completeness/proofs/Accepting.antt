@@ -19,6 +19,7 @@ use Rattle.derivation.specs.States.{State, start}
 use Rattle.derivation.specs.Steps.{Outcome, refused, next, by_letter}
 use Rattle.completeness.specs.Claims.{free_step, free_steps, Sized}
 use Rattle.drupe.specs.declared.ProofFault.TheVariants.{Malformed, WrongSigns, RepeatedVariable}
+use Rattle.drupe.specs.declared.ProofFault.{ProofFault}
 
 -- Outcomes
 
@@ -26,7 +27,7 @@ abbrev is_next : Outcome → Bool
 is_next (refused k) = false
 is_next (next z) = true
 
-pub not-refused : {k : ℕ} {z : State} → refused k ≡ next z → ⊥
+pub not-refused : {k : ProofFault} {z : State} → refused k ≡ next z → ⊥
 not-refused e = true≢false (sym (ap is_next e))
 
 abbrev state_of : Outcome → State
@@ -34,11 +35,11 @@ state_of (refused k) = start
 state_of (next z) = z
 
 -- a question that asks for a yes, and one that asks for a no
-pub yes-passes : {b : Bool} {o : Outcome} {z : State} (k : ℕ) → b ≡ true → o ≡ next z → cond b o (refused k) ≡ next z
+pub yes-passes : {b : Bool} {o : Outcome} {z : State} (k : ProofFault) → b ≡ true → o ≡ next z → cond b o (refused k) ≡ next z
 yes-passes {b = true} k e p = p
 yes-passes {b = false} k e p = absurd (true≢false (sym e))
 
-pub no-passes : {b : Bool} {o : Outcome} {z : State} (k : ℕ) → b ≡ false → o ≡ next z → cond b (refused k) o ≡ next z
+pub no-passes : {b : Bool} {o : Outcome} {z : State} (k : ProofFault) → b ≡ false → o ≡ next z → cond b (refused k) o ≡ next z
 no-passes {b = true} k e p = absurd (true≢false e)
 no-passes {b = false} k e p = p
 

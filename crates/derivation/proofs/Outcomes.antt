@@ -60,11 +60,11 @@ module _ {ℓ} (Q : State → Type ℓ) where
   Then (next z) = Q z
 
   -- "The first "no" decides": where a question is passed, what it asks may be used
-  pub if_yes : {b : Bool} {A : Type 0} → Decides b A → (o : Outcome) (n : ℕ) → (A → Then o) → Then (cond b o (refused n))
+  pub if_yes : {b : Bool} {A : Type 0} → Decides b A → (o : Outcome) (n : ProofFault) → (A → Then o) → Then (cond b o (refused n))
   if_yes {b = true} d o n f = f (d.to tt)
   if_yes {b = false} d o n f = tt
 
-  pub if_no : {b : Bool} {A : Type 0} → Decides b A → (o : Outcome) (n : ℕ) → (¬ A → Then o) → Then (cond b (refused n) o)
+  pub if_no : {b : Bool} {A : Type 0} → Decides b A → (o : Outcome) (n : ProofFault) → (¬ A → Then o) → Then (cond b (refused n) o)
   if_no {b = true} d o n f = tt
   if_no {b = false} d o n f = f (λ x. d.from x)
 
