@@ -76,7 +76,7 @@ module _ {ℓ} (Q : State → Type ℓ) where
   if-line x zs o f = subst Then (sym (line-asks x zs o)) (if_no (itself (is_beyond zs)) _ OutOfRange (λ w. if-signed x zs o (f w)))
 
   pub if-citing : (N : ℕ) (z : State) (L : List ℤ) (o : Outcome) → (AllKnown N z L → Then o) → Then (citing N z L o)
-  if-citing N z L o f = if_yes (all_known-decides N z L) o 26 f
+  if-citing N z L o f = if_yes (all_known-decides N z L) o UnknownVariable f
 
   pub if-naming : (N : ℕ) (z : State) (n : ℤ) (L : List ℤ) (o : Outcome) → (AllKnown N z L → ¬ T (is_known N z (variable n)) → Then o)
       → Then (naming N z n L o)

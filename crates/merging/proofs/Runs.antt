@@ -22,7 +22,7 @@ use Rattle.derivation.specs.Steps.{Outcome, refused, next, is_completion, is_sup
 use Rattle.derivation.proofs.Questions.{known-decides, has_name-decides}
 use Rattle.merging.specs.Merge.{is_body, named_by, named_in, introduced_by, introduced_in}
 use Rattle.derivation.proofs.Outcomes.{Then, if_yes, if_no, if-line, if-citing, if-naming}
-use Rattle.drupe.specs.declared.ProofFault.TheVariants.{Malformed, NoCompletion, NoSupport, NoAtoms, UnnamedBody, NoConflict, NoLoop}
+use Rattle.drupe.specs.declared.ProofFault.TheVariants.{Malformed, NoCompletion, NoSupport, NoAtoms, UnnamedBody, NoConflict, NoLoop, NoUnnamedBody}
 
 -- what goes along with the steps, one after another
 abbrev pub along_all : {A : Type 0} → (A → Step → A) → A → List Step → A
@@ -133,7 +133,7 @@ module _ (N : ℕ) (P : List Rule) where
     letter-does Body [] nz s = tt
     letter-does Body (pos m ∷ L) nz s =
         if-naming (Does z (record { letter = Body; numbers = pos m ∷ L })) N z (pos m) L _ (λ _ u. if_yes (Does z (record { letter = Body; numbers = pos m ∷ L }))
-        (and-decides (itself (is_body P (ascending L))) (not-decides (itself (has_name z (ascending L))))) _ 28 (λ q. (refl, refl, names-body m L (low m L nz) u q.0 q.1)))
+        (and-decides (itself (is_body P (ascending L))) (not-decides (itself (has_name z (ascending L))))) _ NoUnnamedBody (λ q. (refl, refl, names-body m L (low m L nz) u q.0 q.1)))
     letter-does Body (negsuc m ∷ L) nz s = absurd s
     letter-does Completion [] nz s = tt
     letter-does Completion (n ∷ hs) nz s =

@@ -31,7 +31,6 @@ use Rattle.merging.specs.Merge as Merge
 use Rattle.merging.proofs.Propagates.{Covered, conflict-follows, renamed-complement, renamed-variable}
 use Rattle.merging.proofs.Lines.{cond_cases, line-passes, signed-renamed, renamed-nonzero, distinct-renamed, steps-append, fit_append}
 use Rattle.merging.proofs.Relation.{demanding-atoms, loop-same, Defines, Within, definition-defines, covered_same, Setting, Bodies, Follows, bodies-more, half-adds, both-add, both-define, half-defines}
-use Rattle.std.specs.Prelude.{Result}
 use Rattle.drupe.specs.declared.ProofFault.TheVariants.{Malformed, WrongSigns, UnknownVariable, KnownName, NoUnnamedBody, NoCompletion, NoSupport, NoAtoms, UnnamedBody, NoConflict, NoLoop}
 
 -- Booleans
@@ -517,7 +516,7 @@ module _ (N : ℕ) (P : List Rule) (small : plain_atoms P ≤ N) (x : ℤ) (f : 
         if-citing (Result Support (h ∷ ns)) N z (h ∷ ns) _ (λ a. if_yes (Result Support (h ∷ ns))
         (and-decides (itself (is_atom N (variable h)))
         (and-decides (all-decides (λ q. if-decides (has-decides h q.heads) (any-decides (λ n. itself (is_name z (variable n) q.body)) ns)) (demanding P x))
-        (all-decides (λ n. any-decides (λ q. and-decides (has-decides h q.heads) (itself (is_name z (variable n) q.body))) (demanding P x)) ns))) _ 30
+        (all-decides (λ n. any-decides (λ q. and-decides (has-decides h q.heads) (itself (is_name z (variable n) q.body))) (demanding P x)) ns))) _ NoSupport
         (λ q. (refl, support-goes h ns nz s t a q.0 q.1.0 q.1.1)))
 
     step-goes : (t : Step) → Introduces t.letter t.numbers → Then (Result t.letter t.numbers) (step N (demanding P x) z t)
