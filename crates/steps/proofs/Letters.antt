@@ -38,6 +38,7 @@ use Rattle.heads.specs.Heads.{is_just_names}
 use Rattle.steps.specs.Held.{PassedLine, name_of, Tracks}
 use Rattle.steps.proofs.Tracking.{all_known_lem, extended, named}
 use Rattle.steps.proofs.Names.{unnamed-test, completes, supports, supports-by-names}
+use Rattle.drupe.specs.declared.ProofFault.TheVariants.{UnknownVariable, KnownName}
 
 -- The first number of a line, and the others
 

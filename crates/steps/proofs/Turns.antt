@@ -25,6 +25,8 @@ use Rattle.derivation.specs.States.{State}
 use Rattle.derivation.specs.Steps.{Outcome, next, step, by_letter}
 use Rattle.derivation.specs.Steps as Steps
 use Rattle.steps.specs.Held.{PassedLine}
+use Rattle.drupe.specs.declared.ProofFault.TheVariants.{Malformed, OutOfRange, WrongSigns, RepeatedVariable}
+use Rattle.drupe.specs.declared.ProofFault.{ProofFault}
 
 -- A line that passed questions 22 to 25
 

@@ -16,7 +16,7 @@ ghost use Rattle.loops.specs.Relevance.{Relevant};
 ghost use Rattle.steps.specs.Held.{PassedLine, Program, Tracked, Above, LoopNogood, LoopAdded, gathered, Stepping};
 
 use crate::outcomes;
-use crate::outcomes::Stepped;
+use drupe::ProofFault;
 use names::queries;
 use names::queries::Query;
 use nogoods::store;
@@ -130,7 +130,7 @@ fn add_found(
     used: usize,
     index: &mut [u32],
     origin: usize,
-) -> Stepped
+) -> Result<usize, ProofFault>
     requires found { (l : List ℕ) × (h : ℤ) × LoopNogood l h row.now found }
     requires store { ((stored : List Stored) × Keeps store.old index.old used stored) × ((1 ≤ origin) × (origin ≤ widest)) }
     ensures { (l : List ℕ) (h : ℤ) → LoopNogood l h row.now found
@@ -138,7 +138,7 @@ fn add_found(
         → LoopAdded l h (length store.old) origin stored store.new index.new result }
 {
     match found {
-        None => Stepped::Fails(32),
+        None => Err(ProofFault::UnnamedBody),
         Some(n) => { outcomes::fitted(store::append(store, used, index, origin, &row[..n])) }
     }
 }
@@ -156,7 +156,7 @@ fn add_by_index(
     used: usize,
     index: &mut [u32],
     origin: usize,
-) -> Stepped
+) -> Result<usize, ProofFault>
     requires state { (ws : List InputRule) × (called : List ℤ → ℕ)
         × Above table.now rules names.now bodies.now (get_or numbers.now 0 (pos 0)) ws called }
     requires index { Indexed lookup.now table.now rules × (covered lookup.now ≡ true) }
@@ -187,7 +187,7 @@ fn add_by_rules(
     used: usize,
     index: &mut [u32],
     origin: usize,
-) -> Stepped
+) -> Result<usize, ProofFault>
     requires state { ((ws : List InputRule) × (called : List ℤ → ℕ) × Above table.now rules names.now bodies.now h ws called)
         × (rules ≤ length names.now) × (variable h ≤ largest) }
     requires store { ((stored : List Stored) × Keeps store.old index.old used stored) × ((1 ≤ origin) × (origin ≤ widest)) }
@@ -215,7 +215,7 @@ fn add_nogood(
     used: usize,
     index: &mut [u32],
     origin: usize,
-) -> Stepped
+) -> Result<usize, ProofFault>
     requires state { (ws : List InputRule) × (called : List ℤ → ℕ)
         × Above table.now rules names.now bodies.now (get_or numbers.now 0 (pos 0)) ws called }
     requires index { Indexed lookup.now table.now rules }
@@ -253,7 +253,7 @@ pub fn loops(
     index: &mut [u32],
     origin: usize,
     numbers: &[i32],
-) -> Stepped
+) -> Result<usize, ProofFault>
     requires state { Tracked table.now rules atoms known.now names.now bodies.now }
     requires index { Indexed lookup.now table.now rules }
     requires relevant { Relevant relevant.now (rules_at rules table.now) }
@@ -265,13 +265,13 @@ pub fn loops(
         known.now names.now bodies.now store.new index.new result }
 {
     if !marks::all_marked(numbers, known) {
-        return Stepped::Fails(26);
+        return Err(ProofFault::UnknownVariable);
     }
     if atoms < words::largest_variable(numbers) {
-        return Stepped::Fails(31);
+        return Err(ProofFault::NoAtoms);
     }
     if !loops::is_loop(table, rules, lookup, relevant, numbers) {
-        return Stepped::Fails(56);
+        return Err(ProofFault::NoLoop);
     }
     let inside = marks::marks_of(numbers);
     add_nogood(
