@@ -22,6 +22,7 @@ use Rattle.nogoods.specs.Store.{Stored, words_for}
 use Rattle.steps.specs.After.{stored_after}
 use Rattle.runs.specs.Course.{Course, stopped, then_stopped, fitting, run_steps, run_read, course_within}
 use Rattle.runs.specs.Claims.{Runs, ends, unread, unaccepted, full, good, StepByStep, SameCourseWithin}
+use Rattle.drupe.specs.declared.ProofFault.TheVariants.{StoreFull}
 
 -- what is stored once step t, the next after n, left the state z
 abbrev pub stored_next : (size n : ℕ) → List Stored → Step → State → List Stored

@@ -26,6 +26,8 @@ use Rattle.nogoods.specs.Store.{Stored, added_in, live, killed, kept_for, kept_w
 use Rattle.nogoods.proofs.Live.{live-append, live-added, live-kept, live-killed}
 use Rattle.steps.specs.After.{with_added, stored_after}
 use Rattle.steps.proofs.Kept.{new-only}
+use Rattle.drupe.specs.declared.ProofFault.TheVariants.{Malformed, UnknownVariable, KnownName, NoUnnamedBody, NoCompletion, NoSupport, NoAtoms, UnnamedBody, NoConflict, NoLoop}
+use Rattle.drupe.specs.declared.ProofFault.{ProofFault}
 
 module _ (N : ℕ) (P : List Rule) (n size : ℕ) (z : State) (b : List Stored) (same : live b ≡ z.live) where
   -- what is stored after a step is what is live after it
@@ -44,15 +46,15 @@ module _ (N : ℕ) (P : List Rule) (n size : ℕ) (z : State) (b : List Stored) 
   less L = live-killed L b ∙ ap (drop_first (λ g. same_list g L)) same
 
   -- questions that are asked before the step o: one, that of a step that introduces no name, and those of one that does
-  asks : (x : Letter) (zs : List ℤ) (t : Bool) (o : Outcome) (k : ℕ) → Same x zs o → Same x zs (cond t o (Steps.refused k))
+  asks : (x : Letter) (zs : List ℤ) (t : Bool) (o : Outcome) (k : ProofFault) → Same x zs o → Same x zs (cond t o (Steps.refused k))
   asks x zs t o k h = by-test (Same x zs) t {x = o} {y = Steps.refused k} (λ q. h) (λ q. tt)
 
   cites : (x : Letter) (zs : List ℤ) (o : Outcome) → Same x zs o → Same x zs (citing N z zs o)
-  cites x zs o h = asks x zs (all_known N z zs) o 26 h
+  cites x zs o h = asks x zs (all_known N z zs) o UnknownVariable h
 
   introduces : (x : Letter) (m : ℤ) (L : List ℤ) (o : Outcome) → Same x (m ∷ L) o → Same x (m ∷ L) (naming N z m L o)
   introduces x m L o h =
-      asks x (m ∷ L) (all_known N z L) (cond (is_known N z (variable m)) (Steps.refused KnownName) o) 26
+      asks x (m ∷ L) (all_known N z L) (cond (is_known N z (variable m)) (Steps.refused KnownName) o) UnknownVariable
       (by-test (Same x (m ∷ L)) (is_known N z (variable m)) {x = Steps.refused KnownName} {y = o} (λ q. tt) (λ q. h))
 
   -- the nogood of an `l` step
@@ -64,7 +66,7 @@ module _ (N : ℕ) (P : List Rule) (n size : ℕ) (z : State) (b : List Stored) 
       let U = h ∷ hs in
       let last = next (add z (unfounded U h ∷ [])) in
       let named = cond (all_named P z U) last (Steps.refused UnnamedBody) in
-      asks Loop U (all_atoms N z U) (cond (is_loop P U) named (Steps.refused NoLoop)) 31
+      asks Loop U (all_atoms N z U) (cond (is_loop P U) named (Steps.refused NoLoop)) NoAtoms
       (asks Loop U (is_loop P U) named NoLoop (asks Loop U (all_named P z U) last UnnamedBody (more (unfounded U h ∷ []))))
 
   letter-same : (x : Letter) (zs : List ℤ) → Same x zs (by_letter N P z x zs)
@@ -95,7 +97,7 @@ module _ (N : ℕ) (P : List Rule) (n size : ℕ) (z : State) (b : List Stored) 
       let r = line_refusal t.letter t.numbers in
       by-test (Same t.letter t.numbers) (has (pos 0) t.numbers) {x = Steps.refused Malformed} {y = after r} (λ q. tt) (λ q. by r)
     where
-      after : Option ℕ → Outcome
+      after : Option ProofFault → Outcome
       after o = elim o as (λ x. Outcome) [ Some k ↦ Steps.refused k | None ↦ by_letter N P z t.letter t.numbers ]
 
       by : (o : Option ProofFault) → Same t.letter t.numbers (after o)
