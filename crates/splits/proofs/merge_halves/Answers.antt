@@ -24,12 +24,12 @@ module _ (c : In-Ok) where
 pub merge_read-requires : goal.merge_read-requires
 merge_read-requires c = let d = (goal.at.merge_read-requires c).In-Ok in
     let f = found d in
-    let h = held _ _ _ _ (read d).answer (read d).table f (search rules) in record { program = ((f.P, h.0), h.1); short = rw h.0.holds.are (read-shorter _ _ f.P f.read); empty = ((zeros (pos 0) {n = length (start d).args.store.now} c.zero_all.ensures).0, (zeros 0 {n = length (start d).args.output.now} c.zero_all.ensures).0) }
+    let h = held _ _ _ _ (read d).answer (read d).table f (search rules) in record { program = ((f.P, h.0), h.1); short = rw h.0.holds.are (read-shorter _ _ f.P f.read); empty = ((zeros (pos 0) {n = length (start d).args.store.now} c.zero_all.ensures).0, (zeros 0 {n = length (start d).args.output.now} c.zero_all-2.ensures).0) }
 
 pub returns-in-Err : goal.returns-in-Err
 returns-in-Err c =
     let r = c.read_program-read.ensures in
-    unread-halves _ _ _ _ _ _ _ r.answer r.table _ c.in-Err.is c.zero_all.ensures c.zero_all.ensures
+    unread-halves _ _ _ _ _ _ _ r.answer r.table _ c.in-Err.is c.zero_all.ensures c.zero_all-2.ensures
 
 pub returns-in-Ok : goal.returns-in-Ok
 returns-in-Ok c =
@@ -37,7 +37,7 @@ returns-in-Ok c =
     let f = found d in
     let t : length d.read_program-read.new.table ≡ length (start d).args.table.now = search rules in
     let s : length c.zero_all.new.items ≡ length (start d).args.store.now = search rules in
-    let o : length c.zero_all.new.items ≡ length (start d).args.output.now = search rules in
+    let o : length c.zero_all-2.new.items ≡ length (start d).args.output.now = search rules in
     let h = held _ _ _ _ (read d).answer (read d).table f t in
     let a = (start d).args in
     c.merge_read.ensures f.P h.0 h.2 ∙ reading-same a.atom a.first.now a.second.now (program f.P) t s o
