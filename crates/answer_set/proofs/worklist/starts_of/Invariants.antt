@@ -1,9 +1,6 @@
-use Prim.Native.Nat.{◌≤◌}
+use Rattle.aspif.specs.Tables.{starts_at}
 use Rattle.answer_set.proofs.Giving.{StartsSoFar}
 use Rattle.answer_set.proofs.worklist.starts_of.Given as goal
 
-abbrev pub invariant-loop-left : goal.invariant-loop-left
-invariant-loop-left l = (l.left ≤ l.rules) × StartsSoFar l.table l.rules l.left l.i l.starts
-
-abbrev pub decreases-loop-left : goal.decreases-loop-left
-decreases-loop-left l = l.left
+abbrev pub invariant-loop-rule : goal.invariant-loop-rule
+invariant-loop-rule l = StartsSoFar l.table l.rules l.number l.start l.starts (starts_at l.rule-iterator.left l.rule-iterator.words.now)
