@@ -30,9 +30,6 @@ use Rattle.marks.specs.Marks.{Marking}
 pub rules_from_starts : (n : ℕ) (ws : List ℤ) → rules_at n ws ≡ map rule_at (starts_at n ws)
 rules_from_starts n ws = Cursors.rules_from_starts n ws
 
-pub starts_length : (n : ℕ) (ws : List ℤ) → length (starts_at n ws) ≡ n
-starts_length n ws = Cursors.starts-length n ws
-
 -- The loop of `sum_held`
 
 module _ (M S : ℕ → Bool) where

@@ -42,19 +42,14 @@ fn is_broken(rule: &Rule, inside: &[u8]) -> bool
 }
 
 // The lowest broken constraint, or yes.
-#[tactic(auto, using(crate::proofs::Marking::rules_from_starts, crate::proofs::Marking::starts_length))]
 fn first_broken(table: &[i32], rules: usize, inside: &[u8]) -> SetAnswer
     requires { sound_table table.now rules ≡ true }
     ensures { result ≡ said_of (broken_from (marked inside.now) 1 (rules_at rules table.now)) }
 {
-    let mut number = 1;
-    for rule in tables::rules_in(table, rules) {
-        if is_broken(&rule, inside) {
-            return SetAnswer::Broken(number);
-        }
-        number += 1;
+    match tables::rules_in(table, rules).position(|rule| is_broken(&rule, inside)) {
+        Some(i) => SetAnswer::Broken(i + 1),
+        None => SetAnswer::Yes,
     }
-    SetAnswer::Yes
 }
 
 // The answer for a set M and the marks of the least model, with atoms from 1 to the number given.
