@@ -4,7 +4,7 @@ use mathlib.Core.Path.{◌≡◌, refl, sym, ◌∙◌, ap, subst}
 use mathlib.Core.Bool.{Bool, true, false, true≢false}
 use mathlib.Core.List.Memᴰ
 use mathlib.Core.List.{List, [], ◌∷◌}
-use Prim.Native.Nat.{ℕ, ◌-◌, ◌+◌, ◌<◌, ◌≤◌}
+use Prim.Native.Nat.{ℕ, ◌-◌, ◌+◌, ◌<◌}
 use native.Mathlib.Omega.{arith}
 use borrow.Author.Tests.{ltb-true, ltb-false, eqb-true, eqb-false}
 use lib.Dec.{T, eqb, ltb}
@@ -29,7 +29,6 @@ use Rattle.answer_set.proofs.Answered.{sound-heads, head_of, no_bits}
 -- a loop over the table stands at word i, with so many rules left, which begin at `ahead`, and what it has noted are rules
 pub record StartsSoFar (t : List ℤ) (rules left i : ℕ) (starts : List ℕ) (ahead : List (List ℤ)) : Type 0 where
   pub ahead_is : ahead ≡ starts_at left (drop i t)
-  pub few : left ≤ rules
   pub cursor : Cursor t left i
   pub noted : RuleStarts t rules starts
   pub rest : (r : InputRule) → r ∈ rules_at left (drop i t) → r ∈ rules_at rules t
@@ -37,7 +36,7 @@ pub record StartsSoFar (t : List ℤ) (rules left i : ℕ) (starts : List ℕ) (
 -- a turn of the loop: the rule that is next begins at word i, where ws begins
 pub record NextStart (t : List ℤ) (rules left i : ℕ) (starts : List ℕ) (ws : List ℤ) (more : List (List ℤ)) : Type 0 where
   pub is_left : 0 < left
-  pub within : i + size_at ws ≤ length t
+  pub so_many : length more ≡ left - 1
   pub after : StartsSoFar t rules (left - 1) (i + size_at ws) (set starts left i) more
 
 module _ {t : List ℤ} {rules : ℕ} where
@@ -48,7 +47,7 @@ module _ {t : List ℤ} {rules : ℕ} where
   pub no-starts : (n : ℕ) → 0 < rules → sound_rules rules t ≡ true → StartsSoFar t rules rules 0 (replicate n 0) (starts_at rules t)
   no-starts n h e =
       let c : Cursor t rules 0 = record { within = omega arith; sound = e } in
-      record { ahead_is = refl; few = omega arith; cursor = c; noted = λ k. rw (padded {A = ℕ} 0 [] n k) (start-here h c (λ r i. i)); rest = λ r i. i }
+      record { ahead_is = refl; cursor = c; noted = λ k. rw (padded {A = ℕ} 0 [] n k) (start-here h c (λ r i. i)); rest = λ r i. i }
 
   noted-on : {left i : ℕ} {starts : List ℕ} {ahead : List (List ℤ)} → 0 < left → (k : ℕ) → StartsSoFar t rules left i starts ahead
       → StartsSoFar t rules (left - 1) (i + size_at (drop i t)) (set starts k i) (starts_at (left - 1) (drop (i + size_at (drop i t)) t))
@@ -56,7 +55,6 @@ module _ {t : List ℤ} {rules : ℕ} where
       let a = at-rule h s.cursor in
       record {
         ahead_is = refl;
-        few = omega (arith, s.few);
         cursor = a.next;
         noted = λ v. by v (eqb v k) refl (ltb k (length starts)) refl;
         rest = λ r j. s.rest r (rw a.rules (Memᴰ.tail j));
@@ -81,7 +79,7 @@ module _ {t : List ℤ} {rules : ℕ} where
     rest-is = let p = both in cc
 
     pub next-start : NextStart t rules left i starts ws more
-    next-start = rw (← here, ← rest-is, drop-drop (size_at (drop i t)) i t) (record { is_left = is-left; within = (at-rule is-left s.cursor).next.within; after = noted-on is-left left s })
+    next-start = rw (← here, ← rest-is, drop-drop (size_at (drop i t)) i t) (record { is_left = is-left; so_many = starts-length (left - 1) _; after = noted-on is-left left s })
 
 -- The least model, from marks that rules of the table have given
 

@@ -217,12 +217,10 @@ fn starts_of(table: &[i32], rules: usize) -> [usize; STRIDE]
     ensures { RuleStarts table.now rules result }
 {
     let mut starts = [0usize; STRIDE];
-    let mut number = rules;
     let mut start = 0;
-    for rule in tables::rules_in(table, rules) {
-        starts[number] = start;
+    for (before, rule) in tables::rules_in(table, rules).enumerate() {
+        starts[rules - before] = start;
         start += rule.size();
-        number -= 1;
     }
     starts
 }

@@ -1,28 +1,39 @@
+use mathlib.Core.Path.{◌≡◌}
+use mathlib.Core.Logic.{inl}
+use Prim.Native.Nat.{◌+◌, ◌-◌}
 use native.Mathlib.Omega.{arith}
-use Rattle.aspif.proofs.Cursors.{few-rules, sound-rules}
+use Rattle.std.specs.Iterator.Adapters.{enumerate_count}
+use Rattle.aspif.proofs.Cursors.{few-rules, sound-rules, starts-length}
 use Rattle.answer_set.proofs.Giving.{next-start, no-starts}
 use borrow.Author.Rules.{rules}
 use Rattle.answer_set.proofs.worklist.starts_of.Goals as goal
 
-pub rules_in-rule-items-requires : goal.rules_in-rule-items-requires
-rules_in-rule-items-requires c = sound-rules _ _ c.requires.rules_value
+pub rules_in-requires : goal.rules_in-requires
+rules_in-requires c = sound-rules _ _ c.requires.rules_value
 
-pub loop-rule-init : goal.loop-rule-init
-loop-rule-init c =
-    rw (c.into_iter-rule-iterator.ensures.into_iter_gives, c.rules_in-rule-items.ensures.start.0, c.rules_in-rule-items.ensures.start.1)
-    (no-starts 1025 c.requires.rules_nonzero (sound-rules _ _ c.requires.rules_value))
+pub loop-before-init : goal.loop-before-init
+loop-before-init c =
+    let r = c.rules_in.result in
+    let z : c.args.rules - 0 ≡ c.args.rules = omega arith in
+    rw (c.into_iter-before-iterator.ensures.into_iter_gives, c.enumerate-before-items.ensures.source, c.enumerate-before-items.ensures.count) (
+      (tt, tt, inl (omega (arith, starts-length r.left r.words.now, c.rules_in.ensures.start.1, few-rules _ _ c.requires.rules_value))),
+      tt,
+      rw (c.rules_in.ensures.start.0, c.rules_in.ensures.start.1, z) (no-starts 1025 c.requires.rules_nonzero (sound-rules _ _ c.requires.rules_value)),
+    )
 
-pub offset_bounds-starts-number : goal.offset_bounds-starts-number
-offset_bounds-starts-number c = let h = few-rules _ _ c.requires.rules_value in let k = c.loop-rule.invariant.few in search rules
+pub offset_bounds-starts-rules : goal.offset_bounds-starts-rules
+offset_bounds-starts-rules c = let h = few-rules _ _ c.requires.rules_value in search rules
 
-pub bounds-starts-number : goal.bounds-starts-number
-bounds-starts-number c = omega (arith, few-rules _ _ c.requires.rules_value, c.loop-rule.invariant.few)
+pub bounds-starts-rules : goal.bounds-starts-rules
+bounds-starts-rules c = omega (arith, few-rules _ _ c.requires.rules_value)
 
-pub overflow_add-start : goal.overflow_add-start
-overflow_add-start c = let n = next-start c.loop-rule.invariant c.in-Some.ensures.steps in record { fits = omega (arith, n.within, c.size-start.ensures.size.0) }
-
-pub overflow_sub-number : goal.overflow_sub-number
-overflow_sub-number c = (next-start c.loop-rule.invariant c.in-Some.ensures.steps).is_left
-
-pub loop-rule-preserved : goal.loop-rule-preserved
-loop-rule-preserved c = let n = next-start c.loop-rule.invariant c.in-Some.ensures.steps in rw c.size-start.ensures.size.0 n.after
+pub loop-before-preserved : goal.loop-before-preserved
+loop-before-preserved c =
+    let s = c.in-Some.ensures.steps in
+    let n = next-start c.loop-before.invariant.2 s.0 in
+    let k = enumerate_count c.loop-before.before-iterator in
+    let e : c.args.rules - (k + 1) ≡ c.args.rules - k - 1 = omega arith in (
+      (tt, tt, inl (omega (arith, s.2, n.is_left, n.so_many, few-rules _ _ c.requires.rules_value))),
+      tt,
+      rw (c.size-start.ensures.size.0, s.1, s.2, e) n.after,
+    )
