@@ -68,6 +68,23 @@ pub struct ProgramRefusal {
     pub line: usize,
 }
 
+// Why a service over a program text refuses: the text itself, or by a question of the service's own.
+#[derive(Clone, Copy)]
+pub enum Refusal<F> {
+    Program(ProgramRefusal),
+    Service(F),
+}
+
+impl<F> From<ProgramRefusal> for Refusal<F> {
+    ghost use Rattle.aspif.specs.declared.Refusal.TheVariants.{Program};
+
+    ghost from_gives = { λ refusal r. r ≡ Program refusal };
+
+    fn from(refusal: ProgramRefusal) -> Refusal<F> {
+        Refusal::Program(refusal)
+    }
+}
+
 // The largest atom that a program names, and how many rules it has.
 #[derive(Clone, Copy)]
 pub struct ProgramCounts {

@@ -312,12 +312,12 @@ fn weight_in(pairs: &[i32], literal: i32) -> i32
     requires { all_weights pairs.now ≡ true }
     ensures { result ≡ pos (weight_in (paired pairs.now) literal) }
 {
-    let mut i = 0;
-    while i + 1 < pairs.len() {
-        if words::is_same(pairs[i], literal) {
-            return pairs[i + 1];
+    let mut rest = pairs;
+    while let [next, weight, more @ ..] = rest {
+        if words::is_same(*next, literal) {
+            return *weight;
         }
-        i += 2;
+        rest = more;
     }
     0
 }

@@ -28,11 +28,7 @@ pub fn is_count(words: &[i32], i: usize) -> bool
     ensures { result ≡ is_count (get_or words.now i (pos 0)) }
 {
     let word = words::word_at(words, i);
-    if 0 <= word {
-        words::variable_of(word) <= words::MOST_LITERALS
-    } else {
-        false
-    }
+    0 <= word && words::variable_of(word) <= words::MOST_LITERALS
 }
 
 // Question 7: the head count suits the kind.
@@ -278,14 +274,14 @@ pub fn is_weight(word: i32) -> bool
 pub fn all_weights(pairs: &[i32]) -> bool
     ensures { result ≡ all_weights pairs.now }
 {
-    let mut i = 0;
-    while i + 1 < pairs.len() {
-        if !is_weight(pairs[i + 1]) {
+    let mut rest = pairs;
+    while let [_, weight, more @ ..] = rest {
+        if !is_weight(*weight) {
             return false;
         }
-        i += 2;
+        rest = more;
     }
-    i == pairs.len()
+    rest.is_empty()
 }
 
 // The words ascend by variable, from 1 to the largest.
@@ -308,17 +304,14 @@ fn pairs_ascend(pairs: &[i32]) -> bool
     ensures { result ≡ ascends 0 largest (map variable (literals (paired pairs.now))) }
 {
     let mut low = 0;
-    let mut i = 0;
-    while i + 1 < pairs.len() {
-        let v = words::variable_of(pairs[i]);
-        i += 2;
-        if v <= low {
-            return false;
-        }
-        if words::LARGEST < v {
+    let mut rest = pairs;
+    while let [literal, _, more @ ..] = rest {
+        let v = words::variable_of(*literal);
+        if v <= low || words::LARGEST < v {
             return false;
         }
         low = v;
+        rest = more;
     }
     true
 }
@@ -396,10 +389,10 @@ fn pairs_top(pairs: &[i32]) -> usize
     ensures { result ≡ top (literals (paired pairs.now)) }
 {
     let mut most = 0;
-    let mut i = 0;
-    while i + 1 < pairs.len() {
-        most = words::larger(most, words::variable_of(pairs[i]));
-        i += 2;
+    let mut rest = pairs;
+    while let [literal, _, more @ ..] = rest {
+        most = most.max(words::variable_of(*literal));
+        rest = more;
     }
     most
 }
@@ -421,7 +414,7 @@ pub fn rule_top(words: &[i32]) -> usize
     ensures { result ≡ rule_top (rule_at words.now) }
 {
     let heads = words::largest_variable(heads_of(words));
-    words::larger(heads, body_top(words))
+    heads.max(body_top(words))
 }
 
 // N: the largest atom named, 0 if none.

@@ -86,12 +86,7 @@ pub fn is_accepted(
 pub fn is_inconsistent(verdict: Verdict) -> bool
     ensures { result ≡ is_inconsistent verdict }
 {
-    match verdict {
-        Verdict::Inconsistent(_) => true,
-        Verdict::Open(_) => false,
-        Verdict::RefusedProgram(_) => false,
-        Verdict::RefusedProof(_) => false,
-    }
+    matches!(verdict, Verdict::Inconsistent(_))
 }
 
 // The number is an atom of a program with the atoms 1 to `atoms`.

@@ -71,7 +71,7 @@ pub fn write_line(verdict: Verdict, buffer: &mut [u8]) -> usize
         }
         Verdict::RefusedProof(refusal) => {
             let at = writing::put_bytes(buffer, 0, b"refused proof");
-            put_two(buffer, at, refusal.number as usize, refusal.step)
+            put_two(buffer, at, usize::from(refusal.number), refusal.step)
         }
     }
 }

@@ -274,6 +274,7 @@ fn rule_with(table: &[i32], rules: usize, index: &[u16], body: &[i32]) -> Option
 }
 
 // What the literals, ascending, are called as a body of the rules: 0 where that has no name, 8,192 where no rule has the body.
+// No Option: the contract of body_name is public and names both numbers.
 pub fn body_name(
     table: &[i32],
     rules: usize,

@@ -52,15 +52,15 @@ module _ (g : Weighted → ℕ) (pairs : List ℤ) where
       pub filled_in : x ∈ paired pairs
       filled_in = f.of x (rw (pair-on pairs i h) (Memᴰ.head refl))
 
-      pub filled_more : {v : ℕ} → v ≡ g x → Filled (set entries n v) (n + 1) (i + 2)
-      filled_more {v} e = record {
+      pub filled_more : {v next : ℕ} → v ≡ g x → next ≡ i + 2 → Filled (set entries n v) (n + 1) next
+      filled_more {v} e on = rw on (record {
         within = omega arith;
         room = omega (arith, f.room, ap length (pair-on pairs i h), length-set entries n v);
         are = rw (add-one n, take-suc-set entries n v filled-room, e)
             (append_assoc (take n entries) (g x ∷ []) (map g (paired (drop (i + 2) pairs)))
             ∙ ap (λ (l : List Weighted). take n entries ++ map g l) (sym (pair-on pairs i h)) ∙ f.are);
         of = λ y j. f.of y (rw (pair-on pairs i h) (Memᴰ.tail j));
-      }
+      })
 
 -- A rule with a weight body
 

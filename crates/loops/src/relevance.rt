@@ -1,5 +1,5 @@
 // Which literals of the rules' weight bodies stand in some plain body, by rule and pair.
-ghost use Rattle.std.specs.Prelude.{◌≡◌, true, cond, ◌*◌, ◌-◌, ◌≤◌, length};
+ghost use Rattle.std.specs.Prelude.{◌≡◌, true, ◌*◌, ◌≤◌, length};
 ghost use Rattle.words.specs.Lists.{◌∈◌};
 ghost use Rattle.words.specs.Literals.{variable, rising};
 ghost use Rattle.weights.specs.Weights.{sum, literals, paired, most_weighted, most_sum};
@@ -9,13 +9,6 @@ ghost use Rattle.aspif.specs.Tables.{rule_at, sound_at, rules_at, sound_rules};
 
 use aspif::tables;
 use weights::MOST_WEIGHTED;
-
-// The first number less the second, 0 where that is the larger.
-fn less(a: usize, b: usize) -> usize
-    ensures { result ≡ a - b }
-{
-    if b < a { a - b } else { 0 }
-}
 
 // Some of the pairs but that of the literal x add up to `low` or more and to less than `high`; `left` is what they all add up to.
 fn has_sum(pairs: &[i32], x: i32, low: usize, high: usize, left: usize) -> bool
@@ -33,7 +26,13 @@ fn has_sum(pairs: &[i32], x: i32, low: usize, high: usize, left: usize) -> bool
         return has_sum(rest, x, low, high, left);
     }
     let w = words::variable_of(pairs[1]);
-    if has_sum(rest, x, less(low, w), less(high, w), left - w) {
+    if has_sum(
+        rest,
+        x,
+        low.saturating_sub(w),
+        high.saturating_sub(w),
+        left - w,
+    ) {
         return true;
     }
     has_sum(rest, x, low, high, left - w)
@@ -48,14 +47,7 @@ fn is_relevant(pairs: &[i32], bound: usize, literal: i32, weight: i32) -> bool
 {
     let w = words::variable_of(weight);
     let left = weights::sum_of(pairs) - w;
-    has_sum(pairs, literal, less(bound, w), bound, left)
-}
-
-// An entry: 1 where it is so.
-fn one_if(so: bool) -> u8
-    ensures { result ≡ cond so 1 0 }
-{
-    if so { 1 } else { 0 }
+    has_sum(pairs, literal, bound.saturating_sub(w), bound, left)
 }
 
 // The entries of the pairs of a weight body.
@@ -64,12 +56,8 @@ fn fill_pairs(pairs: &[i32], bound: usize, entries: &mut [u8])
         × (length (paired pairs.now) ≤ length entries.old) }
     ensures { RelevantPairs entries.new (weights bound (paired pairs.now)) }
 {
-    let mut n = 0;
-    let mut i = 0;
-    while i + 1 < pairs.len() {
-        entries[n] = one_if(is_relevant(pairs, bound, pairs[i], pairs[i + 1]));
-        n += 1;
-        i += 2;
+    for n in 0..pairs.len() / 2 {
+        entries[n] = u8::from(is_relevant(pairs, bound, pairs[2 * n], pairs[2 * n + 1]));
     }
 }
 

@@ -28,12 +28,10 @@ fn is_body(words: &[i16], body: &[i32]) -> bool
     requires { length words.now ≡ length body.now }
     ensures { result ≡ same_list words.now body.now }
 {
-    for i in 0..words.len() {
-        if !words::is_same(words::word_of(words, i), body[i]) {
-            return false;
-        }
-    }
-    true
+    words
+        .iter()
+        .zip(body)
+        .all(|(w, b)| words::is_same(i32::from(*w), *b))
 }
 
 // The record of v holds the body.
@@ -113,6 +111,7 @@ fn found(bodies: &[i16], body: &[i32]) -> Option<usize>
 }
 
 // The body's name, 0 where it has none. A place that is free tells that at once; where the index tells no name, the records do.
+// No Option: 0 is the name of a body without one in `Called` and in every contract that speaks of names.
 pub fn name_of(bodies: &[i16], body: &[i32]) -> u16
     requires { length body.now ≤ most_weighted }
     ensures { (called : List ℤ → ℕ) → Called bodies.now called → result ≡ called body.now }

@@ -164,6 +164,7 @@ fn name_at(words: &[i32], body: &[i32], name: u16, bodies: &[i16]) -> u16
 }
 
 // What the literals, ascending, are called as a body of the rules: 0 where that has no name, 8,192 where no rule has the body.
+// No Option: the contract of body_name is public and names both numbers.
 pub fn body_name(table: &[i32], rules: usize, names: &[u16], bodies: &[i16], body: &[i32]) -> usize
     requires program { ((ws : List InputRule) × HoldsRules table.now rules ws) × (rules ≤ length names.now) }
     ensures { (ws : List InputRule) → HoldsRules table.now rules ws

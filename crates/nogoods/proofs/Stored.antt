@@ -7,7 +7,7 @@ use mathlib.Core.List.Memᴰ
 use mathlib.Core.List.{List, [], ◌∷◌, ◌++◌, append_assoc}
 use Prim.Native.Nat.{ℕ, ◌+◌, ◌-◌, ◌≤◌, ◌<◌}
 use native.Mathlib.Omega.{arith}
-use borrow.Author.Tests.{le-leb, lt-leb}
+use borrow.Author.Tests.{lt-leb}
 use lib.Dec.{leb, leb→le}
 use lib.IntN.{ℤ, pos, neg_ℤ}
 use lib.ListN.{length, take, drop, get_or, set, replicate, length-append, length-replicate}
@@ -52,9 +52,6 @@ written_next a b before s ys at n w v =
 -- What is kept for more words: all, where they fit; or what is live
 
 module _ {store : List ℤ} {used : ℕ} {stored : List Stored} (H : Holds store used stored) (size : ℕ) where
-  pub kept-all : size ≤ length store - used → kept_for (length store) size stored ≡ stored
-  kept-all h = rw (le-leb (length (words_of stored) + size) (length store) (omega (arith, H.extent, H.fits)))
-
   pub kept-live : length store - used < size → kept_for (length store) size stored ≡ closed stored
   kept-live h = rw (lt-leb (length (words_of stored) + size) (length store) (omega (arith, H.extent, H.fits)))
 

@@ -34,14 +34,12 @@ fn put_little(buffer: &mut [u8], at: usize, negative: bool, number: usize, k: us
     ensures { Put (map (flip_if negative) (little k number)) buffer.old buffer.new at result }
 {
     let mut left = number;
-    let mut i = 0;
-    while i < k {
+    for i in 0..k {
         let byte = (left % 256) as u8;
         writing::put(buffer, at + i, numbers::flip_if(negative, byte));
         left = left / 256;
-        i += 1;
     }
-    at + i
+    at + k
 }
 
 // The k bytes of a signed word.
@@ -62,11 +60,9 @@ fn put_all(buffer: &mut [u8], at: usize, row: &[i32], k: usize) -> usize
     ensures put { Put (bytes_of k row.now) buffer.old buffer.new at result }
     ensures value { result ≡ at + k * length row.now }
 {
-    let mut i = 0;
     let mut end = at;
-    while i < row.len() {
-        end = put_signed(buffer, end, row[i], k);
-        i += 1;
+    for word in row {
+        end = put_signed(buffer, end, *word, k);
     }
     end
 }

@@ -1,12 +1,13 @@
-// A search for a conflict with two watched literals, of which nothing is promised but bounds and an end: what it leaves is a path, the places of the
-// nogoods that it went by, and `replay` decides. What it keeps from step to step, and how, is said in crate `watches`.
+// A search for a conflict with two watched literals, of which nothing is promised but bounds and an end: what it leaves
+// is a path, the places of the nogoods that it went by, and `replay` decides. What it keeps from step to step, and how,
+// is said in crate `watches`.
 #![tactic(auto)]
 
 mod paths;
 mod root;
 mod trail;
 
-ghost use Rattle.std.specs.Prelude.{◌≤◌, ◌<◌, IfSome};
+ghost use Rattle.std.specs.Prelude.{◌≤◌, IfSome};
 ghost use Rattle.words.specs.Limits.{entries};
 ghost use Rattle.watches.specs.Small.{largest_cell};
 
@@ -15,12 +16,12 @@ use crate::root::{
     clear_hint, cut_root, front, is_led, note_dead, note_led, ready, root, settle, unhint, withdraw,
 };
 use crate::trail::{assume, propagate, undo};
-use std::ops::Range;
 use watches::cells;
 use watches::cells::{DEAD, KEPT, get, put, put_some};
 use watches::lists::{clear, own_of, watch, watch_again};
-use watches::literals::{code_at, code_of, count, end_of, is_true, opposite};
+use watches::literals::{code_at, count, end_of, opposite};
 use watches::rows::fit;
+use watches::turns::find_open;
 
 // Where the path stands, and where it begins; as many places it has at most.
 pub const PATH: usize = cells::PATH;
@@ -29,10 +30,12 @@ pub const FIRST: usize = cells::FIRST;
 
 pub const MOST: usize = cells::MOST;
 
-// Places from here on are not watched. Whoever lends the cells sees to it that there are two for each word of the store that is entered.
+// Places from here on are not watched. Whoever lends the cells sees to it that there are two for each word of the store
+// that is entered.
 const FAR: usize = 1073741824;
 
-// The literals are true, and what follows. The path to a nogood that is violated, or to a literal that is true and false; else all that was found.
+// The literals are true, and what follows. The path to a nogood that is violated, or to a literal that is true and
+// false; else all that was found.
 fn pursue(store: &[i32], literals: &[i32], cells: &mut [u32], mark: usize) -> usize
     requires { mark ≤ entries }
 {
@@ -64,7 +67,8 @@ fn find(
     }
 }
 
-// One search for a conflict that the literals lead to. It leaves a path; one that leads to a conflict without any assumption stays.
+// One search for a conflict that the literals lead to. It leaves a path; one that leads to a conflict without any
+// assumption stays.
 pub fn run(store: &[i32], literals: &[i32], cells: &mut [u32]) {
     ready(cells);
     fit(store, cells);
@@ -78,13 +82,6 @@ pub fn run(store: &[i32], literals: &[i32], cells: &mut [u32]) {
     undo(cells, mark);
 }
 
-// Among the places, the first of a literal that is not true.
-fn find_open(store: &[i32], cells: &[u32], mut places: Range<usize>) -> Option<usize>
-    ensures { IfSome result (λ j. j < places.end) }
-{
-    places.find(|j| !is_true(cells, code_of(words::word_at(store, *j))))
-}
-
 // Two literals of a new nogood that are not true are watched, as far as there are any.
 fn enter_new(store: &[i32], x: usize, cells: &mut [u32])
     requires { x ≤ largest_cell }
@@ -92,9 +89,9 @@ fn enter_new(store: &[i32], x: usize, cells: &mut [u32])
     ready(cells);
     let from = x + 2;
     let end = end_of(store, x);
-    let a = find_open(store, cells, from..end);
+    let a = find_open(store, cells, from..end, None);
     let one = a.unwrap_or(from);
-    let b = find_open(store, cells, one + 1..end);
+    let b = find_open(store, cells, one + 1..end, None);
     let two = b.unwrap_or(if one == from { from + 1 } else { from });
     let c = code_at(store, one, end);
     watch(cells, x, c, code_at(store, two, end));
@@ -116,7 +113,8 @@ pub fn enter(store: &[i32], x: usize, cells: &mut [u32]) {
     }
 }
 
-// Nothing of the root rests on the nogood at x, which is dead now. What it gave is the complement of a literal that it watches.
+// Nothing of the root rests on the nogood at x, which is dead now. What it gave is the complement of a literal that it
+// watches.
 pub fn forget(x: usize, cells: &mut [u32]) {
     if FAR <= x {
         return;
@@ -126,16 +124,16 @@ pub fn forget(x: usize, cells: &mut [u32]) {
     if count(cells) <= 1 {
         return;
     }
-    let first = own_of(cells, x, 0);
-    if withdraw(cells, x, opposite(first)) {
-        return;
+    for w in 0..2 {
+        let own = own_of(cells, x, w);
+        if withdraw(cells, x, opposite(own)) {
+            return;
+        }
     }
-    let second = own_of(cells, x, 1);
-    withdraw(cells, x, opposite(second));
 }
 
-// The store is closed up, and all nogoods are to be entered again: no literal is watched. What rests on nogoods before the first dead one stays, since
-// they do not move.
+// The store is closed up, and all nogoods are to be entered again: no literal is watched. What rests on nogoods before
+// the first dead one stays, since they do not move.
 pub fn reset(cells: &mut [u32]) {
     let kept = front(cells);
     put(cells, KEPT, kept);

@@ -59,8 +59,9 @@ fn met(cells: &mut [u32], block: usize)
     put(cells, BLOCKS + block, left.saturating_sub(1));
 }
 
-// One of the literals in their order: if the path needs it, the nogood that gave it goes to the front, and its literals are needed.
-// What gave the root stays, and so does what gave a literal in the order before i: no path is to be written over that.
+// One of the literals in their order: if the path needs it, the nogood that gave it goes to the front, and its literals
+// are needed. What gave the root stays, and so does what gave a literal in the order before i: no path is to be written
+// over that.
 fn follow(store: &[i32], cells: &mut [u32], i: usize, first: usize, mark: usize) -> usize
     requires { (i ≤ entries) × (first ≤ entries) }
     ensures { result ≤ entries }
@@ -71,7 +72,7 @@ fn follow(store: &[i32], cells: &mut [u32], i: usize, first: usize, mark: usize)
     }
     put(cells, REASON + i, reason - NEEDED);
     met(cells, i / BLOCK);
-    let Some(x) = get_some(cells, REASON + i) else {
+    let Some(x) = (reason - NEEDED).checked_sub(1) else {
         return first;
     };
     need_all(store, cells, x);
@@ -133,18 +134,13 @@ pub fn gather_all(cells: &mut [u32], start: usize, mark: usize) -> usize
     first
 }
 
-// So few literals of all are true without any assumption that it costs less to replay all than to tell which are needed; and all have room.
+// So few literals of all are true without any assumption that it costs less to replay all than to tell which are
+// needed; and all have room.
 fn is_small(cells: &[u32], mark: usize) -> bool
     requires { mark ≤ entries }
 {
     let n = count(cells);
-    if MOST <= n + mark {
-        return false;
-    }
-    if mark <= FEW {
-        return true;
-    }
-    4 * mark <= n
+    n + mark < MOST && (mark <= FEW || 4 * mark <= n)
 }
 
 // The path to the nogood at x, which is violated. Where it begins.

@@ -36,10 +36,7 @@ pub fn note_led(cells: &mut [u32], x: usize)
 
 // The path leads to the nogood that the root violates, and no literal was written over it.
 pub fn is_led(cells: &[u32]) -> bool {
-    if get(cells, HINT) < LED {
-        return false;
-    }
-    count(cells) <= get(cells, FIRST)
+    LED <= get(cells, HINT) && count(cells) <= get(cells, FIRST)
 }
 
 // The place of a nogood that is violated without any assumption, if there is one.
@@ -80,7 +77,8 @@ fn retract(cells: &mut [u32], to: usize) {
     undo(cells, to);
 }
 
-// A literal of a nogood at x that is dead now: if its complement was true by it, that and what came later is not any more. Whether that is so.
+// A literal of a nogood at x that is dead now: if its complement was true by it, that and what came later is not any
+// more. Whether that is so.
 pub fn withdraw(cells: &mut [u32], x: usize, c: usize) -> bool
     requires { (c ≤ largest_cell) × (x ≤ largest_cell) }
 {
@@ -101,8 +99,7 @@ pub fn unhint(cells: &mut [u32], x: usize)
     requires { x ≤ largest_cell }
 {
     if hint_of(cells) == Some(x) {
-        put(cells, HINT, 0);
-        put(cells, DONE, 0);
+        clear_hint(cells);
     }
 }
 

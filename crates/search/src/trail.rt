@@ -6,8 +6,8 @@ use watches::cells::{COUNT, DONE, ORDER, TRAIL, get, put, put_some};
 use watches::lists::visit;
 use watches::literals::{code_of, count, is_true, opposite, push};
 
-// To the end, or to a nogood that is violated, whose place this is. Watches wait with the first `mark` literals: 0 for the root itself,
-// whose lists are not gone through again.
+// To the end, or to a nogood that is violated, whose place this is. Watches wait with the first `mark` literals: 0 for
+// the root itself, whose lists are not gone through again.
 pub fn propagate(store: &[i32], cells: &mut [u32], mark: usize) -> Option<usize>
     ensures { IfSome result (λ x. x ≤ largest_cell) }
 {

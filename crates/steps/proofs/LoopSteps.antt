@@ -27,7 +27,7 @@ use Rattle.derivation.specs.Steps.{add, is_external, all_atoms, all_named, by_le
 use Rattle.names.specs.Queries.{asks, asked_names}
 use Rattle.names.specs.declared.queries.Query.TheVariants.{External}
 use Rattle.heads.specs.Heads.{Externals}
-use Rattle.heads.specs.declared.Found.TheVariants.{Names}
+use Rattle.std.specs.Prelude.{Some}
 use Rattle.loops.specs.Edges.{Members}
 use Rattle.nogoods.specs.Store.{Stored}
 use Rattle.steps.specs.After.{with_added, stored_after}
@@ -84,8 +84,8 @@ asked-above {called} h f m P v e k =
 -- the nogood of an `l` step from a row of names: the first n + 1 words of w are h and their complements
 pub row-nogood : {table : List ℤ} {rules : ℕ} {names : List ℕ} {bodies : List ℤ} {h : ℤ} {ws : List InputRule} {called : List ℤ → ℕ}
     → Above table rules names bodies h ws called → (m : List ℕ) (row w : List ℤ) (n : ℕ) → 1 ≤ variable h → variable h ≤ largest
-    → Externals (asked_names External m called (expand ws)) row (Names n) → n + 1 ≤ length w → take (n + 1) w ≡ h ∷ map complement (take n row)
-    → LoopNogood (asked_names External m called (expand ws)) h w (Names (n + 1))
+    → Externals (asked_names External m called (expand ws)) row (Some n) → n + 1 ≤ length w → take (n + 1) w ≡ h ∷ map complement (take n row)
+    → LoopNogood (asked_names External m called (expand ws)) h w (Some (n + 1))
 row-nogood {h = h} {ws} {called} A m row w n low high E room e =
     let l = asked_names External m called (expand ws) in
     let g = e ∙ row-gathered (listed l) h (take n row) low high E.1 E.2 E.3 (λ v i t k. asked-above h A.above m (expand ws) v t k) in

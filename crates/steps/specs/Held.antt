@@ -16,8 +16,6 @@ use Rattle.nogoods.specs.Index.{Keeps, BlankIndex}
 use Rattle.nogoods.specs.Store.{Stored, added_in, live, kept_with, words_for}
 use Rattle.names.specs.ByName.{body_words}
 use Rattle.names.specs.Queries.{HoldsRules, Kept}
-use Rattle.heads.specs.declared.Found.{Found}
-use Rattle.heads.specs.declared.Found.TheVariants.{Names, Unnamed}
 use Rattle.steps.specs.After.{stored_after}
 use Rattle.steps.specs.declared.states.CheckingState.{CheckingState}
 use Rattle.steps.specs.declared.outcomes.Stepped.{Stepped}
@@ -121,9 +119,9 @@ pub record Above (table : List ℤ) (rules : ℕ) (names : List ℕ) (bodies : L
   pub above : (L : List ℤ) → ¬ (called L ≡ 0) → variable h < called L
 
 -- the nogood of an `l` step, in the first n words of a row, where l are the names of the external bodies; or some body has none
-abbrev pub LoopNogood : List ℕ → ℤ → List ℤ → Found → Type 0
-LoopNogood l h row (Names n) = (n ≤ largest) × (take n row ≡ gathered (listed l) h largest 1) × (listed l 0 ≡ false) × (n ≤ length row)
-LoopNogood l h row Unnamed = listed l 0 ≡ true
+abbrev pub LoopNogood : List ℕ → ℤ → List ℤ → Option ℕ → Type 0
+LoopNogood l h row (Some n) = (n ≤ largest) × (take n row ≡ gathered (listed l) h largest 1) × (listed l 0 ≡ false) × (n ≤ length row)
+LoopNogood l h row None = listed l 0 ≡ true
 
 -- what an `l` step comes to that adds to what is stored: question 32, or this nogood
 abbrev pub LoopAdded : List ℕ → ℤ → (size n : ℕ) → List Stored → List ℤ → List ℕ → Stepped → Type 0

@@ -17,7 +17,6 @@ ghost use Rattle.steps.specs.Held.{PassedLine, Program, Tracked, Above, LoopNogo
 
 use crate::outcomes;
 use crate::outcomes::Stepped;
-use heads::Found;
 use names::queries;
 use names::queries::Query;
 use nogoods::store;
@@ -66,7 +65,7 @@ fn scan(
     h: i32,
     inside: &[u8],
     row: &mut [i32],
-) -> Found
+) -> Option<usize>
     requires program { ((ws : List InputRule) × HoldsRules table.now rules ws) × (rules ≤ length names.now) }
     requires row { (length row.old ≡ suc entries) × (variable h ≤ largest) }
     ensures { (ws : List InputRule) (called : List ℤ → ℕ) → Above table.now rules names.now bodies.now h ws called
@@ -83,9 +82,9 @@ fn scan(
         &mut found,
     );
     if marks::is_marked(&found, 0) {
-        return Found::Unnamed;
+        return None;
     }
-    Found::Names(gather(h, &found, row))
+    Some(gather(h, &found, row))
 }
 
 // The first atom and the complements of n names after it in the row.
@@ -108,7 +107,7 @@ fn look_up(
     numbers: &[i32],
     inside: &[u8],
     row: &mut [i32],
-) -> Found
+) -> Option<usize>
     requires state { (ws : List InputRule) × (called : List ℤ → ℕ)
         × Above table.now rules names.now bodies.now (get_or numbers.now 0 (pos 0)) ws called }
     requires index { Indexed lookup.now table.now rules × (covered lookup.now ≡ true) }
@@ -118,19 +117,14 @@ fn look_up(
         → Above table.now rules names.now bodies.now (get_or numbers.now 0 (pos 0)) ws called
         → LoopNogood (asked_names External inside.now called (expand ws)) (get_or numbers.now 0 (pos 0)) row.new result }
 {
-    let found = heads::external_names(table, rules, names, lookup, numbers, inside, &mut row[1..]);
-    match found {
-        Found::Names(n) => {
-            complete(numbers[0], row, n);
-            Found::Names(n + 1)
-        }
-        Found::Unnamed => Found::Unnamed,
-    }
+    let n = heads::external_names(table, rules, names, lookup, numbers, inside, &mut row[1..])?;
+    complete(numbers[0], row, n);
+    Some(n + 1)
 }
 
 // The nogood that was found is live, after the others; or some external body has no name.
 fn add_found(
-    found: Found,
+    found: Option<usize>,
     row: &[i32],
     store: &mut [i32],
     used: usize,
@@ -144,10 +138,8 @@ fn add_found(
         → LoopAdded l h (length store.old) origin stored store.new index.new result }
 {
     match found {
-        Found::Unnamed => Stepped::Fails(32),
-        Found::Names(n) => {
-            outcomes::fitted(store::append(store, used, index, origin, &row[..n]))
-        }
+        None => Stepped::Fails(32),
+        Some(n) => { outcomes::fitted(store::append(store, used, index, origin, &row[..n])) }
     }
 }
 

@@ -29,11 +29,9 @@ fn put_numbers(output: &mut [u8], at: usize, numbers: &[i32]) -> usize
     ensures written { Put (spaced numbers.now) output.old output.new at result }
     ensures within { result ≤ at + 22 * length numbers.now }
 {
-    let mut i = 0;
     let mut end = at;
-    while i < numbers.len() {
-        end = writing::put_number(output, end, numbers[i]);
-        i += 1;
+    for number in numbers {
+        end = writing::put_number(output, end, *number);
     }
     end
 }
@@ -209,10 +207,8 @@ pub fn emit_group(
         output.old output.new place result }
 {
     let mut here = place;
-    let mut i = 0;
-    while i < levels.len() {
-        here = emit_sum(output, here, atom + i, levels[i], pairs);
-        i += 1;
+    for (i, level) in levels.iter().enumerate() {
+        here = emit_sum(output, here, atom + i, *level, pairs);
     }
     here
 }

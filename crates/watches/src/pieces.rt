@@ -45,7 +45,7 @@ pub fn piece_at(cells: &[u32], piece: usize) -> usize
     get(cells, ROWS) + product(piece, 2 * width_of(cells) + 1)
 }
 
-// A piece, where a number is not 0.
+// A piece by its number, which is 0 where there is none.
 pub fn piece_of(number: usize) -> Option<usize>
     requires { number ≤ largest_cell }
     ensures { IfSome result (λ piece. piece ≤ largest_cell) }
@@ -66,11 +66,9 @@ fn take_new(cells: &mut [u32]) -> Option<usize>
     ensures { IfSome result (λ piece. piece ≤ largest_cell) }
 {
     let taken = get(cells, TAKEN);
-    if taken < MOST_PIECES {
-        if piece_at(cells, taken + 2) < cells.len() {
-            put(cells, TAKEN, taken + 1);
-            return Some(taken + 1);
-        }
+    if taken < MOST_PIECES && piece_at(cells, taken + 2) < cells.len() {
+        put(cells, TAKEN, taken + 1);
+        return Some(taken + 1);
     }
     put(cells, LACK, 1);
     None
@@ -94,10 +92,8 @@ fn lengthen(cells: &mut [u32], head: usize) -> Option<usize>
     ensures { IfSome result (λ head. head ≤ 600000000000) }
 {
     let n = head % FILLS;
-    if 0 < n {
-        if n < width_of(cells) {
-            return Some(head + 1);
-        }
+    if 0 < n && n < width_of(cells) {
+        return Some(head + 1);
     }
     let piece = take(cells)?;
     put(cells, piece_at(cells, piece) + 1, head / FILLS);

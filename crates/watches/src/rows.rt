@@ -194,6 +194,7 @@ fn refit(store: &[i32], cells: &mut [u32]) {
     clear_rows(cells);
     let end = get(cells, LAST);
     let mut x = 0;
+    // No `for`: each record says where the next one begins.
     while x < end {
         let next = end_of(store, x);
         add_live(store, cells, x);
@@ -203,13 +204,7 @@ fn refit(store: &[i32], cells: &mut [u32]) {
 
 // No piece is lacking, if pieces can be less wide.
 pub fn fit(store: &[i32], cells: &mut [u32]) {
-    if !has_rows(cells) {
-        return;
-    }
-    if get(cells, LACK) == 0 {
-        return;
-    }
-    if 1 < width_of(cells) {
+    if has_rows(cells) && get(cells, LACK) != 0 && 1 < width_of(cells) {
         refit(store, cells);
     }
 }

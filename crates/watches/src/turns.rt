@@ -25,13 +25,18 @@ pub enum Turn {
     Violated,
 }
 
-// Among the places, the first of a literal that is not true, other than one given.
-fn find_open(store: &[i32], cells: &[u32], mut places: Range<usize>, other: usize) -> Option<usize>
+// Among the places, the first of a literal that is not true, other than one that may be given.
+pub fn find_open(
+    store: &[i32],
+    cells: &[u32],
+    mut places: Range<usize>,
+    other: Option<usize>,
+) -> Option<usize>
     ensures { IfSome result (λ j. j < places.end) }
 {
     places.find(|j| {
         let c = code_of(words::word_at(store, *j));
-        c != other && !is_true(cells, c)
+        Some(c) != other && !is_true(cells, c)
     })
 }
 
@@ -46,11 +51,11 @@ fn find_open_around(
 ) -> Option<usize>
     ensures { IfSome result (λ j. j < end) }
 {
-    let later = find_open(store, cells, middle..end, other);
+    let later = find_open(store, cells, middle..end, Some(other));
     if later.is_some() {
         return later;
     }
-    find_open(store, cells, from..middle.min(end), other)
+    find_open(store, cells, from..middle.min(end), Some(other))
 }
 
 // Among the places, the first of a literal that is false, other than one given.

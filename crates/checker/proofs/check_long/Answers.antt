@@ -26,14 +26,14 @@ module _ (c : In-Ok) where
 
 pub check_within-verdict-requires : goal.check_within-verdict-requires
 check_within-verdict-requires c = let d = (goal.at.check_within-verdict-requires c).In-Ok in
-    let h = held _ _ _ _ (read d).answer (read d).table (found d) (search rules) in record { limit = omega arith; program = (((found d).P, h.0), omega (arith, h.1)); empty = (zeros (pos 0) {n = length d.args.store.now} d.zero_all.ensures).0; cells = subst (λ (l : List ℕ). BlankIndex l) (sym d.zero_all.ensures) (blank-index (length d.args.memory.now)) }
+    let h = held _ _ _ _ (read d).answer (read d).table (found d) (search rules) in record { limit = omega arith; program = (((found d).P, h.0), omega (arith, h.1)); empty = (zeros (pos 0) {n = length d.args.store.now} d.zero_all.ensures).0; cells = subst (λ (l : List ℕ). BlankIndex l) (sym d.zero_all-2.ensures) (blank-index (length d.args.memory.now)) }
 
 pub returns-in-Err : goal.returns-in-Err
 returns-in-Err c =
     let r = c.read_program-read.ensures in
     record {
       checked = program-refused _ _ _ _ r.answer r.table widest _ c.in-Err.is c.zero_all.ensures;
-      clear = c.zero_all.ensures;
+      clear = c.zero_all-2.ensures;
     }
 
 pub returns-in-Ok : goal.returns-in-Ok

@@ -5,14 +5,13 @@ use mathlib.Core.List.{List}
 use Prim.Native.Nat.{ℕ, suc, ◌-◌, ◌≤◌, ◌<◌}
 use native.Mathlib.Omega.{arith}
 use lib.IntN.{ℤ}
-use lib.ListN.{length, take, drop, get_or}
-use Rattle.std.specs.Prelude.{Option, Some, None}
+use lib.ListN.{length, take, drop}
 use Rattle.words.specs.Limits.{most_held}
 use Rattle.words.specs.Lists.{any}
 use Rattle.words.proofs.Parts.{tail_of}
 use Rattle.aspif.specs.Tables.{heads_at, sound_at, shape_sound}
 use Rattle.names.specs.Queries.{is_inside}
-use Rattle.heads.specs.Heads.{start_of, words_from, Headed, headed_to, headed_at, Place, HasHead, Collected, Gathers}
+use Rattle.heads.specs.Heads.{start_of, words_from, Headed, headed_to, headed_at, Place, HasHead}
 use Rattle.heads.proofs.Starts.{rule-here, head_of, all_seen}
 use Rattle.heads.proofs.Walks.{walk_from, walk-on, next-less}
 use Rattle.heads.proofs.Bodies.{covers-few}
@@ -96,18 +95,11 @@ gather_rule-requires c =
     let C = d.loop-p.invariant.0 in
     (subst (λ ws. shape_sound ws ≡ true) (sym (words-at w)) (here (o w)).2, C.is, omega (arith, collected-few d.requires.index.2 C, covers-few d.requires.index.0))
 
--- what the call tells of the rule
-gathers : (c : After-word_of-at) (row : List ℤ) (r : Option ℕ) → (let d = i (o c) in
-    ((t' : List ℤ) (rules : ℕ) (names : List ℕ) (k' : ℕ) → take (length (t d) - c.word_of-at.result) (drop c.word_of-at.result (t d)) ≡ words_from k' t'
-    → get_or d.args.names.now (k (o c)) 0 ≡ get_or names k' 0 → k' < rules
-    → any (is_inside d.args.inside.now) (heads_at (words_from k' t')) ≡ true
-    → Collected t' rules names d.args.inside.now d.loop-p.row d.loop-p.count
-    → Gathers t' rules names d.args.inside.now (λ j. j ≡ k') d.loop-p.row d.loop-p.count row r)
-    → Gathers (t d) d.args.rules d.args.names.now d.args.inside.now (λ j. j ≡ k (o c)) d.loop-p.row d.loop-p.count row r)
-gathers c row r told = let d = i (o c) in told (t d) d.args.rules d.args.names.now (k (o c)) (words-at c) refl (headed (o c)).0 (inside (o c)) d.loop-p.invariant.0
-
 pub returns-in_err-count : goal.returns-in_err-count
-returns-in_err-count c = rw c.from_residual.ensures (gathers (goal.at.returns-in_err-count c).After-word_of-at c.gather_rule.new.row None c.in_err-count.ensures)
+returns-in_err-count c =
+    let w = (goal.at.returns-in_err-count c).After-word_of-at in
+    let d = i (o w) in
+    rw c.from_residual.ensures (c.in_err-count.ensures (t d) d.args.rules d.args.names.now (k (o w)) (words-at w) refl (headed (o w)).0 (inside (o w)) d.loop-p.invariant.0)
 
 pub loop-p-smaller : goal.loop-p-smaller
 loop-p-smaller c =
@@ -120,9 +112,9 @@ loop-p-preserved c =
     let w = (goal.at.loop-p-preserved c).After-word_of-at in
     let r = c.in_ok-count.count in
     let row = c.gather_rule.new.row in
-    let G = gathers w row (Some r) c.in_ok-count.ensures in
     let e = i (o w) in
-    let a = e.args in (
+    let a = e.args in
+    let G = c.in_ok-count.ensures (t e) a.rules a.names.now (k (o w)) (words-at w) refl (headed (o w)).0 (inside (o w)) e.loop-p.invariant.0 in (
       G.collected,
       (λ y m. G.keeps y (e.loop-p.invariant.1 y m)),
       walk-on e.requires.index.0.entered.heads.chains e.loop-p.invariant.2 (is e) c.word_of-p-in-loop-p.ensures

@@ -5,6 +5,7 @@ use native.Mathlib.Omega.{arith}
 use lib.Dec.{ltb}
 use lib.IntN.{pos}
 use lib.ListN.{get_or}
+use Rattle.std.proofs.Common.{rules}
 use Rattle.words.proofs.Words.{back}
 use Rattle.aspif.proofs.Cursors.{shaped}
 use Rattle.long_sums.proofs.Held.{held-shape}
@@ -17,5 +18,5 @@ bounds-words-3 c = let s = c in omega (arith, (shaped s.args.words.now (held-sha
 pub returns : goal.returns
 returns c =
     let s = c in
-    let n = rw (back (get_or s.args.words.now 3 (pos 0)) c.variable_of-arg-1.given) at c.variable_of.ensures in
+    let n = rw (back (get_or s.args.words.now 3 (pos 0)) (search rules)) at c.variable_of.ensures in
     ap₂ (λ (w : Bool) (n : ℕ). w && ltb 12 n) c.is_weighted.ensures n ∙ long-told s.args.words.now s.requires

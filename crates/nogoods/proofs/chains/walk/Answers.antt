@@ -18,9 +18,6 @@ returns-then-m-eq0 c stored K y t =
     let z = (K.covers.chains.within y _ (K.covers.chains.member y _ (target-member K.scale (front K) _ y t))).1 in
     omega (arith, z, K.size, c.scale_of-m.ensures.value, c.if-m-eq0.true)
 
-pub key_of-requires : goal.key_of-requires
-key_of-requires c = omega (arith, c.if-m-eq0.false)
-
 pub bounds-index-key_of : goal.bounds-index-key_of
 bounds-index-key_of c =
     omega (arith, c.key_of.ensures.upper_bound, (roomy c.args.index.now c.scale_of-m.result c.scale_of-m.ensures.value (omega (arith, c.if-m-eq0.false))).0)

@@ -1,12 +1,10 @@
-use mathlib.Core.Path.{◌≡◌, refl}
+use mathlib.Core.Path.{refl}
 use Prim.Native.Nat.{◌*◌}
 use native.Mathlib.Omega.{arith}
 use lib.IntN.{pos}
-use lib.ListN.{length, get_or, length-drop}
-use lib.Seq.{take-length}
+use lib.ListN.{get_or, length-drop}
 use mir.Syntax.{w32}
 use mir.Val.{to_z, of_z}
-use mir.Facts.{to_z-of_z}
 use borrow.Author.Rules.{rules}
 use Rattle.words.proofs.Parts.{tail_of}
 use Rattle.words.proofs.Places.{in-at}
@@ -34,10 +32,3 @@ loop-i-preserved c =
     let x = get_or L l.i (pos 0) in
     pair-next c.args.origin (to_z w32 (of_z w32 c.args.name)) L c.args.free.now l.free c.write_pair.new.free (4 * l.i) l.i c.loop-i-test.true refl
     l.invariant (rw (back x (search rules)) at c.write_pair.ensures)
-
-pub returns : goal.returns
-returns c =
-    let l = c.loop-i in
-    let L = c.args.literals.now in
-    let e : l.i ≡ length L = omega (arith, c.loop-i-test.false, l.auto.i-end) in
-    rw (e, take-length L, to_z-of_z c.ranges.name) at l.invariant

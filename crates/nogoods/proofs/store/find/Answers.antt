@@ -57,9 +57,6 @@ returns-then-is_target c =
 pub end_at-i-requires : goal.end_at-i-requires
 end_at-i-requires c = room (i (goal.at.end_at-i-requires c).After-is_target)
 
-pub loop-i-smaller : goal.loop-i-smaller
-loop-i-smaller c = omega (arith, (i (goal.at.loop-i-smaller c).After-is_target).loop-i-test.true, c.end_at-i.ensures)
-
 pub loop-i-preserved : goal.loop-i-preserved
 loop-i-preserved c =
     let o = (goal.at.loop-i-preserved c).After-is_target in

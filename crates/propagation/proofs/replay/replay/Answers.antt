@@ -22,10 +22,6 @@ use Rattle.propagation.proofs.replay.replay.Goals.{Else-m-eq0, After-is_start, t
 abbrev path_at : ℕ → ℕ
 path_at m = proved_cells m + 40960
 
--- the cell that says where the path begins
-abbrev first_at : ℕ → ℕ
-first_at m = proved_cells m + 49283
-
 -- the cells of an index whose scale is not 0
 cells : (index : List ℕ) (m : ℕ) → m ≡ scale_of (length index) → (m ≡ 0 → ⊥) → cells_per_chain * m + fixed_cells ≤ length index
 cells index m e h = rw e (scale-room (length index) (omega (arith, h, e)))
