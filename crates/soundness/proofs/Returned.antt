@@ -24,6 +24,7 @@ use Rattle.marks.specs.Marks.{listed}
 use Rattle.answer_set.specs.SetTest.{SetVerdict, yes, differs, breaks, verdict_of, asked_of, asked, said_of, set_answer}
 use Rattle.answer_set.specs.declared.SetAnswer.{SetAnswer}
 use Rattle.answer_set.specs.declared.SetAnswer.TheVariants.{Yes}
+use Rattle.answer_set.specs.declared.SetFault.{SetFault}
 use Rattle.derivation.specs.Steps.{empty_live}
 use Rattle.runs.specs.Course.{Course, stopped, through}
 use Rattle.checker.specs.Check.{CheckedTexts, CheckedLong}
@@ -44,7 +45,7 @@ use Rattle.soundness.proofs.Numbers.{Numbered, within-numbered, read-numbered}
 use Rattle.soundness.proofs.Printed.{sound-printed, only-printed, sound-long, only-long, yes-printed}
 use Rattle.soundness.proofs.Split.{sound-split, sound-split-long, yes-split, only-split, found-split}
 use Rattle.soundness.proofs.Cheapest.{cheapest-printed, only-cheapest}
-use Rattle.std.specs.Prelude.{Ok}
+use Rattle.std.specs.Prelude.{Result, Ok}
 
 -- The whole check
 
@@ -98,10 +99,10 @@ is_read (refused k n) p e before w = absurd (omega (arith, p))
 is_read (program rs) p e before w = let f = front-two before w in rw (f.0, f.1) refl
 
 -- an answer of which 0 is returned is yes
-abbrev OnlyYes : SetAnswer → Type 0
-OnlyYes a = set_code a ≡ 0 → a ≡ Yes
+abbrev OnlyYes : Result SetAnswer SetFault → Type 0
+OnlyYes a = set_code a ≡ 0 → a ≡ Ok Yes
 
-said-only : (v : SetVerdict) → OnlyYes (said_of v)
+said-only : (v : SetVerdict) → OnlyYes (Ok (said_of v))
 said-only yes e = refl
 said-only (differs v) e = absurd (omega arith)
 said-only (breaks k) e = absurd (omega arith)

@@ -268,7 +268,7 @@ pub yes-split : YesSplit
 yes-split ws g table table' output output' b a r N s words words' A R p l marks marks' t =
     let w = wrote ws g table table' output output' b a r N s in
     let q = subst (λ (x : List ℕ). ProgramRead x words words' (Ok (record { atoms = A; rules = R }))) w.told.is p in
-    down_to w (λ v. v ∈ l) ((yes-printed (vs w) words words' A R q l marks marks' Yes t).0 refl).2
+    down_to w (λ v. v ∈ l) ((yes-printed (vs w) words words' A R q l marks marks' (Ok Yes) t).0 refl).2
 
 pub found-split : FoundSplit
 found-split ws g table table' output output' b a r N s words words' A R p l S =

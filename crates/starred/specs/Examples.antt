@@ -1,7 +1,7 @@
 -- The starred examples 1 to 8 of document 01 and its 'Others', jointly in one statement over the definitions;
 -- proofs/Examples.antt proves it. Each field quotes its example.
 -- Assumes nothing.
-use Rattle.std.specs.Prelude.{◌≡◌, List, [], ◌∷◌, ◌++◌, ℕ, ◌-◌, ℤ, pos, neg_ℤ, length, replicate}
+use Rattle.std.specs.Prelude.{◌≡◌, List, [], ◌∷◌, ◌++◌, ℕ, ◌-◌, ℤ, pos, neg_ℤ, length, replicate, Result, Ok}
 use Prim.Native.String.{String}
 use Rattle.words.specs.Limits.{entries}
 use Rattle.aspif.specs.Rules.{InputRule, expand, program_words}
@@ -11,6 +11,7 @@ use Rattle.answer_set.specs.SetTest.{asked, set_answer}
 use Rattle.answer_set.specs.Claims.{Listed, LowestRule}
 use Rattle.answer_set.specs.declared.SetAnswer.{SetAnswer}
 use Rattle.answer_set.specs.declared.SetAnswer.TheVariants.{Yes, Differs, Broken}
+use Rattle.answer_set.specs.declared.SetFault.{SetFault}
 use Rattle.checker.specs.Check.{check}
 use Rattle.checker.specs.Report.{verdict_line, lent, printed}
 use Rattle.text.specs.Strings.{lines}
@@ -95,10 +96,10 @@ store1 = store2 ++ (pos 5 ∷ pos 0 ∷ [])
 pub record SetPasses (text l : List ℕ) : Type 0 where
   pub P : List InputRule
   pub read : read_text lent text ≡ program P
-  pub answer : set_answer l (asked (program_words P) (length P) l entries) ≡ Yes
+  pub answer : set_answer l (asked (program_words P) (length P) l entries) ≡ Ok Yes
   pub answer_set : AnswerSet (Listed l) (expand P)
 
-pub record SetFails (text l : List ℕ) (r : SetAnswer) : Type 0 where
+pub record SetFails (text l : List ℕ) (r : Result SetAnswer SetFault) : Type 0 where
   pub P : List InputRule
   pub read : read_text lent text ≡ program P
   pub answer : set_answer l (asked (program_words P) (length P) l entries) ≡ r
@@ -127,7 +128,7 @@ pub record Starred : Type 0 where
   pub five_without : verdict program5 (lines ("b 3 -1 0" ∷ "c 3 0" ∷ "a 0" ∷ [])) ≡ refused_proof 33 3
   -- 6: "the empty set passes, {1, 2} does not"
   pub six_empty : SetPasses program6 []
-  pub six_one_two : SetFails program6 (1 ∷ 2 ∷ []) (Differs 1)
+  pub six_one_two : SetFails program6 (1 ∷ 2 ∷ []) (Ok (Differs 1))
   -- 7: "both {} and {1} pass; proof `b 2 0`, `c 2 1 0`: 29, step 2"
   pub seven_empty : SetPasses program7 []
   pub seven_one : SetPasses program7 (1 ∷ [])
@@ -183,7 +184,7 @@ abbrev pub broken_rules : List ℕ
 broken_rules = rules ("1 0 0 1 4 3 1 3 2 2 3 2" ∷ "1 0 0 0 2 1 -2" ∷ "1 1 3 1 2 3 0 0" ∷ "1 0 0 0 1 1" ∷ [])
 
 pub record BrokenSecond : Type 0 where
-  pub answered : SetFails broken_rules (1 ∷ []) (Broken 2)
+  pub answered : SetFails broken_rules (1 ∷ []) (Ok (Broken 2))
   -- what that number means: `LowestBroken` in crates/answer_set/specs/Claims.antt
   pub lowest : LowestRule (Listed (1 ∷ [])) answered.P 2
 
