@@ -1,10 +1,11 @@
 -- Laws on marks: literals and weights under them, what the rounds of `close` do to them, and the lowest number that passes a test.
+-- And the rules of a table by where each begins, for the loops over them.
 -- Assumes nothing.
 use mathlib.Core.Path.{◌≡◌, refl, sym, ◌∙◌, ap}
 use mathlib.Core.Bool.{Bool, true, false, cond}
 use mathlib.Core.Logic.{inl, inr}
 use mathlib.Core.Option.{none, some, some-injective, none-ne-some}
-use mathlib.Core.List.{List, ◌∷◌, ◌++◌}
+use mathlib.Core.List.{List, ◌∷◌, ◌++◌, map}
 use Prim.Native.Nat.{ℕ, zero, suc, ◌+◌, ◌-◌, ◌<◌, ◌≤◌}
 use native.Mathlib.Omega.{arith}
 use lib.IntN.{ℤ, pos}
@@ -18,9 +19,16 @@ use Rattle.weights.specs.Weights.{Weighted, sum, paired}
 use Rattle.weights.proofs.Sublists.{sum-le, kept}
 use Rattle.weights.proofs.Merging.{pair-front}
 use Rattle.aspif.specs.Rules.{InputRule}
+use Rattle.aspif.specs.Tables.{starts_at, rule_at, rules_at}
+use Rattle.aspif.proofs.Cursors as Cursors
 use Rattle.answer_set.specs.SetTest.{literal_holds, held_sum, round, rounds, lowest_from}
 use Rattle.answer_set.specs.Private.{searched}
 use Rattle.marks.specs.Marks.{Marking}
+
+-- The rules of a table, one after another
+
+pub rules_from_starts : (n : ℕ) (ws : List ℤ) → rules_at n ws ≡ map rule_at (starts_at n ws)
+rules_from_starts n ws = Cursors.rules_from_starts n ws
 
 -- The loop of `sum_held`
 

@@ -7,13 +7,13 @@
 ghost use Rattle.std.specs.Prelude.{◌≡◌, true, ◌<◌, ◌≤◌, length, replicate};
 ghost use Rattle.words.specs.Limits.{entries, most_rules};
 ghost use Rattle.aspif.specs.Rules.{atoms};
-ghost use Rattle.aspif.specs.Tables.{sound_at, rules_at, sound_table};
+ghost use Rattle.aspif.specs.Tables.{rules_at, sound_table};
 ghost use Rattle.marks.specs.Marks.{marked};
 ghost use Rattle.answer_set.specs.SetTest.{least};
 ghost use Rattle.answer_set.specs.Private.{RuleStarts, Given};
 
 use crate::models;
-use aspif::tables;
+use aspif::tables::{self, Rule};
 
 // With fewer rules the rounds alone are as quick.
 const FEW: usize = 16;
@@ -65,19 +65,19 @@ fn wait(word: i32, entry: usize, marks: &[u8], cells: &mut [u16; CELLS])
 // rule's cell hold.
 fn plain_holds(
     body: &[i32],
-    rule: usize,
+    number: usize,
     inside: &[u8],
     marks: &[u8],
     cells: &mut [u16; CELLS],
 ) -> bool
-    requires { rule ≤ most_rules }
+    requires { number ≤ most_rules }
 {
-    let from = get(cells, SEEN + rule);
+    let from = get(cells, SEEN + number);
     let open = (from..body.len()).find(|i| !models::literal_holds(body[*i], inside, marks));
     match open {
         Some(i) => {
-            put(cells, SEEN + rule, i);
-            wait(body[i], rule, marks, cells);
+            put(cells, SEEN + number, i);
+            wait(body[i], number, marks, cells);
             false
         }
         None => true,
@@ -85,60 +85,58 @@ fn plain_holds(
 }
 
 // A rule with a weight body waits for each of its literals, once.
-fn wait_once(pairs: &[i32], rule: usize, marks: &[u8], cells: &mut [u16; CELLS])
-    requires { rule ≤ most_rules }
+fn wait_once(pairs: &[i32], number: usize, marks: &[u8], cells: &mut [u16; CELLS])
+    requires { number ≤ most_rules }
 {
-    if get(cells, SEEN + rule) != 0 {
+    if get(cells, SEEN + number) != 0 {
         return;
     }
-    put(cells, SEEN + rule, 1);
+    put(cells, SEEN + number, 1);
     for k in 0..weights::MOST_WEIGHTED {
         wait(
             words::word_at(pairs, 2 * k),
-            rule + STRIDE * k,
+            number + STRIDE * k,
             marks,
             cells,
         );
     }
 }
 
-// Whether the weight body of the rule at the front holds for the first time; if not, its rule waits.
+// Whether the weight body of the rule holds for the first time; if not, the rule waits.
 fn weights_hold(
-    words: &[i32],
-    rule: usize,
+    rule: &Rule,
+    number: usize,
     inside: &[u8],
     marks: &[u8],
     cells: &mut [u16; CELLS],
 ) -> bool
-    requires words_value { sound_at words.now ≡ true }
-    requires rule_le_most_rules { rule ≤ most_rules }
+    requires { number ≤ most_rules }
 {
-    wait_once(tables::body_of(words), rule, marks, cells);
-    if get(cells, SEEN + rule) == 2 {
+    wait_once(rule.body(), number, marks, cells);
+    if get(cells, SEEN + number) == 2 {
         return false;
     }
-    if models::body_holds(words, inside, marks) {
-        put(cells, SEEN + rule, 2);
+    if models::body_holds(rule, inside, marks) {
+        put(cells, SEEN + number, 2);
         return true;
     }
     false
 }
 
-// Whether the rule at the front is to be given; if not, it waits.
+// Whether the rule is to be given; if not, it waits.
 fn is_ready(
-    words: &[i32],
-    rule: usize,
+    rule: &Rule,
+    number: usize,
     inside: &[u8],
     marks: &[u8],
     cells: &mut [u16; CELLS],
 ) -> bool
-    requires words_value { sound_at words.now ≡ true }
-    requires rule_le_most_rules { rule ≤ most_rules }
+    requires { number ≤ most_rules }
 {
-    if tables::is_weighted(words) {
-        return weights_hold(words, rule, inside, marks, cells);
+    if rule.is_weighted() {
+        return weights_hold(rule, number, inside, marks, cells);
     }
-    plain_holds(tables::body_of(words), rule, inside, marks, cells)
+    plain_holds(rule.body(), number, inside, marks, cells)
 }
 
 // The last entry of the list that begins with one.
@@ -201,12 +199,13 @@ fn look(
     ensures given { Given (marked inside.now) (rules_at rules table.now) marks.old marks.new }
 {
     let work = get(cells, NEXT + entry);
-    let rule = entry % STRIDE;
-    let start = starts[rule];
-    let rest = &table[start..];
-    if is_ready(rest, rule, inside, marks, cells) {
-        models::give_rule(rest, inside, marks);
-        return wake_all(tables::heads_of(rest), work, marks, cells);
+    let number = entry % STRIDE;
+    let rule = Rule {
+        words: &table[starts[number]..],
+    };
+    if is_ready(&rule, number, inside, marks, cells) {
+        models::give_rule(&rule, inside, marks);
+        return wake_all(rule.heads(), work, marks, cells);
     }
     work
 }
@@ -218,12 +217,10 @@ fn starts_of(table: &[i32], rules: usize) -> [usize; STRIDE]
     ensures { RuleStarts table.now rules result }
 {
     let mut starts = [0usize; STRIDE];
-    let mut i = 0;
-    let mut left = rules;
-    while 0 < left {
-        starts[left] = i;
-        i = tables::next_rule(table, i);
-        left -= 1;
+    let mut start = 0;
+    for (before, rule) in tables::rules_in(table, rules).enumerate() {
+        starts[rules - before] = start;
+        start += rule.size();
     }
     starts
 }

@@ -29,7 +29,7 @@ use Rattle.costs.specs.Costs.{Cost, costs_of, good_costs, total, restricted}
 use Rattle.cheapest.specs.Service.{is_yes, restricted_course, leaves_nothing, judged_proof, with_cost, with_costs, cheapest_reading, cheapest}
 use Rattle.cheapest.specs.Private.{said_yes, ProofChecked}
 use Rattle.cheapest.specs.declared.CheapestAnswer.TheVariants.{Cheapest, RefusedProgram, Refused}
-use Rattle.std.specs.Prelude.{Result, Err}
+use Rattle.std.specs.Prelude.{Result, Ok, Err}
 
 -- what is left of nothing, by the lengths that the caller knows
 pub left-nothing : (t s : ℕ) {k : ℕ} {table store : List ℤ} → table ≡ replicate t (pos 0) → store ≡ replicate s (pos 0)
@@ -52,7 +52,7 @@ pub set_tested : (table : List ℤ) (rules : ℕ) (l : List ℕ) (ws : List Inpu
 unfolding asked
 set_tested table rules l ws n m e a = rw (m, e, a) (said (verdict_of (listed l) ws))
   where
-    said : (v : SetVerdict) → said_yes (said_of v) ≡ is_yes v
+    said : (v : SetVerdict) → said_yes (Ok (said_of v)) ≡ is_yes v
     said yes = refl
     said (differs v) = refl
     said (breaks k) = refl

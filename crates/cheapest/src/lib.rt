@@ -22,7 +22,7 @@ ghost use Rattle.cheapest.specs.Service.{is_yes, restricted_course, leaves_nothi
 ghost use Rattle.cheapest.specs.Private.{said_yes};
 ghost use Rattle.cheapest.specs.declared.CheapestAnswer.TheVariants.{Refused};
 
-use answer_set::{SetAnswer, models};
+use answer_set::{SetAnswer, SetFault, models};
 use aspif::{ProgramCounts, ProgramRefusal};
 use weights::{MOST_WEIGHT, MOST_WEIGHTED};
 use words::ENTRIES;
@@ -48,15 +48,10 @@ fn refuse(table: &mut [i32], store: &mut [i32], number: u8) -> CheapestAnswer
     CheapestAnswer::Refused(number)
 }
 
-fn said_yes(answer: SetAnswer) -> bool
+fn said_yes(answer: Result<SetAnswer, SetFault>) -> bool
     ensures { result ≡ said_yes answer }
 {
-    match answer {
-        SetAnswer::Yes => true,
-        SetAnswer::Differs(_) => false,
-        SetAnswer::Broken(_) => false,
-        SetAnswer::Refused(_) => false,
-    }
+    answer == Ok(SetAnswer::Yes)
 }
 
 // The set is an answer set of the program in the table, of a set that question 42 lets pass.

@@ -8,6 +8,8 @@ use Rattle.aspif.specs.declared.ProgramRefusal.{ProgramRefusal}
 use Rattle.aspif.specs.Numbers.{number_of}
 use Rattle.answer_set.specs.declared.SetAnswer.{SetAnswer}
 use Rattle.answer_set.specs.declared.SetAnswer.TheVariants as Set
+use Rattle.answer_set.specs.declared.SetFault.{SetFault}
+use Rattle.answer_set.specs.Numbers as SetNumbers
 use Rattle.drupe.specs.declared.LineAnswer.{LineAnswer}
 use Rattle.drupe.specs.declared.LineAnswer.TheVariants as Line
 use Rattle.packets.specs.declared.PacketWriting.{PacketWriting}
@@ -44,17 +46,17 @@ program_numbers (Err r) = r.line ∷ 0 ∷ []
 
 -- The set test: "yes; or no with" the lowest "atom ..; or .. the lowest rule number"; numbers 41 to 43
 
-abbrev pub set_code : SetAnswer → ℕ
-set_code Set.Yes = 0
-set_code (Set.Differs v) = 1
-set_code (Set.Broken k) = 2
-set_code (Set.Refused n) = n
+abbrev pub set_code : Result SetAnswer SetFault → ℕ
+set_code (Ok Set.Yes) = 0
+set_code (Ok (Set.Differs v)) = 1
+set_code (Ok (Set.Broken k)) = 2
+set_code (Err f) = SetNumbers.number_of f
 
-abbrev pub set_numbers : SetAnswer → List ℕ
-set_numbers Set.Yes = []
-set_numbers (Set.Differs v) = v ∷ []
-set_numbers (Set.Broken k) = k ∷ []
-set_numbers (Set.Refused n) = []
+abbrev pub set_numbers : Result SetAnswer SetFault → List ℕ
+set_numbers (Ok Set.Yes) = []
+set_numbers (Ok (Set.Differs v)) = v ∷ []
+set_numbers (Ok (Set.Broken k)) = k ∷ []
+set_numbers (Err f) = []
 
 -- The proof-line reader: 0 for "end", the letter's byte for a line; numbers 21 to 25
 

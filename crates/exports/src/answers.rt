@@ -4,7 +4,7 @@ ghost use Rattle.std.specs.Prelude.{◌≡◌, [], ◌∷◌, set};
 ghost use Rattle.std.proofs.lemmas.List.Edits.{sets};
 ghost use Rattle.exports.specs.Codes.{Told, program_code, program_numbers, set_code, set_numbers, line_code, line_numbers, writing_code, writing_numbers, reading_code, reading_numbers, verdict_code, verdict_numbers, count_numbers, merge_code, merge_numbers, trim_code, trim_numbers, cheapest_code, cheapest_numbers, split_code, split_numbers};
 
-use answer_set::SetAnswer;
+use answer_set::{SetAnswer, SetFault};
 use aspif::{ProgramCounts, ProgramRefusal};
 use cheapest::CheapestAnswer;
 use checker::{Counts, Verdict};
@@ -95,20 +95,20 @@ pub fn tell_program(
 }
 
 // The set test's answer.
-pub fn tell_set(tested: SetAnswer, answer: &mut [u64]) -> u32
+pub fn tell_set(tested: Result<SetAnswer, SetFault>, answer: &mut [u64]) -> u32
     ensures { Told (set_code tested) (set_numbers tested) answer.old answer.new result }
 {
     match tested {
-        SetAnswer::Yes => YES,
-        SetAnswer::Differs(atom) => {
+        Ok(SetAnswer::Yes) => YES,
+        Ok(SetAnswer::Differs(atom)) => {
             put(answer, 0, atom as usize);
             DIFFERS
         }
-        SetAnswer::Broken(rule) => {
+        Ok(SetAnswer::Broken(rule)) => {
             put(answer, 0, rule);
             BROKEN
         }
-        SetAnswer::Refused(number) => number as u32,
+        Err(fault) => u32::from(u8::from(fault)),
     }
 }
 

@@ -61,7 +61,8 @@ fn advance(edges: &[u8], back: bool, n: usize, a: usize, found: &mut [u8], done:
     spread(edges, back, n, a, found);
 }
 
-// The places below n that place 0 reaches; where asked for, those that reach it. Place 0 is not found itself unless it is reached.
+// The places below n that place 0 reaches; where asked for, those that reach it. Place 0 itself is found only where a
+// way leads back to it.
 fn explore(edges: &[u8], back: bool, n: usize, found: &mut [u8], done: &mut [u8])
     requires { (n ≤ most_numbers) × (found.old ≡ replicate most_numbers 0) × (done.old ≡ replicate most_numbers 0) }
     ensures { Searched (steps edges.now back) n found.new }

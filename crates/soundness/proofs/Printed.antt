@@ -163,7 +163,7 @@ yes-printed ws table table' N R p l marks marks' r t = (there, back)
     Passes : Type 0
     Passes = (ascends 0 N l ≡ true) × (length marks ≡ entries) × IsAnswerSet Listed ws
 
-    there : r ≡ Yes → Passes
+    there : r ≡ Ok Yes → Passes
     there y =
         let s = (service-yes table' R l marks marks' r t).0 y in
         let same : s.0 ≡ h.rs = some-injective s.0 h.rs (sym ((table-read table' R s.0).1 s.1) ∙ h.held) in (
@@ -172,7 +172,7 @@ yes-printed ws table table' N R p l marks marks' r t = (there, back)
           as_written h.order Listed (subst (λ (v : List InputRule). AnswerSet Listed (expand v)) same s.4),
         )
 
-    back : Passes → r ≡ Yes
+    back : Passes → r ≡ Ok Yes
     back m =
         (service-yes table' R l marks marks' r t).1 (
           h.rs,

@@ -24,6 +24,7 @@ use Rattle.marks.specs.Marks.{listed}
 use Rattle.answer_set.specs.SetTest.{SetVerdict, yes, differs, breaks, verdict_of, asked_of, asked, said_of, set_answer}
 use Rattle.answer_set.specs.declared.SetAnswer.{SetAnswer}
 use Rattle.answer_set.specs.declared.SetAnswer.TheVariants.{Yes}
+use Rattle.answer_set.specs.declared.SetFault.{SetFault}
 use Rattle.derivation.specs.Steps.{empty_live}
 use Rattle.runs.specs.Course.{Course, stopped, through}
 use Rattle.checker.specs.Check.{CheckedTexts, CheckedLong}
@@ -40,11 +41,11 @@ use Rattle.long_sums.specs.declared.SplitAnswer.TheVariants as Sums
 use Rattle.exports.specs.Services.{ProgramService, CheapestService, SplitService}
 use Rattle.exports.specs.Codes.{Told, program_code, program_numbers, set_code, verdict_code, verdict_numbers, cheapest_code, cheapest_numbers, split_code, split_numbers}
 use Rattle.soundness.specs.Page.{IsCheapest, SoundReturned, OnlyReturned, SoundLongReturned, OnlyLongReturned, YesReturned, SoundSplitReturned, SoundSplitLongReturned, YesSplitReturned, FoundSplitReturned, OnlySplitReturned, CheapestReturned, OnlyCheapestReturned}
-use Rattle.soundness.proofs.Numbers.{Numbered, within-numbered, read-numbered}
+use Rattle.soundness.proofs.Numbers.{Numbered, numbered}
 use Rattle.soundness.proofs.Printed.{sound-printed, only-printed, sound-long, only-long, yes-printed}
 use Rattle.soundness.proofs.Split.{sound-split, sound-split-long, yes-split, only-split, found-split}
 use Rattle.soundness.proofs.Cheapest.{cheapest-printed, only-cheapest}
-use Rattle.std.specs.Prelude.{Ok}
+use Rattle.std.specs.Prelude.{Result, Ok}
 
 -- The whole check
 
@@ -98,10 +99,10 @@ is_read (refused k n) p e before w = absurd (omega (arith, p))
 is_read (program rs) p e before w = let f = front-two before w in rw (f.0, f.1) refl
 
 -- an answer of which 0 is returned is yes
-abbrev OnlyYes : SetAnswer → Type 0
-OnlyYes a = set_code a ≡ 0 → a ≡ Yes
+abbrev OnlyYes : Result SetAnswer SetFault → Type 0
+OnlyYes a = set_code a ≡ 0 → a ≡ Ok Yes
 
-said-only : (v : SetVerdict) → OnlyYes (said_of v)
+said-only : (v : SetVerdict) → OnlyYes (Ok (said_of v))
 said-only yes e = refl
 said-only (differs v) e = absurd (omega arith)
 said-only (breaks k) e = absurd (omega arith)
@@ -124,7 +125,7 @@ read-so {text} {table} {table'} {before} {N = N} {R = R} s =
     let x = read_text (length table) text in
     let q : program_answer x ≡ s.reading = sym s.read.answer in
     let taken : program_answer x ≡ Ok (record { atoms = N; rules = R }) =
-    is_read x (read-numbered (length table) text) (s.told.returned ∙ ap program_code (sym q)) before (s.told.written ∙ ap (λ r. sets before 0 (program_numbers r)) (sym q)) in
+    is_read x (numbered (read_text (length table) text)) (s.told.returned ∙ ap program_code (sym q)) before (s.told.written ∙ ap (λ r. sets before 0 (program_numbers r)) (sym q)) in
     subst (ProgramRead text table table') (sym q ∙ taken) s.read
 
 pub yes-returned : YesReturned
@@ -150,7 +151,7 @@ module _ (t o g : ℕ) where
 
   split-only : (text : List ℕ) → WrittenOnly (split_text t o text g)
   unfolding split_text
-  split-only text = reading-split (read_text_within most_literals t text) (within-numbered most_literals t text)
+  split-only text = reading-split (read_text_within most_literals t text) (numbered (read_text_within most_literals t text))
 
 front-four : {a b c d x y z w : ℕ} (before : List ℕ) {more : List ℕ} → x ∷ y ∷ z ∷ w ∷ more ≡ sets before 0 (a ∷ b ∷ c ∷ d ∷ []) → Sums.Split a b c d ≡ Sums.Split x y z w
 front-four [] e = absurd (zero_one (cc))
@@ -228,7 +229,7 @@ module _ (t s : ℕ) where
 
   cheap-only : (text set : List ℕ) (costs : List ℤ) (proof : List ℕ) → OnlyCheap (cheapest t s text set costs proof)
   unfolding cheapest
-  cheap-only text set costs proof = reading-only set costs proof (read_text t text) (read-numbered t text)
+  cheap-only text set costs proof = reading-only set costs proof (read_text t text) (numbered (read_text t text))
 
 -- where 0 is returned, the answer was a cost, and its number stands at the front of the buffer
 module _ {text l : List ℕ} {costs : List ℤ} {proof : List ℕ} {table store table' store' : List ℤ} {answer answer' : List ℕ}

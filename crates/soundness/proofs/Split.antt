@@ -255,7 +255,7 @@ read-split ws g table table' output output' b a r N s words words' c h p =
     let w = wrote ws g table table' output output' b a r N s in
     let q = subst (λ (x : List ℕ). ProgramRead x words words' c) w.told.is p in
     let n : length (take b output') ≤ length words = omega (arith, h, w.told.bytes, ap length w.told.is) in
-    q.answer ∙ ap program_answer (reads w (length words) n) ∙ ap₂ Read (sym w.told.atoms_are) (sym w.told.rules)
+    q.answer ∙ ap program_answer (reads w (length words) n) ∙ ap₂ (λ (x y : ℕ). Ok (record { atoms = x; rules = y })) (sym w.told.atoms_are) (sym w.told.rules)
 
 pub sound-split : SoundSplit
 sound-split ws g table table' output output' b a r N s = sound-wrote (wrote ws g table table' output output' b a r N s) longest
@@ -268,7 +268,7 @@ pub yes-split : YesSplit
 yes-split ws g table table' output output' b a r N s words words' A R p l marks marks' t =
     let w = wrote ws g table table' output output' b a r N s in
     let q = subst (λ (x : List ℕ). ProgramRead x words words' (Ok (record { atoms = A; rules = R }))) w.told.is p in
-    down_to w (λ v. v ∈ l) ((yes-printed (vs w) words words' A R q l marks marks' Yes t).0 refl).2
+    down_to w (λ v. v ∈ l) ((yes-printed (vs w) words words' A R q l marks marks' (Ok Yes) t).0 refl).2
 
 pub found-split : FoundSplit
 found-split ws g table table' output output' b a r N s words words' A R p l S =

@@ -20,6 +20,7 @@ use Rattle.derivation.specs.Claims.{WrittenConstraint}
 use Rattle.answer_set.specs.SetTest.{SetTested}
 use Rattle.answer_set.specs.declared.SetAnswer.{SetAnswer}
 use Rattle.answer_set.specs.declared.SetAnswer.TheVariants.{Yes}
+use Rattle.answer_set.specs.declared.SetFault.{SetFault}
 use Rattle.checker.specs.Check.{CheckedTexts, CheckedLong}
 use Rattle.checker.specs.Report.{printed}
 use Rattle.checker.specs.declared.Counts.{Counts}
@@ -154,8 +155,8 @@ abbrev pub YesPrinted : Type 0
 YesPrinted =
     (ws : List InputRule) (table table' : List ℤ) (N R : ℕ)
     → ProgramRead (program_text ws) table table' (Ok (record { atoms = N; rules = R }))
-    → (l marks marks' : List ℕ) (r : SetAnswer) → SetTested table' R l marks marks' r
-    → (r ≡ Yes)
+    → (l marks marks' : List ℕ) (r : Result SetAnswer SetFault) → SetTested table' R l marks marks' r
+    → (r ≡ Ok Yes)
     ↔ ((ascends 0 N l ≡ true) × (length marks ≡ entries) × IsAnswerSet (λ v. v ∈ l) ws)
 
 -- The same of the services for C and Rust: where `aspdrupe_read_program` returned 0 and its buffer
@@ -200,7 +201,7 @@ YesSplit =
     (bytes atoms rules N : ℕ)
     → SplitSums (program_text ws) group table table' output output' (Split bytes atoms rules N)
     → (words words' : List ℤ) (A R : ℕ) → ProgramRead (take bytes output') words words' (Ok (record { atoms = A; rules = R }))
-    → (l marks marks' : List ℕ) → SetTested words' R l marks marks' Yes
+    → (l marks marks' : List ℕ) → SetTested words' R l marks marks' (Ok Yes)
     → IsAnswerSet (λ v. (v ≤ N) × (v ∈ l)) ws
 
 -- And every answer set is found so: the set test says yes of some set with the same atoms up to N
@@ -212,8 +213,8 @@ FoundSplit =
     → (words words' : List ℤ) (A R : ℕ) → ProgramRead (take bytes output') words words' (Ok (record { atoms = A; rules = R }))
     → (l : List ℕ) → IsAnswerSet (λ v. v ∈ l) ws
     → (k : List ℕ) × ((v : ℕ) → v ∈ l ↔ ((v ≤ N) × (v ∈ k)))
-    × ((marks marks' : List ℕ) (r : SetAnswer) → length marks ≡ entries
-    → SetTested words' R k marks marks' r → r ≡ Yes)
+    × ((marks marks' : List ℕ) (r : Result SetAnswer SetFault) → length marks ≡ entries
+    → SetTested words' R k marks marks' r → r ≡ Ok Yes)
 
 -- The same of any sets, listed or not: what was written is the text of a program, of which each answer
 -- set of the program as written has an extension that is one, with the same atoms up to N

@@ -1,6 +1,6 @@
 -- What the private functions that join the lines of the halves to one text leave. No reader of a public contract needs it.
 -- Assumes nothing.
-use Rattle.std.specs.Prelude.{◌≡◌, ◌⊎◌, true, false, cond, List, [], ◌++◌, ℕ, ◌-◌, ltb, ℤ, length, replicate}
+use Rattle.std.specs.Prelude.{◌≡◌, ◌⊎◌, true, false, cond, List, [], ◌++◌, ℕ, ◌-◌, Option, Some, None, ltb, ℤ, length, replicate}
 use Rattle.text.specs.declared.Letter.TheVariants.{Addition}
 use Rattle.aspif.specs.Rules.{Rule, InputRule}
 use Rattle.drupe.specs.Texts.{Step, text_of}
@@ -8,8 +8,6 @@ use Rattle.derivation.specs.States.{is_atom}
 use Rattle.steps.specs.Held.{Program}
 use Rattle.merging.specs.Merge.{is_body, half, one}
 use Rattle.renaming.specs.Standing.{is_constraint, HalfOf}
-use Rattle.renaming.specs.declared.lines.Wrote.{Wrote}
-use Rattle.renaming.specs.declared.lines.Wrote.TheVariants.{At, Over}
 use Rattle.splits.specs.Service.{are_halves, merged_steps, is_writable}
 use Rattle.splits.specs.Halves.{HalvesLeft}
 use Rattle.splits.specs.declared.texts.Added.{Added}
@@ -33,9 +31,9 @@ module _ (size : ℕ) (ws : List InputRule) (v : ℕ) (first second : List ℕ) 
       ⊎ ((k ≡ 58) × (are_halves size ws v first second ≡ true) × (is_writable (length output) (merged_steps ws v first second) ≡ false))
 
 -- the answer by what was written into an output of so many bytes
-abbrev pub written_in : (size : ℕ) → Wrote → Written
-written_in size (At end) = cond (ltb size end) (Refused 58) (Text end)
-written_in size Over = Refused 58
+abbrev pub written_in : (size : ℕ) → Option ℕ → Written
+written_in size (Some end) = cond (ltb size end) (Refused 58) (Text end)
+written_in size None = Refused 58
 
 -- a half's text, with what is told of its constraint: of some program, some bodies that the other half names, and some steps
 pub record HalfText (text : List ℕ) (x : ℤ) (shared : List ℕ) (a : Added) : Type 0 where

@@ -15,7 +15,6 @@ ghost use Rattle.splits.specs.Joined.{AddedTo, WrittenBy, written_in, HalfText, 
 use crate::halves;
 use heads::{INDEX_WORDS, NAME_WORDS};
 use names::{by_name, queries};
-use renaming::lines::Wrote;
 use renaming::{lines, renames};
 use text::Letter;
 use words::ENTRIES;
@@ -57,7 +56,8 @@ fn added_of(
     }
 }
 
-// The second half's lines and `a 0`, from a position on.
+// The second half's lines and `a 0`, from a position on: the position after them; none where a line or the text is over
+// its limit. So too below.
 fn write_second(
     second: &[u8],
     x: i32,
@@ -66,7 +66,7 @@ fn write_second(
     added: Added,
     output: &mut [u8],
     at: usize,
-) -> Wrote
+) -> Option<usize>
     requires at { at ≤ longest }
     requires literal { (1 ≤ variable x) × (variable x ≤ largest) }
     requires new { (u : ℕ) → get_or new.now u 0 ≤ largest }
@@ -74,7 +74,7 @@ fn write_second(
     ensures { (h : HalfText second.now x shared.now added)
         → Writes (lines_of h (λ u. get_or new.now u 0) ++ closing) output.old output.new at result }
 {
-    let wrote = lines::write_half(
+    let end = lines::write_half(
         second,
         x,
         new,
@@ -83,12 +83,9 @@ fn write_second(
         added.constraint,
         output,
         at,
-    );
+    )?;
     let none = [0i32; 1];
-    match wrote {
-        Wrote::At(end) => lines::write_line(Letter::Addition, &none[..0], output, end),
-        Wrote::Over => Wrote::Over,
-    }
+    lines::write_line(Letter::Addition, &none[..0], output, end)
 }
 
 // All lines of the merged text. The first half keeps its names.
@@ -101,7 +98,7 @@ fn write_text(
     demanded: Added,
     forbidden: Added,
     output: &mut [u8],
-) -> Wrote
+) -> Option<usize>
     requires literal { (1 ≤ variable x) × (variable x ≤ largest) }
     requires new { (u : ℕ) → get_or new.now u 0 ≤ largest }
     requires first { HalfText first.now x (0 ∷ []) demanded }
@@ -113,7 +110,7 @@ fn write_text(
     let mut same = [0u16; ENTRIES];
     renames::keep_all(&mut same);
     let none = [0u8; 1];
-    let wrote = lines::write_half(
+    let end = lines::write_half(
         first,
         x,
         &same,
@@ -122,19 +119,16 @@ fn write_text(
         demanded.constraint,
         output,
         0,
-    );
-    match wrote {
-        Wrote::At(end) => write_second(
-            second,
-            words::complement_of(x),
-            new,
-            shared,
-            forbidden,
-            output,
-            end,
-        ),
-        Wrote::Over => Wrote::Over,
-    }
+    )?;
+    write_second(
+        second,
+        words::complement_of(x),
+        new,
+        shared,
+        forbidden,
+        output,
+        end,
+    )
 }
 
 // The merged text of two halves that are accepted.
@@ -151,7 +145,7 @@ fn write_merged(
     names: &[u16],
     bodies: &[i16],
     output: &mut [u8],
-) -> Wrote
+) -> Option<usize>
     requires halves { HalvesHeld table.now rules atoms v first.now second.now known1.now known2.now names.now bodies.now }
     requires index { Indexed lookup.now table.now rules }
     ensures { (h : HalvesHeld table.now rules atoms v first.now second.now
@@ -173,7 +167,7 @@ fn write_merged(
         &mut new,
         &mut shared,
     ) {
-        return Wrote::Over;
+        return None;
     }
     let x = v as i32;
     let demanded = added_of(table, rules, lookup, names, bodies, words::complement_of(x));
@@ -182,17 +176,12 @@ fn write_merged(
 }
 
 // A text that the output holds.
-fn within(wrote: Wrote, size: usize) -> Written
+fn within(wrote: Option<usize>, size: usize) -> Written
     ensures { result ≡ written_in size wrote }
 {
     match wrote {
-        Wrote::At(end) => {
-            if size < end {
-                return Written::Refused(58);
-            }
-            Written::Text(end)
-        }
-        Wrote::Over => Written::Refused(58),
+        Some(end) if end <= size => Written::Text(end),
+        _ => Written::Refused(58),
     }
 }
 

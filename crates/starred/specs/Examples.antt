@@ -1,7 +1,7 @@
 -- The starred examples 1 to 8 of document 01 and its 'Others', jointly in one statement over the definitions;
 -- proofs/Examples.antt proves it. Each field quotes its example.
 -- Assumes nothing.
-use Rattle.std.specs.Prelude.{◌≡◌, List, [], ◌∷◌, ◌++◌, ℕ, ◌-◌, ℤ, pos, neg_ℤ, length, replicate}
+use Rattle.std.specs.Prelude.{◌≡◌, List, [], ◌∷◌, ◌++◌, ℕ, ◌-◌, ℤ, pos, neg_ℤ, length, replicate, Result, Ok}
 use Prim.Native.String.{String}
 use Rattle.words.specs.Limits.{entries}
 use Rattle.aspif.specs.Rules.{InputRule, expand, program_words}
@@ -11,11 +11,14 @@ use Rattle.answer_set.specs.SetTest.{asked, set_answer}
 use Rattle.answer_set.specs.Claims.{Listed, LowestRule}
 use Rattle.answer_set.specs.declared.SetAnswer.{SetAnswer}
 use Rattle.answer_set.specs.declared.SetAnswer.TheVariants.{Yes, Differs, Broken}
+use Rattle.answer_set.specs.declared.SetFault.{SetFault}
 use Rattle.checker.specs.Check.{check}
 use Rattle.checker.specs.Report.{verdict_line, lent, printed}
 use Rattle.text.specs.Strings.{lines}
 use Rattle.checker.specs.declared.Verdict.{Verdict}
 use Rattle.checker.specs.declared.Verdict.TheVariants.{Inconsistent, Open, RefusedProgram, RefusedProof}
+use Rattle.aspif.specs.declared.ProgramFault.TheVariants.{Malformed, TooLarge, TableFull, WeightOutOfRange, TooManyWeights}
+use Rattle.aspif.specs.declared.ProgramFault.{ProgramFault}
 
 -- Texts
 
@@ -63,8 +66,8 @@ abbrev pub undecided : ℕ → ℕ → ℕ → ℕ → Verdict
 undecided n r s k = Open (record { atoms = n; rules = r; steps = s; nogoods = k })
 
 -- `refused program NUMBER LINE`
-abbrev pub refused_program : ℕ → ℕ → Verdict
-refused_program k n = RefusedProgram (record { number = k; line = n })
+abbrev pub refused_program : ProgramFault → ℕ → Verdict
+refused_program k n = RefusedProgram (record { fault = k; line = n })
 
 -- `refused proof NUMBER STEP`
 abbrev pub refused_proof : ℕ → ℕ → Verdict
@@ -95,10 +98,10 @@ store1 = store2 ++ (pos 5 ∷ pos 0 ∷ [])
 pub record SetPasses (text l : List ℕ) : Type 0 where
   pub P : List InputRule
   pub read : read_text lent text ≡ program P
-  pub answer : set_answer l (asked (program_words P) (length P) l entries) ≡ Yes
+  pub answer : set_answer l (asked (program_words P) (length P) l entries) ≡ Ok Yes
   pub answer_set : AnswerSet (Listed l) (expand P)
 
-pub record SetFails (text l : List ℕ) (r : SetAnswer) : Type 0 where
+pub record SetFails (text l : List ℕ) (r : Result SetAnswer SetFault) : Type 0 where
   pub P : List InputRule
   pub read : read_text lent text ≡ program P
   pub answer : set_answer l (asked (program_words P) (length P) l entries) ≡ r
@@ -127,7 +130,7 @@ pub record Starred : Type 0 where
   pub five_without : verdict program5 (lines ("b 3 -1 0" ∷ "c 3 0" ∷ "a 0" ∷ [])) ≡ refused_proof NoConflict 3
   -- 6: "the empty set passes, {1, 2} does not"
   pub six_empty : SetPasses program6 []
-  pub six_one_two : SetFails program6 (1 ∷ 2 ∷ []) (Differs 1)
+  pub six_one_two : SetFails program6 (1 ∷ 2 ∷ []) (Ok (Differs 1))
   -- 7: "both {} and {1} pass; proof `b 2 0`, `c 2 1 0`: 29, step 2"
   pub seven_empty : SetPasses program7 []
   pub seven_one : SetPasses program7 (1 ∷ [])
@@ -135,11 +138,11 @@ pub record Starred : Type 0 where
   -- 8: "{1} passes"
   pub eight_one : SetPasses program8 (1 ∷ [])
   -- "literal `-0`: 3"
-  pub minus_zero : verdict (rules ("1 0 1 1 0 1 -0" ∷ [])) [] ≡ refused_program 3 2
+  pub minus_zero : verdict (rules ("1 0 1 1 0 1 -0" ∷ [])) [] ≡ refused_program Malformed 2
   pub minus_zero_prints : printed (rules ("1 0 1 1 0 1 -0" ∷ [])) [] ≡ lines ("refused program 3 2" ∷ [])
   -- "atom 4,095 good, 4,096: 4", and by Change 6 "the case at 4,095 take[s] the new figures"
   pub largest_atom : verdict (rules ("1 0 1 8191 0 0" ∷ [])) [] ≡ undecided 8191 1 0 0
-  pub too_large : verdict (rules ("1 0 1 8192 0 0" ∷ [])) [] ≡ refused_program 4 2
+  pub too_large : verdict (rules ("1 0 1 8192 0 0" ∷ [])) [] ≡ refused_program TooLarge 2
   -- "an `s` that leaves out one body: 30"
   pub left_out : verdict (rules ("1 0 1 1 0 1 2" ∷ "1 0 1 1 0 1 -2" ∷ [])) (lines ("b 3 2 0" ∷ "b 4 -2 0" ∷ "s 1 3 0" ∷ [])) ≡ refused_proof NoSupport 3
 
@@ -173,8 +176,8 @@ pub record WeightBodies : Type 0 where
   -- the whole literal set reaches the bound and is not minimal
   pub whole_set : verdict weight_rules (lines ("b 4 1 2 3 0" ∷ [])) ≡ refused_proof NoUnnamedBody 1
   -- "a weight or bound out of its range is 54, more than 12 literals 55"
-  pub weight_range : verdict (rules ("1 0 1 1 1 3 1 2 -1" ∷ [])) [] ≡ refused_program 54 2
-  pub too_many : verdict (rules ("1 0 0 1 1 13 1 1 2 1 3 1 4 1 5 1 6 1 7 1 8 1 9 1 10 1 11 1 12 1 13 1" ∷ [])) [] ≡ refused_program 55 2
+  pub weight_range : verdict (rules ("1 0 1 1 1 3 1 2 -1" ∷ [])) [] ≡ refused_program WeightOutOfRange 2
+  pub too_many : verdict (rules ("1 0 0 1 1 13 1 1 2 1 3 1 4 1 5 1 6 1 7 1 8 1 9 1 10 1 11 1 12 1 13 1" ∷ [])) [] ≡ refused_program TooManyWeights 2
 
 -- A broken constraint, no starred one: the first rule is a constraint that stands for three plain ones, of {1, 2}, {1, 3} and {2, 3}, the third
 -- a choice. The set {1} equals the least model, and breaks the second rule and the fourth.
@@ -183,7 +186,7 @@ abbrev pub broken_rules : List ℕ
 broken_rules = rules ("1 0 0 1 4 3 1 3 2 2 3 2" ∷ "1 0 0 0 2 1 -2" ∷ "1 1 3 1 2 3 0 0" ∷ "1 0 0 0 1 1" ∷ [])
 
 pub record BrokenSecond : Type 0 where
-  pub answered : SetFails broken_rules (1 ∷ []) (Broken 2)
+  pub answered : SetFails broken_rules (1 ∷ []) (Ok (Broken 2))
   -- what that number means: `LowestBroken` in crates/answer_set/specs/Claims.antt
   pub lowest : LowestRule (Listed (1 ∷ [])) answered.P 2
 
@@ -292,4 +295,4 @@ pub record DeadWords : Type 0 where
 -- lines with numbers of several digits, of which the starred examples have none
 pub record LongLines : Type 0 where
   pub open_line : verdict_line (undecided 8191 1 0 0) ≡ lines ("open 8191 1 0 0" ∷ [])
-  pub program_line : verdict_line (refused_program 10 1025) ≡ lines ("refused program 10 1025" ∷ [])
+  pub program_line : verdict_line (refused_program TableFull 1025) ≡ lines ("refused program 10 1025" ∷ [])

@@ -16,7 +16,7 @@ use Rattle.text.specs.Line.{number, also, numbers_in, Words, unended, words, new
 use Rattle.text.specs.Scanned.{capped, LineTold, LineScanned}
 use Rattle.text.specs.declared.Class.{Class}
 use Rattle.text.specs.declared.Class.TheVariants.{Newline, Space, Minus, Digit, Step, Other}
-use Rattle.std.specs.Prelude.{Option as Answer, Some, None}
+use Rattle.std.specs.Prelude.{Option as Answer, Some}
 use Rattle.text.specs.declared.LineNumbers.{LineNumbers}
 
 -- Sizes
@@ -120,11 +120,3 @@ numbered {s} {before} {after} {r} {x} h e = by (line_of s) refl h.told
     by (numbers zs n) q t =
         let k = t.0 in
         record { list = zs; is = cc; long = cc; large = cc; shut = cc; row = t.1 }
-
--- of any other text
-pub not-numbered : {s : List ℕ} {before after : List ℤ} {r : Answer LineNumbers} → LineScanned s before after r → r ≡ None → line_of s ≡ broken
-not-numbered {s} {before} {after} {r} h e = by (line_of s) refl h.told
-  where
-    by : (l : Line) → line_of s ≡ l → LineTold l before after r → line_of s ≡ broken
-    by broken q t = q
-    by (numbers zs n) q t = absurd (let k = t.0 in let z : ◌≡◌ {A = ℕ} 0 1 = cc in omega arith)

@@ -20,14 +20,7 @@ fn is_newline(b: u8, classes: &[u8; 256]) -> bool
     ensures { result ≡ is_newline (class_of b) }
 {
     let class = text::class_of(classes, b);
-    match class {
-        Class::Newline => true,
-        Class::Space => false,
-        Class::Minus => false,
-        Class::Digit(_) => false,
-        Class::Step(_) => false,
-        Class::Other => false,
-    }
+    matches!(class, Class::Newline)
 }
 
 // Where the line that ends at `end` begins: after the newline before it, or at 0.
@@ -37,14 +30,12 @@ fn line_start(text: &[u8], end: usize, classes: &[u8; 256]) -> usize
     ensures before { result < end }
     ensures line { LastLine text.now end result }
 {
-    let mut start = end - 1;
-    while 0 < start {
-        if is_newline(text[start - 1], classes) {
-            return start;
+    for before in (0..end - 1).rev() {
+        if is_newline(text[before], classes) {
+            return before + 1;
         }
-        start -= 1;
     }
-    start
+    0
 }
 
 // The text's first `len` bytes without those from `start` to `end`, at the front of the buffer, and how many they are.

@@ -8,37 +8,33 @@ use Rattle.checker.proofs.Verdicts.{ReadProgram, program-read, held}
 use Rattle.cheapest.proofs.Answers.{program-unread, cheapest-read, reading-same}
 use borrow.Author.Rules.{rules}
 use Rattle.cheapest.proofs.check_cheapest.Goals as goal
-use Rattle.cheapest.proofs.check_cheapest.Goals.{In-Ok, Start}
+use Rattle.cheapest.proofs.check_cheapest.Goals.{In-Ok}
 
 -- what was read, where a program is
 module _ (c : In-Ok) where
-  abbrev start : Start
-  start = c.before.before.before.before.before.before.before.before.before.before.before
-
-  abbrev read : ProgramRead start.args.program.now start.args.table.now c.read_program-read.new.table c.read_program-read.result
+  abbrev read : ProgramRead c.args.program.now c.args.table.now c.read_program-read.new.table c.read_program-read.result
   read = c.read_program-read.ensures
 
-  found : ReadProgram (length start.args.table.now) (length start.args.store.now) start.args.program.now start.args.proof.now read.answer read.table c.in-Ok.atoms c.in-Ok.rules
+  found : ReadProgram (length c.args.table.now) (length c.args.store.now) c.args.program.now c.args.proof.now read.answer read.table c.in-Ok.atoms c.in-Ok.rules
   found = program-read _ _ _ _ read.answer read.table _ _ c.in-Ok.is
 
 pub cheapest_read-requires : goal.cheapest_read-requires
 cheapest_read-requires c = let d = (goal.at.cheapest_read-requires c).In-Ok in
     let f = found d in
-    let h = held _ _ _ _ (read d).answer (read d).table f (search rules) in record { program = ((f.P, h.0), h.1); short = rw h.0.holds.are (read-shorter _ _ f.P f.read); empty = (zeros (pos 0) {n = length (start d).args.store.now} d.zero_all.ensures).0 }
+    let h = held _ _ _ _ (read d).answer (read d).table f (search rules) in record { program = ((f.P, h.0), h.1); short = rw h.0.holds.are (read-shorter _ _ f.P f.read); empty = (zeros (pos 0) {n = length d.args.store.now} d.zero_all.ensures).0 }
 
 pub returns-in-Err : goal.returns-in-Err
 returns-in-Err c =
-    let d = c in
-    let r = d.read_program-read.ensures in
-    program-unread _ _ _ _ _ _ r.answer r.table _ c.in-Err.is d.zero_all.ensures
+    let r = c.read_program-read.ensures in
+    program-unread _ _ _ _ _ _ r.answer r.table _ c.in-Err.is c.zero_all.ensures
 
 pub returns-in-Ok : goal.returns-in-Ok
 returns-in-Ok c =
     let d = (goal.at.returns-in-Ok c).In-Ok in
     let f = found d in
-    let t : length d.read_program-read.new.table ≡ length (start d).args.table.now = search rules in
-    let s : length d.zero_all.new.items ≡ length (start d).args.store.now = search rules in
+    let t : length d.read_program-read.new.table ≡ length d.args.table.now = search rules in
+    let s : length d.zero_all.new.items ≡ length d.args.store.now = search rules in
     let h = held _ _ _ _ (read d).answer (read d).table f t in
-    let a = (start d).args in
+    let a = d.args in
     c.cheapest_read.ensures f.P h.0 h.2 ∙ reading-same a.set.now a.costs.now a.proof.now (program f.P) t s
     ∙ cheapest-read (length a.table.now) (length a.store.now) a.program.now a.set.now a.costs.now a.proof.now (read d).answer (read d).table f.P f.read

@@ -2,7 +2,6 @@ use Prim.Native.Nat.{◌%◌}
 use lib.ListN.{drop, get_or}
 use Rattle.words.proofs.Parts.{tail_of}
 use Rattle.aspif.specs.Tables.{rule_at}
-use Rattle.aspif.proofs.Cursors.{shape_of}
 use Rattle.marks.specs.Marks.{marked, Marking}
 use Rattle.answer_set.specs.SetTest.{give_rule}
 use Rattle.answer_set.specs.Private.{RuleStart, nothing}
@@ -21,9 +20,6 @@ told : (c : After-give_rule)
 told c =
     let a = c.args in
     rw (tail_of (get_or a.starts.now (a.entry % 1025) 0) a.table.now) at c.give_rule.ensures
-
-pub heads_of-requires : goal.heads_of-requires
-heads_of-requires c = rw (tail_of _ _) (shape_of _ (start (goal.at.heads_of-requires c).After-get-work).sound)
 
 pub returns-then-is_ready-clause-given : goal.returns-then-is_ready-clause-given
 returns-then-is_ready-clause-given c =

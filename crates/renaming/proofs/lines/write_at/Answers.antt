@@ -9,7 +9,7 @@ use mir.Val.{to_z, of_z}
 use mir.Facts.{to_z-of_z}
 use Rattle.drupe.specs.Lines.{line, line_at}
 use Rattle.drupe.proofs.Rows.{into-told, into-room}
-use Rattle.renaming.proofs.Walk.{turned-line}
+use Rattle.renaming.proofs.Walk.{turned-over, turned-on}
 use Rattle.renaming.proofs.lines.write_at.Goals as goal
 use Rattle.renaming.proofs.lines.write_at.Goals.{In-Line}
 
@@ -30,8 +30,8 @@ module _ (c : In-Line) where
   literal : to_z w32 (of_z w32 c.args.x) ≡ c.args.x
   literal = to_z-of_z c.ranges.x
 
-pub write_standing-wrote-requires : goal.write_standing-wrote-requires
-write_standing-wrote-requires c = record { at = c.requires.at; literal = rw (to_z-of_z c.ranges.x) c.requires.literal; new = c.requires.new }
+pub write_standing-requires-clause-literal : goal.write_standing-requires-clause-literal
+write_standing-requires-clause-literal c = rw (to_z-of_z c.ranges.x) c.requires.literal
 
 pub returns-in-End : goal.returns-in-End
 returns-in-End c = rw (into-told c.step_at-answer.ensures c.in-End.is) refl
@@ -39,11 +39,16 @@ returns-in-End c = rw (into-told c.step_at-answer.ensures c.in-End.is) refl
 pub returns-in-Refused : goal.returns-in-Refused
 returns-in-Refused c = rw (into-told c.step_at-answer.ensures c.in-Refused.is) tt
 
-pub returns-in-Line : goal.returns-in-Line
-returns-in-Line c =
-    let w = c.write_standing-wrote in
-    let k = c.name_after-named in
-    let d = (goal.at.returns-in-Line c).In-Line in
+pub returns-in_err-end-in-Line : goal.returns-in_err-end-in-Line
+returns-in_err-end-in-Line c =
+    let d = (goal.at.returns-in_err-end-in-Line c).In-Line in
     let a = c.args in
-    turned-line a.x (λ v. get_or a.new.now v 0) a.shared.now a.has_body a.has_constraint a.name a.output.now _ a.at d.in-Line.letter (take d.in-Line.count (numbers d)) d.in-Line.next w.result (there d)
-    (rw (literal d) at k.ensures) c.turn_of.ensures (rw (literal d) at w.ensures)
+    turned-over a.x (λ v. get_or a.new.now v 0) a.shared.now a.has_body a.has_constraint a.name a.output.now _ a.at d.in-Line.letter (take d.in-Line.count (numbers d)) d.in-Line.next (there d)
+    c.from_residual.ensures c.in_err-end-in-Line.was (rw (literal d) at c.write_standing.ensures)
+
+pub returns-in_ok-end-in-Line : goal.returns-in_ok-end-in-Line
+returns-in_ok-end-in-Line c =
+    let d = (goal.at.returns-in_ok-end-in-Line c).In-Line in
+    let a = c.args in
+    turned-on a.x (λ v. get_or a.new.now v 0) a.shared.now a.has_body a.has_constraint a.name a.output.now _ a.at d.in-Line.letter (take d.in-Line.count (numbers d)) d.in-Line.next _ (there d)
+    refl (rw (literal d) at c.name_after-named.ensures) c.in_ok-end-in-Line.was (rw (literal d) at c.write_standing.ensures)
