@@ -31,6 +31,8 @@ use Rattle.packets.specs.Packets.{steps_top, word_count, step_count, step_part, 
 use Rattle.packets.specs.Parts.{step_size, if_passes, step_at, StepTold, TextTold}
 use Rattle.packets.specs.declared.reader.Part.{Part}
 use Rattle.packets.proofs.RulesRead.{onto, onto-one, onto-none, onto-some}
+use Rattle.drupe.specs.declared.ProofFault.TheVariants.{OutOfRange}
+use Rattle.drupe.specs.declared.ProofFault.{ProofFault}
 
 -- Steps: lengths
 
@@ -150,7 +152,7 @@ module _ (x : Letter) (zs : List ℤ) where
       let d = or-decides (passed (any_outside zs)) (passed (ltb most_numbers (length zs))) in
       not_good (by (any_outside zs || ltb most_numbers (length zs)) _ (is_true d (inr (lt-ltb most_numbers (length zs) h))))
     where
-      by : (t : Bool) (o : Option ProofFault) → t ≡ true → all_passed (cond t (some OutOfRange) o) ≡ false
+      by : (t : Bool) (o : Answer ProofFault) → t ≡ true → all_passed (cond t (Some OutOfRange) o) ≡ false
       by true o e = refl
       by false o e = absurd (true≢false (sym e))
 

@@ -15,7 +15,7 @@ ghost use Rattle.packets.specs.Writes.{rule_room, step_room, last_rule_end, Step
 
 use crate::{HEADER, PacketWriting, Version, numbers, versions};
 use aspif::{Kind, tables};
-use drupe::{LineAnswer, reader};
+use drupe::reader;
 use text::{Letter, writing};
 use words::MOST_NUMBERS;
 
@@ -171,18 +171,9 @@ fn put_lines(buffer: &mut [u8], at: usize, text: &[u8]) -> StepsPut
     let mut steps = 0;
     let mut top = 0;
     let mut end = at;
-    loop {
-        let answer = reader::step_at(text, position, &classes, &mut numbers, &mut sorted);
-        match answer {
-            LineAnswer::End => {
-                return StepsPut {
-                    good: true,
-                    steps,
-                    top,
-                    end,
-                };
-            }
-            LineAnswer::Refused(_) => {
+    'lines: loop {
+        let read = match reader::step_at(text, position, &classes, &mut numbers, &mut sorted) {
+            Err(_) => {
                 return StepsPut {
                     good: false,
                     steps,
@@ -190,17 +181,20 @@ fn put_lines(buffer: &mut [u8], at: usize, text: &[u8]) -> StepsPut
                     end,
                 };
             }
-            LineAnswer::Line {
-                letter,
-                count,
-                next,
-            } => {
-                end = put_step(buffer, end, letter, &numbers[..count]);
-                top = words::larger(top, words::largest_variable(&numbers[..count]));
-                position = next;
-                steps += 1;
-            }
-        }
+            Ok(read) => read,
+        };
+        let Some(line) = read else {
+            return StepsPut {
+                good: true,
+                steps,
+                top,
+                end,
+            };
+        };
+        end = put_step(buffer, end, line.letter, &numbers[..line.count]);
+        top = words::larger(top, words::largest_variable(&numbers[..line.count]));
+        position = line.next;
+        steps += 1;
     }
 }
 

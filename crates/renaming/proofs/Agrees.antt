@@ -31,6 +31,7 @@ use Rattle.derivation.proofs.Outcomes.{Then, if_yes, if_no, if-line}
 use Rattle.merging.proofs.Runs.{Named-well, start-well, steps-keep}
 use Rattle.merging.proofs.Merged.{named-all, body-cases}
 use Rattle.renaming.specs.Standing.{is_constraint, HalfOf, names_added, name_after, is_gone, standing, all_standing}
+use Rattle.drupe.specs.declared.ProofFault.TheVariants.{Malformed, UnknownVariable, KnownName, NoUnnamedBody, NoCompletion}
 
 -- A list of one literal is that list ascending
 

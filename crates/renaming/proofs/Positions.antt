@@ -10,6 +10,7 @@ use Rattle.words.proofs.Lists.{zero_one}
 use Rattle.drupe.specs.Lines.{LineAt, end, line, line_at}
 use Rattle.drupe.specs.Lines as Lines
 use Rattle.drupe.specs.Texts.{Step, StepsRead, steps, refused, after, steps_at, steps_within, steps_of}
+use Rattle.drupe.specs.declared.ProofFault.TheVariants.{TooLong}
 
 module _ (text : List ℕ) where
   -- the steps from the position on

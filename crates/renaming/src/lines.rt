@@ -12,7 +12,7 @@ ghost use Rattle.merging.specs.Merge.{addition, half, one, renamed};
 ghost use Rattle.renaming.specs.Standing.{HalfOf, is_a, is_b, names_added, name_after, is_gone, standing, Turned};
 ghost use Rattle.renaming.specs.Writing.{Writes};
 
-use drupe::{LineAnswer, reader, writing};
+use drupe::{reader, writing};
 use text::Letter;
 use words::{LONGEST, MOST_NUMBERS};
 
@@ -231,35 +231,31 @@ fn write_at(
     ensures { Turned x (λ v. get_or new.now v 0) shared.now has_body has_constraint name
         output.old output.new at (line_at text.now position) result }
 {
-    let answer = reader::step_at(text, position, classes, numbers, sorted);
-    match answer {
-        LineAnswer::End => Some(None),
-        LineAnswer::Refused(_) => Some(None),
-        LineAnswer::Line {
-            letter,
-            count,
-            next,
-        } => {
-            let named = name_after(letter, &numbers[..count], x, name);
-            let end = write_standing(
-                letter,
-                &mut numbers[..count],
-                x,
-                new,
-                shared,
-                has_body,
-                has_constraint,
-                name,
-                output,
-                at,
-            )?;
-            Some(Some(HalfLine {
-                next,
-                name: named,
-                end,
-            }))
-        }
-    }
+    let read = match reader::step_at(text, position, classes, numbers, sorted) {
+        Err(_) => return Some(None),
+        Ok(read) => read,
+    };
+    let Some(line) = read else {
+        return Some(None);
+    };
+    let named = name_after(line.letter, &numbers[..line.count], x, name);
+    let end = write_standing(
+        line.letter,
+        &mut numbers[..line.count],
+        x,
+        new,
+        shared,
+        has_body,
+        has_constraint,
+        name,
+        output,
+        at,
+    )?;
+    Some(Some(HalfLine {
+        next: line.next,
+        name: named,
+        end,
+    }))
 }
 
 // The lines of the half whose literal is x, under new names, from a position on.

@@ -14,7 +14,7 @@ ghost use Rattle.heads.specs.Heads.{Indexed};
 ghost use Rattle.steps.specs.Held.{PassedLine};
 ghost use Rattle.renaming.specs.Renames.{Halves, RenamedAll, NextFree, OtherNamed, BodyNamed, LineRenamed, rename_turn, TurnRenamed, TurnBounds};
 
-use drupe::{LineAnswer, reader};
+use drupe::reader;
 use text::Letter;
 use words::{ENTRIES, LARGEST, MOST_NUMBERS};
 
@@ -188,32 +188,28 @@ fn rename_at(
         → TurnRenamed known1.now known2.now cursor new.old new.new
         shared.old shared.new (expand ws) called (line_at second.now at) result }
 {
-    let answer = reader::step_at(second, at, classes, numbers, sorted);
-    match answer {
-        LineAnswer::End => RenameTurn::Ends,
-        LineAnswer::Refused(_) => RenameTurn::Over,
-        LineAnswer::Line {
-            letter,
-            count,
-            next,
-        } => {
-            let from = rename_line(
-                letter,
-                &mut numbers[..count],
-                table,
-                rules,
-                lookup,
-                known1,
-                known2,
-                names,
-                bodies,
-                cursor,
-                new,
-                shared,
-            );
-            turn_to(next, from)
-        }
-    }
+    let read = match reader::step_at(second, at, classes, numbers, sorted) {
+        Err(_) => return RenameTurn::Over,
+        Ok(read) => read,
+    };
+    let Some(line) = read else {
+        return RenameTurn::Ends;
+    };
+    let from = rename_line(
+        line.letter,
+        &mut numbers[..line.count],
+        table,
+        rules,
+        lookup,
+        known1,
+        known2,
+        names,
+        bodies,
+        cursor,
+        new,
+        shared,
+    );
+    turn_to(line.next, from)
 }
 
 // The new names of the second half's names, and marks of those whose bodies the first half names. False where a new name is above the
