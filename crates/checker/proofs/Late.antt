@@ -30,6 +30,7 @@ use Rattle.runs.specs.Course.{run_steps, run_read}
 use Rattle.checker.specs.Check.{judged}
 use Rattle.checker.specs.Claims.{prompt_after, prompt_steps, prompt_read, SameLive, SameCourse, OneWord, ClosedLate}
 use Rattle.runs.proofs.Lines.{stored_next}
+use Rattle.drupe.specs.declared.ProofFault.TheVariants.{StoreFull}
 
 -- What is live
 

@@ -32,34 +32,33 @@ use Rattle.runs.specs.Held.{Ran}
 use Rattle.runs.specs.declared.ProofRefusal.{ProofRefusal}
 use Rattle.checker.specs.declared.Verdict.{Verdict}
 use Rattle.checker.specs.declared.Verdict.TheVariants.{RefusedProgram, RefusedProof}
-use Rattle.runs.specs.declared.Run.{Run}
-use Rattle.runs.specs.declared.Run.TheVariants.{Stopped, Through}
+use Rattle.runs.specs.declared.StepsTaken.{StepsTaken}
+use Rattle.drupe.specs.declared.ProofFault.TheVariants as Fault
 use Rattle.std.specs.Prelude.{Result, Ok, Err}
 
 -- The proof's lines
 
-pub too_long : (limit N : ℕ) (P : List Rule) (size : ℕ) (text : List ℕ) → limit < length text → course_within limit N P size text ≡ stopped 21 0
+pub too_long : (limit N : ℕ) (P : List Rule) (size : ℕ) (text : List ℕ) → limit < length text → course_within limit N P size text ≡ stopped Fault.TooLong 0
 unfolding course_within
 too_long limit N P size text h = ap (run_read N P size 0 start []) (long-steps limit text h)
 
 module _ (store : List ℤ) where
-  pub ran-stopped : (o : Course) {r : Run} (x : ProofRefusal) → Ran store o r → r ≡ Stopped x → o ≡ stopped x.number x.step
-  ran-stopped (stopped k n) x l e = let p : x ≡ record { number = k; step = n } = cc in rw p
+  pub ran-stopped : (o : Course) {r : Result StepsTaken ProofRefusal} (x : ProofRefusal) → Ran store o r → r ≡ Err x → o ≡ stopped x.fault x.step
+  ran-stopped (stopped k n) x l e = let p : x ≡ record { fault = k; step = n } = cc in rw p
   ran-stopped (through n z b) x l e = let q = l.1 in absurd (zero_one (cc))
 
-  pub ran-through : (o : Course) {r : Run} (n used : ℕ) → Ran store o r → r ≡ Through n used
-      → (z : State) × (stored : List Stored) × (o ≡ through n z stored) × Holds store used stored
-  ran-through (stopped k m) n used l e = absurd (zero_one (cc))
-  ran-through (through m z b) n used l e =
+  pub ran-through : (o : Course) {r : Result StepsTaken ProofRefusal} (taken : StepsTaken) → Ran store o r → r ≡ Ok taken
+      → (z : State) × (stored : List Stored) × (o ≡ through taken.steps z stored) × Holds store taken.used stored
+  ran-through (stopped k m) taken l e = absurd (zero_one (cc))
+  ran-through (through m z b) taken l e =
       let w = l.1 in
-      let p : m ≡ n = cc in
-      let q : l.0 ≡ used = cc in
-      (z, b, ap (λ i. through i z b) p, rw q at l.2)
+      let c : record { steps = m; used = l.0 } ≡ taken = cc in
+      (z, b, ap (λ (x : StepsTaken). through x.steps z b) c, rw (ap (λ (x : StepsTaken). x.used) c) at l.2)
 
 -- The verdict on a proof
 
 module _ (t s : ℕ) (P : List InputRule) (o : Course) {v : Verdict} {table store : List ℤ} where
-  pub judged-stopped : (x : ProofRefusal) → o ≡ stopped x.number x.step → v ≡ RefusedProof x → table ≡ replicate t (pos 0) → store ≡ replicate s (pos 0)
+  pub judged-stopped : (x : ProofRefusal) → o ≡ stopped x.fault x.step → v ≡ RefusedProof x → table ≡ replicate t (pos 0) → store ≡ replicate s (pos 0)
       → record { verdict = v; table = table; store = store } ≡ judged t s P o
   judged-stopped x p q a b = rw (p, q, a, b)
 

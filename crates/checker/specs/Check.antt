@@ -38,7 +38,7 @@ saying b c = cond b (Inconsistent c) (Open c)
 -- count the rules as written".
 abbrev pub judged : (table_size store_size : ℕ) → List InputRule → Course → Checked
 judged t s ws (stopped k n) =
-    record { verdict = RefusedProof (record { number = k; step = n }); table = replicate t (pos 0); store = replicate s (pos 0) }
+    record { verdict = RefusedProof (record { fault = k; step = n }); table = replicate t (pos 0); store = replicate s (pos 0) }
 judged t s ws (through n z stored) =
     let said = saying (empty_live z) (counts_of (atoms ws) (length ws) n z) in
     record { verdict = said; table = table_words t ws; store = store_words s stored }

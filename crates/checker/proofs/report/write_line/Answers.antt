@@ -19,4 +19,4 @@ returns-in-RefusedProgram c = let word = c.put_bytes-at-in-RefusedProgram.ensure
 
 pub returns-in-RefusedProof : goal.returns-in-RefusedProof
 returns-in-RefusedProof c = let word = c.put_bytes-at-in-RefusedProof.ensures in
-    let rest = rw c.from-in-RefusedProof.ensures at c.put_two-in-RefusedProof.ensures in let all = line-put c.in-RefusedProof.is (put_on word rest.written) (omega (arith, word.ends, rest.within)) in record { size = all.0; written = all.1.0; within = all.1.1 }
+    let rest = rw (c.from-in-RefusedProof-2.ensures, c.from-in-RefusedProof.ensures) at c.put_two-in-RefusedProof.ensures in let all = line-put c.in-RefusedProof.is (put_on word rest.written) (omega (arith, word.ends, rest.within)) in record { size = all.0; written = all.1.0; within = all.1.1 }
