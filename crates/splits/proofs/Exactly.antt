@@ -18,6 +18,7 @@ use Rattle.splits.specs.declared.MergeAnswer.TheVariants.{Merged, Refused}
 use Rattle.splits.specs.Service.{are_halves, merged_steps, is_writable, MergeLeft, leaves_nothing, judged_text, merge}
 use Rattle.splits.specs.Claims.{PastStore, Joins, Exactly, MergedExactly}
 use Rattle.splits.proofs.OverTexts.{merged-ends}
+use Rattle.drupe.specs.declared.ProofFault.TheVariants.{StoreFull}
 
 -- a text whose check ends empty is written
 pub accepted-written : (t s o : ℕ) (ws : List InputRule) (text : List ℕ) (c : Course) → ends_empty c ≡ true

@@ -48,6 +48,7 @@ use Rattle.splits.specs.Joined.{AddedTo, WrittenBy, written_in, HalfText, lines_
 use Rattle.splits.specs.declared.texts.Added.{Added}
 use Rattle.splits.specs.declared.texts.Written.TheVariants.{Text, Refused}
 use Rattle.splits.proofs.Demands.{demanding-plain}
+use Rattle.drupe.specs.declared.ProofFault.{ProofFault}
 
 -- What the program has of a constraint
 
@@ -95,7 +96,7 @@ course-read : (N : ℕ) (P : List Rule) (size : ℕ) (text : List ℕ) (n : ℕ)
 unfolding course_within
 course-read N P size text n z stored e = by (steps_of text) e
   where
-    unread : (k m : ℕ) (c : Course) → then_stopped k m c ≡ through n z stored → ⊥
+    unread : (k : ProofFault) (m : ℕ) (c : Course) → then_stopped k m c ≡ through n z stored → ⊥
     unread k m (stopped j i) e = zero_one (cc)
     unread k m (through i y b) e = zero_one (cc)
 

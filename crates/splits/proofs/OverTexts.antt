@@ -37,6 +37,7 @@ use Rattle.splits.specs.declared.MergeAnswer.TheVariants.{Merged, RefusedProgram
 use Rattle.splits.specs.Service.{are_halves, steps_in, merged_steps, is_writable, MergeLeft, leaves_nothing, judged_text, merged_reading, merge}
 use Rattle.splits.specs.Claims.{PastStore, MergedEnds, MergedText, Demand3Merged, AsChecked}
 use Rattle.splits.proofs.Stopping.{never-past, goes-past}
+use Rattle.drupe.specs.declared.ProofFault.TheVariants.{StoreFull}
 
 -- Steps with question 34, as a course
 
@@ -139,7 +140,7 @@ merged-text text t s ws q v first second halves fit h =
   where
     by : {A B : Type 0} (c : Course) → (A × (ends_empty c ≡ true)) ⊎ (B × ((n : ℕ) × (c ≡ stopped StoreFull n)))
         → ((k : Counts) × ((judged t s ws c).verdict ≡ Inconsistent k))
-        ⊎ ((n : ℕ) × ((judged t s ws c).verdict ≡ RefusedProof (record { number = 34; step = n })))
+        ⊎ ((n : ℕ) × ((judged t s ws c).verdict ≡ RefusedProof (record { fault = StoreFull; step = n })))
     by (stopped k m) (inl (x, e)) = absurd (true≢false (sym e))
     by (through n z stored) (inl (x, e)) = inl (counts_of (atoms ws) (length ws) n z, rw e refl)
     by c (inr (x, (n, e))) = inr (n, rw e refl)

@@ -15,6 +15,7 @@ use Rattle.nogoods.specs.Store.{words_for}
 use Rattle.runs.specs.Course.{fitting}
 use Rattle.merging.specs.Claims.{steps_in}
 use Rattle.splits.specs.Claims.{PastStore}
+use Rattle.drupe.specs.declared.ProofFault.TheVariants.{StoreFull}
 
 module _ (room : State → Bool) (N : ℕ) (P : List Rule) where
   same-state : {z u : State} → next z ≡ next u → room z ≡ true → room u ≡ true

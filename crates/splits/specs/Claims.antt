@@ -19,6 +19,7 @@ use Rattle.merging.specs.Claims.{Accepted}
 use Rattle.splits.specs.declared.MergeAnswer.{MergeAnswer}
 use Rattle.splits.specs.declared.MergeAnswer.TheVariants.{Merged, Refused}
 use Rattle.splits.specs.Service.{are_halves, merged_steps, is_writable, MergedHalves}
+use Rattle.drupe.specs.declared.ProofFault.TheVariants.{StoreFull}
 
 -- "live words past the store": after the first n of the steps there are more live words than the store has
 abbrev pub PastStore : (size : ℕ) → List InputRule → List Step → Type 0
@@ -47,7 +48,7 @@ MergedText =
     → are_halves s ws v first second ≡ true → all_fit (merged_steps ws v first second) ≡ true
     → length (text_of (merged_steps ws v first second)) ≤ longest
     → (((c : Counts) × ((check text (text_of (merged_steps ws v first second)) t s).verdict ≡ Inconsistent c))
-    ⊎ ((n : ℕ) × ((check text (text_of (merged_steps ws v first second)) t s).verdict ≡ RefusedProof (record { number = 34; step = n }))))
+    ⊎ ((n : ℕ) × ((check text (text_of (merged_steps ws v first second)) t s).verdict ≡ RefusedProof (record { fault = StoreFull; step = n }))))
     × NoneAsWritten ws
 
 -- neither 57 nor 58: both halves are accepted with a store of s words, and the merged lines, names and text keep to their limits and to an

@@ -24,6 +24,7 @@ use Rattle.trees.specs.Claims.{tree_text, FitsAll, TreeOnly}
 use Rattle.trees.proofs.OverTrees.{at_split, fits-outcome, IsMerged, judged-tree}
 use Rattle.trees.proofs.OneTree.{below}
 use Rattle.trees.proofs.Subtrees.{Begins, begins}
+use Rattle.drupe.specs.declared.ProofFault.TheVariants.{StoreFull}
 
 -- Each split is on an atom
 
