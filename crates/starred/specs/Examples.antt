@@ -19,6 +19,8 @@ use Rattle.checker.specs.declared.Verdict.{Verdict}
 use Rattle.checker.specs.declared.Verdict.TheVariants.{Inconsistent, Open, RefusedProgram, RefusedProof}
 use Rattle.aspif.specs.declared.ProgramFault.TheVariants.{Malformed, TooLarge, TableFull, WeightOutOfRange, TooManyWeights}
 use Rattle.aspif.specs.declared.ProgramFault.{ProgramFault}
+use Rattle.drupe.specs.declared.ProofFault.TheVariants.{KnownName, NoUnnamedBody, NoCompletion, NoSupport, NoConflict, StoreFull, NoLoop}
+use Rattle.drupe.specs.declared.ProofFault.{ProofFault}
 
 -- Texts
 
@@ -70,8 +72,8 @@ abbrev pub refused_program : ProgramFault → ℕ → Verdict
 refused_program k n = RefusedProgram (record { fault = k; line = n })
 
 -- `refused proof NUMBER STEP`
-abbrev pub refused_proof : ℕ → ℕ → Verdict
-refused_proof k n = RefusedProof (record { number = k; step = n })
+abbrev pub refused_proof : ProofFault → ℕ → Verdict
+refused_proof k n = RefusedProof (record { fault = k; step = n })
 
 abbrev pub neg : ℕ → ℤ
 neg v = neg_ℤ (pos v)
