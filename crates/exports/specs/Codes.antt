@@ -1,6 +1,6 @@
 -- A service's answer as a code and numbers, for callers in other languages: document 01's number and values for each case.
 -- Assumes nothing.
-use Rattle.std.specs.Prelude.{◌≡◌, List, [], ◌∷◌, ℕ, Result, Ok, Err}
+use Rattle.std.specs.Prelude.{◌≡◌, List, [], ◌∷◌, ℕ, Option, None, Some, Result, Ok, Err}
 use Rattle.std.proofs.lemmas.List.Edits.{sets}
 use Rattle.text.specs.Bytes.{byte_of}
 use Rattle.aspif.specs.declared.ProgramCounts.{ProgramCounts}
@@ -10,8 +10,9 @@ use Rattle.answer_set.specs.declared.SetAnswer.{SetAnswer}
 use Rattle.answer_set.specs.declared.SetAnswer.TheVariants as Set
 use Rattle.answer_set.specs.declared.SetFault.{SetFault}
 use Rattle.answer_set.specs.Numbers as SetNumbers
-use Rattle.drupe.specs.declared.LineAnswer.{LineAnswer}
-use Rattle.drupe.specs.declared.LineAnswer.TheVariants as Line
+use Rattle.drupe.specs.declared.ProofFault.{ProofFault}
+use Rattle.drupe.specs.declared.ProofLine.{ProofLine}
+use Rattle.drupe.specs.Numbers as ProofNumbers
 use Rattle.packets.specs.declared.PacketWriting.{PacketWriting}
 use Rattle.packets.specs.declared.PacketWriting.TheVariants as Writing
 use Rattle.packets.specs.declared.PacketReading.{PacketReading}
@@ -60,16 +61,16 @@ set_numbers (Err f) = []
 
 -- The proof-line reader: 0 for "end", the letter's byte for a line; numbers 21 to 25
 
-abbrev pub line_code : LineAnswer → ℕ
-line_code (Line.Line x count next) = byte_of x
-line_code Line.End = 0
-line_code (Line.Refused n) = n
+abbrev pub line_code : Result (Option ProofLine) ProofFault → ℕ
+line_code (Ok (Some l)) = byte_of l.letter
+line_code (Ok None) = 0
+line_code (Err f) = ProofNumbers.number_of f
 
 -- "their count and the position after the newline. Its refusal returns the number alone."
-abbrev pub line_numbers : LineAnswer → List ℕ
-line_numbers (Line.Line x count next) = count ∷ next ∷ []
-line_numbers Line.End = []
-line_numbers (Line.Refused n) = []
+abbrev pub line_numbers : Result (Option ProofLine) ProofFault → List ℕ
+line_numbers (Ok (Some l)) = l.count ∷ l.next ∷ []
+line_numbers (Ok None) = []
+line_numbers (Err f) = []
 
 -- The writer of packets, and a move to the other version: 0 with the packet's bytes; numbers 51 to 53, and 61 of a move down
 
@@ -108,7 +109,7 @@ abbrev pub verdict_numbers : Verdict → List ℕ
 verdict_numbers (Inconsistent c) = count_numbers c
 verdict_numbers (Open c) = count_numbers c
 verdict_numbers (RefusedProgram r) = number_of r.fault ∷ r.line ∷ []
-verdict_numbers (RefusedProof r) = r.number ∷ r.step ∷ []
+verdict_numbers (RefusedProof r) = ProofNumbers.number_of r.fault ∷ r.step ∷ []
 
 -- The merge of two halves, and of a tree: 0 with the bytes of the text written; the program's number and line, as its reader tells them; 57 to 59, and
 -- 64 of a tree

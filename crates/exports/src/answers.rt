@@ -117,16 +117,12 @@ pub fn tell_line(line: LineAnswer, answer: &mut [u64]) -> u32
     ensures { Told (line_code line) (line_numbers line) answer.old answer.new result }
 {
     match line {
-        LineAnswer::Line {
-            letter,
-            count,
-            next,
-        } => {
-            put_two(answer, count, next);
-            writing::byte_of(letter) as u32
+        Ok(Some(read)) => {
+            put_two(answer, read.count, read.next);
+            u32::from(writing::byte_of(read.letter))
         }
-        LineAnswer::End => END,
-        LineAnswer::Refused(number) => number as u32,
+        Ok(None) => END,
+        Err(fault) => u32::from(u8::from(fault)),
     }
 }
 
@@ -174,7 +170,7 @@ pub fn tell_verdict(verdict: Verdict, answer: &mut [u64]) -> u32
             REFUSED_PROGRAM
         }
         Verdict::RefusedProof(refusal) => {
-            put_two(answer, refusal.number as usize, refusal.step);
+            put_two(answer, usize::from(u8::from(refusal.fault)), refusal.step);
             REFUSED_PROOF
         }
     }
