@@ -89,10 +89,10 @@ module _ (t : List ℤ) (n : ℕ) (body : List ℤ) (name : ℕ) (called : List 
       → Walk (BodyPlace t n) (BodyPlace t n) (hash_from 0 body) (New names) p → Naming names p
   naming-start {names} s p B W = record {
     walk = W;
-    old = λ k h l. (rule-turn t n names s k h).kept called B;
+    old = λ k h l. (rule-turn t n names k h).kept called B;
     others = λ k h d.
         let q = plain-rule n t p k h in
-        (rule-turn t n names s k h).kept called B ∙ plain_entry (words_from k t) q called
+        (rule-turn t n names k h).kept called B ∙ plain_entry (words_from k t) q called
         ∙ sym (plain_entry (words_from k t) q renamed ∙ ap (λ (b : Bool). cond b name (called (body_words_at (words_from k t)))) (other-body body _ d));
   }
 

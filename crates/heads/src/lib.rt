@@ -8,7 +8,7 @@ ghost use Rattle.words.specs.Limits.{largest, entries, most_held, longest, most_
 ghost use Rattle.words.specs.Lists.{◌∈◌, any, all};
 ghost use Rattle.words.specs.Literals.{variable, same_list, distinct, mentions, top};
 ghost use Rattle.aspif.specs.Rules.{InputRule, all_plain, expand};
-ghost use Rattle.aspif.specs.Tables.{rules_at, sound_rules, sound_at, shape_sound, heads_at};
+ghost use Rattle.aspif.specs.Tables.{rules_at, sound_rules, heads_at};
 ghost use Rattle.names.specs.Queries.{HoldsRules, entry, Kept, is_inside, asked_names, completing};
 ghost use Rattle.heads.specs.Heads.{start_of, words_from, most_heads, hashes, first_at, next_at, bucket_at, index_words, hint_of, linked, Headed, headed_by, headed_to, headed_at};
 ghost use Rattle.heads.specs.Heads.{HeadChains, mixed, hash_from, Entered, covered, Indexed, Covers, is_just_names, Listed, RuleWith, Completes};
@@ -17,6 +17,7 @@ ghost use Rattle.names.specs.declared.queries.Query.TheVariants.{External};
 ghost use Rattle.marks.specs.Marks.{marked, Marks};
 
 use aspif::tables;
+use aspif::tables::Rule;
 use names::queries;
 use words::{ENTRIES, LARGEST, LONGEST, MOST_HELD, MOST_NUMBERS};
 
@@ -122,17 +123,16 @@ fn enter_heads(index: &mut [u16], heads: &[i32], k: usize, n: usize)
     }
 }
 
-// Rule k, at the front of the words, which stand in the table from `at` on, after n heads.
-fn enter_rule(index: &mut [u16], words: &[i32], at: usize, k: usize, n: usize)
-    requires index { (length index.old ≡ index_words) × (k < most_held) × (at ≤ longest) × (n + length (heads_at words.now) ≤ most_heads) }
-    requires rule { sound_at words.now ≡ true }
-    ensures entered { (table : List ℤ) → words.now ≡ words_from k table → at ≡ start_of k table → length (headed_to k table) ≡ n
+// Rule k, which stands in the table from `at` on, after n heads.
+fn enter_rule(index: &mut [u16], rule: &Rule, at: usize, k: usize, n: usize)
+    requires { (length index.old ≡ index_words) × (k < most_held) × (at ≤ longest) × (n + length (heads_at rule.now.words.now) ≤ most_heads) }
+    ensures entered { (table : List ℤ) → rule.now.words.now ≡ words_from k table → at ≡ start_of k table → length (headed_to k table) ≡ n
         → Entered index.old table k → Entered index.new table (suc k) }
     ensures first { get_or index.new 0 0 ≡ get_or index.old 0 0 }
 {
     index[STARTS + k] = at as u16;
-    link(index, BUCKET, BEFORE, hash_of(tables::body_of(words)), k);
-    enter_heads(index, tables::heads_of(words), k, n);
+    link(index, BUCKET, BEFORE, hash_of(rule.body()), k);
+    enter_heads(index, rule.heads(), k, n);
 }
 
 // The index of a program without weight bodies, if it has room.
@@ -142,21 +142,18 @@ pub fn fill(table: &[i32], rules: usize, index: &mut [u16])
     ensures { Indexed index.new table.now rules }
 {
     let mut n = 0;
-    let mut k = 0;
-    let mut i = 0;
-    while k < rules {
-        let rest = &table[i..];
-        let heads = tables::heads_of(rest).len();
-        if LONGEST < i {
+    let mut at = 0;
+    for (k, rule) in tables::rules_in(table, rules).enumerate() {
+        let heads = rule.heads().len();
+        if LONGEST < at {
             return;
         }
         if MOST_HEADS < n + heads {
             return;
         }
-        enter_rule(index, rest, i, k, n);
-        i = tables::next_rule(table, i);
+        enter_rule(index, &rule, at, k, n);
+        at += rule.size();
         n += heads;
-        k += 1;
     }
     index[0] = 1;
 }
@@ -177,15 +174,25 @@ pub fn next_head(index: &[u16], x: usize) -> usize
     word_of(index, NEXT + x)
 }
 
-// The words from the rule of the head at place x on.
-pub fn words_of<'a>(table: &'a [i32], rules: usize, index: &[u16], x: usize) -> &'a [i32]
+// Rule k.
+fn numbered<'a>(table: &'a [i32], rules: usize, index: &[u16], k: usize) -> Rule<'a>
+    requires { Covers index.now table.now rules × (sound_rules rules table.now ≡ true) × (k < rules) }
+    ensures { result.words.now ≡ words_from k table.now }
+{
+    let at = word_of(index, STARTS + k);
+    Rule {
+        words: &table[at..],
+    }
+}
+
+// The rule of the head at place x.
+pub fn rule_of<'a>(table: &'a [i32], rules: usize, index: &[u16], x: usize) -> Rule<'a>
     requires index { Covers index.now table.now rules × (sound_rules rules table.now ≡ true) }
     requires place { x < length (headed_to rules table.now) }
-    ensures { result.now ≡ words_from (headed_at (headed_to rules table.now) x).rule table.now }
+    ensures { result.words.now ≡ words_from (headed_at (headed_to rules table.now) x).rule table.now }
 {
     let k = word_of(index, OWNER + x);
-    let at = word_of(index, STARTS + k);
-    &table[at..]
+    numbered(table, rules, index, k)
 }
 
 // The place of a name among the listed numbers, if it is listed.
@@ -263,9 +270,8 @@ fn rule_with(table: &[i32], rules: usize, index: &[u16], body: &[i32]) -> Option
     let mut p = word_of(index, BUCKET + hash_of(body));
     while 0 < p {
         let k = p - 1;
-        let at = word_of(index, STARTS + k);
-        let rest = &table[at..];
-        if words::is_same_list(body, tables::body_of(rest)) {
+        let rule = numbered(table, rules, index, k);
+        if words::is_same_list(body, rule.body()) {
             return Some(k);
         }
         p = word_of(index, BEFORE + k);
@@ -334,9 +340,8 @@ fn enter_rules(
     let mut p = word_of(index, BUCKET + hash_of(body));
     while 0 < p {
         let k = p - 1;
-        let at = word_of(index, STARTS + k);
-        let rest = &table[at..];
-        names[k] = queries::name_for(rest, body, name, names[k]);
+        let rule = numbered(table, rules, index, k);
+        names[k] = queries::name_for(&rule, body, name, names[k]);
         p = word_of(index, BEFORE + k);
     }
 }
@@ -391,13 +396,12 @@ pub fn enter(
     queries::enter(table, rules, body, name, names, bodies);
 }
 
-// The rule at the front is normal with just these heads, and `kept`, what is kept of it, is the name.
-fn completes(words: &[i32], heads: &[i32], name: usize, kept: usize) -> bool
-    requires { shape_sound words.now ≡ true }
-    ensures { result ≡ true → Completes words.now heads.now name kept }
+// The rule is normal with just these heads, and `kept`, what is kept of it, is the name.
+fn completes(rule: &Rule, heads: &[i32], name: usize, kept: usize) -> bool
+    ensures { result ≡ true → Completes rule.now.words.now heads.now name kept }
 {
     if kept == name {
-        return queries::is_normal_with(words, heads);
+        return queries::is_normal_with(rule, heads);
     }
     false
 }
@@ -421,9 +425,8 @@ fn is_found(
     }
     while 0 < p {
         let k = p - 1;
-        let at = word_of(index, STARTS + k);
-        let rest = &table[at..];
-        if completes(rest, heads, name, words::wide(names[k])) {
+        let rule = numbered(table, rules, index, k);
+        if completes(&rule, heads, name, words::wide(names[k])) {
             return true;
         }
         p = word_of(index, BEFORE + k);
@@ -474,15 +477,15 @@ fn note(row: &mut [i32], n: usize, name: u16) -> usize
     n + 1
 }
 
-// The name of the body of the rule at the front, unless a positive atom of it is in the set; none where it has no name.
-fn gather_rule(words: &[i32], inside: &[u8], name: u16, row: &mut [i32], n: usize) -> Option<usize>
-    requires { (shape_sound words.now ≡ true) × Row row.old n × (n ≤ most_held) }
-    ensures { (t : List ℤ) (rules : ℕ) (names : List ℕ) (k : ℕ) → words.now ≡ words_from k t → name ≡ get_or names k 0 → k < rules
+// The name of the body of the rule, unless a positive atom of it is in the set; none where it has no name.
+fn gather_rule(rule: &Rule, inside: &[u8], name: u16, row: &mut [i32], n: usize) -> Option<usize>
+    requires { Row row.old n × (n ≤ most_held) }
+    ensures { (t : List ℤ) (rules : ℕ) (names : List ℕ) (k : ℕ) → rule.now.words.now ≡ words_from k t → name ≡ get_or names k 0 → k < rules
         → any (is_inside inside.now) (heads_at (words_from k t)) ≡ true
         → Collected t rules names inside.now row.old n
         → Gathers t rules names inside.now (λ j. j ≡ k) row.old n row.new result }
 {
-    if queries::any_inside(tables::body_of(words), inside) {
+    if queries::any_inside(rule.body(), inside) {
         return Some(n);
     }
     if name == 0 {
@@ -513,9 +516,8 @@ fn gather_head(
     while 0 < p {
         let x = p - 1;
         let k = word_of(index, OWNER + x);
-        let at = word_of(index, STARTS + k);
-        let rest = &table[at..];
-        count = gather_rule(rest, inside, names[k], row, count)?;
+        let rule = numbered(table, rules, index, k);
+        count = gather_rule(&rule, inside, names[k], row, count)?;
         p = word_of(index, NEXT + x);
     }
     Some(count)

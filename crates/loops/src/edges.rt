@@ -4,13 +4,14 @@ ghost use Rattle.std.specs.Prelude.{◌≡◌, true, ◌&&◌, List, [], ◌∷�
 ghost use Rattle.words.specs.Limits.{largest, most_numbers};
 ghost use Rattle.words.specs.Lists.{any};
 ghost use Rattle.weights.specs.Weights.{paired, most_weighted};
-ghost use Rattle.aspif.specs.Tables.{rule_at, shape_sound, rules_at, sound_rules};
+ghost use Rattle.aspif.specs.Tables.{rule_at, rules_at, sound_rules};
 ghost use Rattle.heads.specs.Heads.{Covers, Indexed};
 ghost use Rattle.loops.specs.Relevance.{RelevantRule, Relevant};
 ghost use Rattle.loops.specs.Edges.{Members, place_by, Placed, Low, is_place, LowPlaces, is_at, cells, More, any_marked, rule_edge, Edges};
 ghost use Rattle.loops.specs.Edges.{Puts, Gathered};
 
 use aspif::tables;
+use aspif::tables::Rule;
 use heads::MOST_HEADS;
 use weights::MOST_WEIGHTED;
 use words::{ENTRIES, MOST_HELD, MOST_LITERALS, MOST_NUMBERS};
@@ -149,23 +150,23 @@ fn gather(heads: &[i32], places: &[u8], row: &mut [u8]) -> usize
     n
 }
 
-// The edges of the rule at the front; `relevant` has the entries of its pairs.
-fn mark_rule(words: &[i32], relevant: &[u8], places: &[u8], edges: &mut [u8])
-    requires rule { (shape_sound words.now ≡ true) × RelevantRule relevant.now (rule_at words.now) }
+// The edges of the rule; `relevant` has the entries of its pairs.
+fn mark_rule(rule: &Rule, relevant: &[u8], places: &[u8], edges: &mut [u8])
+    requires entries { RelevantRule relevant.now (rule_at rule.now.words.now) }
     requires sizes { (length edges.old ≡ cells) × Low places.now }
-    ensures { More (λ i j. rule_edge places.now i j (rule_at words.now))
+    ensures { More (λ i j. rule_edge places.now i j (rule_at rule.now.words.now))
         edges.old edges.new }
 {
     let mut row = [0u8; MOST_LITERALS];
-    let n = gather(tables::heads_of(words), places, &mut row);
+    let n = gather(rule.heads(), places, &mut row);
     if n == 0 {
         return;
     }
-    if tables::is_weighted(words) {
-        mark_pairs(tables::body_of(words), relevant, &row[..n], places, edges);
+    if rule.is_weighted() {
+        mark_pairs(rule.body(), relevant, &row[..n], places, edges);
         return;
     }
-    mark_body(tables::body_of(words), &row[..n], places, edges);
+    mark_body(rule.body(), &row[..n], places, edges);
 }
 
 // Where the entries of the next rule's pairs begin; the end where there are none.
@@ -187,14 +188,10 @@ fn scan(table: &[i32], rules: usize, relevant: &[u8], places: &[u8]) -> [u8; CEL
     ensures { Edges places.now (rules_at rules table.now) result }
 {
     let mut edges = [0u8; CELLS];
-    let mut left = rules;
-    let mut i = 0;
     let mut at = 0;
-    while 0 < left {
-        mark_rule(&table[i..], &relevant[at..], places, &mut edges);
-        i = tables::next_rule(table, i);
+    for rule in tables::rules_in(table, rules) {
+        mark_rule(&rule, &relevant[at..], places, &mut edges);
         at = next_entries(relevant, at);
-        left -= 1;
     }
     edges
 }
@@ -218,8 +215,8 @@ fn mark_chain(
     let mut p = heads::first_head(lookup, v);
     while 0 < p {
         let x = p - 1;
-        let words = heads::words_of(table, rules, lookup, x);
-        mark_body(tables::body_of(words), head, places, edges);
+        let rule = heads::rule_of(table, rules, lookup, x);
+        mark_body(rule.body(), head, places, edges);
         p = heads::next_head(lookup, x);
     }
 }

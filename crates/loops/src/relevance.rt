@@ -5,9 +5,10 @@ ghost use Rattle.words.specs.Literals.{variable, rising};
 ghost use Rattle.weights.specs.Weights.{sum, literals, paired, most_weighted, most_sum};
 ghost use Rattle.loops.specs.Relevance.{is_relevant, RelevantPairs, RelevantRule, Relevant, has_sum, others};
 ghost use Rattle.aspif.specs.Rules.{weights};
-ghost use Rattle.aspif.specs.Tables.{rule_at, sound_at, rules_at, sound_rules};
+ghost use Rattle.aspif.specs.Tables.{rule_at, rules_at, sound_rules};
 
 use aspif::tables;
+use aspif::tables::Rule;
 use weights::MOST_WEIGHTED;
 
 // Some of the pairs but that of the literal x add up to `low` or more and to less than `high`; `left` is what they all add up to.
@@ -61,15 +62,15 @@ fn fill_pairs(pairs: &[i32], bound: usize, entries: &mut [u8])
     }
 }
 
-// The entries of the rule at the front; they matter where it has heads and a weight body.
-fn fill_rule(words: &[i32], entries: &mut [u8])
-    requires { (sound_at words.now ≡ true) × (most_weighted ≤ length entries.old) }
-    ensures { RelevantRule entries.new (rule_at words.now) }
+// The entries of the rule; they matter where it has heads and a weight body.
+fn fill_rule(rule: &Rule, entries: &mut [u8])
+    requires { most_weighted ≤ length entries.old }
+    ensures { RelevantRule entries.new (rule_at rule.now.words.now) }
 {
-    if tables::is_weighted(words) {
-        let heads = tables::heads_of(words);
+    if rule.is_weighted() {
+        let heads = rule.heads();
         if 0 < heads.len() {
-            fill_pairs(tables::body_of(words), tables::bound_of(words), entries);
+            fill_pairs(rule.body(), rule.bound(), entries);
         }
     }
 }
@@ -80,13 +81,8 @@ pub fn fill(table: &[i32], rules: usize, relevant: &mut [u8])
     ensures { Relevant relevant.new (rules_at rules table.now) }
 {
     let mut at = 0;
-    let mut left = rules;
-    let mut i = 0;
-    while 0 < left {
-        let rest = &table[i..];
-        fill_rule(rest, &mut relevant[at..]);
+    for rule in tables::rules_in(table, rules) {
+        fill_rule(&rule, &mut relevant[at..]);
         at += MOST_WEIGHTED;
-        i = tables::next_rule(table, i);
-        left -= 1;
     }
 }

@@ -135,14 +135,9 @@ fn put_rules(version: Version, buffer: &mut [u8], at: usize, table: &[i32], rule
         buffer.new at result }
     ensures upper_bound { result ≤ last_rule_end }
 {
-    let mut left = rules;
-    let mut i = 0;
     let mut end = at;
-    while 0 < left {
-        let rest = &table[i..];
-        end = put_rule(version, buffer, end, rest);
-        i = tables::next_rule(table, i);
-        left -= 1;
+    for rule in tables::rules_in(table, rules) {
+        end = put_rule(version, buffer, end, rule.words);
     }
     end
 }

@@ -48,10 +48,8 @@ fn gather(h: i32, found: &[u8], row: &mut [i32]) -> usize
 {
     let end = words::larger(words::extent(found), words::variable_of(h) + 1);
     let mut count = 0;
-    let mut v = 1;
-    while v < end {
+    for v in 1..end {
         count = gather_one(h, found, v, row, count);
-        v += 1;
     }
     count
 }

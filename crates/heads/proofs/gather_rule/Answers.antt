@@ -7,8 +7,8 @@ use Rattle.heads.proofs.gather_rule.Goals as goal
 use Rattle.heads.proofs.gather_rule.Goals.{After-any_inside}
 
 tells : (c : After-any_inside)
-    → (let a = c.args in any (is_inside a.inside.now) (body_words_at a.words.now) ≡ c.any_inside.result)
-tells c = sym (c.any_inside.ensures ∙ ap (any (is_inside c.args.inside.now)) c.body_of.ensures)
+    → (let a = c.args in any (is_inside a.inside.now) (body_words_at a.rule.now.words.now) ≡ c.any_inside.result)
+tells c = sym (c.any_inside.ensures ∙ ap (any (is_inside c.args.inside.now)) c.body.ensures)
 
 pub returns-then-any_inside : goal.returns-then-any_inside
 returns-then-any_inside c =
