@@ -241,9 +241,8 @@ fn cheapest_read(
 }
 
 // Certifies a cheapest answer set: the set is an answer set of the program, and the proof shows that none costs less. The answer is the
-// set's cost. The table then
-// holds the program's rules, and the store is as the check of the proof for the restricted program leaves it, 0 throughout where the
-// set costs nothing; both are 0 throughout where anything is refused.
+// set's cost. The table then holds the program's rules, and the store is as the check of the proof for the restricted program leaves it,
+// 0 throughout where the set costs nothing; both are 0 throughout where anything is refused.
 pub fn check_cheapest(
     program: &[u8],
     set: &[u16],
