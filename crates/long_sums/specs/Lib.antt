@@ -2,4 +2,5 @@
 pub mod Numbers
 pub mod Ordering
 pub mod Program
+pub mod Props
 pub mod Service

@@ -4,6 +4,7 @@
 
 mod ordering;
 mod program;
+mod rules;
 
 ghost use Rattle.std.specs.Prelude.{◌≡◌, ◌&&◌, List, ℕ, suc, ◌≤◌, leb, length, Err};
 ghost use Rattle.words.specs.Limits.{largest, longest, most_rules};
