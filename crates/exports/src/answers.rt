@@ -2,18 +2,19 @@
 // code.
 ghost use Rattle.std.specs.Prelude.{◌≡◌, [], ◌∷◌, set};
 ghost use Rattle.std.proofs.lemmas.List.Edits.{sets};
+ghost use Rattle.aspif.specs.Numbers.{number_of};
 ghost use Rattle.exports.specs.Codes.{Told, program_code, program_numbers, set_code, set_numbers, line_code, line_numbers, writing_code, writing_numbers, reading_code, reading_numbers, verdict_code, verdict_numbers, count_numbers, merge_code, merge_numbers, trim_code, trim_numbers, cheapest_code, cheapest_numbers, split_code, split_numbers};
 
 use answer_set::{SetAnswer, SetFault};
-use aspif::{ProgramCounts, ProgramRefusal};
-use cheapest::CheapestAnswer;
+use aspif::{ProgramCounts, ProgramRefusal, Refusal};
+use cheapest::CheapestFault;
 use checker::{Counts, Verdict};
 use drupe::LineAnswer;
-use long_sums::SplitAnswer;
+use long_sums::{SplitCounts, SplitFault};
 use packets::{PacketReading, PacketWriting};
 use splits::MergeAnswer;
 use text::writing;
-use trimming::TrimAnswer;
+use trimming::TrimFault;
 
 // The codes of the cases to which document 01 gives no number.
 const READ: u32 = 0;
@@ -75,11 +76,16 @@ fn put_counts(answer: &mut [u64], counts: Counts)
     );
 }
 
+// What the program reader refuses: its number is the code, and its line is put.
+fn tell_refused(refusal: ProgramRefusal, answer: &mut [u64]) -> u32
+    ensures { Told (number_of refusal.fault) (refusal.line ∷ 0 ∷ []) answer.old answer.new result }
+{
+    put_two(answer, refusal.line, 0);
+    u32::from(u8::from(refusal.fault))
+}
+
 // The program reader's answer.
-pub fn tell_program(
-    reading: Result<ProgramCounts, ProgramRefusal>,
-    answer: &mut [u64],
-) -> u32
+pub fn tell_program(reading: Result<ProgramCounts, ProgramRefusal>, answer: &mut [u64]) -> u32
     ensures { Told (program_code reading) (program_numbers reading) answer.old answer.new result }
 {
     match reading {
@@ -87,10 +93,7 @@ pub fn tell_program(
             put_two(answer, counts.atoms, counts.rules);
             READ
         }
-        Err(refusal) => {
-            put_two(answer, refusal.line, 0);
-            u32::from(u8::from(refusal.fault))
-        }
+        Err(refusal) => tell_refused(refusal, answer),
     }
 }
 
@@ -198,57 +201,49 @@ pub fn tell_merge(merged: MergeAnswer, answer: &mut [u64]) -> u32
 }
 
 // The answer of the trimming of a proof.
-pub fn tell_trim(trimmed: TrimAnswer, answer: &mut [u64]) -> u32
+pub fn tell_trim(trimmed: Result<usize, Refusal<TrimFault>>, answer: &mut [u64]) -> u32
     ensures { Told (trim_code trimmed) (trim_numbers trimmed) answer.old answer.new result }
 {
     match trimmed {
-        TrimAnswer::Trimmed(bytes) => {
+        Ok(bytes) => {
             put(answer, 0, bytes);
             WRITTEN
         }
-        TrimAnswer::RefusedProgram(refusal) => {
-            put_two(answer, refusal.line, 0);
-            u32::from(u8::from(refusal.fault))
-        }
-        TrimAnswer::Refused(number) => number as u32,
+        Err(Refusal::Program(refusal)) => tell_refused(refusal, answer),
+        Err(Refusal::Service(fault)) => u32::from(u8::from(fault)),
     }
 }
 
 // The answer of the cheapest answer set.
-pub fn tell_cheapest(checked: CheapestAnswer, answer: &mut [u64]) -> u32
+pub fn tell_cheapest(checked: Result<usize, Refusal<CheapestFault>>, answer: &mut [u64]) -> u32
     ensures { Told (cheapest_code checked) (cheapest_numbers checked) answer.old answer.new result }
 {
     match checked {
-        CheapestAnswer::Cheapest(cost) => {
+        Ok(cost) => {
             put(answer, 0, cost);
             CHEAPEST
         }
-        CheapestAnswer::RefusedProgram(refusal) => {
-            put_two(answer, refusal.line, 0);
-            u32::from(u8::from(refusal.fault))
-        }
-        CheapestAnswer::Refused(number) => number as u32,
+        Err(Refusal::Program(refusal)) => tell_refused(refusal, answer),
+        Err(Refusal::Service(fault)) => u32::from(u8::from(fault)),
     }
 }
 
 // The answer of the splitting of long sums.
-pub fn tell_split(split: SplitAnswer, answer: &mut [u64]) -> u32
+pub fn tell_split(split: Result<SplitCounts, Refusal<SplitFault>>, answer: &mut [u64]) -> u32
     ensures { Told (split_code split) (split_numbers split) answer.old answer.new result }
 {
     match split {
-        SplitAnswer::Split {
-            bytes,
-            atoms,
-            rules,
-            old_atoms,
-        } => {
-            put_four(answer, bytes, atoms, rules, old_atoms);
+        Ok(counts) => {
+            put_four(
+                answer,
+                counts.bytes,
+                counts.atoms,
+                counts.rules,
+                counts.old_atoms,
+            );
             WRITTEN
         }
-        SplitAnswer::RefusedProgram(refusal) => {
-            put_two(answer, refusal.line, 0);
-            u32::from(u8::from(refusal.fault))
-        }
-        SplitAnswer::Refused(number) => number as u32,
+        Err(Refusal::Program(refusal)) => tell_refused(refusal, answer),
+        Err(Refusal::Service(fault)) => u32::from(u8::from(fault)),
     }
 }
