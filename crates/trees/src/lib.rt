@@ -15,8 +15,8 @@ ghost use Rattle.shapes.specs.Tree.{Shape, ends, most_splits};
 ghost use Rattle.trees.specs.Service.{tree_outcome, written_tree, tree_reading, MergedTree};
 ghost use Rattle.trees.specs.Sides.{Subtree, pending};
 
-use aspif::ProgramCounts;
 use crate::sides::{Place, Sided};
+use aspif::ProgramCounts;
 use checker::judging;
 use splits::MergeAnswer;
 use splits::halves::WIDE;
