@@ -1,5 +1,5 @@
-// The cheapest answer set: a set with its cost, and a proof that no answer set costs less. The public service is `check_cheapest`; what
-// it means is specs/Service.antt.
+// The cheapest answer set: a set with its cost, and a proof that no answer set costs less. The public service is
+// `check_cheapest`; what it means is specs/Service.antt.
 #![tactic(auto)]
 
 mod lists;
@@ -93,7 +93,8 @@ fn cost_of(set: &[u16], pairs: &[i32]) -> usize
     models::sum_held(pairs, &inside, &inside)
 }
 
-// 63 of the proof, for the program restricted to less than the cost, which is above 0. The pairs' literals stand sorted beside them.
+// 63 of the proof, for the program restricted to less than the cost, which is above 0. The pairs' literals stand
+// sorted beside them.
 fn judge_proof(
     proof: &[u8],
     pairs: &[i32],
@@ -235,9 +236,10 @@ fn cheapest_read(
     )
 }
 
-// Certifies a cheapest answer set: the set is an answer set of the program, and the proof shows that none costs less. The answer is the
-// set's cost. The table then holds the program's rules, and the store is as the check of the proof for the restricted program leaves it,
-// 0 throughout where the set costs nothing; both are 0 throughout where anything is refused.
+// Certifies a cheapest answer set: the set is an answer set of the program, and the proof shows that none costs less.
+// The answer is the set's cost. The table then holds the program's rules, and the store is as the check of the proof
+// for the restricted program leaves it, 0 throughout where the set costs nothing; both are 0 throughout where
+// anything is refused.
 pub fn check_cheapest(
     program: &[u8],
     set: &[u16],

@@ -1,5 +1,5 @@
-// A service's answer as a code and numbers: specs/Codes.antt. Each function puts the numbers into the lent buffer and returns the
-// code.
+// A service's answer as a code and numbers: specs/Codes.antt. Each function puts the numbers into the lent buffer and
+// returns the code.
 ghost use Rattle.std.specs.Prelude.{◌≡◌, [], ◌∷◌, set};
 ghost use Rattle.std.proofs.lemmas.List.Edits.{sets};
 ghost use Rattle.aspif.specs.Numbers.{number_of};

@@ -6,7 +6,7 @@
 use mathlib.Core.Path.{◌≡◌, refl, sym, ◌∙◌, ap, subst}
 use mathlib.Core.Option.{Option, none, some}
 use mathlib.Core.List.{List, [], ◌∷◌}
-use Prim.Native.Nat.{ℕ, ◌+◌, ◌-◌}
+use Prim.Native.Nat.{ℕ, ◌-◌}
 use native.Mathlib.Omega.{arith}
 use lib.Dec.{eqb, leb}
 use lib.IntN.{ℤ}
@@ -41,7 +41,8 @@ use Rattle.long_sums.specs.Service.{split_into, SplitLeft, is_group_size, is_wri
 use Rattle.exports.specs.Services.{ProgramService, CheapestService, SplitService}
 use Rattle.exports.specs.Codes.{Told, program_code, program_numbers, set_code, verdict_code, verdict_numbers, cheapest_code, cheapest_numbers, split_code, split_numbers}
 use Rattle.soundness.specs.Page.{IsCheapest, SoundReturned, OnlyReturned, SoundLongReturned, OnlyLongReturned, YesReturned, SoundSplitReturned, SoundSplitLongReturned, YesSplitReturned, FoundSplitReturned, OnlySplitReturned, CheapestReturned, OnlyCheapestReturned}
-use Rattle.soundness.proofs.Numbers.{Numbered, numbered}
+use Rattle.aspif.specs.Numbers.{number_of}
+use Rattle.soundness.proofs.Numbers.{numbered}
 use Rattle.soundness.proofs.Printed.{sound-printed, only-printed, sound-long, only-long, yes-printed}
 use Rattle.soundness.proofs.Split.{sound-split, sound-split-long, yes-split, only-split, found-split}
 use Rattle.soundness.proofs.Cheapest.{cheapest-printed, only-cheapest}
@@ -93,10 +94,10 @@ front-two (b ∷ []) e = absurd (zero_one (cc))
 front-two (b ∷ c ∷ before) e = (cc, cc)
 
 -- the program that was read is told by 0, N and R
-is_read : (x : Reading) → Numbered x → 0 ≡ program_code (program_answer x) → (before : List ℕ) {more : List ℕ} {N R : ℕ}
+is_read : (x : Reading) → 0 ≡ program_code (program_answer x) → (before : List ℕ) {more : List ℕ} {N R : ℕ}
     → N ∷ R ∷ more ≡ sets before 0 (program_numbers (program_answer x)) → program_answer x ≡ Ok (record { atoms = N; rules = R })
-is_read (refused k n) p e before w = absurd (omega (arith, p))
-is_read (program rs) p e before w = let f = front-two before w in rw (f.0, f.1) refl
+is_read (refused k n) e before w = absurd (let q : 0 ≡ number_of k = e in omega (arith, q, numbered k))
+is_read (program rs) e before w = let f = front-two before w in rw (f.0, f.1) refl
 
 -- an answer of which 0 is returned is yes
 abbrev OnlyYes : Result SetAnswer SetFault → Type 0
@@ -125,7 +126,7 @@ read-so {text} {table} {table'} {before} {N = N} {R = R} s =
     let x = read_text (length table) text in
     let q : program_answer x ≡ s.reading = sym s.read.answer in
     let taken : program_answer x ≡ Ok (record { atoms = N; rules = R }) =
-    is_read x (numbered (read_text (length table) text)) (s.told.returned ∙ ap program_code (sym q)) before (s.told.written ∙ ap (λ r. sets before 0 (program_numbers r)) (sym q)) in
+    is_read x (s.told.returned ∙ ap program_code (sym q)) before (s.told.written ∙ ap (λ r. sets before 0 (program_numbers r)) (sym q)) in
     subst (ProgramRead text table table') (sym q ∙ taken) s.read
 
 pub yes-returned : YesReturned
@@ -141,9 +142,9 @@ abbrev WrittenOnly : SplitLeft → Type 0
 WrittenOnly x = 0 ≡ split_code x.answer → (b : ℕ) × (a : ℕ) × (r : ℕ) × (n : ℕ) × (x.answer ≡ split_into b a r n)
 
 module _ (t o g : ℕ) where
-  reading-split : (x : Reading) → Numbered x → WrittenOnly (split_reading t o g x)
-  reading-split (refused k n) p = λ e. absurd (omega (arith, p))
-  reading-split (program rs) p =
+  reading-split : (x : Reading) → WrittenOnly (split_reading t o g x)
+  reading-split (refused k n) = λ e. absurd (let q : 0 ≡ number_of k = e in omega (arith, q, numbered k))
+  reading-split (program rs) =
       by-test WrittenOnly (is_group_size g)
       (λ q.
       by-test WrittenOnly (is_writable o (split_program (sorted_groups (g - 1)) rs)) (λ w e. (_, _, _, _, refl)) (λ w e. absurd (omega arith)))
@@ -151,7 +152,7 @@ module _ (t o g : ℕ) where
 
   split-only : (text : List ℕ) → WrittenOnly (split_text t o text g)
   unfolding split_text
-  split-only text = reading-split (read_text_within most_literals t text) (numbered (read_text_within most_literals t text))
+  split-only text = reading-split (read_text_within most_literals t text)
 
 front-four : {a b c d x y z w : ℕ} (before : List ℕ) {more : List ℕ} → x ∷ y ∷ z ∷ w ∷ more ≡ sets before 0 (a ∷ b ∷ c ∷ d ∷ []) → split_into a b c d ≡ split_into x y z w
 front-four [] e = absurd (zero_one (cc))
@@ -224,14 +225,14 @@ module _ (t s : ℕ) where
   with-costs ws set (some ks) proof =
       by-test OnlyCheap (good_costs (atoms ws) ks) (λ p. with-cost ws set ks (total (listed set) ks) proof) (λ p. nothing WrongCosts)
 
-  reading-only : (set : List ℕ) (costs : List ℤ) (proof : List ℕ) (x : Reading) → Numbered x → OnlyCheap (cheapest_reading t s set costs proof x)
-  reading-only set costs proof (refused k n) p = λ e. absurd (omega (arith, p))
-  reading-only set costs proof (program ws) p =
+  reading-only : (set : List ℕ) (costs : List ℤ) (proof : List ℕ) (x : Reading) → OnlyCheap (cheapest_reading t s set costs proof x)
+  reading-only set costs proof (refused k n) = λ e. absurd (let q : 0 ≡ number_of k = e in omega (arith, q, numbered k))
+  reading-only set costs proof (program ws) =
       by-test OnlyCheap (ascends 0 (atoms ws) set) (λ p. with-costs ws set (costs_of costs) proof) (λ p. nothing WrongSet)
 
   cheap-only : (text set : List ℕ) (costs : List ℤ) (proof : List ℕ) → OnlyCheap (cheapest t s text set costs proof)
   unfolding cheapest
-  cheap-only text set costs proof = reading-only set costs proof (read_text t text) (numbered (read_text t text))
+  cheap-only text set costs proof = reading-only set costs proof (read_text t text)
 
 -- where 0 is returned, the answer was a cost, and its number stands at the front of the buffer
 module _ {text l : List ℕ} {costs : List ℤ} {proof : List ℕ} {table store table' store' : List ℤ} {answer answer' : List ℕ}

@@ -47,7 +47,11 @@ use Rattle.long_sums.specs.declared.SplitFault.TheVariants.{WrongGroupSize, TooL
 use Rattle.soundness.specs.Page.{IsAnswerSet, HasNone, SoundSplit, SoundSplitLong, YesSplit, FoundSplit, ExtendsSplit, ReadSplit, OnlySplit}
 use Rattle.soundness.proofs.Printed.{InOrder, within-in-order, none_within, has-none, kept, as_written, as_read, yes-printed}
 use Rattle.soundness.proofs.Direct.{plain-set, direct-set}
-use Rattle.std.specs.Prelude.{Ok, Err}
+use Rattle.std.specs.Prelude.{Result, Ok, Err}
+use Rattle.aspif.specs.declared.ProgramCounts.{ProgramCounts}
+use Rattle.aspif.specs.declared.ProgramRefusal.{ProgramRefusal}
+use Rattle.long_sums.specs.declared.SplitCounts.{SplitCounts}
+use Rattle.aspif.specs.declared.ProgramFault.TheVariants.{TooLong}
 
 -- Rules that can be written, as question 66 asks
 pub record Writable (vs : List InputRule) : Type 0 where
@@ -87,7 +91,9 @@ pub record Wrote (ws : List InputRule) (text : List ℕ) (b a r N : ℕ) : Type 
   pub told : Told text b a r N rs (split_program (sorted_groups k) rs)
 
 same-split : {b a r n b' a' r' n' : ℕ} → split_into b a r n ≡ split_into b' a' r' n' → (b ≡ b') × (a ≡ a') × (r ≡ r') × (n ≡ n')
-same-split e = (cc, cc, cc, cc)
+same-split {b} {a} {r} {n} {b'} {a'} {r'} {n'} e =
+    let c : ◌≡◌ {A = SplitCounts} (record { bytes = b; atoms = a; rules = r; old_atoms = n }) (record { bytes = b'; atoms = a'; rules = r'; old_atoms = n' }) = cc in
+    (ap (λ (x : SplitCounts). x.bytes) c, ap (λ (x : SplitCounts). x.atoms) c, ap (λ (x : SplitCounts). x.rules) c, ap (λ (x : SplitCounts). x.old_atoms) c)
 
 module _ (ws : List InputRule) (g : ℕ) (table table' : List ℤ) (output output' : List ℕ) (b a r N : ℕ) where
   abbrev t : ℕ
@@ -177,7 +183,7 @@ module _ {ws : List InputRule} {text : List ℕ} {b a r N : ℕ} (w : Wrote ws t
 
   pub reads : (size : ℕ) → length text ≤ size → read_text size (program_text vs) ≡ program vs
   unfolding read_text
-  reads size h = ap (λ c. cond c (read_lines size (program_text vs)) (refused 1 0)) (le-leb (length (program_text vs)) longest w.told.can.short) ∙ lines size h
+  reads size h = ap (λ c. cond c (read_lines size (program_text vs)) (refused TooLong 0)) (le-leb (length (program_text vs)) longest w.told.can.short) ∙ lines size h
 
   -- The whole check
 
@@ -256,7 +262,8 @@ read-split ws g table table' output output' b a r N s words words' c h p =
     let w = wrote ws g table table' output output' b a r N s in
     let q = subst (λ (x : List ℕ). ProgramRead x words words' c) w.told.is p in
     let n : length (take b output') ≤ length words = omega (arith, h, w.told.bytes, ap length w.told.is) in
-    q.answer ∙ ap program_answer (reads w (length words) n) ∙ ap₂ (λ (x y : ℕ). Ok (record { atoms = x; rules = y })) (sym w.told.atoms_are) (sym w.told.rules)
+    let counts : (m k : ℕ) → Result ProgramCounts ProgramRefusal = λ m k. Ok (record { atoms = m; rules = k }) in
+    q.answer ∙ ap program_answer (reads w (length words) n) ∙ ap₂ counts (sym w.told.atoms_are) (sym w.told.rules)
 
 pub sound-split : SoundSplit
 sound-split ws g table table' output output' b a r N s = sound-wrote (wrote ws g table table' output output' b a r N s) longest

@@ -56,9 +56,10 @@ fn trim_read(
     Ok(n)
 }
 
-// Leaves of a proof only what it needs: no step could go alone. The answer is the trimmed text's length. That text stands at the front
-// of the lent text, with zero bytes after it; the table then holds the program's rules, and the store is as the check of the trimmed
-// text leaves it. Where the program is refused, or the proof is not accepted, the text is untouched and table and store are 0 throughout.
+// Leaves of a proof only what it needs: no step could go alone. The answer is the trimmed text's length. That text
+// stands at the front of the lent text, with zero bytes after it; the table then holds the program's rules, and the
+// store is as the check of the trimmed text leaves it. Where the program is refused, or the proof is not accepted,
+// the text is untouched and table and store are 0 throughout.
 pub fn trim_proof(
     program: &[u8],
     text: &mut [u8],
