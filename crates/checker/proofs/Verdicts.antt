@@ -14,7 +14,11 @@ use Rattle.words.specs.Lists.{any}
 use Rattle.aspif.specs.Rules.{Rule, InputRule, expand, is_empty, atoms, table_words}
 use Rattle.aspif.specs.Reading.{Reading, program, read_text, read_lines, program_answer, table_of}
 use Rattle.aspif.specs.declared.ProgramCounts.{ProgramCounts}
+use Rattle.aspif.specs.declared.ProgramFault.{ProgramFault}
+use Rattle.aspif.specs.declared.ProgramFault.TheVariants.{TooLong}
 use Rattle.aspif.specs.declared.ProgramRefusal.{ProgramRefusal}
+use Rattle.aspif.specs.declared.Refusal.{Refusal}
+use Rattle.aspif.specs.declared.Refusal.TheVariants as Refused
 use Rattle.aspif.specs.Tables.{rules_at}
 use Rattle.aspif.proofs.Cursors.{few-rules, sound-rules, atoms-small, rules-of}
 use Rattle.aspif.proofs.Readable.{table-read}
@@ -32,7 +36,8 @@ use Rattle.checker.specs.declared.Verdict.{Verdict}
 use Rattle.checker.specs.declared.Verdict.TheVariants.{RefusedProgram, RefusedProof}
 use Rattle.runs.specs.declared.Run.{Run}
 use Rattle.runs.specs.declared.Run.TheVariants.{Stopped, Through}
-use Rattle.std.specs.Prelude.{Result, Ok, Err}
+use Rattle.std.specs.Prelude.{Result, Ok, Err, IsErrAnd}
+use Rattle.std.proofs.lemmas.Result.{err_from_is_err_and}
 
 -- The proof's lines
 
@@ -91,20 +96,24 @@ pub lines-read : (t : ℕ) (text : List ℕ) (P : List InputRule) → read_text 
 unfolding read_text
 lines-read t text P e = by (leb (length text) longest) e
   where
-    by : (b : Bool) → cond b (read_lines t text) (Reading.refused 1 0) ≡ program P → read_lines t text ≡ program P
+    by : (b : Bool) → cond b (read_lines t text) (Reading.refused TooLong 0) ≡ program P → read_lines t text ≡ program P
     by true e = e
     by false e = absurd (zero_one (cc))
 
 -- a program that is not read: what a service says of its refusal and of a table of zeros
 pub unread : (t : ℕ) (text : List ℕ) {r : Result ProgramCounts ProgramRefusal} → r ≡ program_answer (read_text t text) → {table : List ℤ} → table ≡ table_of t (read_text t text)
     → {A : Type 0} (f : Reading → A) (g : ProgramRefusal → List ℤ → A)
-    → ((k n : ℕ) → g (record { number = k; line = n }) (replicate t (pos 0)) ≡ f (Reading.refused k n))
+    → ((k : ProgramFault) (n : ℕ) → g (record { fault = k; line = n }) (replicate t (pos 0)) ≡ f (Reading.refused k n))
     → (x : ProgramRefusal) → r ≡ Err x → g x table ≡ f (read_text t text)
 unread t text answer {table} words f g same x e = by (read_text t text) (sym answer ∙ e) words
   where
     by : (d : Reading) → program_answer d ≡ Err x → table ≡ table_of t d → g x table ≡ f d
-    by (Reading.refused k n) e w = let p : x ≡ record { number = k; line = n } = cc in rw (p, w) (same k n)
+    by (Reading.refused k n) e w = let p : x ≡ record { fault = k; line = n } = cc in rw (p, w) (same k n)
     by (program P) e w = absurd (zero_one (cc))
+
+-- what `?` answers of a program that is not read
+pub handed-on : {T F : Type 0} (r : Result T (Refusal F)) {x : ProgramRefusal} → IsErrAnd r (λ y. y ≡ Refused.Program x) → r ≡ Err (Refused.Program x)
+handed-on {F = F} r h = let e = err_from_is_err_and r h in e.1 ∙ ap (λ (y : Refusal F). Err y) e.2
 
 module _ (t s : ℕ) (text proof : List ℕ) {r : Result ProgramCounts ProgramRefusal} (answer : r ≡ program_answer (read_text t text)) {table : List ℤ} (words : table ≡ table_of t (read_text t text)) where
   pub program-refused : (limit : ℕ) (x : ProgramRefusal) {store : List ℤ} → r ≡ Err x → store ≡ replicate s (pos 0)
@@ -126,7 +135,9 @@ module _ (t s : ℕ) (text proof : List ℕ) {r : Result ProgramCounts ProgramRe
     where
       by : (d : Reading) → read_text t text ≡ d → program_answer d ≡ Ok (record { atoms = N; rules = R }) → table ≡ table_of t d → ReadProgram N R
       by (Reading.refused k n) q e w = absurd (zero_one (cc))
-      by (program P) q e w = record { P = P; read = q; top = cc; count = cc; rules = w }
+      by (program P) q e w =
+          let c : record { atoms = atoms P; rules = length P } ≡ record { atoms = N; rules = R } = cc in
+          record { P = P; read = q; top = sym (ap (λ (x : ProgramCounts). x.atoms) c); count = ap (λ (x : ProgramCounts). x.rules) c; rules = w }
 
   pub check-read : (limit : ℕ) {N R : ℕ} (p : ReadProgram N R)
       → check_within limit text proof t s ≡ judged t s p.P (course_within limit (atoms p.P) (expand p.P) s proof)

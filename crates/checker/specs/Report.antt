@@ -3,6 +3,7 @@
 use Rattle.std.specs.Prelude.{List, [], ◌∷◌, ◌++◌, ℕ}
 use Rattle.text.specs.Decimals.{decimal}
 use Rattle.text.specs.Strings.{bytes}
+use Rattle.aspif.specs.Numbers.{number_of}
 use Rattle.checker.specs.Check.{check}
 use Rattle.checker.specs.declared.Counts.{Counts}
 use Rattle.checker.specs.declared.Verdict.{Verdict}

@@ -21,7 +21,7 @@ module _ (c : In-Ok) where
   abbrev read : ProgramRead c.args.program.now c.args.table.now c.read_program-read.new.table c.read_program-read.result
   read = c.read_program-read.ensures
 
-  found : ReadProgram (length c.args.table.now) (length c.args.store.now) c.args.program.now c.args.proof.now read.answer read.table c.in-Ok.atoms c.in-Ok.rules
+  found : ReadProgram (length c.args.table.now) (length c.args.store.now) c.args.program.now c.args.proof.now read.answer read.table c.in-Ok.field-0.atoms c.in-Ok.field-0.rules
   found = program-read _ _ _ _ read.answer read.table _ _ c.in-Ok.is
 
 pub check_within-verdict-requires : goal.check_within-verdict-requires
