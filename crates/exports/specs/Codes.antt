@@ -19,10 +19,10 @@ use Rattle.packets.specs.declared.PacketReading.TheVariants as Reading
 use Rattle.checker.specs.declared.Counts.{Counts}
 use Rattle.checker.specs.declared.Verdict.{Verdict}
 use Rattle.checker.specs.declared.Verdict.TheVariants.{Inconsistent, Open, RefusedProgram, RefusedProof}
-use Rattle.splits.specs.declared.MergeAnswer.{MergeAnswer}
-use Rattle.splits.specs.declared.MergeAnswer.TheVariants as Merge
 use Rattle.aspif.specs.declared.Refusal.{Refusal}
 use Rattle.aspif.specs.declared.Refusal.TheVariants.{Program, Service}
+use Rattle.splits.specs.Service.{MergeAnswer}
+use Rattle.splits.specs.Numbers.{number_of as merge_number}
 use Rattle.trimming.specs.Service.{TrimAnswer}
 use Rattle.trimming.specs.Numbers.{number_of as trim_number}
 use Rattle.cheapest.specs.Service.{CheapestAnswer}
@@ -112,19 +112,6 @@ verdict_numbers (Open c) = count_numbers c
 verdict_numbers (RefusedProgram r) = number_of r.fault ∷ r.line ∷ []
 verdict_numbers (RefusedProof r) = r.number ∷ r.step ∷ []
 
--- The merge of two halves, and of a tree: 0 with the bytes of the text written; the program's number and line, as its reader tells them; 57 to 59, and
--- 64 of a tree
-
-abbrev pub merge_code : MergeAnswer → ℕ
-merge_code (Merge.Merged n) = 0
-merge_code (Merge.RefusedProgram r) = number_of r.fault
-merge_code (Merge.Refused k) = k
-
-abbrev pub merge_numbers : MergeAnswer → List ℕ
-merge_numbers (Merge.Merged n) = n ∷ []
-merge_numbers (Merge.RefusedProgram r) = r.line ∷ 0 ∷ []
-merge_numbers (Merge.Refused k) = []
-
 -- What a service over a program text refuses: the program's number and line, as its reader tells them, or a number of its own
 
 abbrev pub refusal_code : {F : Type 0} → (number : F → ℕ) → Refusal F → ℕ
@@ -134,6 +121,17 @@ refusal_code number (Service k) = number k
 abbrev pub refusal_numbers : {F : Type 0} → Refusal F → List ℕ
 refusal_numbers (Program r) = r.line ∷ 0 ∷ []
 refusal_numbers (Service k) = []
+
+-- The merge of two halves, and of a tree: 0 with the bytes of the text written; the program's number and line, as its reader tells them; 57 to 59, and
+-- 64 of a tree
+
+abbrev pub merge_code : MergeAnswer → ℕ
+merge_code (Ok n) = 0
+merge_code (Err r) = refusal_code merge_number r
+
+abbrev pub merge_numbers : MergeAnswer → List ℕ
+merge_numbers (Ok n) = n ∷ []
+merge_numbers (Err r) = refusal_numbers r
 
 -- The trimming of a proof: 0 with the bytes of the text that is left; the program's number and line; 60
 

@@ -12,7 +12,7 @@ use checker::{Counts, Verdict};
 use drupe::LineAnswer;
 use long_sums::{SplitCounts, SplitFault};
 use packets::{PacketReading, PacketWriting};
-use splits::MergeAnswer;
+use splits::MergeFault;
 use text::writing;
 use trimming::TrimFault;
 
@@ -104,7 +104,7 @@ pub fn tell_set(tested: Result<SetAnswer, SetFault>, answer: &mut [u64]) -> u32
     match tested {
         Ok(SetAnswer::Yes) => YES,
         Ok(SetAnswer::Differs(atom)) => {
-            put(answer, 0, atom as usize);
+            put(answer, 0, usize::from(atom));
             DIFFERS
         }
         Ok(SetAnswer::Broken(rule)) => {
@@ -126,10 +126,10 @@ pub fn tell_line(line: LineAnswer, answer: &mut [u64]) -> u32
             next,
         } => {
             put_two(answer, count, next);
-            writing::byte_of(letter) as u32
+            u32::from(writing::byte_of(letter))
         }
         LineAnswer::End => END,
-        LineAnswer::Refused(number) => number as u32,
+        LineAnswer::Refused(number) => u32::from(number),
     }
 }
 
@@ -142,7 +142,7 @@ pub fn tell_writing(written: PacketWriting, answer: &mut [u64]) -> u32
             put(answer, 0, bytes);
             WRITTEN
         }
-        PacketWriting::Refused(number) => number as u32,
+        PacketWriting::Refused(number) => u32::from(number),
     }
 }
 
@@ -155,7 +155,7 @@ pub fn tell_reading(read: PacketReading, answer: &mut [u64]) -> u32
             put_two(answer, rules, bytes);
             READ
         }
-        PacketReading::Refused(number) => number as u32,
+        PacketReading::Refused(number) => u32::from(number),
     }
 }
 
@@ -177,26 +177,23 @@ pub fn tell_verdict(verdict: Verdict, answer: &mut [u64]) -> u32
             REFUSED_PROGRAM
         }
         Verdict::RefusedProof(refusal) => {
-            put_two(answer, refusal.number as usize, refusal.step);
+            put_two(answer, usize::from(refusal.number), refusal.step);
             REFUSED_PROOF
         }
     }
 }
 
 // The answer of the merge of two halves, and of a tree.
-pub fn tell_merge(merged: MergeAnswer, answer: &mut [u64]) -> u32
+pub fn tell_merge(merged: Result<usize, Refusal<MergeFault>>, answer: &mut [u64]) -> u32
     ensures { Told (merge_code merged) (merge_numbers merged) answer.old answer.new result }
 {
     match merged {
-        MergeAnswer::Merged(bytes) => {
+        Ok(bytes) => {
             put(answer, 0, bytes);
             WRITTEN
         }
-        MergeAnswer::RefusedProgram(refusal) => {
-            put_two(answer, refusal.line, 0);
-            u32::from(u8::from(refusal.fault))
-        }
-        MergeAnswer::Refused(number) => number as u32,
+        Err(Refusal::Program(refusal)) => tell_refused(refusal, answer),
+        Err(Refusal::Service(fault)) => u32::from(u8::from(fault)),
     }
 }
 
