@@ -19,8 +19,9 @@ use Rattle.packets.specs.declared.PacketReading.TheVariants as Reading
 use Rattle.checker.specs.declared.Counts.{Counts}
 use Rattle.checker.specs.declared.Verdict.{Verdict}
 use Rattle.checker.specs.declared.Verdict.TheVariants.{Inconsistent, Open, RefusedProgram, RefusedProof}
-use Rattle.splits.specs.declared.MergeAnswer.{MergeAnswer}
-use Rattle.splits.specs.declared.MergeAnswer.TheVariants as Merge
+use Rattle.aspif.specs.declared.Refusal.TheVariants.{Program, Service}
+use Rattle.splits.specs.Service.{MergeAnswer}
+use Rattle.splits.specs.Numbers.{number_of as merge_number}
 use Rattle.trimming.specs.declared.TrimAnswer.{TrimAnswer}
 use Rattle.trimming.specs.declared.TrimAnswer.TheVariants as Trim
 use Rattle.cheapest.specs.declared.CheapestAnswer.{CheapestAnswer}
@@ -114,14 +115,14 @@ verdict_numbers (RefusedProof r) = r.number ∷ r.step ∷ []
 -- 64 of a tree
 
 abbrev pub merge_code : MergeAnswer → ℕ
-merge_code (Merge.Merged n) = 0
-merge_code (Merge.RefusedProgram r) = number_of r.fault
-merge_code (Merge.Refused k) = k
+merge_code (Ok n) = 0
+merge_code (Err (Program r)) = number_of r.fault
+merge_code (Err (Service fault)) = merge_number fault
 
 abbrev pub merge_numbers : MergeAnswer → List ℕ
-merge_numbers (Merge.Merged n) = n ∷ []
-merge_numbers (Merge.RefusedProgram r) = r.line ∷ 0 ∷ []
-merge_numbers (Merge.Refused k) = []
+merge_numbers (Ok n) = n ∷ []
+merge_numbers (Err (Program r)) = r.line ∷ 0 ∷ []
+merge_numbers (Err (Service fault)) = []
 
 -- The trimming of a proof: 0 with the bytes of the text that is left; the program's number and line, as its reader tells them; 60
 

@@ -13,8 +13,7 @@ use Rattle.drupe.specs.Lines.{line_read, line_answer, numbers_of}
 use Rattle.packets.specs.Packets.{version_of, reading_of, reading_answer, table_left, text_left, PacketWritten, writing_of, writing_answer, packet_left}
 use Rattle.checker.specs.Check.{CheckedTexts, CheckedLong}
 use Rattle.checker.specs.declared.Verdict.{Verdict}
-use Rattle.splits.specs.Service.{MergedHalves}
-use Rattle.splits.specs.declared.MergeAnswer.{MergeAnswer}
+use Rattle.splits.specs.Service.{MergeAnswer, MergedHalves}
 use Rattle.trees.specs.Service.{MergedTree}
 use Rattle.trimming.specs.Service.{TrimmedProof}
 use Rattle.trimming.specs.declared.TrimAnswer.{TrimAnswer}

@@ -5,13 +5,13 @@ ghost use Rattle.std.proofs.lemmas.List.Edits.{sets};
 ghost use Rattle.exports.specs.Codes.{Told, program_code, program_numbers, set_code, set_numbers, line_code, line_numbers, writing_code, writing_numbers, reading_code, reading_numbers, verdict_code, verdict_numbers, count_numbers, merge_code, merge_numbers, trim_code, trim_numbers, cheapest_code, cheapest_numbers, split_code, split_numbers};
 
 use answer_set::{SetAnswer, SetFault};
-use aspif::{ProgramCounts, ProgramRefusal};
+use aspif::{ProgramCounts, ProgramRefusal, Refusal};
 use cheapest::CheapestAnswer;
 use checker::{Counts, Verdict};
 use drupe::LineAnswer;
 use long_sums::SplitAnswer;
 use packets::{PacketReading, PacketWriting};
-use splits::MergeAnswer;
+use splits::MergeFault;
 use text::writing;
 use trimming::TrimAnswer;
 
@@ -181,19 +181,19 @@ pub fn tell_verdict(verdict: Verdict, answer: &mut [u64]) -> u32
 }
 
 // The answer of the merge of two halves, and of a tree.
-pub fn tell_merge(merged: MergeAnswer, answer: &mut [u64]) -> u32
+pub fn tell_merge(merged: Result<usize, Refusal<MergeFault>>, answer: &mut [u64]) -> u32
     ensures { Told (merge_code merged) (merge_numbers merged) answer.old answer.new result }
 {
     match merged {
-        MergeAnswer::Merged(bytes) => {
+        Ok(bytes) => {
             put(answer, 0, bytes);
             WRITTEN
         }
-        MergeAnswer::RefusedProgram(refusal) => {
+        Err(Refusal::Program(refusal)) => {
             put_two(answer, refusal.line, 0);
             u32::from(u8::from(refusal.fault))
         }
-        MergeAnswer::Refused(number) => number as u32,
+        Err(Refusal::Service(fault)) => u32::from(u8::from(fault)),
     }
 }
 

@@ -5,7 +5,6 @@ use mathlib.Core.Logic.{◌⊎◌, inl, inr}
 use mathlib.Core.Bool.{Bool, true, false, cond, ◌&&◌, true≢false}
 use mathlib.Core.List.{List, [], ◌∷◌, ◌++◌}
 use Prim.Native.Nat.{ℕ, ◌+◌, ◌-◌}
-use native.Mathlib.Omega.{arith}
 use lib.Dec.{leb}
 use lib.IntN.{ℤ, pos, neg_ℤ}
 use lib.ListN.{length, take, replicate}
@@ -32,11 +31,12 @@ use Rattle.merging.specs.Merge.{all_fit}
 use Rattle.merging.specs.Claims.{Accepted, InOr34, AcceptedAsWritten, demanding_as_written}
 use Rattle.merging.specs.Claims as Claims
 use Rattle.merging.proofs.AsWritten.{unsized-as-written, merged-as-written}
-use Rattle.splits.specs.declared.MergeAnswer.{MergeAnswer}
-use Rattle.splits.specs.declared.MergeAnswer.TheVariants.{Merged, RefusedProgram, Refused}
-use Rattle.splits.specs.Service.{are_halves, steps_in, merged_steps, is_writable, MergeLeft, leaves_nothing, judged_text, merged_reading, merge}
+use Rattle.splits.specs.Service.{are_halves, steps_in, merged_steps, is_writable, MergeLeft, leaves_nothing, judged_text, merged_reading, merge, MergeAnswer}
 use Rattle.splits.specs.Claims.{PastStore, MergedEnds, MergedText, Demand3Merged, AsChecked}
 use Rattle.splits.proofs.Stopping.{never-past, goes-past}
+use Rattle.splits.specs.declared.MergeFault.TheVariants.{NotAccepted, NotWritable, StoreFull}
+use Rattle.aspif.specs.declared.Refusal.TheVariants.{Program, Service}
+use Rattle.std.specs.Prelude.{Ok, Err}
 
 -- Steps with question 34, as a course
 
@@ -157,9 +157,9 @@ pub record Judged (t s o : ℕ) (v : ℕ) (first second : List ℕ) (r : Reading
 
 -- neither of these three
 abbrev Passes : MergeAnswer → Type 0
-Passes (Merged n) = Unit {0}
-Passes (RefusedProgram x) = ⊥
-Passes (Refused k) = k ≡ 59
+Passes (Ok n) = Unit {0}
+Passes (Err (Program x)) = ⊥
+Passes (Err (Service k)) = k ≡ StoreFull
 
 judged-answer : (t s o : ℕ) (v : ℕ) (first second : List ℕ) (r : Reading) → Passes (merged_reading t s o v first second r).answer → Judged t s o v first second r
 judged-answer t s o v first second (Reading.refused k n) p = absurd p
@@ -169,10 +169,10 @@ judged-answer t s o v first second (program ws) p = by (are_halves s ws v first 
     judgement = judged_text t s o ws (text_of (merged_steps ws v first second)) (course (atoms ws) (expand ws) s (text_of (merged_steps ws v first second)))
 
     by : (a : Bool) → are_halves s ws v first second ≡ a → (b : Bool) → is_writable o (merged_steps ws v first second) ≡ b
-        → Passes (cond a (cond b judgement (leaves_nothing t s o (Refused 58))) (leaves_nothing t s o (Refused 57))).answer → Judged t s o v first second (program ws)
+        → Passes (cond a (cond b judgement (leaves_nothing t s o (Err (Service NotWritable)))) (leaves_nothing t s o (Err (Service NotAccepted)))).answer → Judged t s o v first second (program ws)
     by true e true f p = record { rules = ws; read = refl; halves = e; writable = f; left = rw (e, f) refl }
-    by true e false f p = absurd (omega (arith, p))
-    by false e b f p = absurd (omega (arith, p))
+    by true e false f p = let q : NotWritable ≡ StoreFull = p in absurd (zero_one (cc))
+    by false e b f p = let q : NotAccepted ≡ StoreFull = p in absurd (zero_one (cc))
 
 pub demand3-merged : Demand3Merged
 unfolding merge
@@ -183,20 +183,20 @@ demand3-merged text v first second table store table' store' output output' r e 
     let short = if-true (leb-decides _ longest) (and_left (leb (length (text_of (merged_steps J.rules v first second))) longest) _ (and_right (all_fit (merged_steps J.rules v first second)) _ w)) in
     (J.rules, J.read, (merged-text text (length table) (length store) J.rules J.read v first second J.halves fit short).1)
   where
-    passes : (r : MergeAnswer) → ((n : ℕ) × (r ≡ Merged n)) ⊎ (r ≡ Refused 59) → {x : MergeAnswer} → r ≡ x → Passes x
+    passes : (r : MergeAnswer) → ((n : ℕ) × (r ≡ Ok n)) ⊎ (r ≡ Err (Service StoreFull)) → {x : MergeAnswer} → r ≡ x → Passes x
     passes r (inl q) p = subst Passes (sym q.1 ∙ p) tt
     passes r (inr q) p = subst Passes (sym q ∙ p) refl
 
 -- a text that was judged and written is found inconsistent by the check, which leaves the same table and store
 module _ (text : List ℕ) (t s o n : ℕ) (table' store' : List ℤ) (output' : List ℕ) where
   abbrev left : MergeLeft
-  left = record { answer = Merged n; table = table'; store = store'; output = output' }
+  left = record { answer = Ok n; table = table'; store = store'; output = output' }
 
   abbrev Goal : Type 0
   Goal = (c : Counts) × (check text (take n output') t s ≡ record { verdict = Inconsistent c; table = table'; store = store' })
 
-  full : left ≡ leaves_nothing t s o (Refused 59) → ⊥
-  full q = let i : ◌≡◌ {A = MergeAnswer} (Merged n) (Refused 59) = ap (λ (x : MergeLeft). x.answer) q in zero_one (cc)
+  full : left ≡ leaves_nothing t s o (Err (Service StoreFull)) → ⊥
+  full q = let i : ◌≡◌ {A = MergeAnswer} (Ok n) (Err (Service StoreFull)) = ap (λ (x : MergeLeft). x.answer) q in zero_one (cc)
 
   pub judged-checked : (ws : List InputRule) → read_text t text ≡ program ws → (p : List ℕ) (c : Course) → course (atoms ws) (expand ws) s p ≡ c
       → left ≡ judged_text t s o ws p c → Goal
@@ -205,12 +205,12 @@ module _ (text : List ℕ) (t s o n : ℕ) (table' store' : List ℤ) (output' :
   judged-checked ws q p (through m z b) r f = ends (empty_live z) refl f
     where
       done : MergeLeft
-      done = record { answer = Merged (length p); table = table_words t ws; store = store_words s b; output = p ++ replicate (o - length p) 0 }
+      done = record { answer = Ok (length p); table = table_words t ws; store = store_words s b; output = p ++ replicate (o - length p) 0 }
 
-      ends : (l : Bool) → empty_live z ≡ l → left ≡ cond l done (leaves_nothing t s o (Refused 59)) → Goal
+      ends : (l : Bool) → empty_live z ≡ l → left ≡ cond l done (leaves_nothing t s o (Err (Service StoreFull))) → Goal
       ends false g f = absurd (full f)
       ends true g f =
-          let j : ◌≡◌ {A = MergeAnswer} (Merged n) (Merged (length p)) = ap (λ (x : MergeLeft). x.answer) f in
+          let j : ◌≡◌ {A = MergeAnswer} (Ok n) (Ok (length p)) = ap (λ (x : MergeLeft). x.answer) f in
           let i : n ≡ length p = cc in
           let a : table' ≡ table_words t ws = ap (λ (x : MergeLeft). x.table) f in
           let d : store' ≡ store_words s b = ap (λ (x : MergeLeft). x.store) f in
