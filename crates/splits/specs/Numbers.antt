@@ -1,4 +1,5 @@
--- The numbers of the questions that a merge can fail besides its program's own: document 02, 57 to 59 of Change 9, and 64 of Change 14.
+-- The numbers of the questions that a merge can fail besides its program's own: document 02, 57 to 59 of Change 9, and
+-- 64 of Change 14.
 -- Assumes nothing.
 use Rattle.std.specs.Prelude.{ℕ}
 use Rattle.splits.specs.declared.MergeFault.{MergeFault}

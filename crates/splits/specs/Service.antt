@@ -38,7 +38,8 @@ merged_steps ws v first second = merged_as_written ws v (steps_in first) (steps_
 abbrev pub is_writable : (size : ℕ) → List Step → Bool
 is_writable size ts = all_fit ts && (leb (length (text_of ts)) longest && leb (length (text_of ts)) size)
 
--- the length of the text written; or what is wrong with the program and the line, or the question of the merge's own that is failed
+-- the length of the text written; or what is wrong with the program and the line, or the question of the merge's own
+-- that is failed
 abbrev pub MergeAnswer : Type 0
 MergeAnswer = Result ℕ (Refusal MergeFault)
 

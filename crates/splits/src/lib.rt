@@ -21,8 +21,8 @@ ghost use Rattle.aspif.specs.declared.Refusal.TheVariants.{Service};
 use aspif::{ProgramCounts, Refusal};
 use checker::judging;
 
-// What is wrong with what is to be merged, by the first question that it fails; the last is asked of a tree alone. `u8::from` gives the
-// question's number.
+// What is wrong with what is to be merged, by the first question that it fails; the last is asked of a tree alone.
+// `u8::from` gives the question's number.
 #[derive(Clone, Copy, PartialEq, Eq)]
 pub enum MergeFault {
     NotAccepted,

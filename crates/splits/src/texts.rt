@@ -178,7 +178,8 @@ fn within(wrote: Option<usize>, size: usize) -> Result<usize, MergeFault>
     }
 }
 
-// 57 and 58: the halves are accepted, and the merged text is written. The answer is how many bytes it has, which stand in the output.
+// 57 and 58: the halves are accepted, and the merged text is written. The answer is how many bytes it has, which stand
+// in the output.
 fn write_halves(
     first: &[u8],
     second: &[u8],

@@ -62,7 +62,8 @@ both_taken n a b =
 
 -- The sides
 
--- a text that is still to be checked, and the question that it fails if it is not accepted: with a store of s words, for the program ws
+-- a text that is still to be checked, and the question that it fails if it is not accepted: with a store of s words, for
+-- the program ws
 abbrev pub pending : (s : ℕ) → List InputRule → (text : List ℕ) → (fault : MergeFault) → Side
 pending s ws text k = cond (is_accepted s ws text) (gives text) (fails k)
 

@@ -22,7 +22,8 @@ use splits::MergeFault;
 use splits::halves::WIDE;
 use words::LONGEST;
 
-// The last check, that of the text with the lent table and store, which fails the question given. 58 of a root end comes after it.
+// The last check, that of the text with the lent table and store, which fails the question given. 58 of a root end comes
+// after it.
 fn write_out(
     text: &[u8],
     fault: MergeFault,

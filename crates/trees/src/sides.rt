@@ -26,8 +26,8 @@ pub struct Place {
     pub limit: usize,
 }
 
-// A side's text, which is still to be checked: its bytes, which stand in a buffer, the question that it fails if it is not accepted, and
-// how many of the numbers, of the texts' bytes and of the lengths the side takes.
+// A side's text, which is still to be checked: its bytes, which stand in a buffer, the question that it fails if it is
+// not accepted, and how many of the numbers, of the texts' bytes and of the lengths the side takes.
 #[derive(Drop)]
 pub struct Pending {
     pub size: usize,
