@@ -17,6 +17,8 @@ use Rattle.aspif.specs.declared.ProgramCounts.{ProgramCounts}
 use Rattle.aspif.specs.declared.ProgramFault.{ProgramFault}
 use Rattle.aspif.specs.declared.ProgramFault.TheVariants.{TooLong}
 use Rattle.aspif.specs.declared.ProgramRefusal.{ProgramRefusal}
+use Rattle.aspif.specs.declared.Refusal.{Refusal}
+use Rattle.aspif.specs.declared.Refusal.TheVariants as Refused
 use Rattle.aspif.specs.Tables.{rules_at}
 use Rattle.aspif.proofs.Cursors.{few-rules, sound-rules, atoms-small, rules-of}
 use Rattle.aspif.proofs.Readable.{table-read}
@@ -34,7 +36,8 @@ use Rattle.checker.specs.declared.Verdict.{Verdict}
 use Rattle.checker.specs.declared.Verdict.TheVariants.{RefusedProgram, RefusedProof}
 use Rattle.runs.specs.declared.StepsTaken.{StepsTaken}
 use Rattle.drupe.specs.declared.ProofFault.TheVariants as Fault
-use Rattle.std.specs.Prelude.{Result, Ok, Err}
+use Rattle.std.specs.Prelude.{Result, Ok, Err, IsErrAnd}
+use Rattle.std.proofs.lemmas.Result.{err_from_is_err_and}
 
 -- The proof's lines
 
@@ -106,6 +109,10 @@ unread t text answer {table} words f g same x e = by (read_text t text) (sym ans
     by : (d : Reading) → program_answer d ≡ Err x → table ≡ table_of t d → g x table ≡ f d
     by (Reading.refused k n) e w = let p : x ≡ record { fault = k; line = n } = cc in rw (p, w) (same k n)
     by (program P) e w = absurd (zero_one (cc))
+
+-- what `?` answers of a program that is not read
+pub handed-on : {T F : Type 0} (r : Result T (Refusal F)) {x : ProgramRefusal} → IsErrAnd r (λ y. y ≡ Refused.Program x) → r ≡ Err (Refused.Program x)
+handed-on {F = F} r h = let e = err_from_is_err_and r h in e.1 ∙ ap (λ (y : Refusal F). Err y) e.2
 
 module _ (t s : ℕ) (text proof : List ℕ) {r : Result ProgramCounts ProgramRefusal} (answer : r ≡ program_answer (read_text t text)) {table : List ℤ} (words : table ≡ table_of t (read_text t text)) where
   pub program-refused : (limit : ℕ) (x : ProgramRefusal) {store : List ℤ} → r ≡ Err x → store ≡ replicate s (pos 0)

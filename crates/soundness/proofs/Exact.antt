@@ -35,6 +35,7 @@ use Rattle.costs.proofs.Order.{arranged-reorder}
 use Rattle.soundness.specs.Exact.{HeadCount, BodyCount, Named, Good, Within, ReadPrinted}
 use Rattle.soundness.proofs.Printed.{same-told}
 use Rattle.std.specs.Prelude.{Ok}
+use Rattle.aspif.specs.declared.ProgramFault.TheVariants.{TooLong}
 
 -- What stays when a rule is put in order
 
@@ -177,7 +178,7 @@ short : (size : ℕ) (text : List ℕ) (rs : List InputRule) → read_text size 
 unfolding read_text
 short size text rs e = by (leb (length text) longest) refl e
   where
-    by : (b : Bool) → leb (length text) longest ≡ b → cond b (read_lines size text) (refused 1 0) ≡ program rs → length text ≤ longest
+    by : (b : Bool) → leb (length text) longest ≡ b → cond b (read_lines size text) (refused TooLong 0) ≡ program rs → length text ≤ longest
     by true q e = leb-true (length text) longest q
     by false q e = absurd (zero_one (cc))
 

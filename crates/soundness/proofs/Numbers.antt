@@ -3,30 +3,20 @@
 use Prim.Native.Nat.{◌≤◌}
 use native.Mathlib.Omega.{arith}
 use Rattle.aspif.specs.Numbers.{number_of}
-use Rattle.aspif.specs.Reading.{Reading, refused, program}
 use Rattle.aspif.specs.declared.ProgramFault.{ProgramFault}
 use Rattle.aspif.specs.declared.ProgramFault.TheVariants.{TooLong, NoHeader, Malformed, TooLarge, WrongKind, WrongCount, UnsuitedHeads, WrongLiterals, TooManyRules, TableFull, TextAfterEnd, WeightOutOfRange, TooManyWeights}
 
-above : (f : ProgramFault) → 1 ≤ number_of f
-above TooLong = omega arith
-above NoHeader = omega arith
-above Malformed = omega arith
-above TooLarge = omega arith
-above WrongKind = omega arith
-above WrongCount = omega arith
-above UnsuitedHeads = omega arith
-above WrongLiterals = omega arith
-above TooManyRules = omega arith
-above TableFull = omega arith
-above TextAfterEnd = omega arith
-above WeightOutOfRange = omega arith
-above TooManyWeights = omega arith
-
--- what is refused has a number from 1 on
-abbrev pub Numbered : Reading → Type 0
-Numbered (refused f line) = 1 ≤ number_of f
-Numbered (program rs) = Unit {0}
-
-pub numbered : (x : Reading) → Numbered x
-numbered (refused f line) = above f
-numbered (program rs) = tt
+pub numbered : (k : ProgramFault) → 1 ≤ number_of k
+numbered TooLong = omega arith
+numbered NoHeader = omega arith
+numbered Malformed = omega arith
+numbered TooLarge = omega arith
+numbered WrongKind = omega arith
+numbered WrongCount = omega arith
+numbered UnsuitedHeads = omega arith
+numbered WrongLiterals = omega arith
+numbered TooManyRules = omega arith
+numbered TableFull = omega arith
+numbered TextAfterEnd = omega arith
+numbered WeightOutOfRange = omega arith
+numbered TooManyWeights = omega arith

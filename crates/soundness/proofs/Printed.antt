@@ -35,7 +35,9 @@ use Rattle.soundness.specs.Page.{IsAnswerSet, HasNone, SoundPrinted, OnlyPrinted
 use Rattle.soundness.proofs.Once.{same-cons, printed-once}
 use Rattle.soundness.proofs.Direct.{plain-set, direct-set}
 use Rattle.soundness.proofs.Orders.{sorted-set, written-set, sorted-with}
-use Rattle.std.specs.Prelude.{Ok}
+use Rattle.std.specs.Prelude.{Result, Ok}
+use Rattle.aspif.specs.declared.ProgramCounts.{ProgramCounts}
+use Rattle.aspif.specs.declared.ProgramRefusal.{ProgramRefusal}
 
 -- What is read of the text of a program are its rules in order, and no others
 pub record InOrder (ws rs : List InputRule) : Type 0 where
@@ -120,8 +122,10 @@ only-line text proof more e = let s = line-sound text proof more e in is-text le
 
 -- The set test after the reader
 
-pub same-told : {M N R S : ℕ} → Ok (record { atoms = M; rules = R }) ≡ Ok (record { atoms = N; rules = S }) → (M ≡ N) × (R ≡ S)
-same-told e = (cc, cc)
+pub same-told : {M N R S : ℕ} → ◌≡◌ {A = Result ProgramCounts ProgramRefusal} (Ok (record { atoms = M; rules = R })) (Ok (record { atoms = N; rules = S })) → (M ≡ N) × (R ≡ S)
+same-told {M} {N} {R} {S} e =
+    let c : ◌≡◌ {A = ProgramCounts} (record { atoms = M; rules = R }) (record { atoms = N; rules = S }) = cc in
+    (ap (λ (x : ProgramCounts). x.atoms) c, ap (λ (x : ProgramCounts). x.rules) c)
 
 -- the table that is left holds the rules in order, and their largest atom was told
 pub record Kept (ws : List InputRule) (table : List ℤ) (N R : ℕ) : Type 0 where

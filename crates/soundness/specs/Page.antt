@@ -25,11 +25,9 @@ use Rattle.checker.specs.Check.{CheckedTexts, CheckedLong}
 use Rattle.checker.specs.Report.{printed}
 use Rattle.checker.specs.declared.Counts.{Counts}
 use Rattle.checker.specs.declared.Verdict.TheVariants.{Inconsistent}
-use Rattle.long_sums.specs.Service.{SplitSums}
-use Rattle.long_sums.specs.declared.SplitAnswer.TheVariants.{Split}
+use Rattle.long_sums.specs.Service.{split_into, SplitSums}
 use Rattle.costs.specs.Costs.{Costs}
 use Rattle.cheapest.specs.Service.{CheckedCheapest}
-use Rattle.cheapest.specs.declared.CheapestAnswer.TheVariants.{Cheapest}
 use Rattle.exports.specs.Services.{ProgramService, SetService, CheckService, LongService, CheapestService, SplitService}
 use Rattle.aspif.specs.declared.ProgramRefusal.{ProgramRefusal}
 
@@ -179,7 +177,7 @@ abbrev pub SoundSplit : Type 1
 SoundSplit =
     (ws : List InputRule) (group : ℕ) (table table' : List ℤ) (output output' : List ℕ)
     (bytes atoms rules N : ℕ)
-    → SplitSums (program_text ws) group table table' output output' (Split bytes atoms rules N)
+    → SplitSums (program_text ws) group table table' output output' (split_into bytes atoms rules N)
     → (proof : List ℕ) (words store words' store' : List ℤ) (c : Counts)
     → CheckedTexts (take bytes output') proof words store words' store' (Inconsistent c) → HasNone ws
 
@@ -188,7 +186,7 @@ abbrev pub SoundSplitLong : Type 1
 SoundSplitLong =
     (ws : List InputRule) (group : ℕ) (table table' : List ℤ) (output output' : List ℕ)
     (bytes atoms rules N : ℕ)
-    → SplitSums (program_text ws) group table table' output output' (Split bytes atoms rules N)
+    → SplitSums (program_text ws) group table table' output output' (split_into bytes atoms rules N)
     → (proof : List ℕ) (words store words' store' : List ℤ) (memory memory' : List ℕ) (c : Counts)
     → CheckedLong (take bytes output') proof words store words' store' memory memory' (Inconsistent c)
     → HasNone ws
@@ -199,7 +197,7 @@ abbrev pub YesSplit : Type 0
 YesSplit =
     (ws : List InputRule) (group : ℕ) (table table' : List ℤ) (output output' : List ℕ)
     (bytes atoms rules N : ℕ)
-    → SplitSums (program_text ws) group table table' output output' (Split bytes atoms rules N)
+    → SplitSums (program_text ws) group table table' output output' (split_into bytes atoms rules N)
     → (words words' : List ℤ) (A R : ℕ) → ProgramRead (take bytes output') words words' (Ok (record { atoms = A; rules = R }))
     → (l marks marks' : List ℕ) → SetTested words' R l marks marks' (Ok Yes)
     → IsAnswerSet (λ v. (v ≤ N) × (v ∈ l)) ws
@@ -209,7 +207,7 @@ abbrev pub FoundSplit : Type 0
 FoundSplit =
     (ws : List InputRule) (group : ℕ) (table table' : List ℤ) (output output' : List ℕ)
     (bytes atoms rules N : ℕ)
-    → SplitSums (program_text ws) group table table' output output' (Split bytes atoms rules N)
+    → SplitSums (program_text ws) group table table' output output' (split_into bytes atoms rules N)
     → (words words' : List ℤ) (A R : ℕ) → ProgramRead (take bytes output') words words' (Ok (record { atoms = A; rules = R }))
     → (l : List ℕ) → IsAnswerSet (λ v. v ∈ l) ws
     → (k : List ℕ) × ((v : ℕ) → v ∈ l ↔ ((v ≤ N) × (v ∈ k)))
@@ -222,7 +220,7 @@ abbrev pub ExtendsSplit : Type 1
 ExtendsSplit =
     (ws : List InputRule) (group : ℕ) (table table' : List ℤ) (output output' : List ℕ)
     (bytes atoms rules N : ℕ)
-    → SplitSums (program_text ws) group table table' output output' (Split bytes atoms rules N)
+    → SplitSums (program_text ws) group table table' output output' (split_into bytes atoms rules N)
     → (vs : List InputRule) × (take bytes output' ≡ program_text vs)
     × ((M : ℕ → Type 0) → IsAnswerSet M ws
     → (K : ℕ → Type 0) × IsAnswerSet K vs × ((a : ℕ) → M a ↔ ((a ≤ N) × K a)))
@@ -233,7 +231,7 @@ abbrev pub ReadSplit : Type 0
 ReadSplit =
     (ws : List InputRule) (group : ℕ) (table table' : List ℤ) (output output' : List ℕ)
     (bytes atoms rules N : ℕ)
-    → SplitSums (program_text ws) group table table' output output' (Split bytes atoms rules N)
+    → SplitSums (program_text ws) group table table' output output' (split_into bytes atoms rules N)
     → (words words' : List ℤ) (r : Result ProgramCounts ProgramRefusal) → bytes ≤ length words
     → ProgramRead (take bytes output') words words' r → r ≡ Ok (record { atoms = atoms; rules = rules })
 
@@ -242,7 +240,7 @@ abbrev pub OnlySplit : Type 0
 OnlySplit =
     (text : List ℕ) (group : ℕ) (table table' : List ℤ) (output output' : List ℕ)
     (bytes atoms rules N : ℕ)
-    → SplitSums text group table table' output output' (Split bytes atoms rules N)
+    → SplitSums text group table table' output output' (split_into bytes atoms rules N)
     → (ws : List InputRule) × (text ≡ program_text ws)
 
 -- The same of the services for C and Rust: where `aspdrupe_split_sums` returned 0, and its buffer
@@ -315,7 +313,7 @@ abbrev pub CheapestPrinted : Type 1
 CheapestPrinted =
     (ws : List InputRule) (l : List ℕ) (ks : List Weighted) (proof : List ℕ)
     (table store table' store' : List ℤ) (C : ℕ)
-    → CheckedCheapest (program_text ws) l (pair_words ks) proof table store table' store' (Cheapest C)
+    → CheckedCheapest (program_text ws) l (pair_words ks) proof table store table' store' (Ok C)
     → IsCheapest ws ks l C
 
 -- The same of the service for C and Rust, `aspdrupe_check_cheapest`: where it returns 0 and its buffer
@@ -332,7 +330,7 @@ CheapestReturned =
 abbrev pub OnlyCheapest : Type 0
 OnlyCheapest =
     (text l : List ℕ) (costs : List ℤ) (proof : List ℕ) (table store table' store' : List ℤ) (C : ℕ)
-    → CheckedCheapest text l costs proof table store table' store' (Cheapest C)
+    → CheckedCheapest text l costs proof table store table' store' (Ok C)
     → (ws : List InputRule) × (ks : List Weighted) × (text ≡ program_text ws) × (costs ≡ pair_words ks)
 
 abbrev pub OnlyCheapestReturned : Type 0

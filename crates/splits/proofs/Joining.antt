@@ -46,9 +46,10 @@ use Rattle.splits.specs.Service.{are_halves, steps_in, merged_steps, is_writable
 use Rattle.splits.specs.Halves.{LeftBy, HalvesChecked}
 use Rattle.splits.specs.Joined.{AddedTo, WrittenBy, written_in, HalfText, lines_of, closing, HalvesHeld}
 use Rattle.splits.specs.declared.texts.Added.{Added}
-use Rattle.splits.specs.declared.texts.Written.TheVariants.{Text, Refused}
 use Rattle.splits.proofs.Demands.{demanding-plain}
 use Rattle.drupe.specs.declared.ProofFault.{ProofFault}
+use Rattle.splits.specs.declared.MergeFault.TheVariants.{NotWritable}
+use Rattle.std.specs.Prelude.{Ok, Err}
 
 -- What the program has of a constraint
 
@@ -271,7 +272,7 @@ module _ (size : ℕ) (ws : List InputRule) (v : ℕ) (first second : List ℕ) 
       o : ℕ
       o = length output'
 
-      by : (b : Bool) → ltb o end ≡ b → WrittenBy size ws v first second output' (cond b (Refused 58) (Text end))
+      by : (b : Bool) → ltb o end ≡ b → WrittenBy size ws v first second output' (cond b (Err NotWritable) (Ok end))
       by true e =
           let far : o < length (text_of ms) = omega (arith, ltb-true o end e, p.ends) in
           inr (refl, halves, and-false (all_fit ms) (and-false (leb (length (text_of ms)) longest) (above far)))

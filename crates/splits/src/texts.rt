@@ -12,7 +12,7 @@ ghost use Rattle.splits.specs.Service.{merged_steps};
 ghost use Rattle.splits.specs.Halves.{most_words};
 ghost use Rattle.splits.specs.Joined.{AddedTo, WrittenBy, written_in, HalfText, lines_of, closing, HalvesHeld};
 
-use crate::halves;
+use crate::{MergeFault, halves};
 use heads::{INDEX_WORDS, NAME_WORDS};
 use names::{by_name, queries};
 use renaming::{lines, renames};
@@ -24,13 +24,6 @@ use words::ENTRIES;
 pub struct Added {
     pub body: bool,
     pub constraint: bool,
-}
-
-// The bytes of the merged text, which stand in the output; or 57 or 58.
-#[derive(Drop)]
-pub enum Written {
-    Text(usize),
-    Refused(u8),
 }
 
 // What the program has of the constraint with just the literal in its body.
@@ -176,16 +169,17 @@ fn write_merged(
 }
 
 // A text that the output holds.
-fn within(wrote: Option<usize>, size: usize) -> Written
+fn within(wrote: Option<usize>, size: usize) -> Result<usize, MergeFault>
     ensures { result ≡ written_in size wrote }
 {
     match wrote {
-        Some(end) if end <= size => Written::Text(end),
-        _ => Written::Refused(58),
+        Some(end) if end <= size => Ok(end),
+        _ => Err(MergeFault::NotWritable),
     }
 }
 
-// 57 and 58: the halves are accepted, and the merged text is written.
+// 57 and 58: the halves are accepted, and the merged text is written. The answer is how many bytes it has, which stand
+// in the output.
 fn write_halves(
     first: &[u8],
     second: &[u8],
@@ -197,7 +191,7 @@ fn write_halves(
     bodies: &mut [i16],
     store: &mut [i32],
     output: &mut [u8],
-) -> Written
+) -> Result<usize, MergeFault>
     requires program { ((ws : List InputRule) × Program table.now rules atoms ws) × (rules < most_held) }
     requires short { length (program_words (rules_at rules table.now)) + 5 ≤ most_words }
     requires index { Indexed lookup.now table.now rules }
@@ -223,7 +217,7 @@ fn write_halves(
         bodies,
         store,
     ) {
-        return Written::Refused(57);
+        return Err(MergeFault::NotAccepted);
     }
     let wrote = write_merged(
         first, second, table, rules, lookup, atoms, v, &known1, &known2, &names, bodies, output,
@@ -241,7 +235,7 @@ pub fn write_plain(
     v: usize,
     store: &mut [i32],
     output: &mut [u8],
-) -> Written
+) -> Result<usize, MergeFault>
     requires program { ((ws : List InputRule) × Program table.now rules atoms ws) × (rules < most_held) }
     requires short { length (program_words (rules_at rules table.now)) + 5 ≤ most_words }
     requires plain { all_plain (rules_at rules table.now) ≡ true }
@@ -268,7 +262,7 @@ pub fn write_weighted(
     v: usize,
     store: &mut [i32],
     output: &mut [u8],
-) -> Written
+) -> Result<usize, MergeFault>
     requires program { ((ws : List InputRule) × Program table.now rules atoms ws) × (rules < most_held) }
     requires short { length (program_words (rules_at rules table.now)) + 5 ≤ most_words }
     requires empty { (store.old ≡ replicate (length store.old) (pos 0)) × (output.old ≡ replicate (length output.old) 0) }

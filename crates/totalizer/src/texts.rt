@@ -70,6 +70,8 @@ pub fn emit(output: &mut [u8], place: Place, numbers: &[i32]) -> Place
     }
 }
 
+// Rules are given by their words: one with a long sum, whose heads `put_head` writes, is no `tables::Rule` (`sound_at`).
+
 // The bound of a rule with a weight body, of the rule at the front of some words.
 fn put_bound(output: &mut [u8], at: usize, words: &[i32]) -> usize
     requires rule { shape_sound words.now ≡ true }

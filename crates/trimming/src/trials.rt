@@ -1,4 +1,5 @@
-// Passes over a proof text: each line tried for removal, from the last to the first. A trial is the check of the whole text without it.
+// Passes over a proof text: each line tried for removal, from the last to the first. A trial is the check of the
+// whole text without it.
 ghost use Rattle.std.specs.Prelude.{◌≡◌, List, [], ◌<◌, ◌≤◌, pos, length, take, replicate};
 ghost use Rattle.words.specs.Limits.{longest, most_rules};
 ghost use Rattle.text.specs.Bytes.{class_of};
@@ -49,8 +50,8 @@ fn write_without(trial: &mut [u8], text: &[u8], start: usize, end: usize, len: u
     writing::put_bytes(trial, front, &text[end..len])
 }
 
-// Takes the bytes from `start` to `end` out where the text is accepted without them. How many bytes are left of `len`; the store is 0
-// throughout, before and after.
+// Takes the bytes from `start` to `end` out where the text is accepted without them. How many bytes are left of
+// `len`; the store is 0 throughout, before and after.
 fn try_without(
     text: &mut [u8],
     start: usize,
@@ -110,8 +111,8 @@ fn pass(
     left
 }
 
-// "passes repeat until one removes none": how many bytes are left of the text. A pass that takes a line away makes it shorter. Inlined it would
-// have its arrays on the stack beside those of the check that comes after it.
+// "passes repeat until one removes none": how many bytes are left of the text. A pass that takes a line away makes it
+// shorter. Inlined it would have its arrays on the stack beside those of the check that comes after it.
 #[inline(never)]
 pub fn passes(
     text: &mut [u8],

@@ -10,7 +10,7 @@ use Rattle.long_sums.proofs.split_sums.Goals.{In-Ok}
 told : (c : In-Ok)
     → (let r = c in
     let s = c in
-    LongRead (read_text_within most_literals (length s.args.table.now) s.args.text.now) c.in-Ok.rules c.in-Ok.atoms r.read_within-read.new.table)
+    LongRead (read_text_within most_literals (length s.args.table.now) s.args.text.now) c.in-Ok.field-0.rules c.in-Ok.field-0.atoms r.read_within-read.new.table)
 told c =
     let r = c in
     let s = c in

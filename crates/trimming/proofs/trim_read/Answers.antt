@@ -19,7 +19,7 @@ use Rattle.steps.specs.Held.{Program}
 use Rattle.checker.proofs.Whole.{accepted-steps}
 use Rattle.trimming.specs.Service.{trimmed_steps}
 use Rattle.trimming.specs.Passing.{Reads}
-use Rattle.trimming.specs.declared.TrimAnswer.TheVariants.{Trimmed}
+use Rattle.std.specs.Prelude.{Ok}
 use Rattle.trimming.proofs.Answers.{front_kept, not-accepted, written}
 use Rattle.trimming.proofs.trim_read.Goals as goal
 use Rattle.trimming.proofs.trim_read.Goals.{Else-not-is_accepted, After-passes-n, After-zero_all-2}
@@ -90,7 +90,7 @@ returns c =
     let t = length x.table.now in
     let m = length x.store.now in
     λ ws p w.
-    ap (λ (l : List ℕ). record { answer = Trimmed (n d); text = l; table = c.check_proof.new.table; store = c.check_proof.new.store }) (behind z)
+    ap (λ (l : List ℕ). record { answer = Ok (n d); text = l; table = c.check_proof.new.table; store = c.check_proof.new.store }) (behind z)
     ∙ written t m x.text.now ws (is-good (goal.at.returns c).Else-not-is_accepted ws p) (text' d) (n d) (within d) (same_text d)
     (λ ts q. subst (λ (i : ℕ). Reads (text' d) (n d) (trimmed_steps i ws ts)) c.is_accepted.auto.store (c.passes-n.ensures.trimmed ws ts p q))
     (c.check_proof.ensures ws p w
