@@ -19,8 +19,8 @@ use Rattle.long_sums.specs.declared.SplitFault.TheVariants.{WrongGroupSize, TooL
 abbrev pub SplitAnswer : Type 0
 SplitAnswer = Result SplitCounts (Refusal SplitFault)
 
--- of a text that is written
-abbrev pub split_into : (bytes atoms rules old_atoms : ℕ) → SplitAnswer
+-- of a text that is written: how many bytes, atoms and rules it has, and the atoms of the program as written
+abbrev pub split_into : ℕ → ℕ → ℕ → ℕ → SplitAnswer
 split_into b a r n = Ok (record { bytes = b; atoms = a; rules = r; old_atoms = n })
 
 -- the answer with every word of the table and every byte of the output
