@@ -60,7 +60,7 @@ fn main() {
     let (program, proof) = (std::fs::read(&words[1]).unwrap(), std::fs::read(&words[2]).unwrap());
     let (mut table, mut store) = (vec![0; 16384], vec![0; words[3].parse().unwrap()]);
     let number = match checker::check_texts(&program, &proof, &mut table, &mut store) {
-        checker::Verdict::RefusedProof(refusal) => refusal.number,
+        checker::Verdict::RefusedProof(refusal) => u8::from(refusal.fault),
         _ => 0,
     };
     let count = |n: &std::sync::atomic::AtomicUsize| n.load(std::sync::atomic::Ordering::Relaxed);
